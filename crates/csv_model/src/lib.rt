@@ -1,0 +1,28 @@
+//! What CSV text means: the records of a text, the rows that they spell under columns, and the text of a table.
+//!
+//! The definitions stand in `specs/`: `Reading` (records, rows, faults), `Text` (the text of a table).
+#![tactic(auto)]
+
+ghost use Rattle.std.specs.Prelude.{◌≡◌, ◌∷◌, ◌++◌, [], codes};
+ghost use Rattle.csv_model.specs.Examples.{echo, NoHeader, Refused, Text};
+ghost use Rattle.csv_model.specs.declared.RowFault.TheVariants as row;
+
+/// Why a record spells no row. Records are numbered from 1 after the header, columns from 1.
+#[derive(Clone, Copy, PartialEq, Eq, Debug)]
+pub enum RowFault {
+    /// The record has another number of fields than the header.
+    Ragged { row: u64, found: u64 },
+    /// The field in this column is no text of the column's type.
+    Field { row: u64, column: u32 },
+}
+
+/// Texts that the definitions read and write as they stand here.
+pub fn worked_texts()
+    ensures null_field { echo (codes "a,b\n1,\n") ≡ Text (codes "a,b\n1,\n") }
+    ensures null_alone { echo (codes "x\n\"\"\n") ≡ Text (codes "x\n\"\"\n") }
+    ensures header_alone { echo (codes "a,b\n") ≡ Text (codes "a,b\n") }
+    ensures no_header { echo [] ≡ NoHeader }
+    ensures not_text { echo (codes "a\ncaf" ++ 0xff ∷ 10 ∷ []) ≡ Refused (row.Field 1 1) }
+    ensures ragged { echo (codes "a,b\n1\n") ≡ Refused (row.Ragged 1 1) }
+    ensures mark_and_quotes { echo (0xef ∷ 0xbb ∷ 0xbf ∷ codes "a\r\n\"x,y\"\r\n") ≡ Text (codes "a\n\"x,y\"\n") }
+{}

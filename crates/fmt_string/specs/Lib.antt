@@ -1,0 +1,7 @@
+pub mod Keywords
+pub mod Format
+pub mod Meaning
+pub mod Answer
+pub mod Value
+pub mod Table
+pub mod FieldText

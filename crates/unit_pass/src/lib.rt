@@ -1,0 +1,13 @@
+//! Units of ownership, and what every crate above shares: want of memory, and names as bytes.
+//!
+//! Each live node of a tree and each hold of a block carries one [`Unit`]. A [`Desk`] gives out [`SUPPLY`] units in a
+//! [`Pass`] and closes only once they are all back, so a run that closes its desk has lost no holder.
+#![tactic(auto)]
+
+mod name;
+mod no_memory;
+mod pass;
+
+pub use name::Name;
+pub use no_memory::NoMemory;
+pub use pass::{open_desk, Audit, Desk, Pass, Unit, CHUNK, ROOM, SUPPLY};

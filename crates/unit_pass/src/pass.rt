@@ -1,0 +1,179 @@
+ghost use Rattle.std.specs.Prelude.{◌≡◌, ◌+◌, ◌-◌, ◌*◌, ◌<◌, ◌≤◌};
+ghost use Rattle.unit_pass.specs.Tally.{risen};
+
+use std::marker::Model;
+
+/// All units of a desk.
+pub const SUPPLY: u64 = 1 << 32;
+/// The units that a pass keeps free for a get call.
+pub const ROOM: u64 = 1 << 26;
+/// The most units that one chunk costs.
+pub const CHUNK: u64 = 1 << 15;
+
+/// What a closed desk tells of the work done through its passes.
+#[derive(Clone, Copy, Debug, PartialEq, Eq)]
+pub struct Audit {
+    pub blocks: u64,
+    pub nodes: u64,
+    pub left: u64,
+}
+
+/// The place where units come from. It can't be dropped: only `close` takes it.
+pub struct Desk {
+    sealed: (),
+}
+
+/// The right to one live node or one hold. It can't be dropped: only `give_back` takes it.
+pub struct Unit {
+    sealed: (),
+}
+
+/// A purse of units with two counts. It can't be dropped: only `join` and `close` take it.
+pub struct Pass {
+    units: u64,
+    blocks: u64,
+    nodes: u64,
+}
+
+impl Model for Pass {
+    ghost use Rattle.std.specs.Prelude.{◌≤◌};
+    ghost use Rattle.unit_pass.specs.Tally.{Tally};
+    ghost use Rattle.unit_pass.specs.declared.pass.TheConstants.{SUPPLY};
+
+    ghost Value = { Tally };
+
+    ghost view = { λ p. record { units = p.units; blocks = p.blocks; nodes = p.nodes } };
+
+    ghost invariant = { λ p. p.units ≤ SUPPLY };
+}
+
+/// Opens a desk, with all its units in one pass.
+pub fn open_desk() -> (Desk, Pass)
+    ensures units { result.1.units ≡ SUPPLY }
+    ensures blocks { result.1.blocks ≡ 0 }
+    ensures nodes { result.1.nodes ≡ 0 }
+{
+    let desk = Desk { sealed: () };
+    let pass = Pass {
+        units: SUPPLY,
+        blocks: 0,
+        nodes: 0,
+    };
+    (desk, pass)
+}
+
+impl Pass {
+    pub fn units(&self) -> u64
+        ensures exact { result ≡ self.now.units }
+        ensures bounded { self.now.units ≤ SUPPLY }
+    {
+        self.units
+    }
+
+    pub fn blocks(&self) -> u64
+        ensures { result ≡ self.now.blocks }
+    {
+        self.blocks
+    }
+
+    pub fn nodes(&self) -> u64
+        ensures { result ≡ self.now.nodes }
+    {
+        self.nodes
+    }
+
+    /// Takes one unit out.
+    pub fn draw(&mut self) -> Unit
+        requires { 1 ≤ self.old.units }
+        ensures units { self.new.units + 1 ≡ self.old.units }
+        ensures blocks { self.new.blocks ≡ self.old.blocks }
+        ensures nodes { self.new.nodes ≡ self.old.nodes }
+    {
+        self.units -= 1;
+        Unit { sealed: () }
+    }
+
+    /// Puts one unit back.
+    pub fn give_back(&mut self, unit: Unit)
+        requires { self.old.units < SUPPLY }
+        ensures units { self.new.units ≡ self.old.units + 1 }
+        ensures blocks { self.new.blocks ≡ self.old.blocks }
+        ensures nodes { self.new.nodes ≡ self.old.nodes }
+    {
+        let Unit { sealed: () } = unit;
+        self.units += 1;
+    }
+
+    pub fn count_block(&mut self)
+        ensures units { self.new.units ≡ self.old.units }
+        ensures blocks { self.new.blocks ≡ risen self.old.blocks 1 }
+        ensures nodes { self.new.nodes ≡ self.old.nodes }
+    {
+        self.blocks = self.blocks.saturating_add(1);
+    }
+
+    pub fn count_node(&mut self)
+        ensures units { self.new.units ≡ self.old.units }
+        ensures blocks { self.new.blocks ≡ self.old.blocks }
+        ensures nodes { self.new.nodes ≡ risen self.old.nodes 1 }
+    {
+        self.nodes = self.nodes.saturating_add(1);
+    }
+
+    /// Parts some units off into a pass of their own.
+    pub fn split(&mut self, units: u64) -> Pass
+        requires { units ≤ self.old.units }
+        ensures kept { self.new.units + units ≡ self.old.units }
+        ensures blocks { self.new.blocks ≡ self.old.blocks }
+        ensures nodes { self.new.nodes ≡ self.old.nodes }
+        ensures parted { result.units ≡ units }
+        ensures no_blocks { result.blocks ≡ 0 }
+        ensures no_nodes { result.nodes ≡ 0 }
+    {
+        self.units -= units;
+        Pass {
+            units,
+            blocks: 0,
+            nodes: 0,
+        }
+    }
+
+    /// Takes in all of another pass.
+    pub fn join(&mut self, other: Pass)
+        requires { self.old.units + other.units ≤ SUPPLY }
+        ensures units { self.new.units ≡ self.old.units + other.units }
+        ensures blocks { self.new.blocks ≡ risen self.old.blocks other.blocks }
+        ensures nodes { self.new.nodes ≡ risen self.old.nodes other.nodes }
+    {
+        let Pass {
+            units,
+            blocks,
+            nodes,
+        } = other;
+        self.units += units;
+        self.blocks = self.blocks.saturating_add(blocks);
+        self.nodes = self.nodes.saturating_add(nodes);
+    }
+}
+
+impl Desk {
+    /// Closes the desk, which needs all units to be back in the pass.
+    pub fn close(self, pass: Pass) -> Audit
+        requires { pass.units ≡ SUPPLY }
+        ensures blocks { result.blocks ≡ pass.blocks }
+        ensures nodes { result.nodes ≡ pass.nodes }
+        ensures left { result.left ≡ 0 }
+    {
+        let Desk { sealed: () } = self;
+        let Pass {
+            units,
+            blocks,
+            nodes,
+        } = pass;
+        Audit {
+            blocks,
+            nodes,
+            left: SUPPLY - units,
+        }
+    }
+}
