@@ -1,0 +1,26 @@
+use Rattle.std.proofs.Common.{◌∙◌, ap, subst, sym, Ok}
+use Rattle.clap.specs.Words.{app_of}
+use Rattle.clap.specs.declared.error.kind.ErrorKind.{ErrorKind}
+use Rattle.words.specs.Words.{ErrorOf, Options, texts_of}
+use Rattle.words.proofs.Taken.{refused_words, taken_words}
+use Rattle.words.proofs.read_words.Goals as goal
+
+pub returns-in-Ok-try_get_matches_from : goal.returns-in-Ok-try_get_matches_from
+returns-in-Ok-try_get_matches_from c =
+    let parse = c.try_get_matches_from in
+    record {
+      taken = taken_words (app_of c.in-Ok.command) (texts_of c.args.words.now) parse.result c.in-Ok-try_get_matches_from.matches c.in-Ok.ensures
+          c.in-Ok-try_get_matches_from.is parse.ensures.kinds parse.ensures.matches
+          ∙ ap (λ (o : Options). Ok o) (sym c.options.ensures);
+      refused = tt;
+    }
+
+pub returns-in-Err-try_get_matches_from : goal.returns-in-Err-try_get_matches_from
+returns-in-Err-try_get_matches_from c =
+    let parse = c.try_get_matches_from in
+    record {
+      taken = tt;
+      refused = refused_words (app_of c.in-Ok.command) (texts_of c.args.words.now) parse.result c.in-Err-try_get_matches_from.error c.error_by.result c.in-Ok.ensures
+          c.in-Err-try_get_matches_from.is parse.ensures.passes
+          (subst (λ (k : ErrorKind). ErrorOf k c.error_by.result) c.kind.ensures c.error_by.ensures);
+    }

@@ -1,0 +1,38 @@
+use crate::read_words;
+use std::test::Fail;
+
+// The words, apart by blanks, and what they are read as.
+static CASES: [(&str, &str); 8] = [
+    (
+        "--schema a:l --audit",
+        "Ok(Words { schema: Some(\"a:l\"), audit: true })",
+    ),
+    ("--", "Ok(Words { schema: None, audit: false })"),
+    (
+        "--schema=-a:u",
+        "Ok(Words { schema: Some(\"-a:u\"), audit: false })",
+    ),
+    (
+        "--schema=",
+        "Ok(Words { schema: Some(\"\"), audit: false })",
+    ),
+    ("--schema -a:u", "Err(Words(Refused))"),
+    ("--schema a:u --schema a:u", "Err(Words(Refused))"),
+    ("--help", "Err(Words(Refused))"),
+    ("select=a", "Err(Words(Refused))"),
+];
+
+#[test]
+fn words_are_taken_or_refused(rt: HostRuntime) -> Result<(), Fail> {
+    let alloc = rt.alloc();
+    for (line, wanted) in &CASES {
+        let mut words = Vec::new(alloc);
+        for word in line.split(' ') {
+            words.push(String::from_str(alloc, word)?)?;
+        }
+        let read = read_words(alloc, words.as_slice());
+        let shown = format!(in alloc; "{read:?}")?;
+        assert!(rt; shown.as_str() == *wanted);
+    }
+    Ok(())
+}
