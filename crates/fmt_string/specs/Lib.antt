@@ -1,5 +1,6 @@
 pub mod Keywords
 pub mod Format
+pub mod Decimal
 pub mod Meaning
 pub mod Answer
 pub mod Value
