@@ -1,0 +1,4 @@
+pub mod Cuts
+pub mod Columns
+pub mod Walk
+pub mod Loop

@@ -1,0 +1,46 @@
+ghost use Rattle.std.specs.Prelude.{◌≡◌};
+ghost use Rattle.stage_plan.specs.declared.fault.TypesFault.TheVariants.{NoMemory};
+
+use std::alloc::{AllocError, AllocFailed};
+use unit_pass::NoMemory;
+
+/// What is wrong with an entry.
+#[derive(Clone, Copy, Debug, PartialEq, Eq)]
+pub enum TypesRule {
+    /// There is no `:`, the format is refused, or its type isn't one of a column.
+    BadEntry,
+    /// An entry before has the same name.
+    Twice,
+}
+
+/// Why a text names no types.
+#[derive(Clone, Copy, Debug, PartialEq, Eq)]
+pub enum TypesFault {
+    /// The first entry at fault, counted from 1.
+    At { entry: u64, rule: TypesRule },
+    NoMemory,
+}
+
+impl From<NoMemory> for TypesFault {
+    ghost from_gives = { λ _ e. e ≡ NoMemory };
+
+    fn from(_e: NoMemory) -> TypesFault {
+        TypesFault::NoMemory
+    }
+}
+
+impl From<AllocError> for TypesFault {
+    ghost from_gives = { λ _ e. e ≡ NoMemory };
+
+    fn from(_e: AllocError) -> TypesFault {
+        TypesFault::NoMemory
+    }
+}
+
+impl<T: Drop> From<AllocFailed<T>> for TypesFault {
+    ghost from_gives = { λ _ e. e ≡ NoMemory };
+
+    fn from(_e: AllocFailed<T>) -> TypesFault {
+        TypesFault::NoMemory
+    }
+}

@@ -1,0 +1,157 @@
+ghost use Rattle.std.specs.Prelude.{◌≡◌, ◌≢◌, ◌+◌, ◌==◌, false, length, List, All, Option, Result, IfOk, IfErr, IfSome, IfNone, map, option_map, position};
+ghost use Rattle.fmt_string.specs.declared.kind.DataType.{DataType as AType};
+ghost use Rattle.stage_plan.specs.declared.fault.TypesFault.{TypesFault as AFault};
+ghost use Rattle.stage_plan.specs.declared.fault.TypesFault.TheVariants as faults;
+ghost use Rattle.stage_plan.specs.declared.types.TypeEntry.{TypeEntry as AnEntry};
+ghost use Rattle.stage_plan.specs.Types.{parts, is_column_type, CutsAt, Lacks, TypeReads, EntryReads, TypesIs, TypesFaultIs, Reads, Gives};
+ghost use Rattle.stage_plan.specs.Code.{entry_of};
+
+use crate::{TypesFault, TypesRule};
+use fmt_string::{DataType, FormatFault, read_format};
+use std::alloc::Global;
+use std::collections::HashSet;
+use unit_pass::{Name, NoMemory};
+
+/// The type of the columns of one name.
+#[derive(Debug, Drop)]
+pub struct TypeEntry {
+    /// The name, which may be empty.
+    pub name: Name,
+    pub kind: DataType,
+}
+
+// An entry whose name stands in the text.
+#[derive(Drop)]
+struct Entry<'a> {
+    name: &'a [u8],
+    kind: DataType,
+}
+
+/// The entries of a text, in order.
+///
+/// The first entry at fault counts, and `BadEntry` comes before `Twice`. A column's type is one whose values a field
+/// of a CSV record can spell: `w:N` with N from 1 to 65,536, and decimals of 128 bits with a scale from 0 to their
+/// precision.
+pub fn read_types(alloc: Global, text: &str) -> Result<Vec<TypeEntry>, TypesFault>
+    // What is read are the text's entries.
+    ensures found { IfOk result (λ entries. TypesIs text.now entries.items) }
+    // Which fault it is.
+    ensures fault { IfErr result (λ f. f ≢ faults.NoMemory → TypesFaultIs text.now f) }
+    // A text with entries is read, and a fault is answered, unless memory runs out.
+    ensures only { (read : Result (List AnEntry) AFault) → Reads text.now read → Gives result read }
+{
+    let parts = parts(alloc, text.as_bytes())?;
+    let mut names = HashSet::new(alloc);
+    let mut entries = Vec::new(alloc);
+    for part in &parts {
+        let Some(entry) = read_entry(alloc, part)? else {
+            return Err(fault_behind(entries.as_slice(), TypesRule::BadEntry));
+        };
+        let added = names.insert(entry.name)?;
+        if !added {
+            return Err(fault_behind(entries.as_slice(), TypesRule::Twice));
+        }
+        let name = Name::from_slice(alloc, entry.name)?;
+        let kind = entry.kind;
+        entries.push(TypeEntry { name, kind })?;
+    }
+    Ok(entries)
+}
+
+// The fault of the entry behind these.
+fn fault_behind(entries: &[TypeEntry], rule: TypesRule) -> TypesFault
+    ensures { result ≡ faults.At (length entries.now + 1) rule }
+{
+    TypesFault::At {
+        entry: entries.len() as u64 + 1,
+        rule,
+    }
+}
+
+// The parts of a text between its `;`.
+fn parts<'a>(alloc: Global, text: &'a [u8]) -> Result<Vec<&'a [u8]>, NoMemory>
+    ensures { IfOk result (λ ps. map (λ p. p.now) ps.items ≡ parts text.now) }
+{
+    let mut parts = Vec::new(alloc);
+    let mut rest = text;
+    while let Some((part, behind)) = cut(rest, b';') {
+        parts.push(part)?;
+        rest = behind;
+    }
+    parts.push(rest)?;
+    Ok(parts)
+}
+
+// The text before the first such byte, and the text behind it.
+fn cut(text: &[u8], byte: u8) -> Option<(&[u8], &[u8])>
+    ensures found { IfSome result (λ x. CutsAt byte text.now x.0.now x.1.now) }
+    ensures none { IfNone result (Lacks byte text.now) }
+{
+    let Some(place) = place_of(text, byte) else {
+        return None;
+    };
+    let (front, behind) = text.split_at(place);
+    Some((front, &behind[1..]))
+}
+
+// The first place of the byte.
+fn place_of(text: &[u8], byte: u8) -> Option<usize>
+    ensures first { result ≡ position (λ b. b == byte) text.now }
+    ensures none { IfNone result (All (λ b. (b == byte) ≡ false) text.now) }
+{
+    text.iter().position(|b| *b == byte)
+}
+
+// The entry that the part is.
+fn read_entry<'a>(alloc: Global, part: &'a [u8]) -> Result<Option<Entry<'a>>, NoMemory>
+    ensures found { IfOk result (λ e. EntryReads part.now (option_map entry_of e)) }
+    ensures only { IfOk result (λ e. (other : Option AnEntry) → EntryReads part.now other → other ≡ option_map entry_of e) }
+{
+    let Some((name, format)) = cut(part, b':') else {
+        return Ok(None);
+    };
+    let Some(kind) = column_type(alloc, format)? else {
+        return Ok(None);
+    };
+    Ok(Some(Entry { name, kind }))
+}
+
+// The type that the format spells, where it is one of a column.
+fn column_type(alloc: Global, format: &[u8]) -> Result<Option<DataType>, NoMemory>
+    ensures found { IfOk result (TypeReads format.now) }
+    ensures only { IfOk result (λ kind. (other : Option AType) → TypeReads format.now other → other ≡ kind) }
+{
+    match read_format(alloc, format) {
+        Ok(kind) => {
+            if is_column_type(&kind) {
+                Ok(Some(kind))
+            } else {
+                Ok(None)
+            }
+        }
+        Err(FormatFault::At { .. }) => Ok(None),
+        Err(FormatFault::NoMemory) => Err(NoMemory),
+    }
+}
+
+// Whether a column can have the type.
+fn is_column_type(kind: &DataType) -> bool
+    ensures { result ≡ is_column_type kind.now }
+{
+    match kind {
+        DataType::FixedBinary { size } => 1 <= *size && *size <= 65_536,
+        DataType::Decimal {
+            precision,
+            scale,
+            wide,
+        } => !*wide && 0 <= *scale && *scale <= i32::from(*precision),
+        DataType::Null
+        | DataType::IntervalDayTime
+        | DataType::IntervalMonthDayNano
+        | DataType::List { .. }
+        | DataType::FixedList { .. }
+        | DataType::Struct
+        | DataType::Map => false,
+        _ => true,
+    }
+}
