@@ -16,11 +16,11 @@ use Rattle.fmt_string.specs.declared.kind.DataType.{DataType}
 use Rattle.fmt_string.specs.declared.kind.DataType.TheVariants as kinds
 use Rattle.fmt_string.specs.Keywords.{Keyword, keywords, Behind}
 use Rattle.fmt_string.specs.Keywords.Behind.{Alone, Zone, BinarySize, ListSize, Numbers, Refused}
-use Rattle.fmt_string.specs.Format.{IsNumber, NumberThen, SizeFails, IsPrefix, UnknownAt, RestIs, RestFails, FormatIs, FormatFaultIs, FailsBehind}
+use Rattle.fmt_string.specs.FormatString.{IsNumber, NumberThen, SizeFails, IsPrefix, UnknownAt, RestIs, RestFails, FormatIs, FormatFaultIs, FailsBehind}
 use Rattle.fmt_string.specs.Answer.{FaultIs, Reads}
 use Rattle.fmt_string.proofs.Rereading.{number_of, number_again, no_number}
 use Rattle.fmt_string.proofs.RereadDecimal.{Answer, fault, numbers_of, decimal_again, numbers_fail}
-use Rattle.fmt_string.proofs.Table.{apart, is_prefix_free, keywords_apart}
+use Rattle.fmt_string.proofs.Table.{apart, is_prefix_free, keywords_apart, and_left, and_right}
 
 -- ---- sizes
 
@@ -120,14 +120,6 @@ nested (a ∷ v) (b ∷ w) xs ys e =
       | inl h ↦ inl (h.0, cc (head, h.1))
       | inr h ↦ inr (h.0, cc (head, h.1))
     ]
-
-and_left : (a b : Bool) → (a && b) ≡ true → a ≡ true
-and_left true b h = refl
-and_left false b h = h
-
-and_right : (a b : Bool) → (a && b) ≡ true → b ≡ true
-and_right true b h = h
-and_right false b h = absurd cc
 
 not_true : (a : Bool) → not a ≡ true → a ≡ false
 not_true true h = absurd cc

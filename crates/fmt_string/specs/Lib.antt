@@ -1,6 +1,8 @@
 pub mod Keywords
-pub mod Format
+pub mod FormatString
 pub mod Decimal
+pub mod Kinds
+pub mod Spelling
 pub mod Meaning
 pub mod Answer
 pub mod Value
