@@ -20,6 +20,9 @@ use Rattle.fmt_string.specs.FormatString.{IsNumber, NumberThen, SizeFails, IsPre
 use Rattle.fmt_string.specs.Answer.{FaultIs, Reads}
 use Rattle.fmt_string.proofs.Rereading.{number_of, number_again, no_number}
 use Rattle.fmt_string.proofs.RereadDecimal.{Answer, fault, numbers_of, decimal_again, numbers_fail}
+use Rattle.fmt_string.specs.Kinds.{KindOk}
+use Rattle.fmt_string.specs.Spelling.{spelling_of}
+use Rattle.fmt_string.proofs.Spelled.{spelled}
 use Rattle.fmt_string.proofs.Table.{apart, is_prefix_free, keywords_apart, and_left, and_right}
 
 -- ---- sizes
@@ -235,3 +238,8 @@ pub one_answer : (text : List ℕ) (result : Answer) → IfOk result (FormatIs t
 one_answer text (Ok kind) found fault read reads = inl (one_reading text (Ok kind) read found reads)
 one_answer text (Err (At rule place)) found fault read reads = inl (one_reading text (Err (At rule place)) read fault reads)
 one_answer text (Err NoMemory) found fault read reads = inr refl
+
+pub one_spelling : (kind other : DataType) → KindOk kind → KindOk other → spelling_of kind ≡ spelling_of other → kind ≡ other
+one_spelling kind other kind_ok other_ok same =
+    let e : Ok kind ≡ Ok other = one_reading (spelling_of kind) (Ok kind) (Ok other) (spelled kind kind_ok) (subst (λ (t : List ℕ). FormatIs t other) (sym same) (spelled other other_ok)) in
+    cc

@@ -8,3 +8,4 @@ pub mod Answer
 pub mod Value
 pub mod Table
 pub mod FieldText
+pub mod ColumnView
