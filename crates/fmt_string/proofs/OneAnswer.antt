@@ -16,11 +16,14 @@ use Rattle.fmt_string.specs.declared.kind.DataType.{DataType}
 use Rattle.fmt_string.specs.declared.kind.DataType.TheVariants as kinds
 use Rattle.fmt_string.specs.Keywords.{Keyword, keywords, Behind}
 use Rattle.fmt_string.specs.Keywords.Behind.{Alone, Zone, BinarySize, ListSize, Numbers, Refused}
-use Rattle.fmt_string.specs.Format.{IsNumber, NumberThen, SizeFails, IsPrefix, UnknownAt, RestIs, RestFails, FormatIs, FormatFaultIs, FailsBehind}
+use Rattle.fmt_string.specs.FormatString.{IsNumber, NumberThen, SizeFails, IsPrefix, UnknownAt, RestIs, RestFails, FormatIs, FormatFaultIs, FailsBehind}
 use Rattle.fmt_string.specs.Answer.{FaultIs, Reads}
 use Rattle.fmt_string.proofs.Rereading.{number_of, number_again, no_number}
 use Rattle.fmt_string.proofs.RereadDecimal.{Answer, fault, numbers_of, decimal_again, numbers_fail}
-use Rattle.fmt_string.proofs.Table.{apart, is_prefix_free, keywords_apart}
+use Rattle.fmt_string.specs.Kinds.{KindOk}
+use Rattle.fmt_string.specs.Spelling.{spelling_of}
+use Rattle.fmt_string.proofs.Spelled.{spelled}
+use Rattle.fmt_string.proofs.Table.{apart, is_prefix_free, keywords_apart, and_left, and_right}
 
 -- ---- sizes
 
@@ -120,14 +123,6 @@ nested (a ∷ v) (b ∷ w) xs ys e =
       | inl h ↦ inl (h.0, cc (head, h.1))
       | inr h ↦ inr (h.0, cc (head, h.1))
     ]
-
-and_left : (a b : Bool) → (a && b) ≡ true → a ≡ true
-and_left true b h = refl
-and_left false b h = h
-
-and_right : (a b : Bool) → (a && b) ≡ true → b ≡ true
-and_right true b h = h
-and_right false b h = absurd cc
 
 not_true : (a : Bool) → not a ≡ true → a ≡ false
 not_true true h = absurd cc
@@ -243,3 +238,8 @@ pub one_answer : (text : List ℕ) (result : Answer) → IfOk result (FormatIs t
 one_answer text (Ok kind) found fault read reads = inl (one_reading text (Ok kind) read found reads)
 one_answer text (Err (At rule place)) found fault read reads = inl (one_reading text (Err (At rule place)) read fault reads)
 one_answer text (Err NoMemory) found fault read reads = inr refl
+
+pub one_spelling : (kind other : DataType) → KindOk kind → KindOk other → spelling_of kind ≡ spelling_of other → kind ≡ other
+one_spelling kind other kind_ok other_ok same =
+    let e : Ok kind ≡ Ok other = one_reading (spelling_of kind) (Ok kind) (Ok other) (spelled kind kind_ok) (subst (λ (t : List ℕ). FormatIs t other) (sym same) (spelled other other_ok)) in
+    cc

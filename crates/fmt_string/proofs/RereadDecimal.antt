@@ -11,8 +11,8 @@ use Rattle.fmt_string.specs.declared.fault.FormatFault.{FormatFault}
 use Rattle.fmt_string.specs.declared.fault.FormatFault.TheVariants.{At}
 use Rattle.fmt_string.specs.declared.kind.DataType.{DataType}
 use Rattle.fmt_string.specs.declared.kind.DataType.TheVariants as kinds
-use Rattle.fmt_string.specs.Format.{IsDigit, IsNumber, IsSigned, IsWidth, NoNumber, NumberThen, StartsWith, StartsWithDigit, comma, Parts, parts_text, PartsAre, Ends, width_of, most_precise, DecimalIs, NumberPlace, numbers_before, IsNumberPlace, Misses, IsNarrow, KnownWidth, most_at, WidthFails, RangeFails, NumbersFail}
-use Rattle.fmt_string.specs.Format.NumberPlace.{AtPrecision, AtScale, AtWidth}
+use Rattle.fmt_string.specs.FormatString.{IsDigit, IsNumber, IsSigned, IsWidth, NoNumber, NumberThen, StartsWith, StartsWithDigit, comma, Parts, parts_text, PartsAre, Ends, width_of, most_precise, DecimalIs, NumberPlace, numbers_before, IsNumberPlace, Misses, IsNarrow, KnownWidth, most_at, WidthFails, RangeFails, NumbersFail}
+use Rattle.fmt_string.specs.FormatString.NumberPlace.{AtPrecision, AtScale, AtWidth}
 use Rattle.fmt_string.specs.Decimal.{signed_value, width_value}
 use Rattle.fmt_string.proofs.Rereading.{number_of, number_again, no_number, signed_of, signed_again, no_signed, signed_is, other_byte, same_byte}
 

@@ -1,7 +1,7 @@
 ghost use Rattle.std.specs.Prelude.{◌≡◌, ◌+◌, ◌<◌, ◌≤◌, ◌^◌, ◌++◌, ◌∷◌, min, neg_ℤ, pos, length, take, drop, FitsSigned, IfOk, IfErr, IfSome, IfNone};
 ghost use Rattle.std.specs.Int.{w32};
 ghost use Rattle.std.specs.Str.Parse.{digits_value};
-ghost use Rattle.fmt_string.specs.Format.{IsNumber, StartsWith, IsSigned, NoSigned, StartsWithDigit, comma, IsWidth, width_of, most_precise, DecimalIs, NumbersFail};
+ghost use Rattle.fmt_string.specs.FormatString.{IsNumber, StartsWith, IsSigned, NoSigned, StartsWithDigit, comma, IsWidth, width_of, most_precise, DecimalIs, NumbersFail};
 ghost use Rattle.fmt_string.specs.Decimal.{signed_value, width_value, AreParts};
 
 use crate::number::{LARGEST, number_len, number_value};
