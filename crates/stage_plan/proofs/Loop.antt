@@ -3,7 +3,7 @@ use Rattle.std.proofs.Common.{◌≡◌, ◌≢◌, ◌∙◌, ◌<◌, ◌≤�
 use Rattle.std.specs.Borrow.{Bor}
 use Rattle.std.specs.List.{AllZip, list_any, Any}
 use Rattle.std.specs.List.Sorted.{IsPermutation}
-use Rattle.std.specs.Prelude.{slice_index_or}
+use Rattle.std.specs.Prelude.{slice_index_or, All}
 use Rattle.std.specs.Str.{bytes_eq}
 use Rattle.std.specs.Bool.{MatchBool}
 use Rattle.std.proofs.lemmas.List.{take_more, take_all, take-append-drop, map-append}
@@ -17,7 +17,10 @@ use Rattle.stage_plan.specs.declared.fault.TypesRule.{TypesRule}
 use Rattle.stage_plan.specs.declared.fault.TypesRule.TheVariants.{BadEntry, Twice}
 use Rattle.stage_plan.specs.Code.{entry_of}
 use Rattle.stage_plan.specs.declared.types.Entry.{Entry}
-use Rattle.stage_plan.specs.Types.{parts, EntryReads, FirstFaultIs, NamesDiffer, Reads, TypesIs}
+use Rattle.fmt_string.specs.declared.kind.DataType.{DataType}
+use Rattle.fmt_string.specs.FormatString.{FormatIs}
+use Rattle.fmt_string.specs.Kinds.{KindOk}
+use Rattle.stage_plan.specs.Types.{parts, EntryIs, EntryReads, FirstFaultIs, NamesDiffer, Reads, TypesIs}
 use Rattle.stage_plan.proofs.Walk.{Answer, Named, Settled, Settles, fault, fault_after, fault_only, whole, whole_only}
 
 abbrev texts : List (Bor (List ℕ)) → List (List ℕ)
@@ -51,6 +54,19 @@ was_new added false is new = refl
 pub put_in : (A B : Type 0) (added : Bool) → MatchBool added A B → added ≡ true → A
 put_in A B true put new = put
 put_in A B false put new = absurd (true≢false (sym new))
+
+-- the types of entries are of formats, which spell types that are
+entries_valid : ((text : List ℕ) (kind : DataType) → FormatIs text kind → KindOk kind) → (ps : List (List ℕ)) (es : List TypeEntry)
+    → AllZip EntryIs ps es → All (λ e. KindOk e.kind) es
+entries_valid law [] [] each k d within = absurd (omega arith)
+entries_valid law [] (e ∷ es) each k d within = absurd each
+entries_valid law (p ∷ ps) [] each k d within = absurd each
+entries_valid law (p ∷ ps) (e ∷ es) each zero d within = law each.0.0 e.kind each.0.2.0
+entries_valid law (p ∷ ps) (e ∷ es) each (suc k) d within = entries_valid law ps es each.1 k d (omega arith)
+
+pub kinds_valid : ((text : List ℕ) (kind : DataType) → FormatIs text kind → KindOk kind) → (text : List ℕ) (es : List TypeEntry)
+    → TypesIs text es → All (λ e. KindOk e.kind) es
+kinds_valid law text es is = entries_valid law (parts text) es is.each
 
 -- ---- what is kept
 

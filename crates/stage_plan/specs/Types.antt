@@ -1,41 +1,16 @@
 -- The entries of a schema text, and its first fault.
-use Rattle.std.specs.Prelude.{◌≡◌, ◌≢◌, ◌⊎◌, ◌+◌, ◌&&◌, ℕ, ℤ, pos, negsuc, Bool, true, false, not, List, [], ◌∷◌, ◌++◌, length, if◌then◌else◌, ◌==◌, nat_le, Option, Some, None, Result, Ok, Err, Vec}
+use Rattle.std.specs.Prelude.{◌≡◌, ◌≢◌, ◌⊎◌, ◌+◌, ℕ, true, false, List, [], ◌∷◌, ◌++◌, length, if◌then◌else◌, ◌==◌, Option, Some, None, Result, Ok, Err, Vec}
 use Rattle.std.specs.Global.{Global}
 use Rattle.std.specs.List.{AllByRecursion, AllZip, AllPairs, Any}
 use Rattle.fmt_string.specs.declared.kind.DataType.{DataType}
-use Rattle.fmt_string.specs.declared.kind.DataType.TheVariants as kinds
 use Rattle.fmt_string.specs.declared.fault.FormatRule.{FormatRule}
-use Rattle.fmt_string.specs.Format.{FormatIs, FormatFaultIs}
+use Rattle.fmt_string.specs.FormatString.{FormatIs, FormatFaultIs}
+use Rattle.fmt_string.specs.Kinds.{is_column_type}
 use Rattle.stage_plan.specs.declared.types.TypeEntry.{TypeEntry}
 use Rattle.stage_plan.specs.declared.fault.TypesRule.{TypesRule}
 use Rattle.stage_plan.specs.declared.fault.TypesRule.TheVariants.{BadEntry, Twice}
 use Rattle.stage_plan.specs.declared.fault.TypesFault.{TypesFault}
 use Rattle.stage_plan.specs.declared.fault.TypesFault.TheVariants.{At, NoMemory}
-
--- ---- the types of columns
-
-abbrev pub is_column_type : DataType → Bool
-is_column_type kinds.Null = false
-is_column_type kinds.Bool = true
-is_column_type (kinds.Int bits signed) = true
-is_column_type (kinds.Float bits) = true
-is_column_type (kinds.Binary wide) = true
-is_column_type (kinds.Utf8 wide) = true
-is_column_type (kinds.FixedBinary size) = nat_le 1 size && nat_le size 65536
-is_column_type (kinds.Decimal precision (pos scale) wide) = not wide && nat_le scale precision
-is_column_type (kinds.Decimal precision (negsuc scale) wide) = false
-is_column_type kinds.DateDay = true
-is_column_type kinds.DateMilli = true
-is_column_type (kinds.TimeOfDay tick) = true
-is_column_type (kinds.Timestamp tick zone) = true
-is_column_type (kinds.Duration tick) = true
-is_column_type kinds.IntervalMonths = true
-is_column_type kinds.IntervalDayTime = false
-is_column_type kinds.IntervalMonthDayNano = false
-is_column_type (kinds.List wide) = false
-is_column_type (kinds.FixedList size) = false
-is_column_type kinds.Struct = false
-is_column_type kinds.Map = false
 
 -- ---- entries
 

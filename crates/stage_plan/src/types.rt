@@ -1,13 +1,14 @@
 ghost use Rattle.std.specs.Prelude.{◌≡◌, ◌≢◌, ◌+◌, ◌==◌, false, length, List, All, Option, Result, IfOk, IfErr, IfSome, IfNone, map, option_map, position};
 ghost use Rattle.fmt_string.specs.declared.kind.DataType.{DataType as AType};
+ghost use Rattle.fmt_string.specs.Kinds.{KindOk};
 ghost use Rattle.stage_plan.specs.declared.fault.TypesFault.{TypesFault as AFault};
 ghost use Rattle.stage_plan.specs.declared.fault.TypesFault.TheVariants as faults;
 ghost use Rattle.stage_plan.specs.declared.types.TypeEntry.{TypeEntry as AnEntry};
-ghost use Rattle.stage_plan.specs.Types.{parts, is_column_type, CutsAt, Lacks, TypeReads, EntryReads, TypesIs, TypesFaultIs, Reads, Gives};
+ghost use Rattle.stage_plan.specs.Types.{parts, CutsAt, Lacks, TypeReads, EntryReads, TypesIs, TypesFaultIs, Reads, Gives};
 ghost use Rattle.stage_plan.specs.Code.{entry_of};
 
 use crate::{TypesFault, TypesRule};
-use fmt_string::{DataType, FormatFault, read_format};
+use fmt_string::{DataType, FormatFault, is_column_type, read_format, spelled_is_valid};
 use std::alloc::Global;
 use std::collections::HashSet;
 use unit_pass::{Name, NoMemory};
@@ -35,6 +36,7 @@ struct Entry<'a> {
 pub fn read_types(alloc: Global, text: &str) -> Result<Vec<TypeEntry>, TypesFault>
     // What is read are the text's entries.
     ensures found { IfOk result (λ entries. TypesIs text.now entries.items) }
+    ensures valid { IfOk result (λ entries. All (λ e. KindOk e.kind) entries.items) }
     // Which fault it is.
     ensures fault { IfErr result (λ f. f ≢ faults.NoMemory → TypesFaultIs text.now f) }
     // A text with entries is read, and a fault is answered, unless memory runs out.
@@ -55,6 +57,7 @@ pub fn read_types(alloc: Global, text: &str) -> Result<Vec<TypeEntry>, TypesFaul
         let kind = entry.kind;
         entries.push(TypeEntry { name, kind })?;
     }
+    spelled_is_valid();
     Ok(entries)
 }
 
@@ -131,27 +134,5 @@ fn column_type(alloc: Global, format: &[u8]) -> Result<Option<DataType>, NoMemor
         }
         Err(FormatFault::At { .. }) => Ok(None),
         Err(FormatFault::NoMemory) => Err(NoMemory),
-    }
-}
-
-// Whether a column can have the type.
-fn is_column_type(kind: &DataType) -> bool
-    ensures { result ≡ is_column_type kind.now }
-{
-    match kind {
-        DataType::FixedBinary { size } => 1 <= *size && *size <= 65_536,
-        DataType::Decimal {
-            precision,
-            scale,
-            wide,
-        } => !*wide && 0 <= *scale && *scale <= i32::from(*precision),
-        DataType::Null
-        | DataType::IntervalDayTime
-        | DataType::IntervalMonthDayNano
-        | DataType::List { .. }
-        | DataType::FixedList { .. }
-        | DataType::Struct
-        | DataType::Map => false,
-        _ => true,
     }
 }
