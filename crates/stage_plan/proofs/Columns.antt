@@ -1,5 +1,5 @@
 -- What one reading of a format makes of the type behind a name.
-use Rattle.std.proofs.Common.{◌≡◌, ◌∙◌, ◌⊎◌, Bool, true, false, true≢false, List, ℕ, Option, Some, None, Result, Ok, Err, ap, sym, refl, inl, inr}
+use Rattle.std.proofs.Common.{◌≡◌, ◌∙◌, ◌⊎◌, true, false, true≢false, List, ℕ, Option, Some, None, Result, Ok, Err, ap, sym, refl, inl, inr}
 use Rattle.fmt_string.specs.declared.kind.DataType.{DataType}
 use Rattle.fmt_string.specs.declared.fault.FormatRule.{FormatRule}
 use Rattle.fmt_string.specs.declared.fault.FormatFault.{FormatFault}

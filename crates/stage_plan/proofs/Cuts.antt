@@ -1,5 +1,5 @@
 -- A text around the first byte of a kind, and its parts.
-use Rattle.std.proofs.Common.{◌≡◌, ◌∙◌, ◌<◌, Bool, ◌+◌, ◌-◌, ◌==◌, ℕ, zero, suc, true, false, true≢false, List, [], ◌∷◌, ◌++◌, length, take, drop, Option, Some, None, option_map, ap, sym, subst, refl, arith, inl, inr, map, append_assoc, length-append, ◌≤◌}
+use Rattle.std.proofs.Common.{◌≡◌, ◌∙◌, ◌<◌, Bool, ◌-◌, ◌==◌, ℕ, zero, suc, true, false, true≢false, List, [], ◌∷◌, ◌++◌, length, take, drop, Option, Some, None, option_map, ap, sym, subst, refl, arith, inl, inr, map, append_assoc, length-append}
 use Rattle.std.specs.Borrow.{Bor}
 use Rattle.std.specs.Prelude.{position, slice_index_or, All}
 use Rattle.std.proofs.lemmas.Bool.{eqb-true, eq-eqb}

@@ -2,3 +2,4 @@ pub mod Cuts
 pub mod Columns
 pub mod Walk
 pub mod Loop
+pub mod Worked

@@ -1,19 +1,17 @@
 -- What the loop over the parts keeps.
 use Rattle.std.proofs.Common.{◌≡◌, ◌≢◌, ◌∙◌, ◌<◌, ◌≤◌, ◌+◌, ◌||◌, ℕ, zero, suc, Bool, true, false, true≢false, List, [], ◌∷◌, ◌++◌, length, take, drop, map, Option, Some, None, Ok, ap, sym, subst, refl, arith, drop-cons, option_map, not}
 use Rattle.std.specs.Borrow.{Bor}
-use Rattle.std.specs.List.{AllZip, list_any, Any}
+use Rattle.std.specs.List.{AllZip, list_any}
 use Rattle.std.specs.List.Sorted.{IsPermutation}
 use Rattle.std.specs.Prelude.{slice_index_or, All}
 use Rattle.std.specs.Str.{bytes_eq}
 use Rattle.std.specs.Bool.{MatchBool}
 use Rattle.std.proofs.lemmas.List.{take_more, take_all, take-append-drop, map-append}
-use Rattle.std.proofs.lemmas.List.Elements.{AllZip-push}
 use Rattle.std.proofs.lemmas.List.Folds.{Any-from_list_any, list_any_at, list_any-append}
 use Rattle.std.proofs.lemmas.List.Quantifiers.{all_pairs_push}
 use Rattle.std.proofs.lemmas.List.Sorted.{list_any-IsPermutation}
 use Rattle.std.proofs.lemmas.Slice.Eq.{bytes_eq-Decides}
 use Rattle.stage_plan.specs.declared.types.TypeEntry.{TypeEntry}
-use Rattle.stage_plan.specs.declared.fault.TypesRule.{TypesRule}
 use Rattle.stage_plan.specs.declared.fault.TypesRule.TheVariants.{BadEntry, Twice}
 use Rattle.stage_plan.specs.Code.{entry_of}
 use Rattle.stage_plan.specs.declared.types.Entry.{Entry}
@@ -110,11 +108,11 @@ module _ (items : List (Bor (List ℕ))) (i : ℕ) (keys : List (Bor (List ℕ))
           each = subst (λ (l : List (List ℕ)). Settled l (es ++ e ∷ [])) (sym longer) (push_settled (texts (take i items)) es far.each settles);
           differ = all_pairs_push (λ a b. a.name ≢ b.name) es e far.differ (new_name es e none);
           knows = λ n.
-            sym (list_any-IsPermutation (λ k. bytes_eq n k.now) (key ∷ keys) after puts)
-            ∙ ap (λ (b : Bool). bytes_eq n key.now || b) (far.knows n)
-            ∙ ap (λ (l : List ℕ). bytes_eq n l || has_name es n) (sym name)
-            ∙ swap (bytes_eq n e.name) (has_name es n)
-            ∙ sym (list_any-append (λ x. bytes_eq n x.name) es (e ∷ []));
+              sym (list_any-IsPermutation (λ k. bytes_eq n k.now) (key ∷ keys) after puts)
+              ∙ ap (λ (b : Bool). bytes_eq n key.now || b) (far.knows n)
+              ∙ ap (λ (l : List ℕ). bytes_eq n l || has_name es n) (sym name)
+              ∙ swap (bytes_eq n e.name) (has_name es n)
+              ∙ sym (list_any-append (λ x. bytes_eq n x.name) es (e ∷ []));
         }
       where
         push_settled : (ps : List (List ℕ)) (fs : List TypeEntry) → Settled ps fs → Settles part (Some e) → Settled (ps ++ part ∷ []) (fs ++ e ∷ [])

@@ -1,5 +1,5 @@
 -- The parts one after another, and the one answer that they have.
-use Rattle.std.proofs.Common.{◌≡◌, ◌∙◌, ◌⊎◌, ◌<◌, ◌+◌, ℕ, zero, suc, List, [], ◌∷◌, ◌++◌, length, take, drop, Option, Some, None, Result, Ok, Err, ap, sym, subst, refl, arith, inl, inr, length-append, append_assoc}
+use Rattle.std.proofs.Common.{◌≡◌, ◌∙◌, ◌⊎◌, ◌+◌, ℕ, List, [], ◌∷◌, ◌++◌, length, Option, Some, None, Result, Ok, Err, ap, sym, subst, refl, arith, inl, inr, length-append, append_assoc}
 use Rattle.std.specs.List.{AllZip, Any}
 use Rattle.std.proofs.lemmas.List.{append-nil, get_or_append_left}
 use Rattle.std.specs.Prelude.{slice_index_or}
@@ -52,8 +52,12 @@ module _ (E : List ℕ → Option TypeEntry → Type 0) where
   walks_whole (p ∷ ps) [] seen each differ = absurd each
   walks_whole (p ∷ ps) (e ∷ es) seen each differ =
       let regroup : (seen ++ e ∷ []) ++ es ≡ seen ++ e ∷ es = append_assoc seen (e ∷ []) es in
-      inr (inr (e, each.0, not_named seen e es differ,
-      subst (λ (l : List TypeEntry). Walks (seen ++ e ∷ []) ps (Ok l)) regroup (walks_whole ps es (seen ++ e ∷ []) each.1 (subst NamesDiffer (sym regroup) differ))))
+      inr (inr (
+        e,
+        each.0,
+        not_named seen e es differ,
+        subst (λ (l : List TypeEntry). Walks (seen ++ e ∷ []) ps (Ok l)) regroup (walks_whole ps es (seen ++ e ∷ []) each.1 (subst NamesDiffer (sym regroup) differ)),
+      ))
 
   pub walks_fault : (front : List (List ℕ)) (before seen : List TypeEntry) (part : List ℕ) (behind : List (List ℕ)) (rule : TypesRule)
       → AllZip (λ p e. E p (Some e)) front before → NamesDiffer (seen ++ before) → Fails (seen ++ before) part rule
@@ -66,9 +70,13 @@ module _ (E : List ℕ → Option TypeEntry → Type 0) where
   walks_fault (p ∷ ps) [] seen part behind rule each differ fails = absurd each
   walks_fault (p ∷ ps) (e ∷ es) seen part behind rule each differ fails =
       let regroup : (seen ++ e ∷ []) ++ es ≡ seen ++ e ∷ es = append_assoc seen (e ∷ []) es in
-      inr (inr (e, each.0, not_named seen e es differ,
-      subst (λ (l : List TypeEntry). Walks (seen ++ e ∷ []) (ps ++ part ∷ behind) (fault_after l rule)) regroup
-      (walks_fault ps es (seen ++ e ∷ []) part behind rule each.1 (subst NamesDiffer (sym regroup) differ) (subst (λ (l : List TypeEntry). Fails l part rule) (sym regroup) fails))))
+      inr (inr (
+        e,
+        each.0,
+        not_named seen e es differ,
+        subst (λ (l : List TypeEntry). Walks (seen ++ e ∷ []) (ps ++ part ∷ behind) (fault_after l rule)) regroup
+            (walks_fault ps es (seen ++ e ∷ []) part behind rule each.1 (subst NamesDiffer (sym regroup) differ) (subst (λ (l : List TypeEntry). Fails l part rule) (sym regroup) fails)),
+      ))
 
 -- the reading of a part, which has no other
 abbrev pub Settles : List ℕ → Option TypeEntry → Type 0

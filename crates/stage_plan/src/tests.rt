@@ -49,8 +49,18 @@ static ENTRIES: [(&str, usize, &str, &str); 9] = [
     ("a:l; a:b", 2, " a", "Bool"),
     ("a:w:1", 1, "a", "FixedBinary { size: 1 }"),
     ("a:w:65536", 1, "a", "FixedBinary { size: 65536 }"),
-    ("a:d:5,5", 1, "a", "Decimal { precision: 5, scale: 5, wide: false }"),
-    ("a:d:38,0,128", 1, "a", "Decimal { precision: 38, scale: 0, wide: false }"),
+    (
+        "a:d:5,5",
+        1,
+        "a",
+        "Decimal { precision: 5, scale: 5, wide: false }",
+    ),
+    (
+        "a:d:38,0,128",
+        1,
+        "a",
+        "Decimal { precision: 38, scale: 0, wide: false }",
+    ),
     (
         "a:tss:UTC",
         1,
@@ -63,9 +73,7 @@ static ENTRIES: [(&str, usize, &str, &str); 9] = [
 fn entries_are_names_and_types(rt: HostRuntime) -> Result<(), Fail> {
     let alloc = rt.alloc();
     for (text, count, name, kind) in &ENTRIES {
-        let entries = read_types(alloc, *text)
-            .ok()
-            .ok_or("the text has entries")?;
+        let entries = read_types(alloc, *text).ok().ok_or("the text has entries")?;
         assert_eq!(rt; entries.len(), *count);
         let last = entries.last().ok_or("there is an entry")?;
         assert!(rt; last.name.as_slice() == name.as_bytes());

@@ -13,11 +13,12 @@ use std::alloc::Global;
 use std::collections::HashSet;
 use unit_pass::{Name, NoMemory};
 
-/// The type of the columns of one name.
+/// The type of the column of a name.
 #[derive(Debug, Drop)]
 pub struct TypeEntry {
     /// The name, which may be empty.
     pub name: Name,
+    /// The type that its format string spells.
     pub kind: DataType,
 }
 
@@ -28,14 +29,16 @@ struct Entry<'a> {
     kind: DataType,
 }
 
-/// The entries of a text, in order.
+/// The entries of a text, in order: names, each with the first `:` and a format string behind it, apart by `;` ("The
+/// Arrow C Data Interface", "Data type description: format strings").
 ///
-/// The first entry at fault counts, and `BadEntry` comes before `Twice`. A column's type is one whose values a field
-/// of a CSV record can spell: `w:N` with N from 1 to 65,536, and decimals of 128 bits with a scale from 0 to their
-/// precision.
+/// The first entry at fault counts, and in it `BadEntry` before `Twice`. The types of columns are those whose values a
+/// field of a CSV record can spell; of these `w:N` has N from 1 to 65,536, and a decimal has 128 bits and a scale from
+/// 0 to its precision. A text has one answer, which is given unless memory runs out.
 pub fn read_types(alloc: Global, text: &str) -> Result<Vec<TypeEntry>, TypesFault>
     // What is read are the text's entries.
     ensures found { IfOk result (λ entries. TypesIs text.now entries.items) }
+    // Each type is a proper one.
     ensures valid { IfOk result (λ entries. All (λ e. KindOk e.kind) entries.items) }
     // Which fault it is.
     ensures fault { IfErr result (λ f. f ≢ faults.NoMemory → TypesFaultIs text.now f) }

@@ -1,5 +1,4 @@
-use Rattle.std.proofs.Common.{◌≡◌, ◌∙◌, ap, sym, Err}
-use Rattle.fmt_string.specs.declared.kind.DataType.{DataType}
+use Rattle.std.proofs.Common.{◌∙◌, ap, sym, Err}
 use Rattle.fmt_string.specs.declared.fault.FormatFault.{FormatFault}
 use Rattle.stage_plan.proofs.Columns.{column, no_column, refused}
 use Rattle.stage_plan.proofs.types.column_type.Goals as goal

@@ -1,4 +1,4 @@
-use Rattle.std.proofs.Common.{◌≡◌, ◌∙◌, ◌+◌, ◌<◌, ◌≤◌, ap, sym, subst, arith, refl, List, ℕ, length, map, rules, Bool, true, false, Err, [], ◌∷◌, ◌++◌}
+use Rattle.std.proofs.Common.{◌∙◌, ◌+◌, ap, sym, subst, arith, refl, List, ℕ, length, map, Err, [], ◌∷◌, ◌++◌}
 use Rattle.stage_plan.specs.Code.{entry_of}
 use Rattle.stage_plan.specs.Types.{parts, Gives, TypesFaultIs}
 use Rattle.stage_plan.specs.declared.types.TypeEntry.{TypeEntry}
