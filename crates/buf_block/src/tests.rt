@@ -6,7 +6,7 @@ use std::alloc::Global;
 use std::test::Fail;
 use std::thread;
 use std::thread::Threads;
-use unit_pass::{NoMemory, Pass, open_desk};
+use unit_pass::{Pass, open_desk};
 
 // What two holds of one block tell: their amounts, and what the second still reads once the first has let go.
 #[derive(Debug, PartialEq, Drop)]
@@ -109,7 +109,7 @@ fn end_both(
     other: Hold,
     pass: &mut Pass,
     theirs: &mut Pass,
-) -> [Option<Left>; 2]
+) -> (Option<Left>, Option<Left>)
     requires mine { pass.old.units < SUPPLY }
     requires theirs { theirs.old.units < SUPPLY }
     ensures mine { pass.new.units ≡ pass.old.units + 1 }
@@ -117,53 +117,54 @@ fn end_both(
 {
     let mut one = Some(one);
     let mut other = Some(other);
-    let (mine, other_side) = thread::join_mut(
+    let both = thread::join_mut(
         rt,
         &mut || end(&mut one, theirs),
         &mut || end(&mut other, pass),
     );
     nothing(one);
     nothing(other);
-    [mine, other_side]
+    both
 }
 
-fn frees_of(lefts: &[Option<Left>]) -> usize {
-    let mut frees = 0;
-    for left in lefts {
-        if let Some(left) = left
-            && left.answer() == LetGo::Freed
-        {
-            frees += 1;
-        }
+fn freed(left: &Option<Left>) -> bool {
+    match left {
+        Some(left) => left.answer() == LetGo::Freed,
+        None => false,
     }
-    frees
 }
 
-fn count_frees(rt: &impl Threads, alloc: Global, bytes: Vec<u8>, pass: &mut Pass) -> Option<usize>
-    requires units { pass.old.units ≡ SUPPLY }
-    ensures units { pass.new.units ≡ SUPPLY }
+// Makes a block, takes a second hold, and tells which of the two frees it.
+fn who_frees(
+    rt: &impl Threads,
+    alloc: Global,
+    bytes: Vec<u8>,
+    pass: &mut Pass,
+    theirs: &mut Pass,
+) -> Option<(bool, bool)>
+    requires mine { (2 ≤ pass.old.units) × (pass.old.units < SUPPLY) }
+    requires theirs { theirs.old.units < SUPPLY }
+    ensures units { pass.new.units + theirs.new.units ≡ pass.old.units + theirs.old.units }
 {
-    let mut theirs = pass.split(1);
-    let lefts = match make(alloc, bytes, pass) {
-        Err(_) => None,
-        Ok(mut hold) => match hold.take(pass) {
-            Ok(second) => Some(end_both(rt, hold, second, pass, &mut theirs)),
-            Err(NoMemory) => {
-                let _left = hold.let_go(pass);
-                None
-            }
-        },
+    let Ok(mut hold) = make(alloc, bytes, pass) else {
+        return None;
     };
-    pass.join(theirs);
-    Some(frees_of(&lefts?))
+    let Ok(second) = hold.take(pass) else {
+        let _left = hold.let_go(pass);
+        return None;
+    };
+    let (one, other) = end_both(rt, hold, second, pass, theirs);
+    Some((freed(&one), freed(&other)))
 }
 
 #[test]
 fn one_of_two_threads_frees(rt: HostRuntime) -> Result<(), Fail> {
     let bytes = vec![in rt.alloc(); 1u8, 2, 3]?;
     let (desk, mut pass) = open_desk();
-    let frees = count_frees(&rt, rt.alloc(), bytes, &mut pass);
+    let mut theirs = pass.split(1);
+    let frees = who_frees(&rt, rt.alloc(), bytes, &mut pass, &mut theirs);
+    pass.join(theirs);
     desk.close(pass);
-    assert_eq!(rt; frees, Some(1));
+    assert!(rt; frees.is_some_and(|(one, other)| one != other));
     Ok(())
 }
