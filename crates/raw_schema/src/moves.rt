@@ -15,6 +15,20 @@ impl RawSchema {
         requires not_deep { Depth child.old ≤ 127 }
         ensures put { self.new ≡ with_child self.old i child.old }
         ensures left { child.new ≡ Released }
+        ensures places { length (children_of self.new) ≡ length (children_of self.old) }
+        ensures cost { Nodes self.new ≡ Nodes self.old + Nodes child.old }
+    {
+        self.swap_child(i, child);
+    }
+
+    /// Exchanges a child and another structure.
+    #[tactic(auto, using(crate::proofs::Moved::moved))]
+    fn swap_child(&mut self, i: usize, child: &mut RawSchema)
+        requires inside { i < length (children_of self.old) }
+        requires not_deep { Depth child.old ≤ 127 }
+        ensures put { self.new ≡ with_child self.old i child.old }
+        ensures given { child.new ≡ child_at self.old i }
+        ensures live { IsLive self.new }
     {
         match &mut self.state {
             State::Released => unreachable!(),
@@ -30,14 +44,9 @@ impl RawSchema {
         ensures rest { self.new ≡ with_child self.old i Released }
         ensures live { IsLive self.new }
     {
-        match &mut self.state {
-            State::Released => unreachable!(),
-            State::Live(node) => {
-                let mut hole = RawSchema::released();
-                node.children.swap(i, &mut hole);
-                hole
-            }
-        }
+        let mut hole = RawSchema::released();
+        self.swap_child(i, &mut hole);
+        hole
     }
 
     /// Takes the dictionary out, and leaves a released one in its place.
