@@ -1,5 +1,5 @@
 -- A list of released trees, and a live tree whose children they are.
-use Rattle.std.proofs.Common.{◌≡◌, ℕ, ◌+◌, ◌<◌, ◌≤◌, List, [], ◌∷◌, length, get_or, set, replicate, refl, ap, sym, ◌∙◌, arith, suc, zero}
+use Rattle.std.proofs.Common.{◌≡◌, ℕ, length, get_or, replicate, refl, ap, ◌∙◌, arith, suc, zero}
 use Rattle.std.proofs.lemmas.List.{length-replicate, replicate_more, set-get_or}
 use Rattle.tree_model.specs.Tree.{Tree, Released, Live, MaybeTree, trees, tree_list, child_at, children_of, with_child, depth_of_all}
 use Rattle.tree_model.specs.Tree as tree

@@ -1,6 +1,6 @@
 -- A window on an array, and the children that are moved out of a parent into a new one
 -- (Apache Arrow, "The Arrow C Data Interface": "Moving an array" and "Moving child arrays").
-use Rattle.std.specs.Prelude.{◌≡◌, ◌≢◌, ℕ, get_or, ℤ, pos, ◌<◌, ◌^◌, ◌-◌, ◌+ℤ◌, ◌≤ℤ◌, Bool, ◌&&◌, List, [], ◌∷◌, map, length, None, if◌then◌else◌}
+use Rattle.std.specs.Prelude.{◌≢◌, ℕ, get_or, ℤ, pos, ◌<◌, ◌^◌, ◌-◌, ◌+ℤ◌, ◌≤ℤ◌, Bool, ◌&&◌, List, [], ◌∷◌, map, length, None, if◌then◌else◌}
 use Rattle.std.specs.Ordering.{int_eq}
 use Rattle.tree_model.specs.Tree.{Tree, Live, Released, IsLive, trees, absent, child_at, children_of}
 use Rattle.raw_array.specs.Members.{ArrayMembers, ArrayTree, members_of, windowed}

@@ -1,4 +1,4 @@
-ghost use Rattle.std.specs.Prelude.{◌≡◌, ℕ, ◌+◌, ◌-◌, ◌<◌, ◌≤◌, ◌^◌, length, map, replicate, None, Some, is_ok, if◌then◌else◌, IfOk, IfErr, MatchOption};
+ghost use Rattle.std.specs.Prelude.{◌≡◌, ℕ, ◌+◌, ◌-◌, ◌<◌, ◌≤◌, ◌^◌, length, map, replicate, None, is_ok, if◌then◌else◌, IfOk, IfErr};
 ghost use Rattle.tree_model.specs.Tree.{Released, Live, IsLive, Depth, absent, trees, children_of, child_at, with_child, dictionary_of};
 ghost use Rattle.raw_schema.specs.Members.{Nodes, members_of, nodes_of_all};
 ghost use Rattle.raw_schema.specs.View.{bytes_of};
@@ -13,8 +13,8 @@ use unit_pass::{NoMemory, Pass, SUPPLY};
 
 /// Moves the picked fields of a schema without a dictionary into a new schema of the same format, name, flags and
 /// metadata, in the order of the picks, and releases the old schema with the fields that were not picked ("The Arrow
-/// C Data Interface", "Moving child arrays"). All memory is taken first: on want of memory the schema comes back as
-/// it was.
+/// C Data Interface", "Moving child arrays"). The new schema draws one unit; the units of what is released come back.
+/// All memory is taken first: on want of memory the schema comes back as it was.
 pub fn take_fields(
     alloc: Global,
     schema: RawSchema,
@@ -101,7 +101,7 @@ fn copied_metadata(alloc: Global, schema: &RawSchema) -> Result<Option<Vec<u8>>,
 }
 
 #[tactic(auto, using(crate::proofs::Vacant::vacant))]
-fn vacant_places(alloc: Global, places: usize) -> Result<Vec<RawSchema>, NoMemory>
+pub(crate) fn vacant_places(alloc: Global, places: usize) -> Result<Vec<RawSchema>, NoMemory>
     ensures { IfOk result (λ children. children.items ≡ replicate places Released) }
 {
     let mut children = Vec::with_capacity(alloc, places)?;

@@ -1,5 +1,5 @@
-use Rattle.std.proofs.Common.{◌≡◌, ap, sym, ◌∙◌}
-use Rattle.tree_model.specs.Tree.{Released, child_at, with_child}
+use Rattle.std.proofs.Common.{ap, sym, ◌∙◌}
+use Rattle.tree_model.specs.Tree.{with_child}
 use Rattle.arr_move.proofs.Vacant.{with_own_child}
 use Rattle.arr_move.proofs.fields.move_field.Goals as goal
 

@@ -1,8 +1,7 @@
-use Rattle.std.proofs.Common.{rules, ◌≡◌, ◌≢◌, ℕ, ◌+◌, ◌<◌, ◌≤◌, map, length, get_or, set, refl, ap, sym, ◌∙◌, arith}
+use Rattle.std.proofs.Common.{◌≡◌, ◌<◌, length, get_or, refl, ap, sym, ◌∙◌, arith}
 use Rattle.std.proofs.lemmas.List.{length-set}
 use Rattle.tree_model.specs.Tree.{Released, Depth, children_of, child_at}
 use Rattle.raw_schema.specs.Members.{Nodes, no_holds}
-use Rattle.arr_move.specs.TreeActs.{with_children}
 use Rattle.arr_move.proofs.Filled.{children_of-with_child, Cost-with_child, Depth-child_at}
 use Rattle.arr_move.proofs.Moving.{with_own_children, place_inside, place_vacant, one_more, all_moved, other_child}
 use Rattle.arr_move.proofs.fields.move_fields.Goals as goal
@@ -41,12 +40,11 @@ loop-place-preserved c =
     let there : pick < length (children_of c.loop-place.moved) = omega (arith, c.requires.in_range place inside, c.loop-place.invariant.2) in
     let room = place_inside c.args.top.now c.loop-place.top picks _ place c.loop-place.invariant.0 c.requires.places inside in
     let vacant = place_vacant c.args.top.now c.loop-place.top picks _ place c.loop-place.invariant.0 c.requires.places inside ∙ c.requires.vacant place in
-    let number = ap (λ m. length (children_of m)) c.move_field.ensures.moved ∙ ap length (children_of-with_child c.loop-place.moved pick Released) in
-    (
+    let number = ap (λ m. length (children_of m)) c.move_field.ensures.moved ∙ ap length (children_of-with_child c.loop-place.moved pick Released) in (
       c.move_field.ensures.top ∙ more,
       (λ j low high. ap (λ m. child_at m (get_or picks j 0)) c.move_field.ensures.moved
-        ∙ other_child c.loop-place.moved pick (get_or picks j 0) (λ e. c.requires.distinct place j (omega (arith, low)) high (sym e))
-        ∙ c.loop-place.invariant.1 j (omega (arith, low)) high),
+          ∙ other_child c.loop-place.moved pick (get_or picks j 0) (λ e. c.requires.distinct place j (omega (arith, low)) high (sym e))
+          ∙ c.loop-place.invariant.1 j (omega (arith, low)) high),
       number ∙ length-set (children_of c.loop-place.moved) pick Released ∙ c.loop-place.invariant.2,
       omega (
         arith,
