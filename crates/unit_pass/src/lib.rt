@@ -10,4 +10,4 @@ mod pass;
 
 pub use name::Name;
 pub use no_memory::NoMemory;
-pub use pass::{open_desk, Audit, Desk, Pass, Unit, CHUNK, ROOM, SUPPLY};
+pub use pass::{Audit, CHUNK, Desk, Pass, ROOM, SUPPLY, Unit, open_desk};
