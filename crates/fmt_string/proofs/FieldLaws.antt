@@ -130,11 +130,11 @@ whole_back bits signed (negsuc n) flat of =
 bits_back : (digits n : ℕ) → n < 16 ^ digits → read_bits digits (last_digits 16 digits n) ≡ Some (Bits n)
 bits_back digits n small = rw (eq-eqb (length (last_digits 16 digits n)) digits (length-last_digits 16 digits n), hex_digits digits n, hex_value digits n small) refl
 
-record FloatWidth (bits : ℕ) : Type 0 where
-  some : 0 < bits / 4
-  power : 2 ^ bits ≡ 16 ^ (bits / 4)
+pub record FloatWidth (bits : ℕ) : Type 0 where
+  pub some : 0 < bits / 4
+  pub power : 2 ^ bits ≡ 16 ^ (bits / 4)
 
-float_width : (bits : ℕ) → IsFlatForm (FloatBits bits) → FloatWidth bits
+pub float_width : (bits : ℕ) → IsFlatForm (FloatBits bits) → FloatWidth bits
 float_width bits (inl is) = subst (λ (k : ℕ). FloatWidth k) (sym is) (record { some = omega arith; power = refl })
 float_width bits (inr (inl is)) = subst (λ (k : ℕ). FloatWidth k) (sym is) (record { some = omega arith; power = refl })
 float_width bits (inr (inr is)) = subst (λ (k : ℕ). FloatWidth k) (sym is) (record { some = omega arith; power = refl })

@@ -54,3 +54,8 @@ pub fn written_texts_read_back(kind: &DataType)
     ensures back { (value : Value) → IsFlatKind kind.now → IsValueOf kind.now value → value ≢ Bytes [] → read_field kind.now (written_text kind.now value) ≡ Some value }
     ensures empty_bytes_are_null { read_field kind.now (written_text kind.now (Bytes [])) ≡ Some Null }
 {}
+
+/// What a field of a flat column kind spells is a value of the kind: of its form, range and size.
+pub fn fields_are_values(kind: &DataType)
+    ensures { (text : List ℕ) (value : Value) → IsFlatKind kind.now → read_field kind.now text ≡ Some value → IsValueOf kind.now value }
+{}
