@@ -1,7 +1,11 @@
 pub mod Keywords
-pub mod Format
+pub mod FormatString
+pub mod Decimal
+pub mod Kinds
+pub mod Spelling
 pub mod Meaning
 pub mod Answer
 pub mod Value
 pub mod Table
 pub mod FieldText
+pub mod ColumnView

@@ -1,0 +1,43 @@
+-- Which types there are, and which of them columns of a text may have.
+use Rattle.std.specs.Prelude.{◌≡◌, ◌⊎◌, ℕ, ℤ, pos, negsuc, ◌<◌, ◌≤◌, ◌^◌, Bool, true, false, nat_le, ◌&&◌, FitsSigned}
+use Rattle.std.specs.Int.{w32}
+use Rattle.fmt_string.specs.FormatString.{most_precise}
+use Rattle.fmt_string.specs.declared.kind.DataType.{DataType}
+use Rattle.fmt_string.specs.declared.kind.DataType.TheVariants as kinds
+
+-- the numbers of a type are in their ranges
+abbrev pub KindOk : DataType → Type 0
+KindOk (kinds.Int bits signed) = (bits ≡ 8) ⊎ (bits ≡ 16) ⊎ (bits ≡ 32) ⊎ (bits ≡ 64)
+KindOk (kinds.Float bits) = (bits ≡ 16) ⊎ (bits ≡ 32) ⊎ (bits ≡ 64)
+KindOk (kinds.FixedBinary size) = size < 2 ^ 31
+KindOk (kinds.FixedList size) = size < 2 ^ 31
+KindOk (kinds.Decimal precision scale wide) = (1 ≤ precision) × (precision ≤ most_precise wide) × FitsSigned w32 scale
+KindOk _ = Unit {0}
+
+-- a timestamp, whose zone takes memory
+abbrev pub HasZone : DataType → Type 0
+HasZone (kinds.Timestamp tick zone) = Unit {0}
+HasZone _ = ⊥
+
+-- the types whose values a field of text spells
+abbrev pub is_flat : DataType → Bool
+is_flat kinds.Null = false
+is_flat (kinds.Decimal precision scale true) = false
+is_flat kinds.IntervalDayTime = false
+is_flat kinds.IntervalMonthDayNano = false
+is_flat (kinds.List wide) = false
+is_flat (kinds.FixedList size) = false
+is_flat kinds.Struct = false
+is_flat kinds.Map = false
+is_flat _ = true
+
+-- a scale from 0 to the precision
+abbrev pub is_within : ℤ → ℕ → Bool
+is_within (pos scale) precision = nat_le scale precision
+is_within (negsuc n) precision = false
+
+-- the flat types that may be asked for: texts of at most 65,536 bytes, and decimals with a scale from 0 to the precision
+abbrev pub is_column_type : DataType → Bool
+is_column_type (kinds.FixedBinary size) = nat_le 1 size && nat_le size 65536
+is_column_type (kinds.Decimal precision scale false) = is_within scale precision
+is_column_type kind = is_flat kind

@@ -1,0 +1,23 @@
+ghost use Rattle.std.specs.Prelude.{◌≡◌, ℕ, List, Result};
+ghost use Rattle.fmt_string.specs.declared.kind.DataType.{DataType};
+ghost use Rattle.fmt_string.specs.declared.fault.FormatFault.{FormatFault};
+ghost use Rattle.fmt_string.specs.FormatString.{FormatIs};
+ghost use Rattle.fmt_string.specs.Kinds.{KindOk};
+ghost use Rattle.fmt_string.specs.Spelling.{spelling_of};
+ghost use Rattle.fmt_string.specs.Answer.{Reads};
+
+/// A law: a text spells one type or has one first fault.
+pub fn one_reading()
+    ensures { (text : List ℕ) (first second : Result DataType FormatFault) → Reads text first → Reads text second → first ≡ second }
+{}
+
+/// A law: the canonical spelling of a type spells it, and no other type has that spelling.
+pub fn spelling_reads_back()
+    ensures spelled { (kind : DataType) → KindOk kind → FormatIs (spelling_of kind) kind }
+    ensures alone { (kind other : DataType) → KindOk kind → KindOk other → spelling_of kind ≡ spelling_of other → kind ≡ other }
+{}
+
+/// A law: the numbers of each type that a text spells are in their ranges.
+pub fn spelled_is_valid()
+    ensures { (text : List ℕ) (kind : DataType) → FormatIs text kind → KindOk kind }
+{}
