@@ -47,11 +47,13 @@ impl RawSchema {
             dictionary,
         } = parts;
         match placed_parts(alloc, children, dictionary, pass) {
-            Ok(Placed {
-                children,
-                dictionary,
-                private,
-            }) => {
+            Ok(
+                Placed {
+                    children,
+                    dictionary,
+                    private,
+                },
+            ) => {
                 pass.count_node();
                 let node = Node {
                     format,
