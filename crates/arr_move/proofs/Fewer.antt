@@ -23,9 +23,9 @@ picks_le : (us picks : List ℕ) → Distinct picks → ((k : ℕ) → k < lengt
 picks_le us [] distinct inside one = omega arith
 picks_le us (p ∷ ps) distinct inside one =
     let rest = picks_le (set us p 0) ps
-        (λ i j low high. distinct (suc i) (suc j) (omega (arith, low)) (omega (arith, high)))
-        (λ k h. omega (arith, length-set us p 0, inside (suc k) (omega (arith, h))))
-        (λ k h. get_or-set_other us p (get_or ps k 0) 0 0 (λ e. distinct zero (suc k) (omega arith) (omega (arith, h)) (sym e)) ∙ one (suc k) (omega (arith, h))) in
+    (λ i j low high. distinct (suc i) (suc j) (omega (arith, low)) (omega (arith, high)))
+    (λ k h. omega (arith, length-set us p 0, inside (suc k) (omega (arith, h))))
+    (λ k h. get_or-set_other us p (get_or ps k 0) 0 0 (λ e. distinct zero (suc k) (omega arith) (omega (arith, h)) (sym e)) ∙ one (suc k) (omega (arith, h))) in
     omega (arith, rest, total-set us p (inside zero (omega arith)), one zero (omega arith))
 
 pub picks_le-children : {M : Type 0} (t : Tree M) (picks : List ℕ) → Distinct picks → InRange t picks → length picks ≤ length (children_of t)
@@ -34,8 +34,7 @@ picks_le-children t picks distinct inside =
     omega (
       arith,
       picks_le (replicate {A = ℕ} n 1) picks distinct
-        (λ k h. omega (arith, length-replicate {A = ℕ} n 1, inside k h))
-        (λ k h. get_or-replicate {A = ℕ} n (get_or picks k 0) 1 0 (inside k h)),
+          (λ k h. omega (arith, length-replicate {A = ℕ} n 1, inside k h))
+          (λ k h. get_or-replicate {A = ℕ} n (get_or picks k 0) 1 0 (inside k h)),
       total-ones n,
     )
-

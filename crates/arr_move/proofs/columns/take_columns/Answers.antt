@@ -1,9 +1,9 @@
 use Rattle.std.proofs.Common.{◌≡◌, map, ap, ◌∙◌, arith, w64, to_z, of_z}
 use Rattle.std.proofs.lemmas.Int.{ints}
-use Rattle.raw_array.specs.Members.{Cost, members_of, holds}
+use Rattle.raw_array.specs.Members.{Cost, members_of}
 use Rattle.tree_model.specs.Tree.{Live, trees, absent}
 use Rattle.arr_move.specs.TreeActs.{Columns, cut, struct_members, with_children}
-use Rattle.arr_move.proofs.LivePicks.{picks_lt-Cost}
+use Rattle.arr_move.proofs.Fewer.{picks_le-children}
 use Rattle.arr_move.proofs.columns.take_columns.Goals as goal
 
 pub returns-in-Ok-clause-units : goal.returns-in-Ok-clause-units
@@ -18,9 +18,4 @@ returns-in-Ok-clause-units c =
 
 pub vacant_struct-requires-clause-few : goal.vacant_struct-requires-clause-few
 vacant_struct-requires-clause-few c =
-    omega (
-      arith,
-      picks_lt-Cost holds c.args.array c.args.picks.now c.requires.live c.requires.distinct c.requires.in_range (λ k inside. (c.requires.fit k inside).0),
-      c.requires.unit,
-      c.requires.room,
-    )
+    omega (arith, picks_le-children c.args.array c.args.picks.now c.requires.distinct c.requires.in_range, c.n_children-children.ensures.few)
