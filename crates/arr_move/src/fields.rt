@@ -25,7 +25,6 @@ pub fn take_fields(
     requires no_dictionary { dictionary_of schema ≡ None }
     requires distinct { Distinct picks.now }
     requires in_range { InRange schema picks.now }
-    requires few { length picks.now < 2 ^ 32 - 1 }
     requires unit { 1 ≤ pass.old.units }
     requires room { pass.old.units + Nodes schema ≤ SUPPLY }
     ensures fields { IfOk result (λ fields. fields ≡ Fields schema picks.now) }
@@ -34,6 +33,7 @@ pub fn take_fields(
     ensures nodes { pass.new.nodes ≡ (if is_ok result then risen pass.old.nodes 1 else pass.old.nodes) }
     ensures blocks { pass.new.blocks ≡ pass.old.blocks }
 {
+    let _children = schema.n_children();
     match vacant_schema(alloc, &schema, picks.len(), pass) {
         Ok(top) => Ok(fill_schema(schema, picks, top, pass)),
         Err(NoMemory) => Err((schema, NoMemory)),
