@@ -254,7 +254,7 @@ field_of_text : (type : DataType) (text : List ℕ) → 0 < length text → read
 field_of_text type [] some = absurd (omega (arith, some))
 field_of_text type (byte ∷ rest) some = refl
 
-null_text : (form : Option Form) → written_if form Null ≡ []
+pub null_text : (form : Option Form) → written_if form Null ≡ []
 null_text None = refl
 null_text (Some Truths) = refl
 null_text (Some (Wholes bits signed)) = refl

@@ -46,12 +46,15 @@ pub fn worked_field_texts()
     ensures scale_below_0 { read_field (Decimal 5 (negsuc 1) false) (codes "12") ≡ Some (Whole (pos 12)) }
     ensures text { read_field (Utf8 false) (codes "a,b") ≡ Some (Bytes (codes "a,b")) }
     ensures not_text { read_field (Utf8 true) (0xff ∷ []) ≡ None }
+    ensures in_its_kind { IsFlatKind (Decimal 5 (pos 2) false) × IsValueOf (Decimal 5 (pos 2) false) (Whole (pos 99999)) }
+    ensures out_of_its_kind { ¬ IsValueOf (Int 8 true) (Whole (pos 128)) }
     ensures wide_decimal { read_field (Decimal 5 (pos 2) true) (codes "7.5") ≡ None }
 {}
 
 /// The text of a value of a flat column kind reads back as the value. Empty bytes have an empty text, which is a null.
 pub fn written_texts_read_back(kind: &DataType)
     ensures back { (value : Value) → IsFlatKind kind.now → IsValueOf kind.now value → value ≢ Bytes [] → read_field kind.now (written_text kind.now value) ≡ Some value }
+    ensures null_is_empty { written_text kind.now Null ≡ [] }
     ensures empty_bytes_are_null { read_field kind.now (written_text kind.now (Bytes [])) ≡ Some Null }
 {}
 
