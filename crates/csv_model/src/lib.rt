@@ -1,11 +1,19 @@
-//! What CSV text means: the records of a text, the rows that they spell under columns, and the text of a table.
+//! What CSV text means: the records of a text, the columns of its header, the rows that its records spell under them, and
+//! the text of a table.
 //!
-//! The definitions stand in `specs/`: `Reading` (records, rows, faults), `Text` (the text of a table).
+//! The definitions stand in `specs/`: `Reading` (records, rows, faults), `Header` (columns, faults), `Text` (the text of a
+//! table).
 #![tactic(auto)]
+
+mod fault;
+mod header;
 
 ghost use Rattle.std.specs.Prelude.{◌≡◌, ◌∷◌, ◌++◌, [], codes};
 ghost use Rattle.csv_model.specs.Examples.{echo, NoHeader, Refused, Text};
 ghost use Rattle.csv_model.specs.declared.RowFault.TheVariants as row;
+
+pub use fault::HeaderFault;
+pub use header::worked_headers;
 
 /// Why a record spells no row. Records are numbered from 1 after the header, columns from 1.
 #[derive(Clone, Copy, PartialEq, Eq, Debug)]
