@@ -1,0 +1,5 @@
+pub mod Remaining
+pub mod Twice
+pub mod FirstRecord
+pub mod Fields
+pub mod Entries
