@@ -1,0 +1,5 @@
+mod Reading
+mod Bits
+mod ColumnPush
+mod Fields
+mod TableRows

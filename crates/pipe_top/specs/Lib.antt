@@ -1,2 +1,6 @@
+pub mod Answer
+pub mod ColumnBits
+pub mod RecordReader
+pub mod TableRows
 pub mod TextColumn
 pub mod TextTable

@@ -2,4 +2,9 @@
 #![tactic(auto)]
 
 mod column;
+mod fault;
+mod records;
 mod table;
+mod validity;
+
+pub use fault::{RunFault, WordsFault};
