@@ -3,3 +3,4 @@ mod Bits
 mod ColumnPush
 mod Fields
 mod TableRows
+mod ReadRows

@@ -3,6 +3,7 @@
 
 mod column;
 mod fault;
+mod read;
 mod records;
 mod table;
 mod validity;
