@@ -19,8 +19,8 @@ use Rattle.pipe_top.specs.declared.table.TextTable.{TextTable}
 use Rattle.pipe_top.proofs.ColumnPush.{concat-push}
 
 -- before the first record
-pub none-read : (table : TextTable) (reader : Reader (Bor (List ℕ))) → IsTable table [] → length (text_left reader) ≤ input_limit → ReadSoFar (records_left reader) table reader
-none-read table reader holds short = record { given = []; is = refl; holds = holds; good = refl; few = omega (arith, short); short = omega (arith, short) }
+pub none-read : (table : TextTable) (reader : Reader (Bor (List ℕ))) → IsTable table [] → length (text_left reader) ≤ input_limit → ReadSoFar (records_left reader) (text_left reader) table reader
+none-read table reader holds short = record { given = []; is = refl; holds = holds; good = refl; few = omega (arith, short); short = omega (arith, short); less = omega arith; narrow = λ some. absurd (omega (arith, some)) }
 
 -- a field is no longer than its record
 field-short : (fields : Record) (j : ℕ) → length (get_or fields j []) ≤ length (concat fields)
@@ -41,8 +41,8 @@ total-push rows fields =
     ap length joined ∙ length-append (concat (map concat rows)) (concat fields)
 
 -- there is room for one more record
-pub can-push : (records : List Record) (table : TextTable) (old : Reader (Bor (List ℕ))) (fields : Record) (rest : List ℕ) → ReadSoFar records table old → Takes (text_left old) fields rest → CanPushRow table fields
-can-push records table old fields rest so_far takes = record {
+pub can-push : (records : List Record) (start : List ℕ) (table : TextTable) (old : Reader (Bor (List ℕ))) (fields : Record) (rest : List ℕ) → ReadSoFar records start table old → Takes (text_left old) fields rest → CanPushRow table fields
+can-push records start table old fields rest so_far takes = record {
   rows = omega (arith, so_far.holds.height, so_far.few);
   count = omega (arith, takes.count, so_far.few);
   each = λ j d lt.
@@ -56,11 +56,15 @@ can-push records table old fields rest so_far takes = record {
       };
 }
 
+last-there : (rows : List Record) (fields : Record) → get_or (rows ++ fields ∷ []) (length rows) [] ≡ fields
+last-there [] fields = refl
+last-there (r ∷ rows) fields = last-there rows fields
+
 -- one more record was read and pushed
-pub one-read : (records : List Record) (old new : TextTable) (before after : Reader (Bor (List ℕ))) (fields : Record) → (so_far : ReadSoFar records old before) → Takes (text_left before) fields (text_left after)
+pub one-read : (records : List Record) (start : List ℕ) (old new : TextTable) (before after : Reader (Bor (List ℕ))) (fields : Record) → (so_far : ReadSoFar records start old before) → Takes (text_left before) fields (text_left after)
     → records_left before ≡ fields ∷ records_left after → fields_of new.header ≡ fields_of old.header → ((rows : List Record) → IsTable old rows → IsTable new (rows ++ fields ∷ []))
-    → is_ok (row_of (old.rows + 1) (text_columns (fields_of old.header)) fields) ≡ true → ReadSoFar records new after
-one-read records old new before after fields so_far takes left header pushed good =
+    → is_ok (row_of (old.rows + 1) (text_columns (fields_of old.header)) fields) ≡ true → ReadSoFar records start new after
+one-read records start old new before after fields so_far takes left header pushed good =
     let place : old.rows + 1 ≡ 1 + length so_far.given = omega (arith, so_far.holds.height) in
     let all = body-more 1 (text_columns (fields_of old.header)) so_far.given fields so_far.good (rw place at good) in
     record {
@@ -70,18 +74,22 @@ one-read records old new before after fields so_far takes left header pushed goo
       good = rw header all;
       few = omega (arith, so_far.few, takes.shorter, length-append so_far.given (fields ∷ []));
       short = omega (arith, so_far.short, takes.bytes, total-push so_far.given fields);
+      less = omega (arith, so_far.less, takes.shorter);
+      narrow = λ some.
+        let width : length fields ≡ length (fields_of new.header) = sym (ap length (last-there so_far.given fields)) ∙ (pushed so_far.given so_far.holds).widths (length so_far.given) (omega (arith, length-append so_far.given (fields ∷ []))) in
+        omega (arith, width, takes.count, so_far.less);
     }
 
 -- all records were read
-pub all-read : (records : List Record) (table : TextTable) (reader : Reader (Bor (List ℕ))) → (so_far : ReadSoFar records table reader) → records_left reader ≡ [] → records ≡ so_far.given
-all-read records table reader so_far none = so_far.is ∙ ap (λ (more : List Record). so_far.given ++ more) none ∙ append-nil so_far.given
+pub all-read : (records : List Record) (start : List ℕ) (table : TextTable) (reader : Reader (Bor (List ℕ))) → (so_far : ReadSoFar records start table reader) → records_left reader ≡ [] → records ≡ so_far.given
+all-read records start table reader so_far none = so_far.is ∙ ap (λ (more : List Record). so_far.given ++ more) none ∙ append-nil so_far.given
 
 -- a record that spells no row is the first one
-pub first-refused : (records : List Record) (table : TextTable) (before : Reader (Bor (List ℕ))) (fields : Record) (rest : List Record) (fault : RunFault) → (so_far : ReadSoFar records table before)
+pub first-refused : (records : List Record) (start : List ℕ) (table : TextTable) (before : Reader (Bor (List ℕ))) (fields : Record) (rest : List Record) (fault : RunFault) → (so_far : ReadSoFar records start table before)
     → records_left before ≡ fields ∷ rest → (fault ≡ run.NoMemory) ⊎ RowRefused fault (row_of (table.rows + 1) (text_columns (fields_of table.header)) fields)
     → (fault ≡ run.NoMemory) ⊎ (answer_of_rows (text_columns (fields_of table.header)) (body (text_columns (fields_of table.header)) records) ≡ Fault fault)
-first-refused records table before fields rest fault so_far left (inl memory) = inl memory
-first-refused records table before fields rest fault so_far left (inr refused) =
+first-refused records start table before fields rest fault so_far left (inl memory) = inl memory
+first-refused records start table before fields rest fault so_far left (inr refused) =
     let columns = text_columns (fields_of table.header) in
     let place : table.rows + 1 ≡ 1 + length so_far.given = omega (arith, so_far.holds.height) in
     let bad = body-fault 1 columns so_far.given fields rest refused.refused so_far.good (rw place at refused.why) in

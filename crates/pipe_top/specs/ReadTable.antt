@@ -1,5 +1,5 @@
 -- A table of text columns that was read from a text.
-use Rattle.std.specs.Prelude.{◌≡◌, ◌≤◌, ◌+◌, ◌∷◌, ◌++◌, ℕ, true, List, length, map}
+use Rattle.std.specs.Prelude.{◌≡◌, ◌≤◌, ◌<◌, ◌+◌, ◌∷◌, ◌++◌, ℕ, true, List, length, map}
 use Rattle.std.specs.List.{concat}
 use Rattle.std.specs.Borrow.{Bor}
 use Rattle.std.specs.Result.{is_ok}
@@ -19,11 +19,13 @@ pub record ReadsTable (table : TextTable) (records : List Record) : Type 0 where
   pub holds : IsTable table rows
   pub good : is_ok (body (text_columns (fields_of table.header)) rows) ≡ true
 
--- of these records the table has those that the reader has given, and there is room for the others
-pub record ReadSoFar (records : List Record) (table : TextTable) (reader : Reader (Bor (List ℕ))) : Type 0 where
+-- of these records of a text the table has those that the reader has given, and there is room for the others
+pub record ReadSoFar (records : List Record) (start : List ℕ) (table : TextTable) (reader : Reader (Bor (List ℕ))) : Type 0 where
   pub given : List Record
   pub is : records ≡ given ++ records_left reader
   pub holds : IsTable table given
   pub good : is_ok (body (text_columns (fields_of table.header)) given) ≡ true
   pub few : length given + length (text_left reader) ≤ input_limit
   pub short : length (concat (map concat given)) + length (text_left reader) ≤ input_limit
+  pub less : length (text_left reader) ≤ length start
+  pub narrow : 0 < length given → length (fields_of table.header) ≤ length start + 1

@@ -1,5 +1,5 @@
 // The table that a text spells.
-ghost use Rattle.std.specs.Prelude.{◌≡◌, ◌⊎◌, ◌≤◌, ◌<◌, ◌+◌, [], ℕ, true, get_or, length, vec_len, IfErr, IfOk, OnOk};
+ghost use Rattle.std.specs.Prelude.{◌≡◌, ◌⊎◌, ◌≤◌, ◌<◌, ◌+◌, ◌*◌, [], ℕ, true, get_or, length, vec_len, IfErr, IfOk, OnOk};
 ghost use Rattle.std.specs.Result.{is_ok};
 ghost use Rattle.csv.specs.Records.{fields_of};
 ghost use Rattle.csv_model.specs.Examples.{text_columns};
@@ -25,6 +25,8 @@ const MOST_ROOM: usize = 1 << 16;
 pub(crate) fn read_table(alloc: Global, text: &[u8]) -> Result<TextTable, RunFault>
     requires { length text.now ≤ input_limit }
     ensures table { IfOk result (λ table. ReadsTable table (records_of text.now)) }
+    ensures few_rows { IfOk result (λ table. table.rows ≤ input_limit) }
+    ensures narrow { IfOk result (λ table. 0 < table.rows → 2 * vec_len table.columns ≤ input_limit + 2) }
     ensures fault { IfErr result (λ fault. (fault ≡ RunFault.NoMemory) ⊎ (answer_of_records (records_of text.now) ≡ Fault fault)) }
 {
     let mut reader = start_reading(alloc, text);
@@ -67,6 +69,8 @@ fn read_rows(
     ensures header { OnOk result (fields_of table.new.header ≡ fields_of table.old.header) }
     ensures rows { OnOk result (IsTable table.new (records_left reader.old)) }
     ensures good { OnOk result (is_ok (body (text_columns (fields_of table.old.header)) (records_left reader.old)) ≡ true) }
+    ensures few_rows { OnOk result (table.new.rows ≤ input_limit) }
+    ensures narrow { OnOk result (0 < table.new.rows → vec_len table.new.columns ≤ length (text_left reader.old) + 1) }
     ensures fault { IfErr result (λ fault. (fault ≡ RunFault.NoMemory) ⊎ (answer_of_rows (text_columns (fields_of table.old.header)) (body (text_columns (fields_of table.old.header)) (records_left reader.old)) ≡ Fault fault)) }
 {
     let mut row = ByteRecord::new(alloc);

@@ -9,7 +9,7 @@ abbrev pub invariant-loop-row : goal.invariant-loop-row
 invariant-loop-row l = record {
   reading : IsReading l.reader;
   header : fields_of l.table.header ≡ fields_of l.initial.table.header;
-  so_far : ReadSoFar (records_left l.initial.reader) l.table l.reader;
+  so_far : ReadSoFar (records_left l.initial.reader) (text_left l.initial.reader) l.table l.reader;
 }
 
 abbrev pub decreases-loop-row : goal.decreases-loop-row
