@@ -1,1 +1,2 @@
 pub mod TextColumn
+pub mod TextTable
