@@ -1,2 +1,3 @@
 pub mod TextColumn
 pub mod TextTable
+pub mod TextTree

@@ -1,5 +1,6 @@
 //! The top call.
 #![tactic(auto)]
 
+mod blocks;
 mod column;
 mod table;
