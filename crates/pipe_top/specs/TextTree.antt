@@ -1,6 +1,6 @@
 -- Columns and tables of text as array trees ("The Arrow C Data Interface", "The ArrowArray structure"; "Arrow Columnar
 -- Format", "Variable-size Binary Layout" and "Struct Layout").
-use Rattle.std.specs.Prelude.{◌≡◌, ◌<◌, ◌+◌, ◌^◌, ℕ, pos, List, [], ◌∷◌, map, length, Option, None, Some}
+use Rattle.std.specs.Prelude.{◌≡◌, ◌<◌, ◌+◌, ◌^◌, ℕ, pos, List, [], ◌∷◌, map, length, get_or, Option, None, Some}
 use Rattle.tree_model.specs.Tree.{Live, no_trees, trees, absent}
 use Rattle.raw_array.specs.Members.{Buffer, ArrayMembers, ArrayTree, whole, holds_of}
 use Rattle.raw_array.specs.declared.array.ReleaseKind.TheVariants.{Exported, Assembled}
@@ -49,6 +49,9 @@ pub record Fits (column : TextColumn) : Type 0 where
   pub rows : column.rows < 2 ^ 63
   pub nulls : column.nulls < 2 ^ 63
   pub offsets : 0 < length column.offsets.items
+
+abbrev pub AllFit : List TextColumn → Type 0
+AllFit columns = (j : ℕ) (d : TextColumn) → j < length columns → Fits (get_or columns j d)
 
 -- a live struct whose columns hold these records
 pub record HoldsRecords (tree : ArrayTree) (rows : List Record) : Type 0 where

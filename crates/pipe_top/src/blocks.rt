@@ -123,6 +123,7 @@ pub(crate) fn text_buffers(
     requires offsets { 0 < length offsets.items }
     requires units { 3 ≤ pass.old.units }
     ensures buffers { IfOk result (λ views. buffers_of views.items ≡ made_if validity.items ∷ Some (made offsets.items) ∷ made_if bytes.items ∷ []) }
+    ensures len { IfOk result (λ views. vec_len views ≡ 3) }
     ensures units { pass.new.units + (if is_ok result then count_if validity.items + 1 + count_if bytes.items else 0) ≡ pass.old.units }
     ensures blocks { OnOk result (pass.new.blocks ≡ risen pass.old.blocks (count_if validity.items + 1 + count_if bytes.items)) }
     ensures nodes { pass.new.nodes ≡ pass.old.nodes }

@@ -4,3 +4,4 @@
 mod blocks;
 mod column;
 mod table;
+mod tree;
