@@ -1,3 +1,4 @@
 pub mod TextColumn
 pub mod TextTable
 pub mod TextTree
+pub mod TextItems

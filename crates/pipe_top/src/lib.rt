@@ -3,5 +3,6 @@
 
 mod blocks;
 mod column;
+mod items;
 mod table;
 mod tree;
