@@ -1,3 +1,4 @@
 pub mod Views
 pub mod Costs
 pub mod Texts
+pub mod Fields

@@ -2,3 +2,5 @@ pub mod TextColumn
 pub mod TextTable
 pub mod TextTree
 pub mod TextItems
+pub mod TextRows
+pub mod Lines

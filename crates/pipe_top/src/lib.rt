@@ -4,5 +4,6 @@
 mod blocks;
 mod column;
 mod items;
+mod lines;
 mod table;
 mod tree;
