@@ -4,3 +4,4 @@ pub mod TextTree
 pub mod TextItems
 pub mod TextRows
 pub mod Lines
+pub mod Traffic

@@ -6,4 +6,5 @@ mod column;
 mod items;
 mod lines;
 mod table;
+mod text;
 mod tree;
