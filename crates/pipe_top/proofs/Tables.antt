@@ -8,16 +8,16 @@ use Rattle.csv.specs.Records.{fields_of}
 use Rattle.csv_model.specs.Reading.{Record}
 use Rattle.tree_model.specs.Tree.{Released, trees, tree_list, child_at, children_of}
 use Rattle.tree_model.proofs.Lists.{tree_list-trees}
-use Rattle.raw_array.specs.Members.{ArrayTree}
+use Rattle.raw_array.specs.Members.{ArrayTree, members_of}
 use Rattle.pipe_top.specs.declared.column.TextColumn.{TextColumn}
 use Rattle.pipe_top.specs.declared.table.TextTable.{TextTable}
 use Rattle.pipe_top.specs.TextColumn.{HasTexts, ShowsNulls, nulls_of}
 use Rattle.pipe_top.specs.TextTable.{IsTable, texts_in}
 use Rattle.pipe_top.specs.TextTree.{AllFit, column_blocks, column_tree, count_if, table_tree}
-use Rattle.pipe_top.specs.TextItems.{HasItem, item_text}
-use Rattle.pipe_top.specs.TextRows.{HasRow, row_at, rows_upto, text_in}
+use Rattle.pipe_top.specs.declared.items.LentText.{LentText}
+use Rattle.pipe_top.specs.LentTexts.{AllLent, HasRow, IsLent, row_at, rows_upto, text_in}
 use Rattle.pipe_top.specs.Traffic.{blocks_of, blocks_upto, nodes_of, one_if, text_blocks}
-use Rattle.pipe_top.proofs.Texts.{fits, has-item, item-is}
+use Rattle.pipe_top.proofs.Texts.{fits, has-text, text-is}
 
 texts-length : (j : ℕ) (rows : List Record) → length (texts_in j rows) ≡ length rows
 texts-length j rows = length-map rows (λ fields. get_or fields j [])
@@ -26,55 +26,69 @@ some-column : (columns : List TextColumn) (j : ℕ) → j < length columns → T
 some-column [] j lt = absurd (omega arith)
 some-column (c ∷ cs) j lt = c
 
-module _ (table : TextTable) (rows : List Record) (is : IsTable table rows) where
-  abbrev tree : ArrayTree
-  tree = table_tree table.rows table.columns.items
+some-lent : (columns : List LentText) (j : ℕ) → j < length columns → LentText
+some-lent [] j lt = absurd (omega arith)
+some-lent (c ∷ cs) j lt = c
 
+abbrev tree_of : TextTable → ArrayTree
+tree_of table = table_tree table.rows table.columns.items
+
+module _ (table : TextTable) (rows : List Record) (is : IsTable table rows) where
   pub all-fit : table.rows ≤ 2 ^ 40 → AllFit table.columns.items
   all-fit few j d lt = fits (get_or table.columns.items j d) (texts_in j rows) (is.each j d lt) (omega (arith, texts-length j rows, is.height))
 
-  children : children_of tree ≡ map column_tree table.columns.items
+  children : children_of (tree_of table) ≡ map column_tree table.columns.items
   children = tree_list-trees (map column_tree table.columns.items)
 
-  child-is : (j : ℕ) (d : TextColumn) → j < length table.columns.items → child_at tree j ≡ column_tree (get_or table.columns.items j d)
+  child-is : (j : ℕ) (d : TextColumn) → j < length table.columns.items → child_at (tree_of table) j ≡ column_tree (get_or table.columns.items j d)
   child-is j d lt = ap (λ ts. get_or ts j Released) children ∙ get_or-map column_tree table.columns.items j d Released lt
 
-  children-length : length (children_of tree) ≡ length table.columns.items
+  children-length : length (children_of (tree_of table)) ≡ length table.columns.items
   children-length = ap length children ∙ length-map table.columns.items column_tree
 
-  pub has-row : (i : ℕ) → i < length rows → HasRow tree i
-  has-row i lt = record {
-    live = tt;
-    each = λ j within.
-        let among : j < length table.columns.items = omega (arith, children-length) in
-        let d = some-column table.columns.items j among in
-        subst (λ t. HasItem t i) (sym (child-is j d among)) (has-item (get_or table.columns.items j d) (texts_in j rows) i (is.each j d among) (omega (arith, texts-length j rows)));
-  }
-
-  -- the texts at a place are the fields of the row there
-  row-is : (i : ℕ) → i < length rows → row_at tree i ≡ get_or rows i []
-  row-is i lt =
-      let size : length (row_at tree i) ≡ length (get_or rows i []) = length-map (children_of tree) (text_in i) ∙ children-length ∙ is.count ∙ sym (is.widths i lt) in
-      ext_get_or [] _ _ size (λ j below.
-      let within : j < length (children_of tree) = omega (arith, length-map (children_of tree) (text_in i)) in
+  -- each column has its three buffers
+  pub has-buffers : (j : ℕ) → j < length (children_of (tree_of table)) → 2 < length (members_of (child_at (tree_of table) j)).buffers
+  has-buffers j lt =
       let among : j < length table.columns.items = omega (arith, children-length) in
-      let d = some-column table.columns.items j among in
-      get_or-map (text_in i) (children_of tree) j Released [] within
-      ∙ ap (text_in i) (child-is j d among)
-      ∙ item-is (get_or table.columns.items j d) (texts_in j rows) i (is.each j d among) (omega (arith, texts-length j rows))
-      ∙ get_or-map (λ fields. get_or fields j []) rows i [] [] lt)
+      let same = ap (λ t. length (members_of t).buffers) (child-is j (some-column table.columns.items j among) among) in
+      omega (arith, same)
 
-  rows-upto : (n : ℕ) → n ≤ length rows → rows_upto tree n ≡ take n rows
-  unfolding rows_upto
-  rows-upto zero le = refl
-  rows-upto (suc n) le =
-      let before = rows-upto n (omega arith) in
-      let lt : n < length rows = omega arith in
-      rw (before, row-is n lt, ← add-one) (sym (take_more rows n [] lt))
+  module _ (lent : List LentText) (all : AllLent lent (tree_of table)) where
+    column-lent : (j : ℕ) (d : LentText) (e : TextColumn) → j < length lent → IsLent (get_or lent j d) (column_tree (get_or table.columns.items j e))
+    column-lent j d e lt =
+        let among : j < length table.columns.items = omega (arith, children-length, all.count) in
+        subst (λ t. IsLent (get_or lent j d) t) (child-is j e among) (all.each j d lt)
 
-  -- the rows of the struct are those of the table
-  pub rows-are : rows_upto tree table.rows ≡ rows
-  rows-are = ap (rows_upto tree) is.height ∙ rows-upto (length rows) (omega arith) ∙ take-length rows
+    pub has-row : (i : ℕ) → i < length rows → HasRow lent i
+    has-row i lt j d within =
+        let among : j < length table.columns.items = omega (arith, children-length, all.count) in
+        let e = some-column table.columns.items j among in
+        has-text (get_or lent j d) (get_or table.columns.items j e) (texts_in j rows) i (column-lent j d e within) (is.each j e among) (omega (arith, texts-length j rows))
+
+    -- the texts at a place are the fields of the row there
+    row-is : (i : ℕ) → i < length rows → row_at lent i ≡ get_or rows i []
+    row-is i lt =
+        let size : length (row_at lent i) ≡ length (get_or rows i []) = length-map lent (text_in i) ∙ all.count ∙ children-length ∙ is.count ∙ sym (is.widths i lt) in
+        ext_get_or [] _ _ size (λ j below.
+        let within : j < length lent = omega (arith, length-map lent (text_in i)) in
+        let among : j < length table.columns.items = omega (arith, children-length, all.count) in
+        let e = some-column table.columns.items j among in
+        let d = some-lent lent j within in
+        get_or-map (text_in i) lent j d [] within
+        ∙ text-is (get_or lent j d) (get_or table.columns.items j e) (texts_in j rows) i (column-lent j d e within) (is.each j e among) (omega (arith, texts-length j rows))
+        ∙ get_or-map (λ fields. get_or fields j []) rows i [] [] lt)
+
+    rows-upto : (n : ℕ) → n ≤ length rows → rows_upto lent n ≡ take n rows
+    unfolding rows_upto
+    rows-upto zero le = refl
+    rows-upto (suc n) le =
+        let before = rows-upto n (omega arith) in
+        let lt : n < length rows = omega arith in
+        rw (before, row-is n lt, ← add-one) (sym (take_more rows n [] lt))
+
+    -- the rows that are lent are those of the table
+    pub rows-are : rows_upto lent (length rows) ≡ rows
+    rows-are = rows-upto (length rows) (omega arith) ∙ take-length rows
 
 -- ---- blocks
 

@@ -9,11 +9,13 @@ use Rattle.std.specs.List.{concat}
 use Rattle.std.specs.Int.{to_le_bytes, w32}
 use Rattle.bit_pack.specs.Packed.{bit, number_at, le_number}
 use Rattle.bit_pack.proofs.StdWords.{le_number_4}
-use Rattle.raw_array.specs.Members.{ArrayTree}
+use Rattle.raw_array.specs.Members.{bytes_in}
 use Rattle.pipe_top.specs.declared.column.TextColumn.{TextColumn}
 use Rattle.pipe_top.specs.TextColumn.{HasTexts, ShowsNulls, ShowsValid, ends_from, is_valid, nulls_of, numbers_text, offsets_text}
 use Rattle.pipe_top.specs.TextTree.{Fits, column_tree, made_if}
-use Rattle.pipe_top.specs.TextItems.{bytes_if, HasBit, HasData, HasItem, data_of, is_null_in, item_text, offset_in}
+use Rattle.pipe_top.specs.declared.items.LentText.{LentText}
+use Rattle.pipe_top.specs.LentTexts.{HasText, IsLent, text_in, validity_of}
+use Rattle.pipe_top.specs.TextItems.{HasBit, bytes_if, data_of, is_null_in, offset_in}
 
 -- ---- offsets
 
@@ -75,19 +77,30 @@ text-there before (t ∷ texts) (suc i) lt =
     let size : length before + length t ≡ length (before ++ t) = omega (arith, length-append before t) in
     rw (add-one, size, ← append_assoc before t (concat texts)) (rw add-one at (text-there (before ++ t) texts i (omega arith)))
 
+-- the data of texts
+pub record Spelled (offsets bytes : List ℕ) (i : ℕ) (text : List ℕ) : Type 0 where
+  pub offsets_there : (i + 1 + 1) * 4 ≤ length offsets
+  pub small : offset_in offsets (i + 1) < 2 ^ 31
+  pub rises : offset_in offsets i ≤ offset_in offsets (i + 1)
+  pub bytes_there : offset_in offsets (i + 1) ≤ length bytes
+  pub text_is : data_of offsets bytes i ≡ text
+
 -- the offsets and the data of texts spell them
-pub data-read : (texts : List (List ℕ)) (i : ℕ) → i < length texts → length (concat texts) < 2 ^ 31
-    → HasData (offsets_text texts) (concat texts) i × (data_of (offsets_text texts) (concat texts) i ≡ get_or texts i [])
+pub data-read : (texts : List (List ℕ)) (i : ℕ) → i < length texts → length (concat texts) < 2 ^ 31 → Spelled (offsets_text texts) (concat texts) i (get_or texts i [])
 data-read texts i lt small =
     let ends = ends_from 0 texts in
     let count = ends-length 0 texts in
     let below : (k : ℕ) → k < length ends → get_or ends k 0 < 2 ^ 32 = λ k h. let b = ends-bound 0 texts k (omega arith) in omega (arith, b.1) in
     let here = number-at ends i (omega arith) below in
     let next = number-at ends (i + 1) (omega arith) below in
-    let last = ends-bound 0 texts (i + 1) (omega arith) in (
-      record { offsets_there = omega (arith, numbers-length ends); small = rw next (omega (arith, last.1)); rises = rw (here, next) (rising 0 texts i lt); bytes_there = rw next (omega (arith, last.1)) },
-      rw (here, next) (text-there [] texts i lt),
-    )
+    let last = ends-bound 0 texts (i + 1) (omega arith) in
+    record {
+      offsets_there = omega (arith, numbers-length ends);
+      small = rw next (omega (arith, last.1));
+      rises = rw (here, next) (rising 0 texts i lt);
+      bytes_there = rw next (omega (arith, last.1));
+      text_is = rw (here, next) (text-there [] texts i lt);
+    }
 
 -- ---- nulls
 
@@ -103,8 +116,8 @@ clear-bit : (b : ℕ) → not (b == 1) ≡ true → b ≡ 1 → ⊥
 clear-bit b h e = grind (arith, nat_tests)
 
 -- a null has no text, and its bit is there
-pub nulls-read : (validity : List ℕ) (texts : List (List ℕ)) (i : ℕ) → (validity ≡ []) ⊎ ShowsValid validity texts → i < length texts
-    → (is_null_in (made_if validity) i ≡ true → get_or texts i [] ≡ []) × HasBit (made_if validity) i
+nulls-read : (validity : List ℕ) (texts : List (List ℕ)) (i : ℕ) → (validity ≡ []) ⊎ ShowsValid validity texts → i < length texts
+    → (is_null_in (bytes_in (made_if validity)) i ≡ true → get_or texts i [] ≡ []) × HasBit (bytes_in (made_if validity)) i
 nulls-read [] texts i h lt = (λ e. absurd (false≢true e), tt)
 nulls-read (b ∷ bs) texts i (inl e) lt = let none : (b ∷ bs) ≡ [] = e in cc
 nulls-read (b ∷ bs) texts i (inr s) lt = (
@@ -122,22 +135,35 @@ bytes-made : (bytes : List ℕ) → bytes_if (made_if bytes) ≡ bytes
 bytes-made [] = refl
 bytes-made (b ∷ bs) = refl
 
--- a column of texts has an item at each place
-pub has-item : (column : TextColumn) (texts : List (List ℕ)) (i : ℕ) → HasTexts column texts → i < length texts → HasItem (column_tree column) i
-has-item column texts i h lt =
-    let read = data-read texts i lt h.small in
-    record {
-      buffers = omega arith;
-      validity = (nulls-read column.validity.items texts i (shows (nulls_of texts) _ texts h.validity) lt).1;
-      item = rw (bytes-made column.bytes.items, h.offsets, h.bytes) read.0;
-    }
+-- buffers that are lent by a column of texts have an item at each place, and its text is the text there
+module _ (lent : LentText) (column : TextColumn) (texts : List (List ℕ)) (i : ℕ) (is : IsLent lent (column_tree column)) (h : HasTexts column texts) (lt : i < length texts) where
+  validity : validity_of lent ≡ bytes_in (made_if column.validity.items)
+  validity = is.validity
 
--- and its text is the text there
-pub item-is : (column : TextColumn) (texts : List (List ℕ)) (i : ℕ) → HasTexts column texts → i < length texts → item_text (column_tree column) i ≡ get_or texts i []
-item-is column texts i h lt =
-    let read = data-read texts i lt h.small in
-    let null = (nulls-read column.validity.items texts i (shows (nulls_of texts) _ texts h.validity) lt).0 in
-    chosen (is_null_in (made_if column.validity.items) i) _ (get_or texts i []) null (rw (bytes-made column.bytes.items, h.offsets, h.bytes) read.1)
+  offsets : lent.offsets.now ≡ offsets_text texts
+  offsets = is.offsets ∙ h.offsets
+
+  bytes : lent.bytes.now ≡ concat texts
+  bytes = is.bytes ∙ bytes-made column.bytes.items ∙ h.bytes
+
+  read : Spelled (offsets_text texts) (concat texts) i (get_or texts i [])
+  read = data-read texts i lt h.small
+
+  pub has-text : HasText lent i
+  has-text =
+      let null = nulls-read column.validity.items texts i (shows (nulls_of texts) _ texts h.validity) lt in
+      record {
+        bit = rw validity null.1;
+        offsets_there = rw offsets read.offsets_there;
+        small = rw offsets read.small;
+        rises = rw offsets read.rises;
+        bytes_there = rw (offsets, bytes) read.bytes_there;
+      }
+
+  pub text-is : text_in i lent ≡ get_or texts i []
+  text-is =
+      let null = nulls-read column.validity.items texts i (shows (nulls_of texts) _ texts h.validity) lt in
+      rw (validity, offsets, bytes) (chosen (is_null_in (bytes_in (made_if column.validity.items)) i) _ (get_or texts i []) null.0 read.text_is)
 
 nulls-le : (texts : List (List ℕ)) → nulls_of texts ≤ length texts
 nulls-le [] = omega arith

@@ -2,6 +2,6 @@ pub mod TextColumn
 pub mod TextTable
 pub mod TextTree
 pub mod TextItems
-pub mod TextRows
+pub mod LentTexts
 pub mod Lines
 pub mod Traffic

@@ -2,7 +2,7 @@
 -- bitmaps").
 use Rattle.std.specs.Prelude.{◌≡◌, ◌≤◌, ◌<◌, ◌+◌, ◌*◌, ◌^◌, ◌==◌, ⊤, ℕ, Bool, false, not, List, [], length, get_or, slice_range, Option, None, Some, if◌then◌else◌}
 use Rattle.bit_pack.specs.Packed.{bit, number_at}
-use Rattle.raw_array.specs.Members.{Buffer, ArrayTree, members_of}
+use Rattle.raw_array.specs.Members.{Buffer, ArrayTree, bytes_in, members_of}
 
 abbrev pub buffer_at : ArrayTree → ℕ → Option Buffer
 buffer_at tree k = get_or (members_of tree).buffers k None
@@ -13,9 +13,9 @@ bytes_if None = []
 bytes_if (Some buffer) = buffer.bytes
 
 -- an item is null where there are validity bits and its bit is clear
-abbrev pub is_null_in : Option Buffer → ℕ → Bool
+abbrev pub is_null_in : Option (List ℕ) → ℕ → Bool
 is_null_in None i = false
-is_null_in (Some bits) i = not (bit bits.bytes i == 1)
+is_null_in (Some bits) i = not (bit bits i == 1)
 
 -- a number of four bytes among the offsets
 abbrev pub offset_in : List ℕ → ℕ → ℕ
@@ -26,23 +26,21 @@ abbrev pub data_of : List ℕ → List ℕ → ℕ → List ℕ
 data_of offsets bytes i = slice_range bytes (offset_in offsets i) (offset_in offsets (i + 1))
 
 -- the text of an item: a null has none
+abbrev pub item_in : Option (List ℕ) → List ℕ → List ℕ → ℕ → List ℕ
+item_in validity offsets bytes i = if is_null_in validity i then [] else data_of offsets bytes i
+
 abbrev pub item_text : ArrayTree → ℕ → List ℕ
-item_text tree i = if is_null_in (buffer_at tree 0) i then [] else data_of (bytes_if (buffer_at tree 1)) (bytes_if (buffer_at tree 2)) i
+item_text tree i = item_in (bytes_in (buffer_at tree 0)) (bytes_if (buffer_at tree 1)) (bytes_if (buffer_at tree 2)) i
 
 -- the bit of an item is there, where there are bits
-abbrev pub HasBit : Option Buffer → ℕ → Type 0
+abbrev pub HasBit : Option (List ℕ) → ℕ → Type 0
 HasBit None i = ⊤
-HasBit (Some bits) i = i < 8 * length bits.bytes
+HasBit (Some bits) i = i < 8 * length bits
 
--- the data of an item lies in the buffers
-pub record HasData (offsets bytes : List ℕ) (i : ℕ) : Type 0 where
+-- an item lies in the buffers
+pub record HasItem (validity : Option (List ℕ)) (offsets bytes : List ℕ) (i : ℕ) : Type 0 where
+  pub bit : HasBit validity i
   pub offsets_there : (i + 1 + 1) * 4 ≤ length offsets
   pub small : offset_in offsets (i + 1) < 2 ^ 31
   pub rises : offset_in offsets i ≤ offset_in offsets (i + 1)
   pub bytes_there : offset_in offsets (i + 1) ≤ length bytes
-
--- the buffers of an item lie in the column
-pub record HasItem (tree : ArrayTree) (i : ℕ) : Type 0 where
-  pub buffers : 2 < length (members_of tree).buffers
-  pub validity : HasBit (buffer_at tree 0) i
-  pub item : HasData (bytes_if (buffer_at tree 1)) (bytes_if (buffer_at tree 2)) i

@@ -1,13 +1,14 @@
-// The text of a struct of text columns, written from where it stands.
+// The rows of columns of text, written from where they stand.
 ghost use Rattle.std.specs.Prelude.{◌≡◌, ◌<◌, ◌-◌, ◌^◌, ◌++◌, ◌∷◌, [], ℕ, List, Some, map, length, IfOk, OnOk};
 ghost use Rattle.std.specs.List.{concat};
 ghost use Rattle.csv.specs.Records.{fields_of};
 ghost use Rattle.csv.specs.Writing.{default_writer, row_text};
-ghost use Rattle.tree_model.specs.Tree.{IsLive, children_of};
+ghost use Rattle.csv_model.specs.Reading.{Record};
+ghost use Rattle.pipe_top.specs.TextTree.{HoldsRecords};
 ghost use Rattle.pipe_top.specs.Lines.{HasFields, HasLines};
-ghost use Rattle.pipe_top.specs.TextRows.{HasRow, row_at, rows_upto};
+ghost use Rattle.pipe_top.specs.LentTexts.{HasRow, row_at, rows_upto};
 
-use crate::items::text_at;
+use crate::items::{LentText, lent_columns, text_at};
 use csv::{ByteRecord, Writer, WriterBuilder};
 use raw_array::RawArray;
 use std::alloc::Global;
@@ -57,40 +58,52 @@ fn end_row(writer: &mut Writer<Vec<u8>>) -> Result<(), NoMemory>
     }
 }
 
-// How many columns a live struct has.
-fn count_columns(table: &RawArray) -> usize
-    requires { IsLive table.now }
-    ensures exact { result ≡ length (children_of table.now) }
-    ensures few { result < 2 ^ 63 }
-{
-    table.n_children() as usize
-}
-
 // Writes one row.
-fn write_row(writer: &mut Writer<Vec<u8>>, table: &RawArray, i: usize) -> Result<(), NoMemory>
-    requires { HasRow table.now i }
+fn write_row(
+    writer: &mut Writer<Vec<u8>>,
+    columns: &[LentText<'_>],
+    i: usize,
+) -> Result<(), NoMemory>
+    requires { HasRow columns.now i }
     ensures { OnOk result ((text : List ℕ) → HasLines (λ v. Some v.items) writer.old text
-        → HasLines (λ v. Some v.items) writer.new (text ++ row_text default_writer (row_at table.now i))) }
+        → HasLines (λ v. Some v.items) writer.new (text ++ row_text default_writer (row_at columns.now i))) }
 {
-    for j in 0..count_columns(table) {
-        write_text(writer, text_at(table.child(j), i))?;
+    for column in columns {
+        write_text(writer, text_at(column, i))?;
     }
     end_row(writer)?;
     Ok(())
 }
 
-/// Writes the first rows of a struct.
-pub(crate) fn write_rows(
+// Writes the first rows of columns.
+fn write_rows(
+    writer: &mut Writer<Vec<u8>>,
+    columns: &[LentText<'_>],
+    rows: usize,
+) -> Result<(), NoMemory>
+    requires { (i : ℕ) → i < rows → HasRow columns.now i }
+    ensures { OnOk result ((text : List ℕ) → HasLines (λ v. Some v.items) writer.old text
+        → HasLines (λ v. Some v.items) writer.new (text ++ concat (map (row_text default_writer) (rows_upto columns.now rows)))) }
+{
+    for i in 0..rows {
+        write_row(writer, columns, i)?;
+    }
+    Ok(())
+}
+
+/// Writes the rows of a live struct of text columns, which are read from where they stand.
+pub(crate) fn write_struct(
+    alloc: Global,
     writer: &mut Writer<Vec<u8>>,
     table: &RawArray,
     rows: usize,
 ) -> Result<(), NoMemory>
-    requires { (i : ℕ) → i < rows → HasRow table.now i }
-    ensures { OnOk result ((text : List ℕ) → HasLines (λ v. Some v.items) writer.old text
-        → HasLines (λ v. Some v.items) writer.new (text ++ concat (map (row_text default_writer) (rows_upto table.now rows)))) }
+    requires { (records : List Record) × HoldsRecords table.now records × (rows ≡ length records) }
+    ensures { OnOk result ((text : List ℕ) (records : List Record) → HoldsRecords table.now records → rows ≡ length records
+        → HasLines (λ v. Some v.items) writer.old text
+        → HasLines (λ v. Some v.items) writer.new (text ++ concat (map (row_text default_writer) records))) }
 {
-    for i in 0..rows {
-        write_row(writer, table, i)?;
-    }
+    let columns = lent_columns(alloc, table)?;
+    write_rows(writer, &columns, rows)?;
     Ok(())
 }

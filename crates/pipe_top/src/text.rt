@@ -10,7 +10,7 @@ ghost use Rattle.pipe_top.specs.TextTable.{IsTable};
 ghost use Rattle.pipe_top.specs.TextTree.{column_blocks};
 ghost use Rattle.pipe_top.specs.Traffic.{blocks_of, nodes_of};
 
-use crate::lines::{finish_text, start_text, write_rows};
+use crate::lines::{finish_text, start_text, write_struct};
 use crate::table::TextTable;
 use crate::tree::{release, table_array};
 use csv::Writer;
@@ -40,7 +40,7 @@ fn write_table(
         rows,
     } = table;
     let tree = table_array(alloc, columns, rows, pass)?;
-    let written = write_rows(writer, &tree, rows);
+    let written = write_struct(alloc, writer, &tree, rows);
     release(tree, pass);
     written?;
     Ok(())

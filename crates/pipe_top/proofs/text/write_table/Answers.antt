@@ -3,10 +3,9 @@ use Rattle.std.specs.List.{concat, sum_by}
 use Rattle.csv.specs.Writing.{default_writer, row_text}
 use Rattle.raw_array.specs.Members.{Cost}
 use Rattle.pipe_top.specs.Lines.{HasLines}
-use Rattle.pipe_top.specs.TextRows.{HasRow, rows_upto}
 use Rattle.pipe_top.specs.TextTree.{column_blocks}
 use Rattle.pipe_top.proofs.Costs.{cost_of_all-columns}
-use Rattle.pipe_top.proofs.Tables.{all-fit, has-row, rows-are}
+use Rattle.pipe_top.proofs.Tables.{all-fit}
 use Rattle.pipe_top.proofs.text.write_table.Goals as goal
 
 pub table_array-requires-clause-fits : goal.table_array-requires-clause-fits
@@ -14,10 +13,10 @@ table_array-requires-clause-fits c =
     let (rows, is) = c.requires.holds in
     all-fit c.args.table rows is c.requires.few_rows
 
-pub write_rows-written-requires : goal.write_rows-written-requires
-write_rows-written-requires c i lt =
+pub write_struct-written-requires : goal.write_struct-written-requires
+write_struct-written-requires c =
     let (rows, is) = c.requires.holds in
-    subst (λ t. HasRow t i) (sym c.in_ok-tree.ensures.tree) (has-row c.args.table rows is i (omega (arith, is.height, lt)))
+    (rows, record { table = c.args.table; is = c.in_ok-tree.ensures.tree; has = is }, is.height)
 
 pub release-requires : goal.release-requires
 release-requires c =
@@ -33,6 +32,4 @@ returns-clause-units c =
 
 pub returns-clause-text : goal.returns-clause-text
 returns-clause-text c text rows is h =
-    let same = ap (λ t. rows_upto t c.args.table.rows) c.in_ok-tree.ensures.tree ∙ rows-are c.args.table rows is in
-    subst (λ rs. HasLines (λ v. Some v.items) c.write_rows-written.new.writer (text ++ concat (map (row_text default_writer) rs))) same
-        (c.in_ok-written.ensures text h)
+    c.in_ok-written.ensures text rows (record { table = c.args.table; is = c.in_ok-tree.ensures.tree; has = is }) is.height h
