@@ -1,12 +1,11 @@
 -- A struct of the columns of a table has the table's rows, and is made of its blocks.
-use Rattle.std.proofs.Common.{◌≡◌, ◌<◌, ◌≤◌, ◌+◌, ◌*◌, ◌^◌, ◌∷◌, ◌∙◌, ◌⊎◌, ℕ, zero, suc, List, [], length, map, get_or, take, refl, sym, ap, subst, arith, add-one, inl, inr}
+use Rattle.std.proofs.Common.{◌≡◌, ◌<◌, ◌≤◌, ◌+◌, ◌^◌, ◌∷◌, ◌∙◌, ℕ, zero, suc, List, [], length, map, get_or, take, refl, sym, ap, subst, arith, add-one}
 use Rattle.std.proofs.lemmas.List.{ext_get_or, get_or-map, length-map, take_more}
 use Rattle.std.proofs.lemmas.List.Sums.{sum_by_more}
 use Rattle.std.proofs.Math.Seq.{take-length}
-use Rattle.std.specs.List.{concat, sum_by}
-use Rattle.csv.specs.Records.{fields_of}
+use Rattle.std.specs.List.{sum_by}
 use Rattle.csv_model.specs.Reading.{Record}
-use Rattle.tree_model.specs.Tree.{Released, trees, tree_list, child_at, children_of}
+use Rattle.tree_model.specs.Tree.{Released, child_at, children_of}
 use Rattle.tree_model.proofs.Lists.{tree_list-trees}
 use Rattle.raw_array.specs.Members.{ArrayTree, members_of}
 use Rattle.pipe_top.specs.declared.column.TextColumn.{TextColumn}

@@ -1,13 +1,12 @@
 -- What the buffers of a column of texts spell.
-use Rattle.std.proofs.Common.{◌≡◌, ◌≢◌, ◌≤◌, ◌<◌, ◌+◌, ◌*◌, ◌-◌, ◌^◌, ◌++◌, ◌∙◌, ℕ, zero, suc, Bool, true, false, List, [], ◌∷◌, length, get_or, take, drop, refl, sym, ap, arith, add-one, length-append, append_assoc, inl, inr}
+use Rattle.std.proofs.Common.{◌≡◌, ◌≤◌, ◌<◌, ◌+◌, ◌*◌, ◌-◌, ◌^◌, ◌++◌, ◌∙◌, ℕ, zero, suc, Bool, true, false, List, [], ◌∷◌, length, get_or, refl, sym, ap, arith, add-one, length-append, append_assoc, inl, inr}
 use Rattle.std.proofs.lemmas.Nat.{from_le_bytes-to_le_bytes_4}
 use Rattle.std.proofs.lemmas.Bool.{false≢true}
 use Rattle.std.proofs.lemmas.Bool.Decides.{nat_tests}
 use Rattle.std.proofs.Math.Seq.{drop-append_seam, take-append_seam}
-use Rattle.std.specs.Prelude.{slice_range, if◌then◌else◌, not, ◌==◌, ◌⊎◌, ◌↔◌}
+use Rattle.std.specs.Prelude.{slice_range, if◌then◌else◌, not, ◌==◌, ◌⊎◌}
 use Rattle.std.specs.List.{concat}
-use Rattle.std.specs.Int.{to_le_bytes, w32}
-use Rattle.bit_pack.specs.Packed.{bit, number_at, le_number}
+use Rattle.bit_pack.specs.Packed.{bit, number_at}
 use Rattle.bit_pack.proofs.StdWords.{le_number_4}
 use Rattle.raw_array.specs.Members.{bytes_in}
 use Rattle.pipe_top.specs.declared.column.TextColumn.{TextColumn}

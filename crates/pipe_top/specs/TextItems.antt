@@ -1,6 +1,6 @@
 -- The items of a column of text in an array tree ("Arrow Columnar Format", "Variable-size Binary Layout" and "Validity
 -- bitmaps").
-use Rattle.std.specs.Prelude.{◌≡◌, ◌≤◌, ◌<◌, ◌+◌, ◌*◌, ◌^◌, ◌==◌, ⊤, ℕ, Bool, false, not, List, [], length, get_or, slice_range, Option, None, Some, if◌then◌else◌}
+use Rattle.std.specs.Prelude.{◌≤◌, ◌<◌, ◌+◌, ◌*◌, ◌^◌, ◌==◌, ⊤, ℕ, Bool, false, not, List, [], length, get_or, slice_range, Option, None, Some, if◌then◌else◌}
 use Rattle.bit_pack.specs.Packed.{bit, number_at}
 use Rattle.raw_array.specs.Members.{Buffer, ArrayTree, bytes_in, members_of}
 

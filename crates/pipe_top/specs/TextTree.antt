@@ -2,7 +2,7 @@
 -- Format", "Variable-size Binary Layout" and "Struct Layout").
 use Rattle.std.specs.Prelude.{◌≡◌, ◌<◌, ◌+◌, ◌^◌, ℕ, pos, List, [], ◌∷◌, map, length, get_or, Option, None, Some}
 use Rattle.tree_model.specs.Tree.{Live, no_trees, trees, absent}
-use Rattle.raw_array.specs.Members.{Buffer, ArrayMembers, ArrayTree, whole, holds_of}
+use Rattle.raw_array.specs.Members.{Buffer, ArrayMembers, ArrayTree, whole}
 use Rattle.raw_array.specs.declared.array.ReleaseKind.TheVariants.{Exported, Assembled}
 use Rattle.csv_model.specs.Reading.{Record}
 use Rattle.pipe_top.specs.declared.column.TextColumn.{TextColumn}

@@ -11,11 +11,7 @@ use std::alloc::Global;
 use unit_pass::{NoMemory, Pass, SUPPLY};
 
 // A view of a whole block of these bytes, and nothing where there are none.
-fn whole_block(
-    alloc: Global,
-    bytes: Vec<u8>,
-    pass: &mut Pass,
-) -> Result<Option<BufView>, NoMemory>
+fn whole_block(alloc: Global, bytes: Vec<u8>, pass: &mut Pass) -> Result<Option<BufView>, NoMemory>
     requires { 1 ≤ pass.old.units }
     ensures buffer { IfOk result (λ view. buffer_if view ≡ made_if bytes.items) }
     ensures units { pass.new.units + (if is_ok result then count_if bytes.items else 0) ≡ pass.old.units }

@@ -1,4 +1,4 @@
-use Rattle.std.proofs.Common.{◌≡◌, ◌+◌, ◌++◌, ◌∷◌, ◌∙◌, ◌<◌, ℕ, [], Some, List, take, length, map, get_or, ap, sym, subst, arith}
+use Rattle.std.proofs.Common.{◌≡◌, ◌+◌, ◌++◌, ◌∷◌, ◌∙◌, ◌<◌, ℕ, [], Some, List, take, length, get_or, ap, sym, subst, arith}
 use Rattle.std.proofs.lemmas.List.{length-map, length-take, map_more}
 use Rattle.std.proofs.Math.Seq.{take-length}
 use Rattle.csv.specs.Writing.{default_writer, row_text}
@@ -24,8 +24,8 @@ loop-column-preserved c text h =
     let long : length (row_at (take k columns) c.args.i) ≡ length (take k columns) = length-map (take k columns) (text_in c.args.i) in
     let few : length (row_at (take k columns) c.args.i) < 18446744073709551615 = omega (arith, length-take k columns) in
     subst (λ fields. HasFields (λ v. Some v.items) c.write_text.new.writer text fields)
-        (row-push columns c.args.i k _ c.text_at.result.now inside c.text_at.ensures)
-        (c.in_ok-write_text.ensures text (row_at (take k columns) c.args.i) few (c.loop-column.invariant text h))
+    (row-push columns c.args.i k _ c.text_at.result.now inside c.text_at.ensures)
+    (c.in_ok-write_text.ensures text (row_at (take k columns) c.args.i) few (c.loop-column.invariant text h))
 
 pub returns : goal.returns
 returns c text h =
@@ -33,4 +33,4 @@ returns c text h =
     let end : c.loop-column.column-index ≡ length columns = omega arith in
     let all : take c.loop-column.column-index columns ≡ columns = ap (λ n. take n columns) end ∙ take-length columns in
     subst (λ cs. HasLines (λ v. Some v.items) c.end_row.new.writer (text ++ row_text default_writer (row_at cs c.args.i))) all
-        (c.in_ok-end_row.ensures text (row_at (take c.loop-column.column-index columns) c.args.i) (c.loop-column.invariant text h))
+    (c.in_ok-end_row.ensures text (row_at (take c.loop-column.column-index columns) c.args.i) (c.loop-column.invariant text h))

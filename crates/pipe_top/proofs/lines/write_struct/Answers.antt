@@ -1,4 +1,4 @@
-use Rattle.std.proofs.Common.{◌≡◌, ◌<◌, ◌++◌, ◌∙◌, ℕ, List, Some, map, length, ap, sym, subst, arith}
+use Rattle.std.proofs.Common.{◌<◌, ◌++◌, ◌∙◌, ℕ, Some, map, length, sym, subst, arith}
 use Rattle.std.specs.List.{concat}
 use Rattle.csv.specs.Writing.{default_writer, row_text}
 use Rattle.tree_model.specs.Tree.{IsLive, child_at, children_of}
@@ -29,4 +29,4 @@ returns c text records holds count h =
     let lent = subst (AllLent c.in_ok-columns.columns.items) holds.is c.in_ok-columns.ensures in
     let same = (λ i. rows_upto (c.deref.ensures.value i) (count i)) ∙ rows-are holds.table records holds.has c.in_ok-columns.columns.items lent in
     subst (λ rs. HasLines (λ v. Some v.items) c.write_rows.new.writer (text ++ concat (map (row_text default_writer) rs))) same
-        (c.in_ok-write_rows.ensures text h)
+    (c.in_ok-write_rows.ensures text h)

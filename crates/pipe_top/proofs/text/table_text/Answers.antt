@@ -1,4 +1,4 @@
-use Rattle.std.proofs.Common.{◌≡◌, ◌<◌, ◌+◌, ◌++◌, ◌∙◌, ℕ, List, Some, map, length, ap, sym, append-nil, arith}
+use Rattle.std.proofs.Common.{◌<◌, ◌++◌, ◌∙◌, map, length, ap, sym, append-nil, arith}
 use Rattle.std.specs.List.{concat}
 use Rattle.csv.specs.Records.{fields_of}
 use Rattle.csv.specs.Writing.{default_writer, row_text}

@@ -1,9 +1,5 @@
-use Rattle.std.proofs.Common.{◌≡◌, ◌+◌, ◌≤◌, ◌++◌, ◌∙◌, ℕ, List, Some, map, length, ap, sym, subst, arith}
-use Rattle.std.specs.List.{concat, sum_by}
-use Rattle.csv.specs.Writing.{default_writer, row_text}
+use Rattle.std.proofs.Common.{ap, arith}
 use Rattle.raw_array.specs.Members.{Cost}
-use Rattle.pipe_top.specs.Lines.{HasLines}
-use Rattle.pipe_top.specs.TextTree.{column_blocks}
 use Rattle.pipe_top.proofs.Costs.{cost_of_all-columns}
 use Rattle.pipe_top.proofs.Tables.{all-fit}
 use Rattle.pipe_top.proofs.text.write_table.Goals as goal

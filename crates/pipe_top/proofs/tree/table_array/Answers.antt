@@ -1,4 +1,4 @@
-use Rattle.std.proofs.Common.{◌≤◌, ◌+◌, ap, arith}
+use Rattle.std.proofs.Common.{ap, arith}
 use Rattle.tree_model.specs.Tree.{trees, depth_of_all}
 use Rattle.pipe_top.proofs.Costs.{depth_of_all-columns}
 use Rattle.pipe_top.proofs.tree.table_array.Goals as goal
