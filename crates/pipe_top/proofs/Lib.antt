@@ -1,6 +1,12 @@
-mod Reading
+mod Answers
 mod Bits
 mod ColumnPush
-mod Fields
-mod TableRows
+pub mod Costs
+pub mod Fields
 mod ReadRows
+mod Reading
+mod RecordFields
+mod TableRows
+pub mod Tables
+pub mod Texts
+pub mod Views

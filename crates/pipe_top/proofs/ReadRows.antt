@@ -76,8 +76,8 @@ one-read records start old new before after fields so_far takes left header push
       short = omega (arith, so_far.short, takes.bytes, total-push so_far.given fields);
       less = omega (arith, so_far.less, takes.shorter);
       narrow = λ some.
-        let width : length fields ≡ length (fields_of new.header) = sym (ap length (last-there so_far.given fields)) ∙ (pushed so_far.given so_far.holds).widths (length so_far.given) (omega (arith, length-append so_far.given (fields ∷ []))) in
-        omega (arith, width, takes.count, so_far.less);
+          let width : length fields ≡ length (fields_of new.header) = sym (ap length (last-there so_far.given fields)) ∙ (pushed so_far.given so_far.holds).widths (length so_far.given) (omega (arith, length-append so_far.given (fields ∷ []))) in
+          omega (arith, width, takes.count, so_far.less);
     }
 
 -- all records were read

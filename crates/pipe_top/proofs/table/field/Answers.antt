@@ -1,5 +1,5 @@
 use Rattle.csv.specs.Records.{fields_of}
-use Rattle.pipe_top.proofs.Fields.{field-none, field-some}
+use Rattle.pipe_top.proofs.RecordFields.{field-none, field-some}
 use Rattle.pipe_top.proofs.table.field.Goals as goal
 
 pub returns-in-Some : goal.returns-in-Some

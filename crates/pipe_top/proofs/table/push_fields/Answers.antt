@@ -2,7 +2,7 @@ use Rattle.std.proofs.Common.{subst, sym}
 use Rattle.std.proofs.lemmas.Bool.{MatchBool-at_true}
 use Rattle.std.specs.Str.{IsAscii}
 use Rattle.csv.specs.Records.{text_of}
-use Rattle.pipe_top.proofs.Fields.{ascii-field}
+use Rattle.pipe_top.proofs.RecordFields.{ascii-field}
 use Rattle.pipe_top.proofs.table.push_fields.Goals as goal
 
 pub is_text-requires : goal.is_text-requires
