@@ -1,5 +1,4 @@
 -- The columns that the code keeps, as columns of a table.
-use Rattle.std.specs.Prelude.{ℕ, List}
 use Rattle.fmt_string.specs.declared.kind.ColKind.{ColKind, Flat as CodeFlat, Dict as CodeDict, Columns', Row_of-ColumnType, end_of-ColumnType, more_of-ColumnType}
 use Rattle.fmt_string.specs.declared.kind.ColumnType.{ColumnType}
 use Rattle.fmt_string.specs.Table.{Kind, Flat, Dict, Columns, Members, no_members, more_members, Column}
