@@ -3,32 +3,39 @@ ghost use Rattle.unit_pass.specs.Tally.{risen};
 
 use std::marker::Model;
 
-/// All units of a desk.
+/// All units of a desk: the most live nodes and holds that there can be at once.
 pub const SUPPLY: u64 = 1 << 32;
-/// The units that a pass keeps free for a get call.
+/// The units that a pass must have for a get call of a stream.
 pub const ROOM: u64 = 1 << 26;
-/// The most units that one chunk costs.
+/// The most units that one chunk of a lawful stream costs.
 pub const CHUNK: u64 = 1 << 15;
 
-/// What a closed desk tells of the work done through its passes.
+/// What a closed desk tells of the work that was done through its passes.
 #[derive(Clone, Copy, Debug, PartialEq, Eq)]
 pub struct Audit {
+    /// The blocks of bytes that were made.
     pub blocks: u64,
+    /// The nodes of trees that were made.
     pub nodes: u64,
+    /// The units that are still out. It is 0, since a desk closes only once all are back.
     pub left: u64,
 }
 
-/// The place where units come from. It can't be dropped: only `close` takes it.
+/// The place where units come from. It can't be dropped: only [`Desk::close`] takes it.
 pub struct Desk {
     sealed: (),
 }
 
-/// The right to one live node or one hold. It can't be dropped: only `give_back` takes it.
+/// The right to one live node or one hold. It can't be dropped: only [`Pass::give_back`] takes it.
 pub struct Unit {
     sealed: (),
 }
 
-/// A purse of units with two counts. It can't be dropped: only `join` and `close` take it.
+/// Units, at most [`SUPPLY`], and the counts of the blocks and nodes that were made with it. Contracts see it as the
+/// record of the three numbers.
+///
+/// It can't be dropped: only [`Pass::join`] and [`Desk::close`] take it. A count that has come to its last value, 2^64 - 1,
+/// stays there. No call takes memory or can be refused.
 pub struct Pass {
     units: u64,
     blocks: u64,
@@ -47,7 +54,7 @@ impl Model for Pass {
     ghost invariant = { λ p. p.units ≤ SUPPLY };
 }
 
-/// Opens a desk, with all its units in one pass.
+/// Opens a desk, with all its units in one pass that has counted nothing.
 pub fn open_desk() -> (Desk, Pass)
     ensures units { result.1.units ≡ SUPPLY }
     ensures blocks { result.1.blocks ≡ 0 }
@@ -63,6 +70,7 @@ pub fn open_desk() -> (Desk, Pass)
 }
 
 impl Pass {
+    /// The units that can still be drawn.
     pub fn units(&self) -> u64
         ensures exact { result ≡ self.now.units }
         ensures bounded { self.now.units ≤ SUPPLY }
@@ -70,19 +78,21 @@ impl Pass {
         self.units
     }
 
+    /// The blocks that were counted in this pass and in those that it took in.
     pub fn blocks(&self) -> u64
         ensures { result ≡ self.now.blocks }
     {
         self.blocks
     }
 
+    /// The nodes that were counted in this pass and in those that it took in.
     pub fn nodes(&self) -> u64
         ensures { result ≡ self.now.nodes }
     {
         self.nodes
     }
 
-    /// Takes one unit out.
+    /// Takes one unit out. The counts stay.
     pub fn draw(&mut self) -> Unit
         requires { 1 ≤ self.old.units }
         ensures units { self.new.units + 1 ≡ self.old.units }
@@ -93,7 +103,7 @@ impl Pass {
         Unit { sealed: () }
     }
 
-    /// Puts one unit back.
+    /// Puts one unit back. The counts stay.
     pub fn give_back(&mut self, unit: Unit)
         requires { self.old.units < SUPPLY }
         ensures units { self.new.units ≡ self.old.units + 1 }
@@ -104,6 +114,7 @@ impl Pass {
         self.units += 1;
     }
 
+    /// Counts one more block.
     pub fn count_block(&mut self)
         ensures units { self.new.units ≡ self.old.units }
         ensures blocks { self.new.blocks ≡ risen self.old.blocks 1 }
@@ -112,6 +123,7 @@ impl Pass {
         self.blocks = self.blocks.saturating_add(1);
     }
 
+    /// Counts one more node.
     pub fn count_node(&mut self)
         ensures units { self.new.units ≡ self.old.units }
         ensures blocks { self.new.blocks ≡ self.old.blocks }
@@ -120,7 +132,7 @@ impl Pass {
         self.nodes = self.nodes.saturating_add(1);
     }
 
-    /// Parts some units off into a pass of their own.
+    /// Parts some units off into a pass of their own, which has counted nothing, as for a thread.
     pub fn split(&mut self, units: u64) -> Pass
         requires { units ≤ self.old.units }
         ensures kept { self.new.units + units ≡ self.old.units }
@@ -138,7 +150,7 @@ impl Pass {
         }
     }
 
-    /// Takes in all of another pass.
+    /// Takes in the units and the counts of another pass.
     pub fn join(&mut self, other: Pass)
         requires { self.old.units + other.units ≤ SUPPLY }
         ensures units { self.new.units ≡ self.old.units + other.units }
@@ -157,7 +169,8 @@ impl Pass {
 }
 
 impl Desk {
-    /// Closes the desk, which needs all units to be back in the pass.
+    /// Closes the desk, and answers what was counted. It needs all [`SUPPLY`] units to be back in the pass, so a run that
+    /// lost a unit can't close its desk, and has no other way to spend it.
     pub fn close(self, pass: Pass) -> Audit
         requires { pass.units ≡ SUPPLY }
         ensures blocks { result.blocks ≡ pass.blocks }

@@ -1,0 +1,332 @@
+use crate::columns::{self, put_back, slice, take_columns};
+use crate::fields::{self, take_fields};
+use buf_block::{BufView, make};
+use raw_array::{ArrayParts, RawArray, ReleaseKind};
+use raw_schema::{RawSchema, SchemaParts};
+use std::alloc::Global;
+use std::process::Abort;
+use unit_pass::{Pass, SUPPLY, open_desk};
+
+fn view(rt: &impl Abort, alloc: Global, bytes: &[u8], pass: &mut Pass) -> BufView {
+    assert!(rt; pass.units() >= 1);
+    match Vec::from_slice(alloc, bytes) {
+        Ok(copy) => match make(alloc, copy, pass) {
+            Ok(hold) => BufView {
+                hold,
+                start: 0,
+                len: bytes.len(),
+            },
+            Err(_refused) => panic!(rt; "no memory"),
+        },
+        Err(_) => panic!(rt; "no memory"),
+    }
+}
+
+/// A structure of an array whose children stand released.
+#[tactic(auto, using(crate::proofs::Vacant::vacant))]
+fn array(
+    rt: &impl Abort,
+    alloc: Global,
+    numbers: (i64, i64, i64),
+    buffers: Vec<Option<BufView>>,
+    places: usize,
+    pass: &mut Pass,
+) -> RawArray {
+    assert!(rt; pass.units() >= 1);
+    assert!(rt; buffers.len() <= 2);
+    assert!(rt; places <= 3);
+    let children = match columns::vacant_places(alloc, places) {
+        Ok(children) => children,
+        Err(_) => panic!(rt; "no memory"),
+    };
+    let parts = ArrayParts {
+        length: numbers.0,
+        null_count: numbers.1,
+        offset: numbers.2,
+        buffers,
+        children,
+        dictionary: None,
+        kind: ReleaseKind::Exported,
+    };
+    match RawArray::build(alloc, parts, pass) {
+        Ok(array) => array,
+        Err(_refused) => panic!(rt; "no memory"),
+    }
+}
+
+/// An int32 column of these items.
+fn column(
+    rt: &impl Abort,
+    alloc: Global,
+    validity: Option<&[u8]>,
+    data: &[u8],
+    numbers: (i64, i64, i64),
+    pass: &mut Pass,
+) -> RawArray {
+    let mut buffers = match Vec::with_capacity(alloc, 2) {
+        Ok(buffers) => buffers,
+        Err(_) => panic!(rt; "no memory"),
+    };
+    let validity = match validity {
+        None => None,
+        Some(bytes) => Some(view(rt, alloc, bytes, pass)),
+    };
+    put_back(&mut buffers, validity);
+    let data = view(rt, alloc, data, pass);
+    put_back(&mut buffers, Some(data));
+    array(rt, alloc, numbers, buffers, 0, pass)
+}
+
+/// A struct array over as many places for columns.
+fn structure(
+    rt: &impl Abort,
+    alloc: Global,
+    numbers: (i64, i64, i64),
+    places: usize,
+    pass: &mut Pass,
+) -> RawArray {
+    match columns::absent_validity(alloc) {
+        Ok(buffers) => array(rt, alloc, numbers, buffers, places, pass),
+        Err(_) => panic!(rt; "no memory"),
+    }
+}
+
+/// Puts a column into its place.
+#[tactic(auto, using(crate::proofs::Picked::picked))]
+fn put(rt: &impl Abort, parent: &mut RawArray, i: usize, child: RawArray) {
+    let mut child = child;
+    assert!(rt; !parent.is_released());
+    assert!(rt; i < 3);
+    assert!(rt; parent.n_children() >= i as i64 + 1);
+    assert!(rt; parent.child(i).is_released());
+    assert!(rt; child.depth() <= 127);
+    parent.put_child(i, &mut child);
+    child.discard();
+}
+
+/// Its own length, null count and offset, and the first byte of its items.
+#[tactic(auto, using(crate::proofs::Picked::picked))]
+fn shown(rt: &impl Abort, array: &RawArray, i: i64) -> (i64, i64, i64, u8) {
+    assert!(rt; !array.is_released());
+    assert!(rt; i >= 0);
+    assert!(rt; i < array.n_children());
+    let child = array.child(i as usize);
+    assert!(rt; !child.is_released());
+    assert!(rt; child.n_buffers() == 2);
+    let first = match child.buffer(1) {
+        Some(data) => {
+            assert!(rt; data.len() >= 1);
+            data[0]
+        }
+        None => panic!(rt; "no items"),
+    };
+    (child.length(), child.null_count(), child.offset(), first)
+}
+
+/// The columns 2 and 0 of a struct array of offset 1 and length 2 over three columns.
+#[tactic(auto, using(crate::proofs::Picked::picked))]
+fn last_and_first(rt: &impl Abort, alloc: Global, array: RawArray, pass: &mut Pass) -> RawArray {
+    assert!(rt; !array.is_released());
+    assert!(rt; array.offset() == 1);
+    assert!(rt; array.length() == 2);
+    assert!(rt; array.n_children() == 3);
+    assert!(rt; !array.child(0).is_released());
+    assert!(rt; array.child(0).length() == 3);
+    assert!(rt; array.child(0).offset() == 0);
+    assert!(rt; !array.child(2).is_released());
+    assert!(rt; array.child(2).length() == 3);
+    assert!(rt; array.child(2).offset() == 0);
+    assert!(rt; array.cost() <= 99);
+    assert!(rt; pass.units() >= 1);
+    assert!(rt; pass.units() + array.cost() <= SUPPLY);
+    match take_columns(alloc, array, &[2, 0], pass) {
+        Ok(columns) => columns,
+        Err(_refused) => panic!(rt; "no memory"),
+    }
+}
+
+/// The items 1 to 1 of an array.
+#[tactic(auto, using(crate::proofs::Picked::picked))]
+fn second_item(rt: &impl Abort, array: RawArray) -> RawArray {
+    assert!(rt; !array.is_released());
+    assert!(rt; array.offset() == 0);
+    assert!(rt; array.length() == 2);
+    slice(array, 1, 1)
+}
+
+fn end(rt: &impl Abort, array: RawArray, pass: &mut Pass) {
+    let mut array = array;
+    assert!(rt; array.cost() <= 99);
+    assert!(rt; pass.units() + array.cost() <= SUPPLY);
+    let _acted = array.release(pass);
+    array.discard();
+}
+
+/// A field with this name, over as many released ones.
+#[tactic(auto, using(crate::proofs::Vacant::vacant))]
+fn field(
+    rt: &impl Abort,
+    alloc: Global,
+    format: &[u8],
+    name: &[u8],
+    places: usize,
+    pass: &mut Pass,
+) -> RawSchema {
+    assert!(rt; pass.units() >= 1);
+    assert!(rt; places <= 3);
+    let format = match Vec::from_slice(alloc, format) {
+        Ok(format) => format,
+        Err(_) => panic!(rt; "no memory"),
+    };
+    let name = match Vec::from_slice(alloc, name) {
+        Ok(name) => name,
+        Err(_) => panic!(rt; "no memory"),
+    };
+    let children = match fields::vacant_places(alloc, places) {
+        Ok(children) => children,
+        Err(_) => panic!(rt; "no memory"),
+    };
+    let parts = SchemaParts {
+        format,
+        name: Some(name),
+        metadata: None,
+        flags: 2,
+        children,
+        dictionary: None,
+    };
+    match RawSchema::build(alloc, parts, pass) {
+        Ok(schema) => schema,
+        Err(_refused) => panic!(rt; "no memory"),
+    }
+}
+
+/// Puts a field into its place.
+#[tactic(auto, using(crate::proofs::Picked::picked))]
+fn put_field(rt: &impl Abort, parent: &mut RawSchema, i: usize, child: RawSchema) {
+    let mut child = child;
+    assert!(rt; !parent.is_released());
+    assert!(rt; i < 3);
+    assert!(rt; parent.n_children() >= i as i64 + 1);
+    assert!(rt; parent.child(i).is_released());
+    assert!(rt; child.depth() <= 127);
+    parent.put_child(i, &mut child);
+    child.discard();
+}
+
+/// The first byte of a field's name.
+#[tactic(auto, using(crate::proofs::Picked::picked))]
+fn name_of(rt: &impl Abort, schema: &RawSchema) -> u8 {
+    assert!(rt; !schema.is_released());
+    match schema.name() {
+        Some(name) => {
+            assert!(rt; name.len() >= 1);
+            name[0]
+        }
+        None => panic!(rt; "no name"),
+    }
+}
+
+/// The fields 2 and 0 of a schema with three.
+#[tactic(auto, using(crate::proofs::Picked::picked))]
+fn last_and_first_field(
+    rt: &impl Abort,
+    alloc: Global,
+    schema: RawSchema,
+    pass: &mut Pass,
+) -> RawSchema {
+    assert!(rt; !schema.is_released());
+    assert!(rt; schema.n_children() == 3);
+    assert!(rt; schema.cost() <= 99);
+    assert!(rt; pass.units() >= 1);
+    assert!(rt; pass.units() + schema.cost() <= SUPPLY);
+    match schema.dictionary() {
+        None => {}
+        Some(_) => panic!(rt; "a dictionary"),
+    }
+    match take_fields(alloc, schema, &[2, 0], pass) {
+        Ok(fields) => fields,
+        Err(_refused) => panic!(rt; "no memory"),
+    }
+}
+
+#[tactic(auto, using(crate::proofs::Picked::picked))]
+fn end_schema(rt: &impl Abort, schema: RawSchema, pass: &mut Pass) {
+    let mut schema = schema;
+    assert!(rt; schema.cost() <= 99);
+    assert!(rt; pass.units() + schema.cost() <= SUPPLY);
+    let _acted = schema.release(pass);
+    schema.discard();
+}
+
+#[test]
+#[tactic(auto, using(crate::proofs::Picked::picked))]
+fn picked_columns_show_the_items_of_their_parent(rt: HostRuntime) {
+    let alloc = rt.alloc();
+    let (desk, mut pass) = open_desk();
+    let mut parent = structure(&rt, alloc, (2, -1, 1), 3, &mut pass);
+    let data: [u8; 12] = [7, 0, 0, 0, 8, 0, 0, 0, 9, 0, 0, 0];
+    let first = column(&rt, alloc, None, &data, (3, 0, 0), &mut pass);
+    put(&rt, &mut parent, 0, first);
+    let middle = column(&rt, alloc, None, &data, (3, 0, 0), &mut pass);
+    put(&rt, &mut parent, 1, middle);
+    let nulls: [u8; 12] = [4, 0, 0, 0, 0, 0, 0, 0, 6, 0, 0, 0];
+    let last = column(&rt, alloc, Some(&[5]), &nulls, (3, 1, 0), &mut pass);
+    put(&rt, &mut parent, 2, last);
+    let (blocks, nodes) = (pass.blocks(), pass.nodes());
+    let columns = last_and_first(&rt, alloc, parent, &mut pass);
+    assert!(&rt; pass.blocks() == blocks);
+    assert!(&rt; nodes == 4 && pass.nodes() == 5);
+    assert!(&rt; !columns.is_released());
+    let numbers = (columns.length(), columns.null_count(), columns.offset());
+    assert!(&rt; numbers == (2, 0, 0));
+    assert!(&rt; columns.n_children() == 2 && columns.n_buffers() == 1);
+    assert!(&rt; columns.release_kind() == Some(ReleaseKind::Assembled));
+    assert!(&rt; shown(&rt, &columns, 0) == (2, -1, 1, 4));
+    assert!(&rt; shown(&rt, &columns, 1) == (2, 0, 1, 7));
+    end(&rt, columns, &mut pass);
+    assert!(&rt; pass.units() == SUPPLY);
+    let _audit = desk.close(pass);
+}
+
+#[test]
+#[tactic(auto, using(crate::proofs::Picked::picked))]
+fn picked_fields_keep_their_order(rt: HostRuntime) {
+    let alloc = rt.alloc();
+    let (desk, mut pass) = open_desk();
+    let mut parent = field(&rt, alloc, b"+s", b"t", 3, &mut pass);
+    let names: [&[u8]; 3] = [b"a", b"b", b"c"];
+    for i in 0..3 {
+        let child = field(&rt, alloc, b"i", names[i], 0, &mut pass);
+        put_field(&rt, &mut parent, i, child);
+    }
+    let fields = last_and_first_field(&rt, alloc, parent, &mut pass);
+    assert!(&rt; pass.blocks() == 0 && pass.nodes() == 5);
+    assert!(&rt; name_of(&rt, &fields) == b't');
+    assert!(&rt; !fields.is_released());
+    assert!(&rt; fields.flags() == 2);
+    assert!(&rt; fields.n_children() == 2);
+    assert!(&rt; name_of(&rt, fields.child(0)) == b'c');
+    assert!(&rt; name_of(&rt, fields.child(1)) == b'a');
+    end_schema(&rt, fields, &mut pass);
+    assert!(&rt; pass.units() == SUPPLY);
+    let _audit = desk.close(pass);
+}
+
+#[test]
+#[tactic(auto, using(crate::proofs::Picked::picked))]
+fn slice_keeps_its_children(rt: HostRuntime) {
+    let alloc = rt.alloc();
+    let (desk, mut pass) = open_desk();
+    let mut parent = structure(&rt, alloc, (2, 0, 0), 1, &mut pass);
+    let data: [u8; 8] = [0, 0, 0, 0, 5, 0, 0, 0];
+    let only = column(&rt, alloc, Some(&[2]), &data, (2, 1, 0), &mut pass);
+    put(&rt, &mut parent, 0, only);
+    let second = second_item(&rt, parent);
+    assert!(&rt; !second.is_released());
+    let numbers = (second.length(), second.null_count(), second.offset());
+    assert!(&rt; numbers == (1, 0, 1));
+    assert!(&rt; shown(&rt, &second, 0) == (2, 1, 0, 0));
+    end(&rt, second, &mut pass);
+    assert!(&rt; pass.units() == SUPPLY);
+    let _audit = desk.close(pass);
+}

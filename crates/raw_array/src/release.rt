@@ -1,0 +1,90 @@
+//! The release of a structure and of all that it still owns.
+ghost use Rattle.std.specs.Prelude.{◌≡◌, ◌+◌, ◌≤◌, ◌↔◌};
+ghost use Rattle.tree_model.specs.Tree.{Released, IsLive, trees};
+ghost use Rattle.raw_place.specs.Kept.{values_of};
+ghost use Rattle.raw_array.specs.Members.{Cost, cost_of_all};
+
+use crate::array::{Acted, Node, RawArray, State};
+use crate::private_data::end_private;
+use raw_place::Kids;
+use unit_pass::{Pass, SUPPLY};
+
+impl RawArray {
+    /// Releases a live structure with the children and the dictionary that it still owns: each live node gives its unit
+    /// back and lets its holds go, once ("Memory management", "Release callback semantics -- for producers"). A released
+    /// structure stays as it is, and the answer is `Was`. Takes no memory.
+    pub fn release(&mut self, pass: &mut Pass) -> Acted
+        requires { pass.old.units + Cost self.old ≤ SUPPLY }
+        ensures acted { result ≡ Acted.Acted ↔ IsLive self.old }
+        ensures released { self.new ≡ Released }
+        ensures units { pass.new.units ≡ pass.old.units + Cost self.old }
+        ensures blocks { pass.new.blocks ≡ pass.old.blocks }
+        ensures nodes { pass.new.nodes ≡ pass.old.nodes }
+    {
+        let acted = match &self.state {
+            State::Released => Acted::Was,
+            State::Live(_) => Acted::Acted,
+        };
+        self.move_out().spend(pass);
+        acted
+    }
+
+    /// Gives back the units of all live nodes and their holds.
+    #[cycle(spend)]
+    #[tactic(auto, using(tree_model::proofs::Measures::measures))]
+    pub(crate) fn spend(self, pass: &mut Pass)
+        requires { pass.old.units + Cost self ≤ SUPPLY }
+        ensures units { pass.new.units ≡ pass.old.units + Cost self }
+        ensures blocks { pass.new.blocks ≡ pass.old.blocks }
+        ensures nodes { pass.new.nodes ≡ pass.old.nodes }
+    {
+        let RawArray { state } = self;
+        match state {
+            State::Released => {}
+            State::Live(node) => {
+                let Node {
+                    length: _,
+                    null_count: _,
+                    offset: _,
+                    kind: _,
+                    children,
+                    dictionary,
+                    private,
+                } = node;
+                end_private(private, pass);
+                spend_all(children, pass);
+                if let Some(tree) = dictionary {
+                    tree.take().spend(pass);
+                }
+            }
+        }
+    }
+}
+
+#[cycle(spend)]
+#[tactic(auto, using(tree_model::proofs::Measures::measures))]
+pub(crate) fn spend_all(mut children: Kids<RawArray>, pass: &mut Pass)
+    requires { pass.old.units + cost_of_all (trees (values_of children)) ≤ SUPPLY }
+    ensures units { pass.new.units ≡ pass.old.units + cost_of_all (trees (values_of children)) }
+    ensures blocks { pass.new.blocks ≡ pass.old.blocks }
+    ensures nodes { pass.new.nodes ≡ pass.old.nodes }
+{
+    while let Some(child) = children.pop() {
+        child.spend(pass);
+    }
+    children.destroy_empty();
+}
+
+/// Gives back the units of trees that have no parent.
+#[tactic(auto, using(tree_model::proofs::Measures::measures))]
+pub(crate) fn spend_vec(mut children: Vec<RawArray>, pass: &mut Pass)
+    requires { pass.old.units + cost_of_all (trees children.items) ≤ SUPPLY }
+    ensures units { pass.new.units ≡ pass.old.units + cost_of_all (trees children.items) }
+    ensures blocks { pass.new.blocks ≡ pass.old.blocks }
+    ensures nodes { pass.new.nodes ≡ pass.old.nodes }
+{
+    while let Some(child) = children.pop() {
+        child.spend(pass);
+    }
+    children.destroy_empty();
+}

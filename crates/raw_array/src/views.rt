@@ -1,0 +1,150 @@
+//! The views of a node's buffers, one after another: counted, let go, and shared.
+ghost use Rattle.std.specs.Prelude.{◌≡◌, ◌+◌, ◌<◌, ◌≤◌, [], ◌∷◌, ◌++◌, map, if◌then◌else◌, is_ok, IfOk, OnOk, OnErr, vec_len, vec_capacity};
+ghost use Rattle.raw_array.specs.Members.{holds_of, least_of, whole, shared_buffer, lowered_buffer, LikeBuffers};
+ghost use Rattle.raw_array.specs.View.{buffer_if, buffers_of};
+
+use buf_block::{AMOUNT, BufView};
+use std::alloc::Global;
+use unit_pass::{NoMemory, Pass, SUPPLY};
+
+#[tactic(auto, using(crate::proofs::Buffers::buffer_lists))]
+pub(crate) fn count_holds(buffers: &[Option<BufView>]) -> u64
+    ensures { result ≡ holds_of (buffers_of buffers.now) }
+{
+    let mut holds = 0;
+    for buffer in buffers {
+        holds += holds_in(buffer);
+    }
+    holds
+}
+
+fn holds_in(buffer: &Option<BufView>) -> u64
+    ensures exact { result ≡ holds_of (buffer_if buffer.now ∷ []) }
+    ensures bounded { result ≤ 1 }
+{
+    match buffer {
+        None => 0,
+        Some(_) => 1,
+    }
+}
+
+/// The least amount of the holds.
+#[tactic(auto, using(crate::proofs::Buffers::buffer_lists))]
+pub(crate) fn least_in(buffers: &[Option<BufView>]) -> u64
+    ensures exact { result ≡ least_of (buffers_of buffers.now) }
+    ensures bounded { least_of (buffers_of buffers.now) ≤ whole }
+{
+    let mut least = AMOUNT;
+    for buffer in buffers {
+        least = least.min(amount_in(buffer));
+    }
+    least
+}
+
+fn amount_in(buffer: &Option<BufView>) -> u64
+    ensures exact { result ≡ least_of (buffer_if buffer.now ∷ []) }
+    ensures bounded { result ≤ whole }
+{
+    match buffer {
+        None => AMOUNT,
+        Some(view) => view.hold.amount(),
+    }
+}
+
+/// Lets all holds go. Their units go back.
+#[tactic(auto, using(crate::proofs::Buffers::buffer_lists))]
+pub(crate) fn let_go_all(mut buffers: Vec<Option<BufView>>, pass: &mut Pass)
+    requires { pass.old.units + holds_of (buffers_of buffers.items) ≤ SUPPLY }
+    ensures units { pass.new.units ≡ pass.old.units + holds_of (buffers_of buffers.items) }
+    ensures blocks { pass.new.blocks ≡ pass.old.blocks }
+    ensures nodes { pass.new.nodes ≡ pass.old.nodes }
+{
+    while let Some(buffer) = buffers.pop() {
+        let_go_if(buffer, pass);
+    }
+    buffers.destroy_empty();
+}
+
+fn let_go_if(buffer: Option<BufView>, pass: &mut Pass)
+    requires { pass.old.units + holds_of (buffer_if buffer ∷ []) ≤ SUPPLY }
+    ensures units { pass.new.units ≡ pass.old.units + holds_of (buffer_if buffer ∷ []) }
+    ensures blocks { pass.new.blocks ≡ pass.old.blocks }
+    ensures nodes { pass.new.nodes ≡ pass.old.nodes }
+{
+    if let Some(view) = buffer {
+        let BufView {
+            hold,
+            start: _,
+            len: _,
+        } = view;
+        let _left = hold.let_go(pass);
+    }
+}
+
+/// The views of a share. The holds they were taken from have lowered amounts then.
+#[tactic(auto, using(crate::proofs::Shares::shares))]
+pub(crate) fn shared_views(
+    buffers: &mut Vec<Option<BufView>>,
+    alloc: Global,
+    pass: &mut Pass,
+) -> Result<Vec<Option<BufView>>, NoMemory>
+    requires amounts { 2 ≤ least_of (buffers_of buffers.old.items) }
+    requires units { holds_of (buffers_of buffers.old.items) ≤ pass.old.units }
+    ensures shared { IfOk result (λ views. buffers_of views.items ≡ map shared_buffer (buffers_of buffers.old.items)) }
+    ensures lowered { OnOk result (buffers_of buffers.new.items ≡ map lowered_buffer (buffers_of buffers.old.items)) }
+    ensures like { OnErr result (LikeBuffers (buffers_of buffers.old.items) (buffers_of buffers.new.items)) }
+    ensures units { pass.new.units + (if is_ok result then holds_of (buffers_of buffers.old.items) else 0) ≡ pass.old.units }
+    ensures blocks { pass.new.blocks ≡ pass.old.blocks }
+    ensures nodes { pass.new.nodes ≡ pass.old.nodes }
+{
+    let _supply = pass.units();
+    let Ok(mut views) = Vec::with_capacity(alloc, buffers.len()) else {
+        return Err(NoMemory);
+    };
+    for i in 0..buffers.len() {
+        match shared_view(&mut buffers[i], pass) {
+            Ok(view) => put_back(&mut views, view),
+            Err(NoMemory) => {
+                let_go_all(views, pass);
+                return Err(NoMemory);
+            }
+        }
+    }
+    Ok(views)
+}
+
+fn shared_view(buffer: &mut Option<BufView>, pass: &mut Pass) -> Result<Option<BufView>, NoMemory>
+    requires amount { 2 ≤ least_of (buffer_if buffer.old ∷ []) }
+    requires units { holds_of (buffer_if buffer.old ∷ []) ≤ pass.old.units }
+    ensures shared { IfOk result (λ view. buffer_if view ≡ shared_buffer (buffer_if buffer.old)) }
+    ensures lowered { OnOk result (buffer_if buffer.new ≡ lowered_buffer (buffer_if buffer.old)) }
+    ensures kept { OnErr result (buffer_if buffer.new ≡ buffer_if buffer.old) }
+    ensures units { pass.new.units + (if is_ok result then holds_of (buffer_if buffer.old ∷ []) else 0) ≡ pass.old.units }
+    ensures blocks { pass.new.blocks ≡ pass.old.blocks }
+    ensures nodes { pass.new.nodes ≡ pass.old.nodes }
+{
+    match buffer {
+        None => Ok(None),
+        Some(view) => match view.hold.take(pass) {
+            Ok(hold) => Ok(Some(BufView {
+                hold,
+                start: view.start,
+                len: view.len,
+            })),
+            Err(NoMemory) => Err(NoMemory),
+        },
+    }
+}
+
+/// Appends where there is room.
+pub(crate) fn put_back<T>(items: &mut Vec<T>, item: T)
+    requires { vec_len items.old < vec_capacity items.old }
+    ensures items { items.new.items ≡ items.old.items ++ item ∷ [] }
+    ensures len { vec_len items.new ≡ vec_len items.old + 1 }
+    ensures capacity { vec_capacity items.old ≤ vec_capacity items.new }
+{
+    match items.push(item) {
+        Ok(()) => {}
+        Err(_failed) => unreachable!(),
+    }
+}

@@ -1,0 +1,90 @@
+//! The release of a structure and of all that it still owns.
+ghost use Rattle.std.specs.Prelude.{◌≡◌, ◌+◌, ◌≤◌, ◌↔◌};
+ghost use Rattle.tree_model.specs.Tree.{Released, IsLive, trees};
+ghost use Rattle.raw_place.specs.Kept.{values_of};
+ghost use Rattle.raw_schema.specs.Members.{Nodes, nodes_of_all};
+
+use crate::private_data::give_back_placed;
+use crate::schema::{Acted, Node, RawSchema, State};
+use raw_place::Kids;
+use unit_pass::{Pass, SUPPLY};
+
+impl RawSchema {
+    /// Releases a live structure with the children and the dictionary that it still owns: each live node gives its unit
+    /// back, once ("Memory management", "Release callback semantics -- for producers"). A released structure stays as it
+    /// is, and the answer is `Was`. Takes no memory.
+    pub fn release(&mut self, pass: &mut Pass) -> Acted
+        requires { pass.old.units + Nodes self.old ≤ SUPPLY }
+        ensures acted { result ≡ Acted.Acted ↔ IsLive self.old }
+        ensures released { self.new ≡ Released }
+        ensures units { pass.new.units ≡ pass.old.units + Nodes self.old }
+        ensures blocks { pass.new.blocks ≡ pass.old.blocks }
+        ensures nodes { pass.new.nodes ≡ pass.old.nodes }
+    {
+        let acted = match &self.state {
+            State::Released => Acted::Was,
+            State::Live(_) => Acted::Acted,
+        };
+        self.move_out().spend(pass);
+        acted
+    }
+
+    /// Gives back the units of all live nodes.
+    #[cycle(spend)]
+    #[tactic(auto, using(tree_model::proofs::Measures::measures))]
+    pub(crate) fn spend(self, pass: &mut Pass)
+        requires { pass.old.units + Nodes self ≤ SUPPLY }
+        ensures units { pass.new.units ≡ pass.old.units + Nodes self }
+        ensures blocks { pass.new.blocks ≡ pass.old.blocks }
+        ensures nodes { pass.new.nodes ≡ pass.old.nodes }
+    {
+        let RawSchema { state } = self;
+        match state {
+            State::Released => {}
+            State::Live(node) => {
+                let Node {
+                    format: _,
+                    name: _,
+                    metadata: _,
+                    flags: _,
+                    children,
+                    dictionary,
+                    private,
+                } = node;
+                give_back_placed(private, pass);
+                spend_all(children, pass);
+                if let Some(tree) = dictionary {
+                    tree.take().spend(pass);
+                }
+            }
+        }
+    }
+}
+
+#[cycle(spend)]
+#[tactic(auto, using(tree_model::proofs::Measures::measures))]
+pub(crate) fn spend_all(mut children: Kids<RawSchema>, pass: &mut Pass)
+    requires { pass.old.units + nodes_of_all (trees (values_of children)) ≤ SUPPLY }
+    ensures units { pass.new.units ≡ pass.old.units + nodes_of_all (trees (values_of children)) }
+    ensures blocks { pass.new.blocks ≡ pass.old.blocks }
+    ensures nodes { pass.new.nodes ≡ pass.old.nodes }
+{
+    while let Some(child) = children.pop() {
+        child.spend(pass);
+    }
+    children.destroy_empty();
+}
+
+/// Gives back the units of trees that have no parent.
+#[tactic(auto, using(tree_model::proofs::Measures::measures))]
+pub(crate) fn spend_vec(mut children: Vec<RawSchema>, pass: &mut Pass)
+    requires { pass.old.units + nodes_of_all (trees children.items) ≤ SUPPLY }
+    ensures units { pass.new.units ≡ pass.old.units + nodes_of_all (trees children.items) }
+    ensures blocks { pass.new.blocks ≡ pass.old.blocks }
+    ensures nodes { pass.new.nodes ≡ pass.old.nodes }
+{
+    while let Some(child) = children.pop() {
+        child.spend(pass);
+    }
+    children.destroy_empty();
+}

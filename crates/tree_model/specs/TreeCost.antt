@@ -1,0 +1,74 @@
+-- What a tree measures: its live nodes, the holds of their buffers, the units that both keep, and the levels of nodes.
+use Rattle.std.specs.Prelude.{ℕ, ◌+◌, max, min}
+use Rattle.tree_model.specs.TreeData.{Tree, Released, Live, Trees, no_trees, more_trees, MaybeTree, absent, present}
+
+-- the number of live nodes
+abbrev mutual
+  pub Nodes : {M : Type 0} → Tree M → ℕ
+  Nodes Released = 0
+  Nodes (Live members children dictionary) = 1 + (nodes_of_all children + nodes_of_maybe dictionary)
+
+  pub nodes_of_all : {M : Type 0} → Trees M → ℕ
+  nodes_of_all no_trees = 0
+  nodes_of_all (more_trees t ts) = Nodes t + nodes_of_all ts
+
+  pub nodes_of_maybe : {M : Type 0} → MaybeTree M → ℕ
+  nodes_of_maybe absent = 0
+  nodes_of_maybe (present t) = Nodes t
+
+-- the number of the live nodes' holds, where `holds` says how many a node's members have
+abbrev mutual
+  pub Holds : {M : Type 0} → (M → ℕ) → Tree M → ℕ
+  Holds holds Released = 0
+  Holds holds (Live members children dictionary) = holds members + (holds_of_all holds children + holds_of_maybe holds dictionary)
+
+  pub holds_of_all : {M : Type 0} → (M → ℕ) → Trees M → ℕ
+  holds_of_all holds no_trees = 0
+  holds_of_all holds (more_trees t ts) = Holds holds t + holds_of_all holds ts
+
+  pub holds_of_maybe : {M : Type 0} → (M → ℕ) → MaybeTree M → ℕ
+  holds_of_maybe holds absent = 0
+  holds_of_maybe holds (present t) = Holds holds t
+
+-- the number of live nodes and of their holds
+abbrev mutual
+  pub Cost : {M : Type 0} → (M → ℕ) → Tree M → ℕ
+  Cost holds Released = 0
+  Cost holds (Live members children dictionary) = 1 + holds members + (cost_of_all holds children + cost_of_maybe holds dictionary)
+
+  pub cost_of_all : {M : Type 0} → (M → ℕ) → Trees M → ℕ
+  cost_of_all holds no_trees = 0
+  cost_of_all holds (more_trees t ts) = Cost holds t + cost_of_all holds ts
+
+  pub cost_of_maybe : {M : Type 0} → (M → ℕ) → MaybeTree M → ℕ
+  cost_of_maybe holds absent = 0
+  cost_of_maybe holds (present t) = Cost holds t
+
+-- 0 for a released tree, else one more than the deepest child or dictionary
+abbrev mutual
+  pub Depth : {M : Type 0} → Tree M → ℕ
+  Depth Released = 0
+  Depth (Live members children dictionary) = 1 + max (depth_of_all children) (depth_of_maybe dictionary)
+
+  pub depth_of_all : {M : Type 0} → Trees M → ℕ
+  depth_of_all no_trees = 0
+  depth_of_all (more_trees t ts) = max (Depth t) (depth_of_all ts)
+
+  pub depth_of_maybe : {M : Type 0} → MaybeTree M → ℕ
+  depth_of_maybe absent = 0
+  depth_of_maybe (present t) = Depth t
+
+-- the least of a number of the live nodes' members, and at most `most`
+abbrev mutual
+  pub Least : {M : Type 0} → ℕ → (M → ℕ) → Tree M → ℕ
+  Least most number Released = most
+  Least most number (Live members children dictionary) =
+      min (number members) (min (least_of_all most number children) (least_of_maybe most number dictionary))
+
+  pub least_of_all : {M : Type 0} → ℕ → (M → ℕ) → Trees M → ℕ
+  least_of_all most number no_trees = most
+  least_of_all most number (more_trees t ts) = min (Least most number t) (least_of_all most number ts)
+
+  pub least_of_maybe : {M : Type 0} → ℕ → (M → ℕ) → MaybeTree M → ℕ
+  least_of_maybe most number absent = most
+  least_of_maybe most number (present t) = Least most number t
