@@ -1,14 +1,23 @@
 //! Sources and sinks of bytes, seen by what they have left, what they took and how often they failed.
+//!
+//! [`read_all`] and [`write_all`] carry whole texts over any [`Source`] and [`Sink`]: the bytes are exactly those that
+//! the source had left and that the sink took, and a failure is answered only where the count of failures rose. Sources
+//! and sinks in memory fail where they are told to; [`CountSource`] gives many bytes and keeps none. [`StdSource`] and
+//! [`StdSink`] stand over the system's streams: what those give and take is told by no contract.
 #![tactic(auto)]
 
 ghost use Rattle.std.specs.Prelude.{◌≡◌, ◌<◌, ◌≤◌, ◌+◌, ◌-◌, ◌^◌, ℕ, List, Option, IfOk, IfErr, OnOk, OnErr, length, take, vec_len};
 ghost use Rattle.std.specs.Io.KnownBytes.{Appends, Consumes, IsAtEnd};
 ghost use Rattle.edge_io.specs.Edge.{GivesFirst, GivesWithin, LosesCount, LosesPrefix, ReadFailsFor, Rose, TakesFirst, TakesWithin, WriteFailsFor, taken_by};
 
+mod counted;
+mod mem_sink;
+mod mem_source;
 mod memory;
 mod standard;
 mod whole;
 
+pub use counted::CountSource;
 pub use memory::{MemSink, MemSource};
 pub use standard::{StdSink, StdSource};
 pub use unit_pass::NoMemory;
@@ -81,3 +90,6 @@ pub trait Sink {
         ensures later { faults self.old ≤ faults self.new }
         ensures cause { WriteFailsFor (faults self.old) (faults self.new) result };
 }
+
+#[cfg(test)]
+mod tests;

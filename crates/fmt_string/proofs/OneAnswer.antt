@@ -1,6 +1,6 @@
 -- A text has one reading: one kind or one fault.
-use Rattle.std.proofs.Common.{◌≡◌, ◌≢◌, ℕ, zero, suc, ◌+◌, ◌<◌, ◌≤◌, ◌^◌, Bool, true, false, cond, ltb, nat_eq, List, [], ◌∷◌, ◌++◌, length, get_or, take, drop, map, Option, Some, None, Result, Ok, Err, refl, sym, ap, subst, ◌∙◌, inl, inr, arith}
-use Rattle.std.specs.Prelude.{IfOk, IfErr, Contains, All, Any, ◌⊎◌, ◌&&◌, not}
+use Rattle.std.proofs.Common.{◌≡◌, ℕ, zero, suc, ◌+◌, ◌<◌, ◌^◌, Bool, true, false, cond, ltb, nat_eq, List, [], ◌∷◌, ◌++◌, length, get_or, drop, map, Option, Some, None, Ok, Err, refl, sym, ap, subst, ◌∙◌, inl, inr, arith}
+use Rattle.std.specs.Prelude.{IfOk, IfErr, Contains, All, ◌⊎◌, not}
 use Rattle.std.specs.List.{starts_with, list_all}
 use Rattle.std.specs.Str.Parse.{digits_value}
 use Rattle.std.proofs.lemmas.Bool.{le-ltb, lt-ltb}
@@ -10,13 +10,12 @@ use Rattle.std.proofs.lemmas.List.Elements.{All-head, All-tail}
 use Rattle.std.proofs.lemmas.Slice.Eq.{starts_is}
 use Rattle.fmt_string.specs.declared.fault.FormatRule.{FormatRule}
 use Rattle.fmt_string.specs.declared.fault.FormatRule.TheVariants as rules
-use Rattle.fmt_string.specs.declared.fault.FormatFault.{FormatFault}
 use Rattle.fmt_string.specs.declared.fault.FormatFault.TheVariants.{At, NoMemory}
 use Rattle.fmt_string.specs.declared.kind.DataType.{DataType}
 use Rattle.fmt_string.specs.declared.kind.DataType.TheVariants as kinds
 use Rattle.fmt_string.specs.Keywords.{Keyword, keywords, Behind}
 use Rattle.fmt_string.specs.Keywords.Behind.{Alone, Zone, BinarySize, ListSize, Numbers, Refused}
-use Rattle.fmt_string.specs.FormatString.{IsNumber, NumberThen, SizeFails, IsPrefix, UnknownAt, RestIs, RestFails, FormatIs, FormatFaultIs, FailsBehind}
+use Rattle.fmt_string.specs.FormatString.{IsNumber, NumberThen, SizeFails, IsPrefix, UnknownAt, RestIs, RestFails, FormatIs, FormatFaultIs}
 use Rattle.fmt_string.specs.Answer.{FaultIs, Reads}
 use Rattle.fmt_string.proofs.Rereading.{number_of, number_again, no_number}
 use Rattle.fmt_string.proofs.RereadDecimal.{Answer, fault, numbers_of, decimal_again, numbers_fail}

@@ -1,5 +1,5 @@
 -- A decimal's numbers read by a function of the text.
-use Rattle.std.proofs.Common.{◌≡◌, ◌≢◌, ℕ, zero, suc, ℤ, pos, negsuc, ◌+◌, ◌<◌, ◌≤◌, ◌^◌, Bool, true, false, cond, nat_eq, ltb, List, [], ◌∷◌, ◌++◌, length, length-append, append_assoc, Option, Some, None, Result, Ok, Err, refl, sym, ap, subst, ◌∙◌, inl, inr, arith}
+use Rattle.std.proofs.Common.{◌≡◌, ℕ, ℤ, pos, negsuc, ◌+◌, ◌<◌, ◌≤◌, ◌^◌, Bool, true, false, cond, nat_eq, ltb, List, [], ◌∷◌, ◌++◌, length, length-append, append_assoc, Option, Some, None, Result, Ok, Err, refl, sym, ap, subst, ◌∙◌, inl, inr, arith}
 use Rattle.std.specs.Prelude.{FitsSigned, ◌⊎◌, ◌||◌}
 use Rattle.std.specs.Int.{w32}
 use Rattle.std.specs.Str.Parse.{digits_value}
@@ -11,10 +11,10 @@ use Rattle.fmt_string.specs.declared.fault.FormatFault.{FormatFault}
 use Rattle.fmt_string.specs.declared.fault.FormatFault.TheVariants.{At}
 use Rattle.fmt_string.specs.declared.kind.DataType.{DataType}
 use Rattle.fmt_string.specs.declared.kind.DataType.TheVariants as kinds
-use Rattle.fmt_string.specs.FormatString.{IsDigit, IsNumber, IsSigned, IsWidth, NoNumber, NumberThen, StartsWith, StartsWithDigit, comma, Parts, parts_text, PartsAre, Ends, width_of, most_precise, DecimalIs, NumberPlace, numbers_before, IsNumberPlace, Misses, IsNarrow, KnownWidth, most_at, WidthFails, RangeFails, NumbersFail}
+use Rattle.fmt_string.specs.FormatString.{IsDigit, IsNumber, IsSigned, IsWidth, NoNumber, NumberThen, StartsWith, StartsWithDigit, comma, Parts, parts_text, PartsAre, Ends, width_of, most_precise, DecimalIs, NumberPlace, numbers_before, IsNumberPlace, Misses, KnownWidth, most_at, WidthFails, RangeFails, NumbersFail}
 use Rattle.fmt_string.specs.FormatString.NumberPlace.{AtPrecision, AtScale, AtWidth}
 use Rattle.fmt_string.specs.Decimal.{signed_value, width_value}
-use Rattle.fmt_string.proofs.Rereading.{number_of, number_again, no_number, signed_of, signed_again, no_signed, signed_is, other_byte, same_byte}
+use Rattle.fmt_string.proofs.Rereading.{number_of, number_again, no_number, signed_of, signed_again, no_signed, signed_is, other_byte}
 
 abbrev pub Answer : Type 0
 Answer = Result DataType FormatFault

@@ -1,19 +1,18 @@
 -- The canonical spelling of a type spells it.
-use Rattle.std.proofs.Common.{◌≡◌, ℕ, zero, suc, ℤ, pos, negsuc, ◌+◌, ◌<◌, ◌≤◌, ◌^◌, Bool, true, false, List, [], ◌∷◌, ◌++◌, length, get_or, codes, refl, sym, ap, subst, ◌∙◌, inl, inr, arith, append_assoc, lit<}
+use Rattle.std.proofs.Common.{◌≡◌, ℕ, zero, suc, ℤ, pos, negsuc, ◌+◌, ◌<◌, ◌≤◌, ◌^◌, Bool, true, false, List, [], ◌++◌, length, get_or, codes, refl, sym, ap, subst, inl, inr, arith, lit<}
 use Rattle.std.specs.Prelude.{Contains, FitsSigned, ◌⊎◌, decimal}
 use Rattle.std.specs.Int.{w32}
 use Rattle.std.specs.Fmt.{signed_decimal}
 use Rattle.std.proofs.lemmas.Fmt.{decimal_is_IsNumeral, decimal_digit, first_decimal}
-use Rattle.std.proofs.lemmas.List.{append-nil}
 use Rattle.fmt_string.specs.declared.kind.DataType.{DataType}
 use Rattle.fmt_string.specs.declared.kind.DataType.TheVariants as kinds
 use Rattle.fmt_string.specs.declared.kind.Tick.{Tick}
 use Rattle.fmt_string.specs.declared.kind.Tick.TheVariants.{Second, Milli, Micro, Nano}
-use Rattle.fmt_string.specs.Keywords.{Keyword, keywords, Behind}
+use Rattle.fmt_string.specs.Keywords.{keywords}
 use Rattle.fmt_string.specs.Keywords.Behind.{Alone, Zone, BinarySize, ListSize, Numbers}
-use Rattle.fmt_string.specs.FormatString.{IsNumber, IsSigned, IsWidth, comma, width_of, most_precise, RestIs, DecimalIs, FormatIs}
+use Rattle.fmt_string.specs.FormatString.{IsNumber, IsSigned, IsWidth, comma, width_of, most_precise, DecimalIs, FormatIs}
 use Rattle.fmt_string.specs.Kinds.{KindOk}
-use Rattle.fmt_string.specs.Spelling.{int_word, float_word, time_word, timestamp_word, duration_word, width_text, spelling_of}
+use Rattle.fmt_string.specs.Spelling.{int_word, float_word, width_text, spelling_of}
 
 -- ---- numbers
 

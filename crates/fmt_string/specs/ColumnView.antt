@@ -1,5 +1,5 @@
 -- The columns that the code keeps, as columns of a table.
-use Rattle.std.specs.Prelude.{ℕ, List}
+use Rattle.std.specs.Prelude.{List, [], ◌∷◌}
 use Rattle.fmt_string.specs.declared.kind.ColKind.{ColKind, Flat as CodeFlat, Dict as CodeDict, Columns', Row_of-ColumnType, end_of-ColumnType, more_of-ColumnType}
 use Rattle.fmt_string.specs.declared.kind.ColumnType.{ColumnType}
 use Rattle.fmt_string.specs.Table.{Kind, Flat, Dict, Columns, Members, no_members, more_members, Column}
@@ -16,3 +16,7 @@ abbrev mutual
 
 abbrev pub column_of : ColumnType → Column
 column_of column = record { name = column.name; kind = kind_of column.kind }
+
+abbrev pub members : List Column → Members
+members [] = no_members
+members (c ∷ cs) = more_members c.name c.kind (members cs)

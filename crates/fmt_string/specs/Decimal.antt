@@ -1,5 +1,5 @@
 -- The numbers of a decimal by their texts.
-use Rattle.std.specs.Prelude.{◌≡◌, ℕ, ℤ, pos, neg_ℤ, ◌+◌, List, [], ◌∷◌, ◌++◌, if◌then◌else◌, ◌==◌}
+use Rattle.std.specs.Prelude.{ℕ, ℤ, pos, neg_ℤ, List, [], ◌∷◌, if◌then◌else◌, ◌==◌}
 use Rattle.std.specs.Str.Parse.{digits_value}
 use Rattle.fmt_string.specs.FormatString.{Parts, PartsAre}
 

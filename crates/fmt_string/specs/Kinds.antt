@@ -1,6 +1,7 @@
 -- Which types there are, and which of them columns of a text may have.
-use Rattle.std.specs.Prelude.{◌≡◌, ◌⊎◌, ℕ, ℤ, pos, negsuc, ◌<◌, ◌≤◌, ◌^◌, Bool, true, false, nat_le, ◌&&◌, FitsSigned}
+use Rattle.std.specs.Prelude.{◌≡◌, ◌⊎◌, ℕ, ℤ, pos, negsuc, ◌<◌, ◌≤◌, ◌^◌, Bool, false, is_some, nat_le, ◌&&◌, FitsSigned}
 use Rattle.std.specs.Int.{w32}
+use Rattle.fmt_string.specs.FieldText.{form_of}
 use Rattle.fmt_string.specs.FormatString.{most_precise}
 use Rattle.fmt_string.specs.declared.kind.DataType.{DataType}
 use Rattle.fmt_string.specs.declared.kind.DataType.TheVariants as kinds
@@ -19,17 +20,9 @@ abbrev pub HasZone : DataType → Type 0
 HasZone (kinds.Timestamp tick zone) = Unit {0}
 HasZone _ = ⊥
 
--- the types whose values a field of text spells
+-- a flat column kind: a field of text spells the type's values
 abbrev pub is_flat : DataType → Bool
-is_flat kinds.Null = false
-is_flat (kinds.Decimal precision scale true) = false
-is_flat kinds.IntervalDayTime = false
-is_flat kinds.IntervalMonthDayNano = false
-is_flat (kinds.List wide) = false
-is_flat (kinds.FixedList size) = false
-is_flat kinds.Struct = false
-is_flat kinds.Map = false
-is_flat _ = true
+is_flat kind = is_some (form_of kind)
 
 -- a scale from 0 to the precision
 abbrev pub is_within : ℤ → ℕ → Bool

@@ -1,6 +1,6 @@
 -- Columns of text as the columnar format lays them out ("Arrow Columnar Format", "Variable-size Binary Layout" and
 -- "Validity bitmaps"), before they stand in a tree: an empty field is a null, and has no bytes.
-use Rattle.std.specs.Prelude.{◌≡◌, ◌↔◌, ◌≤◌, ◌<◌, ◌+◌, ◌*◌, ◌^◌, ◌++◌, ℕ, zero, suc, Bool, true, false, nat_eq, not, List, [], ◌∷◌, map, length, get_or}
+use Rattle.std.specs.Prelude.{◌≡◌, ◌↔◌, ◌≤◌, ◌<◌, ◌+◌, ◌*◌, ◌^◌, ◌++◌, ℕ, zero, suc, Bool, true, false, List, [], ◌∷◌, length, get_or}
 use Rattle.std.specs.List.{concat}
 use Rattle.std.specs.Int.{to_le_bytes, w32}
 use Rattle.bit_pack.specs.Packed.{bit}

@@ -1,4 +1,44 @@
-//! The top call.
+//! The top call, [`run`]: from the words of the command and the bytes of a source to the text of a sink.
+//!
+//! It reads the source to its end, takes the records of the CSV text, puts the rows of text columns into one struct of
+//! array structures, reads the values back from there in place, and writes the text of the table. It promises that on
+//! success the sink got exactly the text that the definitions give (`specs/Answer.antt`), that each refusal has its
+//! cause, and that each structure and each hold that was made is given up again on every path.
+//!
+//! What CSV means stands in `csv_model`, the structures in `raw_array`, the sources and sinks in `edge_io`.
 #![tactic(auto)]
 
+ghost use Rattle.std.specs.Prelude.{◌≡◌, ◌∷◌, ◌++◌, [], codes};
+ghost use Rattle.pipe_top.specs.Answer.{Fault, Text, answer_of_bytes};
+ghost use Rattle.pipe_top.specs.declared.fault.RunFault.TheVariants as run;
+
+mod answer;
+mod blocks;
 mod column;
+mod fault;
+mod items;
+mod lines;
+mod read;
+mod records;
+mod table;
+mod text;
+mod top;
+mod tree;
+mod validity;
+
+pub use fault::{RunFault, WordsFault};
+pub use top::{Outcome, run};
+
+/// The answers to texts that are written out here.
+pub fn worked_answers()
+    ensures null_field { answer_of_bytes (codes "a,b\n1,\n") ≡ Text (codes "a,b\n1,\n") }
+    ensures null_alone { answer_of_bytes (codes "x\n\"\"\n") ≡ Text (codes "x\n\"\"\n") }
+    ensures header_alone { answer_of_bytes (codes "a,b\n") ≡ Text (codes "a,b\n") }
+    ensures no_header { answer_of_bytes [] ≡ Fault run.NoHeader }
+    ensures not_text { answer_of_bytes (codes "a\ncaf" ++ 0xff ∷ 10 ∷ []) ≡ Fault (run.Field 1 1) }
+    ensures ragged { answer_of_bytes (codes "a,b\n1\n") ≡ Fault (run.Ragged 1 1) }
+    ensures mark_and_quotes { answer_of_bytes (0xef ∷ 0xbb ∷ 0xbf ∷ codes "a\r\n\"x,y\"\r\n") ≡ Text (codes "a\n\"x,y\"\n") }
+{}
+
+#[cfg(test)]
+mod tests;

@@ -1,4 +1,4 @@
-use Rattle.std.proofs.Common.{◌<◌, length, rules, arith}
+use Rattle.std.proofs.Common.{◌<◌, length, rules}
 use Rattle.fmt_string.proofs.Decimals.{no_width, behind_scale, behind_width}
 use Rattle.fmt_string.proofs.decimal.with_scale.Goals as goal
 

@@ -1,0 +1,12 @@
+ghost use Rattle.std.specs.Prelude.{◌≡◌, map};
+ghost use Rattle.fmt_string.specs.Table.{Columns};
+ghost use Rattle.fmt_string.specs.ColumnView.{kind_of, column_of, members};
+
+use crate::{ColKind, ColumnType};
+
+/// A struct of these columns. Takes no memory.
+pub fn struct_of(columns: Vec<ColumnType>) -> ColKind
+    ensures { kind_of result ≡ Columns (members (map column_of columns.items)) }
+{
+    ColKind::Columns(columns)
+}

@@ -1,0 +1,38 @@
+-- A reader of records over a text in memory: what it has left of the text and of its records.
+use Rattle.std.specs.Prelude.{◌≡◌, ◌≤◌, ◌<◌, ◌+◌, ℕ, true, false, List, [], length, Option, Some}
+use Rattle.std.specs.Borrow.{Bor}
+use Rattle.std.specs.Option.{unwrap_or}
+use Rattle.std.specs.List.{concat}
+use Rattle.csv.specs.Machine.{ends_at_end}
+use Rattle.csv.specs.Reading.{Ready, default_config, has_failed, is_flexible, reader_config, reader_state, reader_trim, records_from, source_of}
+use Rattle.csv.specs.declared.reader.Reader.{Reader}
+use Rattle.csv.specs.declared.reader.Trim.TheVariants as trim
+use Rattle.csv_model.specs.Reading.{Record}
+
+-- a text in memory is known
+abbrev pub known : Bor (List ℕ) → Option (List ℕ)
+known text = Some text.now
+
+-- the bytes not yet read
+abbrev pub text_left : Reader (Bor (List ℕ)) → List ℕ
+text_left reader = unwrap_or (source_of known reader) []
+
+-- the records not yet read
+abbrev pub records_left : Reader (Bor (List ℕ)) → List Record
+records_left reader = records_from default_config (length (text_left reader) + 1) (reader_state reader) (text_left reader)
+
+-- the reader stands between two records, and reads the next one by the default settings, however many fields it has
+pub record IsReading (reader : Reader (Bor (List ℕ))) : Type 0 where
+  pub config : reader_config reader ≡ default_config
+  pub trim : reader_trim reader ≡ trim.None
+  pub flexible : is_flexible reader ≡ true
+  pub ready : Ready reader
+  pub fresh : has_failed reader ≡ false
+  pub between : ends_at_end (reader_state reader) ≡ false
+  pub source : source_of known reader ≡ Some (text_left reader)
+
+-- a record takes at least a byte of a text, no fewer bytes than its fields have, and at most one field more than bytes
+pub record Takes (text : List ℕ) (fields : Record) (rest : List ℕ) : Type 0 where
+  pub shorter : length rest < length text
+  pub bytes : length (concat fields) + length rest ≤ length text
+  pub count : length fields + length rest ≤ length text + 1

@@ -1,0 +1,41 @@
+// Why a run wrote no text, or not all of it.
+use unit_pass::NoMemory;
+
+/// Why the words of the command were not taken.
+#[derive(Clone, Copy, PartialEq, Eq, Debug)]
+pub enum WordsFault {
+    /// There is a word, and the command takes none.
+    Refused,
+}
+
+/// Why a run wrote no text, or not all of it.
+#[derive(Clone, Copy, PartialEq, Eq, Debug)]
+pub enum RunFault {
+    /// The words of the command were not taken.
+    Words(WordsFault),
+    /// The input has no record, so no header.
+    NoHeader,
+    /// A record has another number of fields than the header. Records are numbered from 1 after the header.
+    Ragged { row: u64, found: u64 },
+    /// A field is not UTF-8. Records and columns are numbered from 1.
+    Field { row: u64, column: u32 },
+    /// The input is longer than 2^30 bytes.
+    InputTooLong,
+    /// The source failed.
+    ReadFault,
+    /// The sink failed after so many bytes of the text.
+    WriteFault { taken: u64 },
+    /// Memory ran out.
+    NoMemory,
+}
+
+impl From<NoMemory> for RunFault {
+    ghost use Rattle.std.specs.Prelude.{◌≡◌};
+    ghost use Rattle.pipe_top.specs.declared.fault.RunFault.TheVariants as run;
+
+    ghost from_gives = { λ _ fault. fault ≡ run.NoMemory };
+
+    fn from(_: NoMemory) -> RunFault {
+        RunFault::NoMemory
+    }
+}
