@@ -1,0 +1,15 @@
+use Rattle.std.proofs.Common.{◌≡◌, ◌+◌, vec_len}
+use Rattle.tree_model.specs.Tree.{trees}
+use Rattle.raw_schema.specs.Members.{nodes_of_all}
+use Rattle.arr_export.proofs.built.release_all.Given as goal
+
+-- the units of the children that are left are still to come
+abbrev pub invariant-loop-child : goal.invariant-loop-child
+invariant-loop-child l = record {
+  units : l.pass.units + nodes_of_all (trees l.children.items) ≡ l.initial.pass.units + nodes_of_all (trees l.initial.children.items);
+  blocks : l.pass.blocks ≡ l.initial.pass.blocks;
+  nodes : l.pass.nodes ≡ l.initial.pass.nodes;
+}
+
+abbrev pub decreases-loop-child : goal.decreases-loop-child
+decreases-loop-child l = vec_len l.children

@@ -1,0 +1,2 @@
+pub mod ColumnSchema
+pub mod CodeSchema
