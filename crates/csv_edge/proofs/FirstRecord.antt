@@ -1,9 +1,11 @@
 -- What the first read of a text gives.
-use Rattle.std.proofs.Common.{◌≡◌, ◌+◌, ℕ, suc, Bool, true, false, List, [], length, Option, Some, None, Bor, refl, subst, arith}
-use Rattle.std.proofs.lemmas.Bool.{false≢true, true≢false}
-use Rattle.csv.specs.Machine.{Read, next_record}
+use Rattle.std.proofs.Common.{◌≡◌, ◌≤◌, ◌+◌, ◌++◌, ◌∷◌, ℕ, suc, Bool, true, false, List, [], length, Option, Some, None, Bor, refl, subst, arith, inl, inr, length-append}
+use Rattle.std.proofs.lemmas.Bool.{cases_Bool, false≢true, true≢false}
+use Rattle.csv.specs.Machine.{Read, ends_at_end, field_after, fields_after, is_end, next_record, step}
 use Rattle.csv.specs.Reading.{NextIs, ReadRecord, ReadsNext, default_config, pending_of, reader_state, records, records_from, source_of, strip_bom}
 use Rattle.csv.specs.declared.parser.Config.{Config}
+use Rattle.csv.specs.declared.parser.Action.{Action}
+use Rattle.csv.specs.declared.parser.Action.TheVariants as act
 use Rattle.csv.specs.declared.parser.State.{State}
 use Rattle.csv.specs.declared.parser.State.TheVariants as st
 use Rattle.csv.specs.declared.reader.Reader.{Reader}
@@ -54,3 +56,38 @@ first-found old new text fields starts read = read-more (strip_bom text) (pendin
 
 pub first-ended : (old new : Reader (Bor (List ℕ))) (text : List ℕ) (fields : Record) → Starts old text → ReadRecord known old new false fields → records_of text ≡ []
 first-ended old new text fields starts read = read-none (strip_bom text) (pending_of (known new.rdr) new) fields (reader_state new) (from-start old new text false fields starts read)
+
+-- ---- a record has a field
+
+some-same : (p q : Read) → ◌≡◌ {A = Option Read} (Some p) (Some q) → p ≡ q
+some-same p q e = cc
+
+ended-field : (a : Action) (fields : List (List ℕ)) (field : List ℕ) → is_end a ≡ true → 1 ≤ length (fields_after a fields field)
+ended-field act.EndRecord fields field end = omega (arith, length-append fields (field ∷ []))
+ended-field act.EndField fields field end = omega (arith, length-append fields (field ∷ []))
+ended-field act.Skip fields field end = absurd (false≢true end)
+ended-field act.Copy fields field end = absurd (false≢true end)
+
+next-some : (cfg : Config) (s : State) (fields : List (List ℕ)) (field xs : List ℕ) (q : Read) → next_record cfg s fields field xs ≡ Some q → 1 ≤ length q.0
+unfolding next_record
+next-some cfg s fields field [] q e = elim (cases_Bool (ends_at_end s)) [
+  | inl ends ↦
+      let same = some-same (fields ++ (field ∷ []), st.StartRecord, []) q (rw ends at e) in
+      subst (λ (r : Read). 1 ≤ length r.0) same (omega (arith, length-append fields (field ∷ [])))
+  | inr goes ↦ let none : ◌≡◌ {A = Option Read} None (Some q) = rw goes at e in cc
+]
+next-some cfg s fields field (c ∷ rest) q e = elim (cases_Bool (is_end (step cfg s c).1)) [
+  | inl ends ↦
+      let same = some-same (fields_after (step cfg s c).1 fields field, (step cfg s c).0, rest) q (rw ends at e) in
+      subst (λ (r : Read). 1 ≤ length r.0) same (ended-field (step cfg s c).1 fields field ends)
+  | inr goes ↦
+      next-some cfg (step cfg s c).0 (fields_after (step cfg s c).1 fields field) (field_after (step cfg s c).1 c field) rest q (rw goes at e)
+]
+
+read-some : (text : List ℕ) (after : Option (List ℕ)) (fields : Record) (s : State) → ReadsNext default_config st.StartRecord (Some text) after true fields s → 1 ≤ length fields
+read-some text None fields s h = absurd h
+read-some text (Some ys) fields s h =
+    next-some default_config st.StartRecord [] [] text (fields, s, ys) (next-is (next_record default_config st.StartRecord [] [] text) fields s ys h)
+
+pub first-some : (old new : Reader (Bor (List ℕ))) (text : List ℕ) (fields : Record) → Starts old text → ReadRecord known old new true fields → 1 ≤ length fields
+first-some old new text fields starts read = read-some (strip_bom text) (pending_of (known new.rdr) new) fields (reader_state new) (from-start old new text true fields starts read)

@@ -3,3 +3,4 @@ pub mod Twice
 pub mod FirstRecord
 pub mod Fields
 pub mod Entries
+pub mod HeaderColumns

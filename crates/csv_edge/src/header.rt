@@ -1,11 +1,12 @@
 //! The header of a text.
-ghost use Rattle.std.specs.Prelude.{◌≡◌, ◌≢◌, All, Ok, Err, IfOk, IfErr, IfSome, OnOk, map, length, nat_le, true, false, None, Some};
+ghost use Rattle.std.specs.Prelude.{◌≡◌, ◌≢◌, ◌≤◌, vec_len, All, Ok, Err, IfOk, IfErr, IfSome, OnOk, map, length, nat_le, true, false, None, Some};
 ghost use Rattle.csv.specs.Records.{fields_of};
 ghost use Rattle.fmt_string.specs.ColumnView.{column_of};
 ghost use Rattle.fmt_string.specs.Kinds.{KindOk};
 ghost use Rattle.csv_model.specs.Header.{header_of, most_columns};
 ghost use Rattle.csv_model.specs.Reading.{records_of};
 ghost use Rattle.csv_edge.specs.Entries.{entries_of};
+ghost use Rattle.csv_edge.specs.TextColumns.{AreAllowed, AreProper, IsAllowed, NamesDiffer};
 
 use crate::columns::columns;
 use crate::names::check_names;
@@ -29,6 +30,14 @@ pub fn read_header(
     requires { All (λ e. KindOk e.kind) entries.now }
     // The columns are the header's.
     ensures found { IfOk result (λ columns. header_of (entries_of entries.now) (records_of bytes.now) ≡ Ok (map column_of columns.items)) }
+    // There is a column, and there are at most 1,024.
+    ensures some { IfOk result (λ columns. 1 ≤ vec_len columns) }
+    ensures few { IfOk result (λ columns. vec_len columns ≤ most_columns) }
+    // Their names differ.
+    ensures differ { IfOk result (λ columns. NamesDiffer (map column_of columns.items)) }
+    // Their types are proper ones, and such as may be asked for where the entries' types are.
+    ensures proper { IfOk result (λ columns. AreProper (map column_of columns.items)) }
+    ensures allowed { IfOk result (λ columns. All (λ e. IsAllowed e.kind) entries.now → AreAllowed (map column_of columns.items)) }
     // Which fault it is.
     ensures fault { IfErr result (λ f. f ≢ HeaderFault.NoMemory → header_of (entries_of entries.now) (records_of bytes.now) ≡ Err f) }
 {

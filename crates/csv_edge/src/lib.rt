@@ -9,6 +9,8 @@ mod columns;
 mod header;
 mod names;
 mod row;
+#[cfg(test)]
+mod tests;
 
 pub use csv_model::HeaderFault;
 pub use header::read_header;

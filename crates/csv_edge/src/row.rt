@@ -1,5 +1,5 @@
 //! The first record of a text.
-ghost use Rattle.std.specs.Prelude.{◌≡◌, ◌⊎◌, ◌∷◌, ℕ, List, [], true, false, get_or, length, map, IfOk, Ok};
+ghost use Rattle.std.specs.Prelude.{◌≡◌, ◌≤◌, ◌⊎◌, ◌∷◌, ℕ, List, [], true, false, get_or, length, map, IfOk, Ok};
 ghost use Rattle.csv.specs.Reading.{error_kind, stops_reader};
 ghost use Rattle.csv.specs.Records.{fields_of};
 ghost use Rattle.csv_model.specs.Reading.{Record, records_of};
@@ -27,6 +27,7 @@ pub(crate) fn first_record(
     row: &mut ByteRecord,
 ) -> Result<bool, NoMemory>
     ensures found { result ≡ Ok true → BeginsWith (fields_of row.new) (records_of bytes.now) }
+    ensures some { result ≡ Ok true → 1 ≤ length (fields_of row.new) }
     ensures none { result ≡ Ok false → records_of bytes.now ≡ [] }
 {
     let mut reader = reader_over(alloc, bytes);

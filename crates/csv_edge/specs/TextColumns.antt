@@ -1,0 +1,24 @@
+-- What the columns of a text are: plain values, under names that differ.
+use Rattle.std.specs.Prelude.{◌≡◌, ◌≢◌, List, All, true}
+use Rattle.std.specs.List.{AllPairs}
+use Rattle.fmt_string.specs.declared.kind.DataType.{DataType}
+use Rattle.fmt_string.specs.Kinds.{KindOk, is_column_type}
+use Rattle.fmt_string.specs.Table.{Column, Flat}
+
+-- a column of plain values, whose type has the property
+abbrev pub IsFlatOf : (DataType → Type 0) → Column → Type 0
+IsFlatOf P c = (kind : DataType) × (c.kind ≡ Flat kind) × P kind
+
+-- a type that may be asked for
+abbrev pub IsAllowed : DataType → Type 0
+IsAllowed kind = is_column_type kind ≡ true
+
+abbrev pub NamesDiffer : List Column → Type 0
+NamesDiffer columns = AllPairs (λ a b. a.name ≢ b.name) columns
+
+-- the numbers of the columns' types are in their ranges
+abbrev pub AreProper : List Column → Type 0
+AreProper columns = All (IsFlatOf KindOk) columns
+
+abbrev pub AreAllowed : List Column → Type 0
+AreAllowed columns = All (IsFlatOf IsAllowed) columns
