@@ -8,5 +8,7 @@
 mod built;
 mod columns;
 mod schema;
+#[cfg(test)]
+mod tests;
 
 pub use schema::export_schema;
