@@ -1,2 +1,3 @@
 pub mod ColumnSchema
 pub mod CodeSchema
+pub mod SchemaSize

@@ -8,7 +8,9 @@
 mod built;
 mod columns;
 mod schema;
+mod size;
 #[cfg(test)]
 mod tests;
 
 pub use schema::export_schema;
+pub use size::schema_size;
