@@ -1,0 +1,159 @@
+-- The root of an array.
+use Rattle.std.proofs.Common.{◌≡◌, ℕ, zero, suc, ◌<◌, ◌≤◌, ◌&&◌, not, Bool, true, false, ℤ, pos, negsuc, List, [], ◌∷◌, length, drop, Option, Some, None, refl, ap, ◌∙◌, sym, arith}
+use Rattle.std.specs.Prelude.{if◌then◌else◌, is_some, nat_lt, ◌≤ℤ◌}
+use Rattle.std.specs.Global.{Box}
+use Rattle.std.specs.Option.{option_or}
+use Rattle.fmt_string.specs.declared.kind.DataType.{DataType}
+use Rattle.tree_model.specs.Tree.{Released, Live, IsLive, Trees, trees, MaybeTree, maybe_tree}
+use Rattle.raw_array.specs.Members.{ArrayMembers, ArrayTree, members_of}
+use Rattle.layout_check.specs.declared.typed.Typed.{Typed, out-Typed}
+use Rattle.layout_check.specs.declared.layout.Layout.{Layout}
+use Rattle.layout_check.specs.declared.layout.Layout.TheVariants.{NoBuffers, FixedWidth, TruthBits, ByOffsets, ListOffsets, FixedItems, ByChildren}
+use Rattle.layout_check.specs.declared.rule.LayoutRule.{LayoutRule}
+use Rattle.layout_check.specs.declared.rule.LayoutRule.TheVariants as rules
+use Rattle.layout_check.specs.declared.rule.Numbers.{Numbers}
+use Rattle.layout_check.specs.Kinds.{KindTree}
+use Rattle.layout_check.specs.TypedView.{typed_of, live_node, kids_of, kind_of, dict_in}
+use Rattle.layout_check.specs.Layout.{layout_of, buffer_count, items, is_valid, IsLongIfPresent}
+use Rattle.layout_check.specs.Rules.{Node, fails, fault_if, count_wrong, is_negative, in_order, null_total, null_items, first_below, buffer_short}
+use Rattle.layout_check.specs.Walk.{Steps, LayoutOk, ChunkOk, first_fault, first_chunk_fault, top_fault, root_fault, is_struct, is_absent, is_table, nulls_in, fault_from, own_fault, rules_fault, first_some, fault_by, fault_at, visit_fault, walk_below, walks_of, walk_of}
+use Rattle.layout_check.proofs.Levels.{typed_out}
+use Rattle.layout_check.proofs.Long.{long-validity}
+use Rattle.layout_check.proofs.Faults.{own_fault-node}
+use Rattle.layout_check.proofs.Lawful.{first_fault-lawful, lawful-first_fault, left-none, right-none}
+
+-- ---- no fault of a chunk, exactly where it is lawful
+
+pub first_chunk_fault-lawful : (typed : KindTree) (array : ArrayTree) → first_chunk_fault typed array ≡ None → ChunkOk typed array
+first_chunk_fault-lawful typed array e =
+    let none = left-none (first_fault typed array) (top_fault typed array) e in
+    (first_fault-lawful typed array none, right-none (first_fault typed array) (top_fault typed array) none e)
+
+pub lawful-first_chunk_fault : (typed : KindTree) (array : ArrayTree) → ChunkOk typed array → first_chunk_fault typed array ≡ None
+lawful-first_chunk_fault typed array h = ap (λ o. option_or o (top_fault typed array)) (lawful-first_fault typed array h.0) ∙ h.1
+
+pub ruleset lawful = (first_chunk_fault-lawful, lawful-first_chunk_fault)
+
+-- ---- the root of a lawful array
+
+from-own : (kind : DataType) (kids : Trees DataType) (dict : MaybeTree DataType) (path : Steps) (array : ArrayTree)
+    → fault_from (Live kind kids dict) path array ≡ None → own_fault (Live kind kids dict) path array ≡ None
+from-own kind kids dict path array e = left-none (own_fault (Live kind kids dict) path array) (first_some visit_fault (walk_below (walks_of kids) (walk_of dict) path array)) e
+
+own-none : (t : Typed) (array : ArrayTree) → LayoutOk (typed_of t) array → own_fault (typed_of t) [] array ≡ None
+own-none t array h =
+    let e = typed_out t in
+    ap (λ k. own_fault k [] array) e
+    ∙ from-own (kind_of t) (trees (kids_of t)) (maybe_tree (dict_in (out-Typed t).dict)) [] array
+    (sym (ap (λ k. fault_from k [] array) e) ∙ lawful-first_fault (typed_of t) array h)
+
+is-live : (kind : DataType) (kids : Trees DataType) (dict : MaybeTree DataType) (array : ArrayTree) → own_fault (Live kind kids dict) [] array ≡ None → IsLive array
+is-live kind kids dict Released e = absurd (grind arith)
+is-live kind kids dict (Live own children dictionary) e = tt
+
+pub root-live : (t : Typed) (array : ArrayTree) → LayoutOk (typed_of t) array → IsLive array
+root-live t array h =
+    is-live (kind_of t) (trees (kids_of t)) (maybe_tree (dict_in (out-Typed t).dict)) array
+    (sym (ap (λ k. own_fault k [] array) (typed_out t)) ∙ own-none t array h)
+
+root-rules : (t : Typed) (array : ArrayTree) → LayoutOk (typed_of t) array → rules_fault in_order [] (live_node t array) ≡ None
+root-rules t array h = sym (own_fault-node t [] array (root-live t array h)) ∙ own-none t array h
+
+head : (node : Node) (rule : LayoutRule) (others : List LayoutRule) → rules_fault (rule ∷ others) [] node ≡ None → fails rule node ≡ None
+head node rule others e = not-at rule (fails rule node) (left-none (fault_by [] node rule) (rules_fault others [] node) e)
+  where
+    not-at : (rule : LayoutRule) (numbers : Option Numbers) → fault_at [] rule numbers ≡ None → numbers ≡ None
+    not-at rule None e = refl
+    not-at rule (Some numbers) e = grind arith
+
+tail : (node : Node) (rule : LayoutRule) (others : List LayoutRule) → rules_fault (rule ∷ others) [] node ≡ None → rules_fault others [] node ≡ None
+tail node rule others e = right-none (fault_by [] node rule) (rules_fault others [] node) (left-none (fault_by [] node rule) (rules_fault others [] node) e) e
+
+not_negative : (z : ℤ) → fault_if (is_negative z) 0 z (pos 0) ≡ None → pos 0 ≤ℤ z
+not_negative (pos n) e = grind arith
+not_negative (negsuc n) e = grind arith
+
+same_count : (found needed : ℕ) → count_wrong found needed ≡ None → found ≡ needed
+same_count found needed e = grind arith
+
+pub root-length : (t : Typed) (array : ArrayTree) → LayoutOk (typed_of t) array → pos 0 ≤ℤ (members_of array).length
+root-length t array h = not_negative (members_of array).length (head (live_node t array) rules.NegativeLength (drop 1 in_order) (root-rules t array h))
+
+pub root-offset : (t : Typed) (array : ArrayTree) → LayoutOk (typed_of t) array → pos 0 ≤ℤ (members_of array).offset
+root-offset t array h =
+    let node = live_node t array in
+    not_negative (members_of array).offset (head node rules.NegativeOffset (drop 2 in_order) (tail node rules.NegativeLength (drop 1 in_order) (root-rules t array h)))
+
+root-form : (t : Typed) (array : ArrayTree) → LayoutOk (typed_of t) array → rules_fault (drop 2 in_order) [] (live_node t array) ≡ None
+root-form t array h =
+    let node = live_node t array in
+    tail node rules.NegativeOffset (drop 2 in_order) (tail node rules.NegativeLength (drop 1 in_order) (root-rules t array h))
+
+pub root-count : (t : Typed) (array : ArrayTree) → LayoutOk (typed_of t) array → length (members_of array).buffers ≡ buffer_count (layout_of (out-Typed t).kind)
+root-count t array h = same_count (length (members_of array).buffers) (buffer_count (layout_of (out-Typed t).kind)) (head (live_node t array) rules.BufferCount (drop 3 in_order) (root-form t array h))
+
+root-short : (t : Typed) (array : ArrayTree) → LayoutOk (typed_of t) array → first_below (buffer_short (layout_of (out-Typed t).kind) (members_of array)) (buffer_count (layout_of (out-Typed t).kind)) ≡ None
+root-short t array h =
+    let node = live_node t array in
+    head node rules.BufferShort (drop 7 in_order) (tail node rules.BufferAbsent (drop 6 in_order) (tail node rules.Dictionary (drop 5 in_order) (tail node rules.ChildCount (drop 4 in_order) (tail node rules.BufferCount (drop 3 in_order) (root-form t array h)))))
+
+pub root-long : (t : Typed) (array : ArrayTree) → LayoutOk (typed_of t) array → 0 < buffer_count (layout_of (out-Typed t).kind) → IsLongIfPresent (members_of array)
+root-long t array h some = long-validity (layout_of (out-Typed t).kind) (members_of array) (root-short t array h) some
+
+-- ---- its type
+
+absent-none : (dict : Option (Box Typed)) → is_absent (maybe_tree (dict_in dict)) ≡ not (is_some dict)
+absent-none None = refl
+absent-none (Some dict) = refl
+
+pub is_table-typed : (t : Typed) → is_table (typed_of t) ≡ (is_struct (out-Typed t).kind && not (is_some (out-Typed t).dict))
+is_table-typed t = ap is_table (typed_out t) ∙ ap (λ b. is_struct (out-Typed t).kind && b) (absent-none (out-Typed t).dict)
+
+pub ruleset tables = (is_table-typed)
+
+pub top_fault-live : (typed : KindTree) (array : ArrayTree) → IsLive array
+    → top_fault typed array
+    ≡ (if not (is_table typed) then Some (root_fault rules.TopKind (pos 0))
+    else if nat_lt 0 (null_total (members_of array) (items (members_of array))) then Some (root_fault rules.TopNulls (pos (null_total (members_of array) (items (members_of array)))))
+    else None)
+top_fault-live typed Released live = absurd live
+top_fault-live typed (Live own children dictionary) live = refl
+
+pub ruleset tops = (top_fault-live)
+
+-- ---- its nulls
+
+pub null_total-bound : (own : ArrayMembers) (n : ℕ) → null_total own n ≤ n
+null_total-bound own zero = omega arith
+null_total-bound own (suc n) = omega (arith, null_total-bound own n, one (is_valid own n))
+  where
+    one : (b : Bool) → (if b then 0 else 1) ≤ 1
+    one true = omega arith
+    one false = omega arith
+
+nulls-live : (kind : DataType) (kids : Trees DataType) (dict : MaybeTree DataType) (array : ArrayTree) → IsLive array → nulls_in (Live kind kids dict) array ≡ null_items (layout_of kind) (members_of array)
+nulls-live kind kids dict Released live = absurd live
+nulls-live kind kids dict (Live own children dictionary) live = refl
+
+pub nulls-typed : (t : Typed) (array : ArrayTree) → IsLive array → nulls_in (typed_of t) array ≡ null_items (layout_of (out-Typed t).kind) (members_of array)
+nulls-typed t array live = ap (λ k. nulls_in k array) (typed_out t) ∙ nulls-live (kind_of t) (trees (kids_of t)) (maybe_tree (dict_in (out-Typed t).dict)) array live
+
+pub no_buffers : (layout : Layout) (own : ArrayMembers) → buffer_count layout ≡ 0 → null_items layout own ≡ items own
+no_buffers NoBuffers own e = refl
+no_buffers (FixedWidth width) own e = absurd (omega (arith, e))
+no_buffers TruthBits own e = absurd (omega (arith, e))
+no_buffers (ByOffsets wide) own e = absurd (omega (arith, e))
+no_buffers (ListOffsets wide) own e = absurd (omega (arith, e))
+no_buffers (FixedItems size) own e = absurd (omega (arith, e))
+no_buffers ByChildren own e = absurd (omega (arith, e))
+
+pub some_buffers : (layout : Layout) (own : ArrayMembers) → ¬ (buffer_count layout ≡ 0) → null_items layout own ≡ null_total own (items own)
+some_buffers NoBuffers own e = absurd (e refl)
+some_buffers (FixedWidth width) own e = refl
+some_buffers TruthBits own e = refl
+some_buffers (ByOffsets wide) own e = refl
+some_buffers (ListOffsets wide) own e = refl
+some_buffers (FixedItems size) own e = refl
+some_buffers ByChildren own e = refl
+
+pub ruleset nulls = (null_total-bound, nulls-typed, no_buffers, some_buffers)

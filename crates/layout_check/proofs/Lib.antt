@@ -1,0 +1,15 @@
+pub mod Levels
+pub mod Faults
+pub mod Firsts
+pub mod Long
+pub mod Lawful
+pub mod NullSums
+pub mod SchemaFails
+pub mod SchemaParts
+pub mod SchemaOne
+pub mod SchemaValid
+pub mod TextData
+pub mod ChildSteps
+pub mod Chunks
+pub mod Scanned
+pub mod MadeTypes

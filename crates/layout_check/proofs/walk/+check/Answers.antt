@@ -1,0 +1,37 @@
+use Rattle.std.proofs.Common.{rules, ◌≡◌, ◌<◌, length, get_or}
+use Rattle.tree_model.specs.Tree.{children_of}
+use Rattle.layout_check.specs.Found.{steps_of}
+use Rattle.layout_check.proofs.Levels.{levels-kid, kid-ok}
+use Rattle.layout_check.proofs.Faults.{children_fault-step}
+use Rattle.layout_check.proofs.walk.+check.Goals as goal
+
+pub check_children-check_from-requires : goal.check_children-check_from-requires
+check_children-check_from-requires t c =
+    let kids = c.args.kids.now in
+    let i = c.loop-i.i in
+    let kid = c.index-kids-i.result in
+    let inside : i < length kids = search rules in
+    let is : get_or kids i kid ≡ kid = search rules in
+    let levels = levels-kid kids i kid inside in
+    let ok = kid-ok kids i kid inside c.requires.types in
+    search rules
+
+pub check_children-returns-in_err-check_from : goal.check_children-returns-in_err-check_from
+check_children-returns-in_err-check_from t c =
+    let kids = c.args.kids.now in
+    let i = c.loop-i.i in
+    let kid = c.index-kids-i.result in
+    let inside : i < length kids = search rules in
+    let is : get_or kids i kid ≡ kid = search rules in
+    let step = children_fault-step kids i kid (steps_of c.args.path.now) (children_of c.args.array.now) inside c.requires.children in
+    search rules
+
+pub check_children-loop-i-preserved : goal.check_children-loop-i-preserved
+check_children-loop-i-preserved t c =
+    let kids = c.args.kids.now in
+    let i = c.loop-i.i in
+    let kid = c.index-kids-i.result in
+    let inside : i < length kids = search rules in
+    let is : get_or kids i kid ≡ kid = search rules in
+    let step = children_fault-step kids i kid (steps_of c.args.path.now) (children_of c.args.array.now) inside c.requires.children in
+    search rules

@@ -1,0 +1,11 @@
+pub mod Kinds
+pub mod Layout
+pub mod Rules
+pub mod Walk
+pub mod TypedView
+pub mod Found
+pub mod Values
+pub mod Schemas
+pub mod SchemaAnswers
+pub mod WorkedArrays
+pub mod Scans

@@ -1,0 +1,100 @@
+ghost use Rattle.std.specs.Prelude.{◌≡◌, None, Some, IsOk, IsTrue, is_some, not, ◌&&◌, ◌↔◌, ◌≤ℤ◌, pos, ◌<◌, length, Option};
+ghost use Rattle.tree_model.specs.Tree.{IsLive};
+ghost use Rattle.raw_array.specs.Members.{ArrayTree, members_of};
+ghost use Rattle.layout_check.specs.Kinds.{TypedOk};
+ghost use Rattle.layout_check.specs.declared.typed.Typed.{out-Typed};
+ghost use Rattle.layout_check.specs.TypedView.{typed_of};
+ghost use Rattle.layout_check.specs.Layout.{layout_of as layout_is, buffer_count as count_of, IsLongIfPresent};
+ghost use Rattle.layout_check.specs.Rules.{first_below, buffer_short as short_at};
+ghost use Rattle.layout_check.specs.Found.{found};
+ghost use Rattle.layout_check.specs.Walk.{LayoutOk, ChunkOk, root_fault, first_chunk_fault, top_fault, is_struct as is_struct_kind, is_table as is_table_tree, nulls_in};
+
+use crate::layout::{buffer_count, layout_of};
+use crate::nulls::null_total;
+use crate::rule::{LayoutFault, LayoutRule, Numbers, Path, ruled};
+use crate::typed::Typed;
+use crate::walk::check_array;
+use fmt_string::DataType;
+use raw_array::RawArray;
+
+/// [`check_array`], and then at the root: the type is a struct without a dictionary, and no item is null. Takes no
+/// memory.
+#[tactic(auto, using(crate::proofs::Chunks::lawful))]
+pub fn check_chunk(typed: &Typed, array: &RawArray) -> Result<(), LayoutFault>
+    requires { TypedOk (typed_of typed.now) }
+    ensures fault { found result ≡ first_chunk_fault (typed_of typed.now) array.now }
+    ensures lawful { IsOk result ↔ ChunkOk (typed_of typed.now) array.now }
+{
+    check_array(typed, array)?;
+    check_top(typed, array)
+}
+
+/// How many items of a lawful array's window are null: with a layout that has no buffer each is ("Arrow Columnar
+/// Format", "Validity bitmaps" and "Null Layout").
+#[tactic(auto, using(crate::proofs::Chunks::nulls))]
+pub fn nulls_of(typed: &Typed, array: &RawArray) -> i64
+    requires { LayoutOk (typed_of typed.now) array.now }
+    ensures { result ≡ pos (nulls_in (typed_of typed.now) array.now) }
+{
+    lawful_root(typed, array);
+    let length = array.length();
+    if buffer_count(layout_of(&typed.kind)) == 0 {
+        length
+    } else {
+        null_total(array) as i64
+    }
+}
+
+/// What holds of the root of a lawful array.
+fn lawful_root(typed: &Typed, array: &RawArray)
+    requires { LayoutOk (typed_of typed.now) array.now }
+    ensures live { IsLive array.now }
+    ensures length { pos 0 ≤ℤ (members_of array.now).length }
+    ensures offset { pos 0 ≤ℤ (members_of array.now).offset }
+    ensures count { length (members_of array.now).buffers ≡ count_of (layout_is (out-Typed typed.now).kind) }
+    ensures long { 0 < count_of (layout_is (out-Typed typed.now).kind) → IsLongIfPresent (members_of array.now) }
+{}
+
+fn is_struct(kind: &DataType) -> bool
+    ensures exact { result ≡ is_struct_kind kind.now }
+    ensures buffers { IsTrue result → count_of (layout_is kind.now) ≡ 1 }
+{
+    matches!(kind, DataType::Struct)
+}
+
+/// The type is a struct without a dictionary.
+#[tactic(auto, using(crate::proofs::Chunks::tables))]
+fn is_table(typed: &Typed) -> bool
+    ensures exact { result ≡ is_table_tree (typed_of typed.now) }
+    ensures buffers { IsTrue result → count_of (layout_is (out-Typed typed.now).kind) ≡ 1 }
+{
+    is_struct(&typed.kind) && typed.dict.is_none()
+}
+
+/// The two rules of a chunk's root.
+#[tactic(auto, using(crate::proofs::Chunks::tops))]
+fn check_top(typed: &Typed, array: &RawArray) -> Result<(), LayoutFault>
+    requires { LayoutOk (typed_of typed.now) array.now }
+    ensures { found result ≡ top_fault (typed_of typed.now) array.now }
+{
+    lawful_root(typed, array);
+    if !is_table(typed) {
+        return top_ruled(LayoutRule::TopKind, 0);
+    }
+    let nulls = null_total(array);
+    if nulls > 0 {
+        return top_ruled(LayoutRule::TopNulls, nulls);
+    }
+    Ok(())
+}
+
+fn top_ruled(rule: LayoutRule, left: u64) -> Result<(), LayoutFault>
+    ensures { found result ≡ Some (root_fault rule (pos left)) }
+{
+    let numbers = Numbers {
+        place: 0,
+        left: i128::from(left),
+        right: 0,
+    };
+    ruled(&Path::root(), rule, Some(numbers))
+}

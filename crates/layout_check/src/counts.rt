@@ -1,0 +1,97 @@
+ghost use Rattle.std.specs.Prelude.{◌≡◌, ◌≤ℤ◌, ◌<◌, ◌-◌, ◌^◌, nat_lt, pos, IfNone, length, Option};
+ghost use Rattle.layout_check.specs.Layout.{end, buffer_count as count_of};
+ghost use Rattle.layout_check.specs.Rules.{fault_if, window_limit, is_negative, count_wrong, one_if};
+ghost use Rattle.std.specs.Global.{Box};
+ghost use Rattle.tree_model.specs.Tree.{IsLive, children_of, dictionary_of};
+ghost use Rattle.raw_array.specs.Members.{ArrayTree, members_of};
+
+use crate::buffers::window_end;
+use crate::layout::{Layout, buffer_count};
+use crate::rule::Numbers;
+use crate::typed::Typed;
+use raw_array::RawArray;
+
+/// The most places that a window may lie in.
+const MOST_PLACES: u64 = 1 << 40;
+
+pub fn negative(number: i64) -> Option<Numbers>
+    ensures passed { IfNone result (pos 0 ≤ℤ number) }
+    ensures fault { result ≡ fault_if (is_negative number) 0 number (pos 0) }
+{
+    if number < 0 {
+        Some(Numbers {
+            place: 0,
+            left: i128::from(number),
+            right: 0,
+        })
+    } else {
+        None
+    }
+}
+
+pub fn wrong_count(found: usize, needed: usize) -> Option<Numbers>
+    ensures { result ≡ count_wrong found needed }
+{
+    if found == needed {
+        None
+    } else {
+        Some(Numbers {
+            place: 0,
+            left: found as i128,
+            right: needed as i128,
+        })
+    }
+}
+
+/// The number of buffers is the layout's.
+pub fn buffers_wrong(layout: Layout, array: &RawArray) -> Option<Numbers>
+    requires { IsLive array.now }
+    ensures passed { IfNone result (length (members_of array.now).buffers ≡ count_of layout) }
+    ensures fault { result ≡ count_wrong (length (members_of array.now).buffers) (count_of layout) }
+{
+    wrong_count(array.n_buffers() as usize, buffer_count(layout))
+}
+
+/// The number of children is the type's.
+pub fn children_wrong(kids: &Vec<Typed>, array: &RawArray) -> Option<Numbers>
+    requires { IsLive array.now }
+    ensures fault { result ≡ count_wrong (length (children_of array.now)) (length kids.now.items) }
+    ensures few { length (children_of array.now) < 2 ^ 32 - 1 }
+{
+    wrong_count(array.n_children() as usize, kids.len())
+}
+
+/// A dictionary is there where the type has one.
+pub fn dictionary_wrong(dict: &Option<Box<Typed>>, array: &RawArray) -> Option<Numbers>
+    requires { IsLive array.now }
+    ensures { result ≡ count_wrong (one_if (dictionary_of array.now)) (one_if dict.now) }
+{
+    let found = match array.dictionary() {
+        Some(_) => 1,
+        None => 0,
+    };
+    let needed = match dict {
+        Some(_) => 1,
+        None => 0,
+    };
+    wrong_count(found, needed)
+}
+
+/// The places up to the window's end are at most 2^40.
+pub fn window_too_long(array: &RawArray) -> Option<Numbers>
+    requires live { IsLive array.now }
+    requires length { pos 0 ≤ℤ (members_of array.now).length }
+    requires offset { pos 0 ≤ℤ (members_of array.now).offset }
+    ensures { result ≡ fault_if (nat_lt window_limit (end (members_of array.now))) 0 (pos (end (members_of array.now))) (pos window_limit) }
+{
+    let end = window_end(array);
+    if end > MOST_PLACES {
+        Some(Numbers {
+            place: 0,
+            left: i128::from(end),
+            right: i128::from(MOST_PLACES),
+        })
+    } else {
+        None
+    }
+}

@@ -1,0 +1,43 @@
+//! What makes a stranger's tree safe to read: schemas and arrays of the C data interface against the rules of their nodes
+//! ("The Arrow C Data Interface", "Structure definitions"; "Arrow Columnar Format", "Physical memory layout").
+//!
+//! - [`check_schema`] answers the tree of kinds of a schema that meets each rule at each node, and else the first rule that
+//!   fails at the first such node.
+//! - [`check_array`] walks the array and the tree of kinds together, in preorder: a node, its children by number, its
+//!   dictionary. Its answer is the first rule that fails at the first node at which one does, with the way to that node,
+//!   a place and two numbers; or `Ok` exactly where no rule fails at any node.
+//! - [`check_chunk`] asks two things more of the root: a struct without a dictionary, and no null item.
+//! - [`nulls_of`] counts the null items of a lawful array's window.
+//!
+//! The calls on arrays take no memory, and none writes. Numbers of bytes and places are computed without bounds, so no sum
+//! wraps. What the rules say stands in `specs/Schemas.antt` and `specs/Rules.antt`, the walk over arrays in
+//! `specs/Walk.antt`, and what the values of a lawful array are in `specs/Values.antt`. Left to others: whether an array is
+//! released, moved or shared in the right order.
+#![tactic(auto)]
+
+mod buffers;
+mod children;
+mod chunk;
+mod counts;
+mod indices;
+mod layout;
+mod nulls;
+mod rule;
+mod scans;
+mod schema;
+#[cfg(test)]
+mod schema_tests;
+#[cfg(test)]
+mod tests;
+mod texts;
+mod typed;
+mod walk;
+mod worked_arrays;
+
+pub use chunk::{check_chunk, nulls_of};
+pub use layout::Layout;
+pub use rule::{LayoutFault, LayoutRule, Path, SchemaRule};
+pub use schema::{SchemaFault, check_schema, kinds_are_valid, one_schema_answer};
+pub use typed::Typed;
+pub use walk::check_array;
+pub use worked_arrays::small_arrays;

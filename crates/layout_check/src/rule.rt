@@ -1,0 +1,139 @@
+ghost use Rattle.std.specs.Prelude.{◌≡◌, ◌+◌, ◌<◌, [], ◌∷◌, ◌++◌, None, OnOk};
+ghost use Rattle.layout_check.specs.Found.{steps_of, found};
+ghost use Rattle.layout_check.specs.Walk.{fault_at};
+
+use fmt_string::FormatFault;
+use schema_meta::MetaFault;
+
+/// What an array must meet ("Arrow Columnar Format", "Physical memory layout"). At a node the rules are tried from the
+/// first to the last of this list. A fault's place is 0 where none is named here. The places up to the window's end are
+/// its offset and its length together.
+#[derive(Clone, Copy, Debug, PartialEq, Eq)]
+pub enum LayoutRule {
+    /// The node is released.
+    Released,
+    /// The length is below 0: the length, and 0.
+    NegativeLength,
+    /// The offset is below 0: the offset, and 0.
+    NegativeOffset,
+    /// The number of buffers isn't the layout's: found and needed.
+    BufferCount,
+    /// The number of children isn't the type's: found and needed.
+    ChildCount,
+    /// A dictionary is there and the type has none, or the reverse: 1 or 0 as found, and as needed.
+    Dictionary,
+    /// A buffer other than validity is absent, and bytes of it are needed: at the buffer, 0 and the need.
+    BufferAbsent,
+    /// A buffer is shorter than its need: at the buffer, its length and the need, in bytes.
+    BufferShort,
+    /// The first offset is below 0 (at item 0, 0 and the offset), or an item's offset is above the next one (at the item,
+    /// the two offsets).
+    OffsetsFall,
+    /// A live child has too few items: at the child, its length and the need.
+    ChildShort,
+    /// The null count is known and wrong: the count, and the number of null items in the window.
+    NullCount,
+    /// A valid text isn't UTF-8: at the item, the length of its longest valid prefix, and its length.
+    NotText,
+    /// A valid index is no place of a live dictionary: at the item, the index and the dictionary's length.
+    IndexRange,
+    /// A chunk's root has null items: their number, and 0. Only [`check_chunk`](crate::check_chunk) tries it, last.
+    TopNulls,
+    /// There are more than 2^40 places up to the window's end: their number, and 2^40.
+    WindowTooLong,
+    /// A chunk's root isn't a struct, or has a dictionary. Only [`check_chunk`](crate::check_chunk) tries it, before
+    /// [`LayoutRule::TopNulls`] and after all others.
+    TopKind,
+}
+
+/// What a schema must meet, in the order in which it is tried at a node but for [`SchemaRule::Deep`], which comes first.
+#[derive(Clone, Copy, Debug, PartialEq, Eq)]
+pub enum SchemaRule {
+    /// The node is released.
+    Released,
+    /// Its format string is refused.
+    Format(FormatFault),
+    /// Its metadata is present and refused.
+    Meta(MetaFault),
+    /// A list or map has not exactly one child, or a type that has none has one.
+    ChildCount,
+    /// It has a dictionary, and its type is no integer.
+    DictIndexType,
+    /// A map's child is released, or no struct of two.
+    MapShape,
+    /// The node's level is above 64.
+    Deep,
+}
+
+/// Where a node stands: the numbers of the children on the way to it, or `DICTIONARY_STEP`.
+#[derive(Clone, Copy, Debug, PartialEq, Eq)]
+pub struct Path {
+    pub depth: u8,
+    pub steps: [u32; 64],
+}
+
+/// The step to a dictionary.
+pub const DICTIONARY_STEP: u32 = u32::MAX;
+
+impl Path {
+    /// The way to the root.
+    pub fn root() -> Path
+        ensures way { steps_of result ≡ [] }
+        ensures depth { result.depth ≡ 0 }
+    {
+        Path {
+            depth: 0,
+            steps: [0; 64],
+        }
+    }
+
+    /// The way to a part of the node there.
+    pub fn down(&self, step: u32) -> Path
+        requires { self.now.depth < 64 }
+        ensures way { steps_of result ≡ steps_of self.now ++ step ∷ [] }
+        ensures depth { result.depth ≡ self.now.depth + 1 }
+    {
+        let mut steps = self.steps;
+        steps[self.depth as usize] = step;
+        Path {
+            depth: self.depth + 1,
+            steps,
+        }
+    }
+}
+
+/// The place of a fault, and its two numbers.
+#[derive(Clone, Copy, Debug, PartialEq, Eq)]
+pub struct Numbers {
+    pub place: u64,
+    pub left: i128,
+    pub right: i128,
+}
+
+/// The first rule that fails at the first node at which one does, with the way to the node and the rule's place and
+/// numbers.
+#[derive(Clone, Copy, Debug, PartialEq, Eq)]
+pub struct LayoutFault {
+    pub path: Path,
+    pub rule: LayoutRule,
+    pub place: u64,
+    pub left: i128,
+    pub right: i128,
+}
+
+/// A rule's answer at a node.
+pub fn ruled(path: &Path, rule: LayoutRule, fault: Option<Numbers>) -> Result<(), LayoutFault>
+    ensures fault { found result ≡ fault_at (steps_of path.now) rule fault }
+    ensures passed { OnOk result (fault ≡ None) }
+{
+    match fault {
+        None => Ok(()),
+        Some(numbers) => Err(LayoutFault {
+            path: *path,
+            rule,
+            place: numbers.place,
+            left: numbers.left,
+            right: numbers.right,
+        }),
+    }
+}

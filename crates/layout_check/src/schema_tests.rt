@@ -1,0 +1,307 @@
+ghost use Rattle.std.specs.Prelude.{◌≤◌};
+ghost use Rattle.tree_model.specs.Tree.{trees, maybe_tree, depth_of_all, depth_of_maybe};
+
+use crate::rule::{DICTIONARY_STEP, SchemaRule};
+use crate::schema::{SchemaFault, check_schema};
+use crate::typed::Typed;
+use fmt_string::{DataType, FormatFault, FormatRule};
+use raw_schema::{RawSchema, SchemaParts};
+use schema_meta::MetaFault;
+use std::alloc::Global;
+use std::process::Abort;
+use unit_pass::{Pass, SUPPLY, open_desk};
+
+#[tactic(auto, using(tree_model::proofs::Measures::measures))]
+fn few_levels(rt: &impl Abort, children: &[RawSchema])
+    ensures { depth_of_all (trees children.now) ≤ 100 }
+{
+    for child in children {
+        assert!(rt; child.depth() <= 100);
+    }
+}
+
+fn few_levels_behind(rt: &impl Abort, dictionary: &Option<RawSchema>)
+    ensures { depth_of_maybe (maybe_tree dictionary.now) ≤ 100 }
+{
+    if let Some(tree) = dictionary {
+        assert!(rt; tree.depth() <= 100);
+    }
+}
+
+fn text(rt: &impl Abort, alloc: Global, bytes: &[u8]) -> Vec<u8> {
+    match Vec::from_slice(alloc, bytes) {
+        Ok(text) => text,
+        Err(_failed) => panic!(rt; "no memory"),
+    }
+}
+
+/// A node with a format and metadata.
+fn node(
+    rt: &impl Abort,
+    alloc: Global,
+    format: &[u8],
+    metadata: Option<&[u8]>,
+    children: Vec<RawSchema>,
+    dictionary: Option<RawSchema>,
+    pass: &mut Pass,
+) -> RawSchema {
+    few_levels(rt, &children);
+    few_levels_behind(rt, &dictionary);
+    assert!(rt; pass.units() >= 1);
+    assert!(rt; children.len() < 9);
+    let metadata = match metadata {
+        None => None,
+        Some(bytes) => Some(text(rt, alloc, bytes)),
+    };
+    let parts = SchemaParts {
+        format: text(rt, alloc, format),
+        name: None,
+        metadata,
+        flags: 2,
+        children,
+        dictionary,
+    };
+    match RawSchema::build(alloc, parts, pass) {
+        Ok(tree) => tree,
+        Err(_refused) => panic!(rt; "no memory"),
+    }
+}
+
+fn flat(rt: &impl Abort, alloc: Global, format: &[u8], pass: &mut Pass) -> RawSchema {
+    node(rt, alloc, format, None, Vec::new(alloc), None, pass)
+}
+
+/// A node over one child.
+fn over(
+    rt: &impl Abort,
+    alloc: Global,
+    format: &[u8],
+    child: RawSchema,
+    pass: &mut Pass,
+) -> RawSchema {
+    let mut children = Vec::new(alloc);
+    listed(rt, &mut children, child);
+    node(rt, alloc, format, None, children, None, pass)
+}
+
+/// A struct of two.
+fn pair(
+    rt: &impl Abort,
+    alloc: Global,
+    first: RawSchema,
+    second: RawSchema,
+    pass: &mut Pass,
+) -> RawSchema {
+    let mut children = Vec::new(alloc);
+    listed(rt, &mut children, first);
+    listed(rt, &mut children, second);
+    node(rt, alloc, b"+s", None, children, None, pass)
+}
+
+/// A node with a dictionary.
+fn encoded(
+    rt: &impl Abort,
+    alloc: Global,
+    format: &[u8],
+    dictionary: RawSchema,
+    pass: &mut Pass,
+) -> RawSchema {
+    node(
+        rt,
+        alloc,
+        format,
+        None,
+        Vec::new(alloc),
+        Some(dictionary),
+        pass,
+    )
+}
+
+/// So many lists, one in the other, over a tree.
+fn lists(
+    rt: &impl Abort,
+    alloc: Global,
+    levels: usize,
+    tree: RawSchema,
+    pass: &mut Pass,
+) -> RawSchema {
+    let mut tree = tree;
+    for _ in 0..levels {
+        tree = over(rt, alloc, b"+l", tree, pass);
+    }
+    tree
+}
+
+fn listed(rt: &impl Abort, children: &mut Vec<RawSchema>, child: RawSchema) {
+    match children.push(child) {
+        Ok(()) => {}
+        Err(_failed) => panic!(rt; "no memory"),
+    }
+}
+
+fn given_back(rt: &impl Abort, tree: RawSchema, pass: &mut Pass) {
+    let mut tree = tree;
+    assert!(rt; tree.cost() <= SUPPLY - pass.units());
+    let _acted = tree.release(pass);
+    tree.discard();
+}
+
+/// The answer is this fault, at these steps.
+fn faulted(rt: &impl Abort, answer: Result<Typed, SchemaFault>, steps: &[u32], rule: SchemaRule) {
+    match answer {
+        Ok(_typed) => panic!(rt; "the schema is in order"),
+        Err(SchemaFault::NoMemory) => panic!(rt; "no memory"),
+        Err(SchemaFault::At { path, rule: found }) => {
+            assert_eq!(rt; found, rule);
+            assert_eq!(rt; path.depth as usize, steps.len());
+            for i in 0..steps.len() {
+                assert!(rt; i < 64);
+                assert_eq!(rt; path.steps[i], steps[i]);
+            }
+        }
+    }
+}
+
+/// The rule fails at the tree, and at the tree as the second field of a struct.
+fn refused(rt: &impl Abort, alloc: Global, tree: RawSchema, rule: SchemaRule, pass: &mut Pass) {
+    faulted(rt, check_schema(alloc, &tree), &[], rule);
+    let first = flat(rt, alloc, b"i", pass);
+    let top = pair(rt, alloc, first, tree, pass);
+    faulted(rt, check_schema(alloc, &top), &[1], rule);
+    given_back(rt, top, pass);
+}
+
+const EMPTY: SchemaRule = SchemaRule::Format(FormatFault::At {
+    rule: FormatRule::Empty,
+    place: 0,
+});
+
+#[test]
+fn the_rules_of_a_node_are_named_at_the_root_and_at_a_child(rt: HostRuntime) {
+    let rt = &rt;
+    let alloc = rt.alloc();
+    let (desk, mut pass) = open_desk();
+    let pass_mut = &mut pass;
+    let released = RawSchema::released();
+    refused(rt, alloc, released, SchemaRule::Released, pass_mut);
+    let tree = flat(rt, alloc, b"", pass_mut);
+    refused(rt, alloc, tree, EMPTY, pass_mut);
+    // Metadata of no bytes is present, and too short for its number; the format comes first.
+    let short = SchemaRule::Meta(MetaFault::Short(0));
+    let tree = node(rt, alloc, b"i", Some(b""), Vec::new(alloc), None, pass_mut);
+    refused(rt, alloc, tree, short, pass_mut);
+    let tree = node(rt, alloc, b"", Some(b""), Vec::new(alloc), None, pass_mut);
+    refused(rt, alloc, tree, EMPTY, pass_mut);
+    assert_eq!(rt; pass.units(), SUPPLY);
+    let _audit = desk.close(pass);
+}
+
+#[test]
+fn the_rules_of_its_parts_are_named_at_the_root_and_at_a_child(rt: HostRuntime) {
+    let rt = &rt;
+    let alloc = rt.alloc();
+    let (desk, mut pass) = open_desk();
+    let pass_mut = &mut pass;
+    // A list of none, and a number with a child.
+    let tree = flat(rt, alloc, b"+l", pass_mut);
+    refused(rt, alloc, tree, SchemaRule::ChildCount, pass_mut);
+    let tree = over(rt, alloc, b"i", RawSchema::released(), pass_mut);
+    refused(rt, alloc, tree, SchemaRule::ChildCount, pass_mut);
+    // A dictionary behind text, though it is released itself.
+    let tree = encoded(rt, alloc, b"u", RawSchema::released(), pass_mut);
+    refused(rt, alloc, tree, SchemaRule::DictIndexType, pass_mut);
+    // A map of a released child, of a number, and of a struct of one.
+    let tree = over(rt, alloc, b"+m", RawSchema::released(), pass_mut);
+    refused(rt, alloc, tree, SchemaRule::MapShape, pass_mut);
+    let number = flat(rt, alloc, b"i", pass_mut);
+    let tree = over(rt, alloc, b"+m", number, pass_mut);
+    refused(rt, alloc, tree, SchemaRule::MapShape, pass_mut);
+    let number = flat(rt, alloc, b"i", pass_mut);
+    let one = over(rt, alloc, b"+s", number, pass_mut);
+    let tree = over(rt, alloc, b"+m", one, pass_mut);
+    refused(rt, alloc, tree, SchemaRule::MapShape, pass_mut);
+    assert_eq!(rt; pass.units(), SUPPLY);
+    let _audit = desk.close(pass);
+}
+
+#[test]
+fn a_child_fails_before_the_dictionary(rt: HostRuntime) {
+    let rt = &rt;
+    let alloc = rt.alloc();
+    let (desk, mut pass) = open_desk();
+    let pass_mut = &mut pass;
+    let index = encoded(rt, alloc, b"i", RawSchema::released(), pass_mut);
+    let bare = flat(rt, alloc, b"+l", pass_mut);
+    let top = pair(rt, alloc, index, bare, pass_mut);
+    let steps = [0, DICTIONARY_STEP];
+    faulted(rt, check_schema(alloc, &top), &steps, SchemaRule::Released);
+    given_back(rt, top, pass_mut);
+    assert_eq!(rt; pass.units(), SUPPLY);
+    let _audit = desk.close(pass);
+}
+
+#[test]
+fn sixty_four_levels_are_taken_and_no_more(rt: HostRuntime) {
+    let rt = &rt;
+    let alloc = rt.alloc();
+    let (desk, mut pass) = open_desk();
+    let pass_mut = &mut pass;
+    let lowest = flat(rt, alloc, b"i", pass_mut);
+    let tree = lists(rt, alloc, 63, lowest, pass_mut);
+    match check_schema(alloc, &tree) {
+        Ok(_typed) => {}
+        Err(_fault) => panic!(rt; "64 levels are refused"),
+    }
+    given_back(rt, tree, pass_mut);
+    // The level is tried before the node is read.
+    let tree = lists(rt, alloc, 64, RawSchema::released(), pass_mut);
+    faulted(rt, check_schema(alloc, &tree), &[0; 64], SchemaRule::Deep);
+    given_back(rt, tree, pass_mut);
+    assert_eq!(rt; pass.units(), SUPPLY);
+    let _audit = desk.close(pass);
+}
+
+#[test]
+fn the_kinds_stand_as_the_nodes_do(rt: HostRuntime) {
+    let rt = &rt;
+    let alloc = rt.alloc();
+    let (desk, mut pass) = open_desk();
+    let pass_mut = &mut pass;
+    let word = flat(rt, alloc, b"u", pass_mut);
+    let index = encoded(rt, alloc, b"S", word, pass_mut);
+    let key = flat(rt, alloc, b"u", pass_mut);
+    let value = flat(rt, alloc, b"b", pass_mut);
+    let entries = pair(rt, alloc, key, value, pass_mut);
+    let map = over(rt, alloc, b"+m", entries, pass_mut);
+    let top = pair(rt, alloc, index, map, pass_mut);
+    let typed = match check_schema(alloc, &top) {
+        Ok(typed) => typed,
+        Err(_fault) => panic!(rt; "the schema is refused"),
+    };
+    assert!(rt; matches!(&typed.kind, DataType::Struct));
+    assert!(rt; typed.dict.is_none());
+    assert_eq!(rt; typed.kids.len(), 2);
+    let first = &typed.kids[0];
+    assert!(rt;
+        matches!(
+            &first.kind,
+            DataType::Int {
+                bits: 16,
+                signed: false
+            }
+        )
+    );
+    match &first.dict {
+        Some(dict) => assert!(rt; matches!(&dict.kind, DataType::Utf8 { wide: false })),
+        None => panic!(rt; "no dictionary"),
+    }
+    let second = &typed.kids[1];
+    assert!(rt; matches!(&second.kind, DataType::Map));
+    assert_eq!(rt; second.kids.len(), 1);
+    assert!(rt; matches!(&second.kids[0].kind, DataType::Struct));
+    assert_eq!(rt; second.kids[0].kids.len(), 2);
+    assert!(rt; matches!(&second.kids[0].kids[1].kind, DataType::Bool));
+    given_back(rt, top, pass_mut);
+    assert_eq!(rt; pass.units(), SUPPLY);
+    let _audit = desk.close(pass);
+}

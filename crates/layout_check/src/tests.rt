@@ -1,0 +1,621 @@
+ghost use Rattle.std.specs.Prelude.{◌≡◌, ◌+◌, ◌≤◌, max, map, length, None, Option};
+ghost use Rattle.std.specs.Global.{Box};
+ghost use Rattle.fmt_string.specs.Kinds.{KindOk};
+ghost use Rattle.tree_model.specs.Tree.{IsLive, trees, maybe_tree, no_trees, absent, present, more_trees, depth_of_all, depth_of_maybe};
+ghost use Rattle.layout_check.specs.Kinds.{levels, most_levels, dictionary_levels, KidsOk, DictOk, NodesOk, AllNodesOk, DictNodesOk};
+ghost use Rattle.layout_check.specs.TypedView.{typed_of, dict_in};
+
+use crate::buffers::{buffers_absent, buffers_short, first_fall, layout_falls, window_end};
+use crate::chunk::{check_chunk, nulls_of};
+use crate::layout::Layout;
+use crate::rule::{DICTIONARY_STEP, LayoutFault, LayoutRule};
+use crate::texts::{first_bad_text, texts_wrong};
+use crate::typed::Typed;
+use crate::walk::check_array;
+use buf_block::{BufView, make};
+use fmt_string::DataType;
+use raw_array::{ArrayParts, RawArray, ReleaseKind};
+use std::alloc::Global;
+use std::process::Abort;
+use unit_pass::{Desk, Pass, SUPPLY, open_desk};
+
+// ---- types
+
+#[tactic(auto, using(crate::proofs::MadeTypes::made))]
+fn node(kind: DataType, kids: Vec<Typed>, dict: Option<Box<Typed>>) -> Typed
+    requires type_ok { KindOk kind }
+    requires kids_ok { KidsOk kind (trees (map typed_of kids.items)) }
+    requires dict_ok { DictOk kind (maybe_tree (dict_in dict)) }
+    requires below { AllNodesOk (trees (map typed_of kids.items)) }
+    requires behind { DictNodesOk (maybe_tree (dict_in dict)) }
+    ensures ok { NodesOk (typed_of result) }
+    ensures levels { levels (typed_of result) ≡ max (most_levels (trees (map typed_of kids.items))) (dictionary_levels (maybe_tree (dict_in dict))) + 1 }
+{
+    Typed { kind, dict, kids }
+}
+
+fn flat(alloc: Global, kind: DataType) -> Typed
+    requires type_ok { KindOk kind }
+    requires leaf { KidsOk kind no_trees }
+    ensures ok { NodesOk (typed_of result) }
+    ensures levels { levels (typed_of result) ≡ 1 }
+{
+    node(kind, Vec::new(alloc), None)
+}
+
+/// A struct over a column.
+fn struct_of(rt: &impl Abort, alloc: Global, kid: Typed) -> Typed
+    requires { NodesOk (typed_of kid) }
+    ensures ok { NodesOk (typed_of result) }
+    ensures levels { levels (typed_of result) ≡ levels (typed_of kid) + 1 }
+{
+    let mut kids = Vec::new(alloc);
+    match kids.push(kid) {
+        Ok(()) => node(DataType::Struct, kids, None),
+        Err(_failed) => panic!(rt; "no memory"),
+    }
+}
+
+/// Indices into a dictionary.
+fn indexed(rt: &impl Abort, alloc: Global, dict: Typed) -> Typed
+    requires { NodesOk (typed_of dict) }
+    ensures ok { NodesOk (typed_of result) }
+    ensures levels { levels (typed_of result) ≡ levels (typed_of dict) + 1 }
+{
+    let int32 = DataType::Int {
+        bits: 32,
+        signed: true,
+    };
+    match Box::new(alloc, dict) {
+        Ok(dict) => node(int32, Vec::new(alloc), Some(dict)),
+        Err(_failed) => panic!(rt; "no memory"),
+    }
+}
+
+/// A struct over two columns.
+fn struct_of_two(rt: &impl Abort, alloc: Global, first: Typed, second: Typed) -> Typed
+    requires first { NodesOk (typed_of first) }
+    requires second { NodesOk (typed_of second) }
+    ensures ok { NodesOk (typed_of result) }
+    ensures levels { levels (typed_of result) ≡ max (levels (typed_of first)) (levels (typed_of second)) + 1 }
+{
+    let mut kids = Vec::new(alloc);
+    if kids.push(first).is_err() {
+        panic!(rt; "no memory");
+    }
+    match kids.push(second) {
+        Ok(()) => node(DataType::Struct, kids, None),
+        Err(_failed) => panic!(rt; "no memory"),
+    }
+}
+
+fn int32(alloc: Global) -> Typed
+    ensures ok { NodesOk (typed_of result) }
+    ensures levels { levels (typed_of result) ≡ 1 }
+{
+    flat(
+        alloc,
+        DataType::Int {
+            bits: 32,
+            signed: true,
+        },
+    )
+}
+
+fn text(alloc: Global) -> Typed
+    ensures ok { NodesOk (typed_of result) }
+    ensures levels { levels (typed_of result) ≡ 1 }
+{
+    flat(alloc, DataType::Utf8 { wide: false })
+}
+
+// ---- arrays
+
+#[tactic(auto, using(tree_model::proofs::Measures::measures))]
+fn few_levels(rt: &impl Abort, children: &[RawArray])
+    ensures { depth_of_all (trees children.now) ≤ 9 }
+{
+    for child in children {
+        assert!(rt; child.depth() <= 9);
+    }
+}
+
+fn few_levels_behind(rt: &impl Abort, dictionary: &Option<RawArray>)
+    ensures { depth_of_maybe (maybe_tree dictionary.now) ≤ 9 }
+{
+    if let Some(tree) = dictionary {
+        assert!(rt; tree.depth() <= 9);
+    }
+}
+
+fn listed<T>(rt: &impl Abort, items: &mut Vec<T>, item: T) {
+    match items.push(item) {
+        Ok(()) => {}
+        Err(_failed) => panic!(rt; "no memory"),
+    }
+}
+
+/// A view of all bytes of a new block.
+fn view(rt: &impl Abort, alloc: Global, bytes: &[u8], pass: &mut Pass) -> BufView {
+    assert!(rt; pass.units() >= 1);
+    let Ok(bytes) = Vec::from_slice(alloc, bytes) else {
+        panic!(rt; "no memory");
+    };
+    let len = bytes.len();
+    match make(alloc, bytes, pass) {
+        Ok(hold) => BufView {
+            hold,
+            start: 0,
+            len,
+        },
+        Err(_refused) => panic!(rt; "no memory"),
+    }
+}
+
+/// An array's length, number of nulls and offset.
+type Window = (i64, i64, i64);
+
+fn built(rt: &impl Abort, alloc: Global, parts: ArrayParts, pass: &mut Pass) -> RawArray {
+    few_levels(rt, &parts.children);
+    few_levels_behind(rt, &parts.dictionary);
+    assert!(rt; pass.units() >= 1);
+    assert!(rt; parts.children.len() < 9);
+    assert!(rt; parts.buffers.len() < 9);
+    match RawArray::build(alloc, parts, pass) {
+        Ok(tree) => tree,
+        Err(_refused) => panic!(rt; "no memory"),
+    }
+}
+
+fn array(
+    rt: &impl Abort,
+    alloc: Global,
+    window: Window,
+    bytes: &[Option<&[u8]>],
+    children: Vec<RawArray>,
+    dictionary: Option<RawArray>,
+    pass: &mut Pass,
+) -> RawArray {
+    let mut buffers = Vec::new(alloc);
+    for buffer in bytes {
+        let buffer = match buffer {
+            Some(bytes) => Some(view(rt, alloc, bytes, pass)),
+            None => None,
+        };
+        listed(rt, &mut buffers, buffer);
+    }
+    let parts = ArrayParts {
+        length: window.0,
+        null_count: window.1,
+        offset: window.2,
+        buffers,
+        children,
+        dictionary,
+        kind: ReleaseKind::Exported,
+    };
+    built(rt, alloc, parts, pass)
+}
+
+/// An array without children and dictionary.
+fn leaf(
+    rt: &impl Abort,
+    alloc: Global,
+    window: Window,
+    bytes: &[Option<&[u8]>],
+    pass: &mut Pass,
+) -> RawArray {
+    array(rt, alloc, window, bytes, Vec::new(alloc), None, pass)
+}
+
+/// An array of one buffer, which is absent, over a child.
+fn over(
+    rt: &impl Abort,
+    alloc: Global,
+    window: Window,
+    child: RawArray,
+    pass: &mut Pass,
+) -> RawArray {
+    let mut children = Vec::new(alloc);
+    listed(rt, &mut children, child);
+    array(rt, alloc, window, &[None], children, None, pass)
+}
+
+/// No index, before a dictionary.
+fn before(rt: &impl Abort, alloc: Global, dictionary: RawArray, pass: &mut Pass) -> RawArray {
+    array(
+        rt,
+        alloc,
+        (0, 0, 0),
+        &[None, None],
+        Vec::new(alloc),
+        Some(dictionary),
+        pass,
+    )
+}
+
+fn ended(rt: &impl Abort, array: RawArray, pass: &mut Pass) {
+    let mut array = array;
+    let before = pass.units();
+    assert!(rt; array.cost() <= SUPPLY - before);
+    array.release(pass);
+    array.discard();
+}
+
+// ---- what is found
+
+type Want = (LayoutRule, u64, i128, i128);
+
+fn found(rt: &impl Abort, answer: Result<(), LayoutFault>, want: Want, path: &[u32]) {
+    match answer {
+        Ok(()) => panic!(rt; "taken in place of {:?}", want.0),
+        Err(fault) => {
+            assert_eq!(rt; fault.rule, want.0, "the rule");
+            assert_eq!(rt; fault.place, want.1, "place of {:?}", want.0);
+            assert_eq!(rt; fault.left, want.2, "left of {:?}", want.0);
+            assert_eq!(rt; fault.right, want.3, "right of {:?}", want.0);
+            assert_eq!(rt;
+                fault.path.depth as usize,
+                path.len(),
+                "depth of {:?}",
+                want.0
+            );
+            for (step, want) in fault.path.steps.iter().zip(path) {
+                assert_eq!(rt; step, want);
+            }
+        }
+    }
+}
+
+/// The fault of an array as it stands, under a struct, and behind a dictionary.
+fn found_at_each_place(
+    rt: &impl Abort,
+    alloc: Global,
+    typed: Typed,
+    array: RawArray,
+    want: Want,
+    pass: &mut Pass,
+)
+    requires ok { NodesOk (typed_of typed) }
+    requires few { levels (typed_of typed) ≤ 9 }
+{
+    found(rt, check_array(&typed, &array), want, &[]);
+    let typed = struct_of(rt, alloc, typed);
+    let array = over(rt, alloc, (0, 0, 0), array, pass);
+    found(rt, check_array(&typed, &array), want, &[0]);
+    let typed = indexed(rt, alloc, typed);
+    let array = before(rt, alloc, array, pass);
+    found(rt, check_array(&typed, &array), want, &[DICTIONARY_STEP, 0]);
+    ended(rt, array, pass);
+}
+
+fn taken(rt: &impl Abort, typed: Typed, array: RawArray, pass: &mut Pass)
+    requires ok { NodesOk (typed_of typed) }
+    requires few { levels (typed_of typed) ≤ 9 }
+{
+    assert!(rt; check_array(&typed, &array).is_ok());
+    ended(rt, array, pass);
+}
+
+fn closed(rt: &impl Abort, desk: Desk, pass: Pass) {
+    assert_eq!(rt; pass.units(), SUPPLY);
+    desk.close(pass);
+}
+
+/// The fault of an array without children and dictionary.
+fn leaf_found(
+    rt: &impl Abort,
+    alloc: Global,
+    typed: Typed,
+    window: Window,
+    bytes: &[Option<&[u8]>],
+    want: Want,
+)
+    requires ok { NodesOk (typed_of typed) }
+    requires few { levels (typed_of typed) ≤ 9 }
+{
+    let (desk, mut pass) = open_desk();
+    let a = leaf(rt, alloc, window, bytes, &mut pass);
+    found_at_each_place(rt, alloc, typed, a, want, &mut pass);
+    closed(rt, desk, pass);
+}
+
+#[test]
+fn each_rule_has_its_fault_at_each_place(rt: HostRuntime) {
+    let alloc = rt.alloc();
+    let zeros = [0u8; 8];
+    let zeros = zeros.as_slice();
+    let want = (LayoutRule::NegativeOffset, 0, -1, 0);
+    leaf_found(&rt, alloc, int32(alloc), (0, 0, -1), &[None, None], want);
+    let want = (LayoutRule::BufferCount, 0, 1, 2);
+    leaf_found(&rt, alloc, int32(alloc), (0, 0, 0), &[None], want);
+    let want = (LayoutRule::BufferAbsent, 1, 0, 8);
+    leaf_found(&rt, alloc, int32(alloc), (2, 0, 0), &[None, None], want);
+    let want = (LayoutRule::BufferShort, 1, 8, 12);
+    leaf_found(
+        &rt,
+        alloc,
+        int32(alloc),
+        (3, 0, 0),
+        &[None, Some(zeros)],
+        want,
+    );
+    let want = (LayoutRule::NullCount, 0, 0, 1);
+    leaf_found(
+        &rt,
+        alloc,
+        int32(alloc),
+        (1, 0, 0),
+        &[Some(&zeros[..1]), Some(zeros)],
+        want,
+    );
+    // 2^31 - 1 bytes at each of 2^64 - 2 places.
+    let want = (
+        LayoutRule::BufferAbsent,
+        1,
+        0,
+        39_614_081_238_685_424_718_767_456_258,
+    );
+    let wide = DataType::FixedBinary {
+        size: 2_147_483_647,
+    };
+    leaf_found(
+        &rt,
+        alloc,
+        flat(alloc, wide),
+        (i64::MAX, 0, i64::MAX),
+        &[None, None],
+        want,
+    );
+    let offsets = [0u8, 0, 0, 0, 3, 0, 0, 0, 2, 0, 0, 0];
+    let want = (LayoutRule::OffsetsFall, 1, 3, 2);
+    leaf_found(
+        &rt,
+        alloc,
+        text(alloc),
+        (2, -1, 0),
+        &[None, Some(&offsets), Some(b"abc")],
+        want,
+    );
+    // The absent data comes before the short validity.
+    let want = (LayoutRule::BufferAbsent, 2, 0, 3);
+    leaf_found(
+        &rt,
+        alloc,
+        text(alloc),
+        (1, 0, 0),
+        &[Some(&[]), Some(&offsets), None],
+        want,
+    );
+    // The second item is a byte that begins no character, or half of one.
+    let offsets = [0u8, 0, 0, 0, 3, 0, 0, 0, 4, 0, 0, 0];
+    let want = (LayoutRule::NotText, 1, 0, 1);
+    leaf_found(
+        &rt,
+        alloc,
+        text(alloc),
+        (2, 0, 0),
+        &[None, Some(&offsets), Some(b"caf\xff")],
+        want,
+    );
+    let offsets = [0u8, 0, 0, 0, 3, 0, 0, 0, 4, 0, 0, 0, 5, 0, 0, 0];
+    leaf_found(
+        &rt,
+        alloc,
+        text(alloc),
+        (3, 0, 0),
+        &[None, Some(&offsets), Some("caf\u{e9}".as_bytes())],
+        want,
+    );
+    let want = (
+        LayoutRule::WindowTooLong,
+        0,
+        1_099_511_627_777,
+        1_099_511_627_776,
+    );
+    leaf_found(
+        &rt,
+        alloc,
+        flat(alloc, DataType::Null),
+        (1, 0, 1 << 40),
+        &[],
+        want,
+    );
+}
+
+/// The fault of an array of some parts.
+fn parts_found(
+    rt: &impl Abort,
+    alloc: Global,
+    typed: Typed,
+    array: RawArray,
+    want: Want,
+    ends: (Desk, Pass),
+)
+    requires ok { NodesOk (typed_of typed) }
+    requires few { levels (typed_of typed) ≤ 9 }
+{
+    let (desk, mut pass) = ends;
+    found_at_each_place(rt, alloc, typed, array, want, &mut pass);
+    closed(rt, desk, pass);
+}
+
+#[test]
+fn parts_are_checked_from_the_root_on(rt: HostRuntime) {
+    let alloc = rt.alloc();
+    let want = (LayoutRule::Released, 0, 0, 0);
+    parts_found(
+        &rt,
+        alloc,
+        int32(alloc),
+        RawArray::released(),
+        want,
+        open_desk(),
+    );
+
+    let (desk, mut pass) = open_desk();
+    let pair = [None, None];
+    let mut kids = Vec::new(alloc);
+    listed(
+        &rt,
+        &mut kids,
+        leaf(&rt, alloc, (0, 0, 0), &pair, &mut pass),
+    );
+    let a = array(&rt, alloc, (0, 0, 0), &pair, kids, None, &mut pass);
+    let want = (LayoutRule::ChildCount, 0, 1, 0);
+    parts_found(&rt, alloc, int32(alloc), a, want, (desk, pass));
+
+    let (desk, mut pass) = open_desk();
+    let dictionary = leaf(&rt, alloc, (0, 0, 0), &pair, &mut pass);
+    let a = before(&rt, alloc, dictionary, &mut pass);
+    let want = (LayoutRule::Dictionary, 0, 1, 0);
+    parts_found(&rt, alloc, int32(alloc), a, want, (desk, pass));
+
+    // A child that is too short comes before one that is released.
+    let (desk, mut pass) = open_desk();
+    let mut kids = Vec::new(alloc);
+    listed(&rt, &mut kids, RawArray::released());
+    listed(
+        &rt,
+        &mut kids,
+        leaf(&rt, alloc, (-1, 0, 0), &pair, &mut pass),
+    );
+    let a = array(&rt, alloc, (0, 0, 0), &[None], kids, None, &mut pass);
+    let typed = struct_of_two(&rt, alloc, int32(alloc), int32(alloc));
+    let want = (LayoutRule::ChildShort, 1, -1, 0);
+    parts_found(&rt, alloc, typed, a, want, (desk, pass));
+
+    // An index of the dictionary's length.
+    let (desk, mut pass) = open_desk();
+    let dictionary = leaf(&rt, alloc, (0, 0, 0), &pair, &mut pass);
+    let bytes = [None, Some([0u8, 0, 0, 0].as_slice())];
+    let a = array(
+        &rt,
+        alloc,
+        (1, 0, 0),
+        &bytes,
+        Vec::new(alloc),
+        Some(dictionary),
+        &mut pass,
+    );
+    let want = (LayoutRule::IndexRange, 0, 0, 0);
+    parts_found(
+        &rt,
+        alloc,
+        indexed(&rt, alloc, int32(alloc)),
+        a,
+        want,
+        (desk, pass),
+    );
+}
+
+#[test]
+fn windows_without_bytes_are_taken(rt: HostRuntime) {
+    let alloc = rt.alloc();
+    let (desk, mut pass) = open_desk();
+    let a = leaf(&rt, alloc, (1 << 40, -1, 0), &[], &mut pass);
+    taken(&rt, flat(alloc, DataType::Null), a, &mut pass);
+    let a = leaf(&rt, alloc, (1 << 40, 0, 0), &[None], &mut pass);
+    taken(&rt, flat(alloc, DataType::Struct), a, &mut pass);
+    let a = leaf(&rt, alloc, (1 << 40, 0, 0), &[None, None], &mut pass);
+    taken(
+        &rt,
+        flat(alloc, DataType::FixedBinary { size: 0 }),
+        a,
+        &mut pass,
+    );
+    let a = leaf(&rt, alloc, (0, 0, 0), &[None, None, None], &mut pass);
+    taken(&rt, text(alloc), a, &mut pass);
+    closed(&rt, desk, pass);
+}
+
+#[test]
+fn a_chunk_is_a_table_without_null_rows(rt: HostRuntime) {
+    let alloc = rt.alloc();
+    let (desk, mut pass) = open_desk();
+    let one = [None, Some([5u8, 0, 0, 0].as_slice())];
+    let number = leaf(&rt, alloc, (1, 0, 0), &one, &mut pass);
+    let typed = int32(alloc);
+    found(
+        &rt,
+        check_chunk(&typed, &number),
+        (LayoutRule::TopKind, 0, 0, 0),
+        &[],
+    );
+    let typed = struct_of(&rt, alloc, typed);
+    let table = over(&rt, alloc, (1, 0, 0), number, &mut pass);
+    assert!(&rt; check_chunk(&typed, &table).is_ok());
+    assert!(&rt; check_array(&typed, &table).is_ok());
+    assert_eq!(&rt; nulls_of(&typed, &table), 0);
+    ended(&rt, table, &mut pass);
+    let mut kids = Vec::new(alloc);
+    listed(&rt, &mut kids, leaf(&rt, alloc, (1, 0, 0), &one, &mut pass));
+    let table = array(
+        &rt,
+        alloc,
+        (1, 1, 0),
+        &[Some([0u8].as_slice())],
+        kids,
+        None,
+        &mut pass,
+    );
+    found(
+        &rt,
+        check_chunk(&typed, &table),
+        (LayoutRule::TopNulls, 0, 1, 0),
+        &[],
+    );
+    assert!(&rt; check_array(&typed, &table).is_ok());
+    assert_eq!(&rt; nulls_of(&typed, &table), 1);
+    ended(&rt, table, &mut pass);
+    closed(&rt, desk, pass);
+}
+
+/// Items by a scan over the whole buffer, and one by one.
+#[tactic(auto, using(crate::proofs::Long::long))]
+fn both_ways(rt: &impl Abort, array: &RawArray) {
+    let layout = Layout::ByOffsets { wide: false };
+    let kind = DataType::Utf8 { wide: false };
+    assert!(rt; !array.is_released());
+    assert!(rt; array.length() >= 0);
+    assert!(rt; array.offset() >= 0);
+    assert!(rt; array.n_buffers() == 3);
+    assert!(rt; buffers_absent(layout, array).is_none());
+    assert!(rt; buffers_short(layout, array).is_none());
+    assert!(rt; window_end(array) > 0);
+    let falls = layout_falls(layout, array);
+    assert_eq!(rt; falls, first_fall(false, array));
+    assert!(rt; falls.is_none());
+    assert_eq!(rt; texts_wrong(&kind, array), first_bad_text(false, array));
+}
+
+#[test]
+fn scans_and_single_items_agree(rt: HostRuntime) {
+    let alloc = rt.alloc();
+    let offsets = [0u8, 0, 0, 0, 1, 0, 0, 0, 3, 0, 0, 0, 4, 0, 0, 0];
+    let rows: [&[u8]; 6] = [
+        b"abcd",
+        b"a\xc3\xa9b",
+        b"\xc3\xa9ab",
+        b"ab\xc3\xa9",
+        b"ab\xffc",
+        b"\xe2\x82\xacx",
+    ];
+    for data in rows {
+        for valid in [0b1111u8, 0b1101, 0b1000] {
+            let (desk, mut pass) = open_desk();
+            let validity = [valid];
+            let bytes = [
+                Some(validity.as_slice()),
+                Some(offsets.as_slice()),
+                Some(data),
+            ];
+            let whole = leaf(&rt, alloc, (3, -1, 0), &bytes, &mut pass);
+            both_ways(&rt, &whole);
+            ended(&rt, whole, &mut pass);
+            let window = leaf(&rt, alloc, (2, -1, 1), &bytes, &mut pass);
+            both_ways(&rt, &window);
+            ended(&rt, window, &mut pass);
+            closed(&rt, desk, pass);
+        }
+    }
+}

@@ -1,0 +1,177 @@
+ghost use Rattle.std.specs.Prelude.{◌≡◌, IsOk, ◌↔◌, ◌≤ℤ◌, pos, ◌+◌, ◌-◌, ◌^◌, ◌<◌, ◌≤◌, length, map, OnOk, [], None, Option};
+ghost use Rattle.std.specs.Global.{Box};
+ghost use Rattle.tree_model.specs.Tree.{IsLive, children_of, dictionary_of, trees, maybe_tree};
+ghost use Rattle.raw_array.specs.Members.{ArrayTree, members_of};
+ghost use Rattle.layout_check.specs.Kinds.{levels, most_levels, dictionary_levels, NodesOk, AllNodesOk, DictNodesOk, TypedOk};
+ghost use Rattle.fmt_string.specs.Kinds.{KindOk};
+ghost use Rattle.layout_check.specs.Rules.{one_if};
+ghost use Rattle.layout_check.specs.declared.typed.Typed.{out-Typed};
+ghost use Rattle.layout_check.specs.TypedView.{live_node, typed_of, kids_of, dict_in};
+ghost use Rattle.layout_check.specs.Layout.{layout_of as layout_is, buffer_count as count_of};
+ghost use Rattle.layout_check.specs.Rules.{buffer_rules, form_rules, item_rules, first_below, buffer_absent as absent_at, buffer_short as short_at, offsets_fall_if, is_behind_offsets};
+ghost use Rattle.layout_check.specs.Found.{steps_of, found};
+ghost use Rattle.layout_check.specs.Walk.{LayoutOk, rules_fault, first_fault, fault_from, own_fault, children_fault, dictionary_fault};
+
+use crate::buffers::{buffers_absent, buffers_short, layout_falls};
+use crate::children::children_short;
+use crate::counts::{buffers_wrong, children_wrong, dictionary_wrong, negative, window_too_long};
+use crate::indices::indices_wrong;
+use crate::layout::layout_of;
+use crate::nulls::nulls_wrong;
+use crate::rule::{DICTIONARY_STEP, LayoutFault, LayoutRule, Numbers, Path, ruled};
+use crate::texts::texts_wrong;
+use crate::typed::Typed;
+use raw_array::RawArray;
+
+/// Checks an array against its kinds ("Arrow Columnar Format", "Physical memory layout"). The fault is the first rule of
+/// [`LayoutRule`] that fails at the first failing node in preorder: children by number, then the dictionary. Takes no
+/// memory.
+#[tactic(auto, using(crate::proofs::Lawful::lawful))]
+pub fn check_array(typed: &Typed, array: &RawArray) -> Result<(), LayoutFault>
+    requires { TypedOk (typed_of typed.now) }
+    ensures fault { found result ≡ first_fault (typed_of typed.now) array.now }
+    ensures lawful { IsOk result ↔ LayoutOk (typed_of typed.now) array.now }
+{
+    check_from(typed, array, &Path::root())
+}
+
+#[cycle(check)]
+#[tactic(auto, using(crate::proofs::Faults::walks))]
+fn check_from(typed: &Typed, array: &RawArray, path: &Path) -> Result<(), LayoutFault>
+    requires levels { path.now.depth + levels (typed_of typed.now) ≤ 64 }
+    requires types { NodesOk (typed_of typed.now) }
+    ensures { found result ≡ fault_from (typed_of typed.now) (steps_of path.now) array.now }
+{
+    check_own(typed, array, path)?;
+    check_children(&typed.kids, array, path)?;
+    check_dictionary(&typed.dict, array, path)
+}
+
+/// The rules of the node itself.
+#[tactic(auto, using(crate::proofs::Faults::own_rules))]
+fn check_own(typed: &Typed, array: &RawArray, path: &Path) -> Result<(), LayoutFault>
+    requires type_ok { KindOk (out-Typed typed.now).kind }
+    ensures fault { found result ≡ own_fault (typed_of typed.now) (steps_of path.now) array.now }
+    ensures live { OnOk result (IsLive array.now) }
+    ensures children { OnOk result (length (children_of array.now) ≡ length (out-Typed typed.now).kids.items) }
+    ensures few { OnOk result (length (out-Typed typed.now).kids.items < 2 ^ 32 - 1) }
+{
+    if array.is_released() {
+        let none = Numbers {
+            place: 0,
+            left: 0,
+            right: 0,
+        };
+        return ruled(path, LayoutRule::Released, Some(none));
+    }
+    check_form(typed, array, path)?;
+    check_buffers(typed, array, path)?;
+    check_items(typed, array, path)
+}
+
+/// The rules of a live node's buffers.
+fn check_buffers(typed: &Typed, array: &RawArray, path: &Path) -> Result<(), LayoutFault>
+    requires live { IsLive array.now }
+    requires length { pos 0 ≤ℤ (members_of array.now).length }
+    requires offset { pos 0 ≤ℤ (members_of array.now).offset }
+    requires buffers { length (members_of array.now).buffers ≡ count_of (layout_is (out-Typed typed.now).kind) }
+    ensures fault { found result ≡ rules_fault buffer_rules (steps_of path.now) (live_node typed.now array.now) }
+    ensures there { OnOk result (first_below (absent_at (layout_is (out-Typed typed.now).kind) (members_of array.now)) (count_of (layout_is (out-Typed typed.now).kind)) ≡ None) }
+    ensures enough { OnOk result (first_below (short_at (layout_is (out-Typed typed.now).kind) (members_of array.now)) (count_of (layout_is (out-Typed typed.now).kind)) ≡ None) }
+    ensures rise { OnOk result (offsets_fall_if (is_behind_offsets (layout_is (out-Typed typed.now).kind)) (members_of array.now) ≡ None) }
+{
+    let layout = layout_of(&typed.kind);
+    ruled(
+        path,
+        LayoutRule::BufferAbsent,
+        buffers_absent(layout, array),
+    )?;
+    ruled(path, LayoutRule::BufferShort, buffers_short(layout, array))?;
+    ruled(path, LayoutRule::OffsetsFall, layout_falls(layout, array))
+}
+
+/// The rules of a live node's items, once its buffers are long enough.
+fn check_items(typed: &Typed, array: &RawArray, path: &Path) -> Result<(), LayoutFault>
+    requires live { IsLive array.now }
+    requires type_ok { KindOk (out-Typed typed.now).kind }
+    requires length { pos 0 ≤ℤ (members_of array.now).length }
+    requires offset { pos 0 ≤ℤ (members_of array.now).offset }
+    requires buffers { length (members_of array.now).buffers ≡ count_of (layout_is (out-Typed typed.now).kind) }
+    requires there { first_below (absent_at (layout_is (out-Typed typed.now).kind) (members_of array.now)) (count_of (layout_is (out-Typed typed.now).kind)) ≡ None }
+    requires enough { first_below (short_at (layout_is (out-Typed typed.now).kind) (members_of array.now)) (count_of (layout_is (out-Typed typed.now).kind)) ≡ None }
+    requires rise { offsets_fall_if (is_behind_offsets (layout_is (out-Typed typed.now).kind)) (members_of array.now) ≡ None }
+    ensures { found result ≡ rules_fault item_rules (steps_of path.now) (live_node typed.now array.now) }
+{
+    let layout = layout_of(&typed.kind);
+    ruled(path, LayoutRule::ChildShort, children_short(layout, array))?;
+    ruled(path, LayoutRule::NullCount, nulls_wrong(layout, array))?;
+    ruled(path, LayoutRule::NotText, texts_wrong(&typed.kind, array))?;
+    ruled(
+        path,
+        LayoutRule::IndexRange,
+        indices_wrong(&typed.kind, array),
+    )?;
+    ruled(path, LayoutRule::WindowTooLong, window_too_long(array))
+}
+
+/// The rules of a live node's form: its numbers, and how many parts it has.
+#[tactic(auto, using(crate::proofs::Faults::form))]
+fn check_form(typed: &Typed, array: &RawArray, path: &Path) -> Result<(), LayoutFault>
+    requires live { IsLive array.now }
+    ensures fault { found result ≡ rules_fault form_rules (steps_of path.now) (live_node typed.now array.now) }
+    ensures length { OnOk result (pos 0 ≤ℤ (members_of array.now).length) }
+    ensures offset { OnOk result (pos 0 ≤ℤ (members_of array.now).offset) }
+    ensures buffers { OnOk result (length (members_of array.now).buffers ≡ count_of (layout_is (out-Typed typed.now).kind)) }
+    ensures children { OnOk result (length (children_of array.now) ≡ length (out-Typed typed.now).kids.items) }
+    ensures few { OnOk result (length (out-Typed typed.now).kids.items < 2 ^ 32 - 1) }
+{
+    ruled(path, LayoutRule::NegativeLength, negative(array.length()))?;
+    ruled(path, LayoutRule::NegativeOffset, negative(array.offset()))?;
+    ruled(
+        path,
+        LayoutRule::BufferCount,
+        buffers_wrong(layout_of(&typed.kind), array),
+    )?;
+    ruled(
+        path,
+        LayoutRule::ChildCount,
+        children_wrong(&typed.kids, array),
+    )?;
+    ruled(
+        path,
+        LayoutRule::Dictionary,
+        dictionary_wrong(&typed.dict, array),
+    )
+}
+
+#[cycle(check)]
+fn check_children(kids: &[Typed], array: &RawArray, path: &Path) -> Result<(), LayoutFault>
+    requires levels { path.now.depth + 1 + most_levels (trees (map typed_of kids.now)) ≤ 64 }
+    requires types { AllNodesOk (trees (map typed_of kids.now)) }
+    requires few { length kids.now < 2 ^ 32 - 1 }
+    requires live { IsLive array.now }
+    requires children { length (children_of array.now) ≡ length kids.now }
+    ensures { found result ≡ children_fault (map typed_of kids.now) 0 (steps_of path.now) (children_of array.now) }
+{
+    for i in 0..kids.len() {
+        check_from(&kids[i], array.child(i), &path.down(i as u32))?;
+    }
+    Ok(())
+}
+
+#[cycle(check)]
+fn check_dictionary(
+    dict: &Option<Box<Typed>>,
+    array: &RawArray,
+    path: &Path,
+) -> Result<(), LayoutFault>
+    requires levels { path.now.depth + 1 + dictionary_levels (maybe_tree (dict_in dict.now)) ≤ 64 }
+    requires types { DictNodesOk (maybe_tree (dict_in dict.now)) }
+    requires live { IsLive array.now }
+    ensures { found result ≡ dictionary_fault (dict_in dict.now) (steps_of path.now) (dictionary_of array.now) }
+{
+    match (dict, array.dictionary()) {
+        (Some(dict), Some(dictionary)) => check_from(dict, dictionary, &path.down(DICTIONARY_STEP)),
+        _ => Ok(()),
+    }
+}
