@@ -13,6 +13,7 @@ ghost use Rattle.pipe_top.specs.Answer.{Fault, Text, answer_of_bytes};
 ghost use Rattle.pipe_top.specs.declared.fault.RunFault.TheVariants as run;
 
 mod answer;
+mod asked;
 mod blocks;
 mod column;
 mod fault;
@@ -22,12 +23,15 @@ mod read;
 mod records;
 mod table;
 mod text;
+mod told;
 mod top;
 mod tree;
 mod validity;
 
-pub use fault::{RunFault, WordsFault};
+pub use fault::RunFault;
+pub use stage_plan::TypesRule;
 pub use top::{Outcome, run};
+pub use words::WordsFault;
 
 /// The answers to texts that are written out here.
 pub fn worked_answers()
