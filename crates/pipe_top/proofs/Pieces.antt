@@ -43,19 +43,21 @@ says-failed (Err fault) a c before now xs failed first = first
 pub first-then : (a b c : Option (List ℕ)) (before middle now : ℕ) (xs ys : List ℕ)
     → Appends a b xs → before ≤ middle → TookFirst b c middle now ys → TookFirst a c before now (xs ++ ys)
 first-then a b c before middle now xs ys first le rest =
-    let long : length (xs ++ ys) ≡ length xs + length ys = length-append xs ys in
-    (length xs + rest.0 , omega (arith, long, rest.1)
-    , subst (Appends a c) (sym (take-append-add xs ys rest.0)) (Appends-trans a b c xs _ first rest.2)
-    , rose-before before middle now le rest.3)
+    let long : length (xs ++ ys) ≡ length xs + length ys = length-append xs ys in (
+      length xs + rest.0,
+      omega (arith, long, rest.1),
+      subst (Appends a c) (sym (take-append-add xs ys rest.0)) (Appends-trans a b c xs _ first rest.2),
+      rose-before before middle now le rest.3,
+    )
 
 -- a text behind one that was taken
 pub says-then : (r : Result (Unit {0}) WriteFault) (a b c : Option (List ℕ)) (before middle now : ℕ) (xs ys : List ℕ)
     → Appends a b xs → before ≤ middle → Says r b c middle now ys → Says r a c before now (xs ++ ys)
-says-then (Ok done) a b c before middle now xs ys first le rest = (Appends-trans a b c xs ys first rest.0 , omega (arith, le, rest.1))
+says-then (Ok done) a b c before middle now xs ys first le rest = (Appends-trans a b c xs ys first rest.0, omega (arith, le, rest.1))
 says-then (Err fault) a b c before middle now xs ys first le rest = first-then a b c before middle now xs ys first le rest
 
 -- the first bytes of a text, with more behind it
 pub first-less : (a c : Option (List ℕ)) (before now : ℕ) (xs ys : List ℕ) → TookFirst a c before now xs → TookFirst a c before now (xs ++ ys)
 first-less a c before now xs ys first =
     let long : length (xs ++ ys) ≡ length xs + length ys = length-append xs ys in
-    (first.0 , omega (arith, long, first.1) , subst (Appends a c) (sym (take-append-le first.0 xs ys first.1)) first.2 , first.3)
+    (first.0, omega (arith, long, first.1), subst (Appends a c) (sym (take-append-le first.0 xs ys first.1)) first.2, first.3)

@@ -23,7 +23,7 @@ pub told-all : (r : Result (Unit {0}) WriteFault) (old new : Option (List ℕ)) 
 told-all r old new before now fault audit wanted asked (inl none) says =
     let alone : fault_line fault ++ audit_if wanted audit ≡ fault_line fault =
     ap (λ w. fault_line fault ++ audit_if w audit) none.1 ∙ append-nil (fault_line fault) in
-    inr (none.0 , took r old new before now (fault_line fault) (subst (Says r old new before now) alone says))
+    inr (none.0, took r old new before now (fault_line fault) (subst (Says r old new before now) alone says))
 told-all r old new before now fault audit wanted asked (inr same) says =
     inl (took r old new before now _ (subst (λ w. Says r old new before now (fault_line fault ++ audit_if w audit)) same says))
 
@@ -35,7 +35,7 @@ no-memory entries carried fault is early told = told ∙ ap fault_in (subst (λ 
 pub silent-audit : (entries : Result (Vec TypeEntry Global) RunFault) (carried : Result (Unit {0}) RunFault) (fault : Option RunFault) (wanted asked : Bool)
     → IfErr entries (λ f. carried ≡ Err f) → fault ≡ fault_in carried
     → ((entries ≡ Err run.NoMemory) × (wanted ≡ false)) ⊎ (wanted ≡ asked) → ((fault ≡ Some run.NoMemory) × (wanted ≡ false)) ⊎ (wanted ≡ asked)
-silent-audit entries carried fault wanted asked early told (inl none) = inl (no-memory entries carried fault none.0 early told , none.1)
+silent-audit entries carried fault wanted asked early told (inl none) = inl (no-memory entries carried fault none.0 early told, none.1)
 silent-audit entries carried fault wanted asked early told (inr same) = inr same
 
 -- ---- a failed write
@@ -47,7 +47,7 @@ got-first : (words : List (List ℕ)) (left old new : Option (List ℕ)) (entrie
     → IfSome left (λ bytes. GotFirst (IsAnswerTo (asked_of entries) bytes) old new taken) → IfSome left (λ bytes. GotFirst (IsAnswer words bytes) old new taken)
 got-first words None old new entries taken asks got = tt
 got-first words (Some bytes) old new entries taken asks got =
-    (got.0 , record { asked = asked_of entries; asks = asks; is = got.1 } , got.2 , got.3)
+    (got.0, record { asked = asked_of entries; asks = asks; is = got.1 }, got.2, got.3)
 
 at-fault : (words : List (List ℕ)) (left old new : Option (List ℕ)) (entries : Result (Vec TypeEntry Global) RunFault) (fault : RunFault) → Asks words (asked_of entries)
     → Prefix (λ bytes taken. GotFirst (IsAnswerTo (asked_of entries) bytes) old new taken) left fault

@@ -5,7 +5,11 @@
 //! success the sink got exactly the text that the definitions give (`specs/Answer.antt`), that each refusal has its
 //! cause, and that each structure and each hold that was made is given up again on every path.
 //!
-//! What CSV means stands in `csv_model`, the structures in `raw_array`, the sources and sinks in `edge_io`.
+//! The words may ask for types by a schema text, and for the audit's line. Each fault has a line of its own, which goes to
+//! a sink of diagnostics (`specs/Told.antt`); no line takes memory, and a failed write there changes nothing else.
+//!
+//! What CSV means stands in `csv_model`, the words in `words`, schema texts in `stage_plan`, the structures in
+//! `raw_array`, the sources and sinks in `edge_io`.
 #![tactic(auto)]
 
 ghost use Rattle.std.specs.Prelude.{◌≡◌, ◌∷◌, ◌++◌, [], codes};

@@ -52,7 +52,10 @@ fn tell_audit<E: Sink>(errs: &mut E, audit: &Audit) -> Result<(), WriteFault>
     let mut nodes = Buffer::new();
     let blocks = blocks.format(audit.blocks);
     let nodes = nodes.format(audit.nodes);
-    say(errs, &["audit blocks=", blocks, " nodes=", nodes, " left=0\n"])
+    say(
+        errs,
+        &["audit blocks=", blocks, " nodes=", nodes, " left=0\n"],
+    )
 }
 
 // The fault's line.
@@ -97,12 +100,7 @@ fn plain<E: Sink>(errs: &mut E, text: &str) -> Result<(), WriteFault>
 }
 
 // A line with a number.
-fn counted<E: Sink>(
-    errs: &mut E,
-    front: &str,
-    number: u64,
-    back: &str,
-) -> Result<(), WriteFault>
+fn counted<E: Sink>(errs: &mut E, front: &str, number: u64, back: &str) -> Result<(), WriteFault>
     ensures { Says result (E.taken errs.old) (E.taken errs.new) (E.faults errs.old) (E.faults errs.new) (line_of (front.now ++ decimal number ++ back.now)) }
 {
     let mut buffer = Buffer::new();

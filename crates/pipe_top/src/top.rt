@@ -28,8 +28,8 @@ const INPUT_LIMIT: u64 = 1 << 30;
 /// What a run came to.
 #[derive(Clone, Copy, PartialEq, Eq, Debug)]
 pub struct Outcome {
-    /// A function of the fault: 0 without one; 2 for the words, 4 for the header and the records, 5 for an input that
-    /// is too long, 6 and 7 for reading and writing, 9 for want of memory.
+    /// A function of the fault: 0 without one; 2 for the words, 3 for the schema text, 4 for the header and the records,
+    /// 5 for an input that is too long, 6 and 7 for reading and writing, 9 for want of memory.
     pub status: u8,
     pub fault: Option<RunFault>,
     /// The blocks and nodes that were made, and that none is left.
@@ -85,7 +85,10 @@ pub fn run<S: Source, K: Sink, E: Sink>(
         → ¬ (Rose (S.faults source.old) (S.faults source.new)) → (result.fault ≡ Some fault) ⊎ (result.status ≡ 9)) }
 {
     let (desk, mut pass) = open_desk();
-    let Asked { audit: wanted, entries } = read_asked(alloc, words);
+    let Asked {
+        audit: wanted,
+        entries,
+    } = read_asked(alloc, words);
     let carried = carry_out(alloc, entries, source, sink, &mut pass);
     let audit = desk.close(pass);
     let outcome = outcome_of(carried, audit);

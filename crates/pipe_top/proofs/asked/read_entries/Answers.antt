@@ -20,15 +20,15 @@ text-read schema text read is reads = subst (λ s. EntriesRead (option_map (λ (
 pub returns-in_default-clause-asks : goal.returns-in_default-clause-asks
 returns-in_default-clause-asks c =
     inr (subst (λ schema. SchemaAsks (option_map (λ (s : Bor (List ℕ)). s.now) schema) (Ok c.new.result.items)) (sym c.in_default.is)
-    (Ok [] , refl , ap Ok c.new.ensures.items))
+    (Ok [], refl, ap Ok c.new.ensures.items))
 
 pub returns-in-Ok-clause-asks : goal.returns-in-Ok-clause-asks
 returns-in-Ok-clause-asks c =
-    inr (Ok c.in-Ok.entries.items , text-read c.args.schema c.in-Some.text (Ok c.in-Ok.entries.items) c.in-Some.is c.in-Ok.ensures.found , c.text_entries.ensures.reads)
+    inr (Ok c.in-Ok.entries.items, text-read c.args.schema c.in-Some.text (Ok c.in-Ok.entries.items) c.in-Some.is c.in-Ok.ensures.found, c.text_entries.ensures.reads)
 
 pub returns-in-Err-At-clause-asks : goal.returns-in-Err-At-clause-asks
 returns-in-Err-At-clause-asks c =
     let fault = types.At c.in-Err-At.entry c.in-Err-At.rule in
     let is = c.in-Err-At.field-0-is in
     let reads : TypesFaultIs c.in-Some.text.now c.in-Err-At.field-0 = c.in-Err-At.ensures.fault (λ e. false≢true (ap is-memory (sym is ∙ e))) in
-    inr (Err fault , text-read c.args.schema c.in-Some.text (Err fault) c.in-Some.is (subst (TypesFaultIs c.in-Some.text.now) is reads) , refl)
+    inr (Err fault, text-read c.args.schema c.in-Some.text (Err fault) c.in-Some.is (subst (TypesFaultIs c.in-Some.text.now) is reads), refl)

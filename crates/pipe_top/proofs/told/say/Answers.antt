@@ -18,7 +18,7 @@ loop-piece-preserved g c =
     let wrote = c.in_ok-say_piece.ensures in
     record {
       taken = subst (Appends (g.E.Sink.taken c.args.errs.now) (g.E.Sink.taken c.say_piece.new.errs)) (sym (pieces-push pieces k _ _ inside c.as_bytes.ensures.value))
-      (Appends-trans _ _ _ _ _ before.taken wrote.0);
+          (Appends-trans _ _ _ _ _ before.taken wrote.0);
       later = omega (arith, before.later, wrote.1);
     }
 
@@ -36,6 +36,7 @@ returns-in_err-say_piece g c =
 pub returns : goal.returns
 returns g c =
     let pieces = c.args.pieces.now in
-    let all : take c.loop-piece.piece-index pieces ≡ pieces = ap (λ n. take n pieces) (omega arith) ∙ take-length pieces in
-    (subst (λ ps. Appends (g.E.Sink.taken c.args.errs.now) (g.E.Sink.taken c.loop-piece.errs) (joined ps)) all c.loop-piece.invariant.taken
-    , c.loop-piece.invariant.later)
+    let all : take c.loop-piece.piece-index pieces ≡ pieces = ap (λ n. take n pieces) (omega arith) ∙ take-length pieces in (
+      subst (λ ps. Appends (g.E.Sink.taken c.args.errs.now) (g.E.Sink.taken c.loop-piece.errs) (joined ps)) all c.loop-piece.invariant.taken,
+      c.loop-piece.invariant.later,
+    )

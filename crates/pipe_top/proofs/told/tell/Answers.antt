@@ -16,4 +16,4 @@ pub returns : goal.returns
 returns g c =
     let told = c.in_ok-tell_fault_if.ensures in
     let more = c.in_ok-tell_audit_if.ensures in
-    (Appends-trans _ _ _ _ _ told.0 more.0 , omega (arith, told.1, more.1))
+    (Appends-trans _ _ _ _ _ told.0 more.0, omega (arith, told.1, more.1))
