@@ -1,12 +1,20 @@
 -- What a run answers: the text of the table that was read, or the first fault, and the status of each fault.
-use Rattle.std.specs.Prelude.{ℕ, nat_lt, List, [], ◌∷◌, length, Option, None, Some, Result, Ok, Err, if◌then◌else◌}
+use Rattle.std.specs.Prelude.{◌≡◌, ◌+◌, ℕ, nat_lt, Bool, false, not, List, [], ◌∷◌, length, position, Option, None, Some, Result, Ok, Err, if◌then◌else◌}
 use Rattle.fmt_string.specs.Table.{Column, Row}
+use Rattle.fmt_string.specs.declared.kind.DataType.{DataType}
+use Rattle.fmt_string.specs.declared.kind.DataType.TheVariants as kinds
 use Rattle.csv_model.specs.Examples.{text_columns}
 use Rattle.csv_model.specs.Reading.{Record, body, records_of}
 use Rattle.csv_model.specs.Text.{table_text}
 use Rattle.csv_model.specs.declared.RowFault.{RowFault}
 use Rattle.csv_model.specs.declared.RowFault.TheVariants as row
-use Rattle.pipe_top.specs.declared.fault.WordsFault.TheVariants as words
+use Rattle.stage_plan.specs.Types.{Reads}
+use Rattle.stage_plan.specs.declared.fault.TypesFault.{TypesFault}
+use Rattle.stage_plan.specs.declared.fault.TypesFault.TheVariants as types
+use Rattle.stage_plan.specs.declared.fault.TypesRule.TheVariants.{BadEntry}
+use Rattle.stage_plan.specs.declared.types.TypeEntry.{TypeEntry}
+use Rattle.words.specs.Words.{Options, words_of}
+use Rattle.words.specs.declared.WordsFault.{WordsFault}
 use Rattle.pipe_top.specs.declared.fault.RunFault.{RunFault}
 use Rattle.pipe_top.specs.declared.fault.RunFault.TheVariants as run
 
@@ -38,15 +46,62 @@ input_limit = 1_073_741_824
 abbrev pub answer_of_bytes : List ℕ → Answer
 answer_of_bytes bytes = if nat_lt input_limit (length bytes) then Fault run.InputTooLong else answer_of_records (records_of bytes)
 
+-- ---- what the words ask for
+
+-- a type of text, with offsets of four bytes
+abbrev pub is_text : DataType → Bool
+is_text (kinds.Utf8 wide) = not wide
+is_text kind = false
+
+-- the place of the first entry of another type
+abbrev pub first_typed : List TypeEntry → Option ℕ
+first_typed entries = position (λ e. not (is_text e.kind)) entries
+
+abbrev pub asked_unless : Option ℕ → List TypeEntry → Result (List TypeEntry) RunFault
+asked_unless None entries = Ok entries
+asked_unless (Some place) entries = Err (run.Schema (place + 1) BadEntry)
+
+-- the columns that are asked for, where all are text, or the fault of the schema text
+abbrev pub asked_by : Result (List TypeEntry) TypesFault → Result (List TypeEntry) RunFault
+asked_by (Ok entries) = asked_unless (first_typed entries) entries
+asked_by (Err (types.At entry rule)) = Err (run.Schema entry rule)
+asked_by (Err types.NoMemory) = Err run.NoMemory
+
+-- what a schema text reads as, and no entries where there is none
+abbrev pub EntriesRead : Option (List ℕ) → Result (List TypeEntry) TypesFault → Type 0
+EntriesRead None read = read ≡ Ok []
+EntriesRead (Some text) read = Reads text read
+
+abbrev pub SchemaAsks : Option (List ℕ) → Result (List TypeEntry) RunFault → Type 0
+SchemaAsks schema asked = (read : Result (List TypeEntry) TypesFault) × EntriesRead schema read × (asked ≡ asked_by read)
+
+abbrev pub OptionsAsk : Result Options WordsFault → Result (List TypeEntry) RunFault → Type 0
+OptionsAsk (Ok options) asked = SchemaAsks options.schema asked
+OptionsAsk (Err fault) asked = asked ≡ Err (run.Words fault)
+
+-- the words ask for these columns, or are refused for this fault, whatever the input is
+abbrev pub Asks : List (List ℕ) → Result (List TypeEntry) RunFault → Type 0
+Asks words asked = OptionsAsk (words_of words) asked
+
+-- the answer to what is asked for and the bytes of the input
+abbrev pub answer_to : Result (List TypeEntry) RunFault → List ℕ → Answer
+answer_to (Ok entries) bytes = answer_of_bytes bytes
+answer_to (Err fault) bytes = Fault fault
+
+abbrev pub IsAnswerTo : Result (List TypeEntry) RunFault → List ℕ → Answer → Type 0
+IsAnswerTo asked bytes answer = answer ≡ answer_to asked bytes
+
 -- the answer to the words of the command and the bytes of its input
-abbrev pub answer : {W : Type 0} → List W → List ℕ → Answer
-answer [] bytes = answer_of_bytes bytes
-answer (word ∷ rest) bytes = Fault (run.Words words.Refused)
+pub record IsAnswer (words : List (List ℕ)) (bytes : List ℕ) (answer : Answer) : Type 0 where
+  pub asked : Result (List TypeEntry) RunFault
+  pub asks : Asks words asked
+  pub is : IsAnswerTo asked bytes answer
 
 -- the status of a run, which is a function of its fault
 abbrev pub status_of : Option RunFault → ℕ
 status_of None = 0
 status_of (Some (run.Words fault)) = 2
+status_of (Some (run.Schema entry rule)) = 3
 status_of (Some run.NoHeader) = 4
 status_of (Some (run.Ragged number found)) = 4
 status_of (Some (run.Field number column)) = 4

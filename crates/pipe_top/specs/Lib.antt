@@ -10,4 +10,5 @@ pub mod TextColumn
 pub mod TextItems
 pub mod TextTable
 pub mod TextTree
+pub mod Told
 pub mod Traffic

@@ -1,18 +1,16 @@
 // Why a run wrote no text, or not all of it.
+use stage_plan::TypesRule;
 use unit_pass::NoMemory;
-
-/// Why the words of the command were not taken.
-#[derive(Clone, Copy, PartialEq, Eq, Debug)]
-pub enum WordsFault {
-    /// There is a word, and the command takes none.
-    Refused,
-}
+use words::WordsFault;
 
 /// Why a run wrote no text, or not all of it.
 #[derive(Clone, Copy, PartialEq, Eq, Debug)]
 pub enum RunFault {
     /// The words of the command were not taken.
     Words(WordsFault),
+    /// An entry of the schema text is at fault, the first one. Entries are numbered from 1. An entry of another type than
+    /// text, `u`, is a `BadEntry` as well, until columns of such types are read.
+    Schema { entry: u64, rule: TypesRule },
     /// The input has no record, so no header.
     NoHeader,
     /// A record has another number of fields than the header. Records are numbered from 1 after the header.

@@ -5,7 +5,11 @@
 //! success the sink got exactly the text that the definitions give (`specs/Answer.antt`), that each refusal has its
 //! cause, and that each structure and each hold that was made is given up again on every path.
 //!
-//! What CSV means stands in `csv_model`, the structures in `raw_array`, the sources and sinks in `edge_io`.
+//! The words may ask for types by a schema text, and for the audit's line. Each fault has a line of its own, which goes to
+//! a sink of diagnostics (`specs/Told.antt`); no line takes memory, and a failed write there changes nothing else.
+//!
+//! What CSV means stands in `csv_model`, the words in `words`, schema texts in `stage_plan`, the structures in
+//! `raw_array`, the sources and sinks in `edge_io`.
 #![tactic(auto)]
 
 ghost use Rattle.std.specs.Prelude.{◌≡◌, ◌∷◌, ◌++◌, [], codes};
@@ -13,6 +17,7 @@ ghost use Rattle.pipe_top.specs.Answer.{Fault, Text, answer_of_bytes};
 ghost use Rattle.pipe_top.specs.declared.fault.RunFault.TheVariants as run;
 
 mod answer;
+mod asked;
 mod blocks;
 mod column;
 mod fault;
@@ -22,12 +27,15 @@ mod read;
 mod records;
 mod table;
 mod text;
+mod told;
 mod top;
 mod tree;
 mod validity;
 
-pub use fault::{RunFault, WordsFault};
+pub use fault::RunFault;
+pub use stage_plan::TypesRule;
 pub use top::{Outcome, run};
+pub use words::WordsFault;
 
 /// The answers to texts that are written out here.
 pub fn worked_answers()

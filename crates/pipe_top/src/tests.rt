@@ -1,11 +1,13 @@
 // Runs over sources and sinks in memory, with answers from outside.
 ghost use Rattle.std.specs.Prelude.{◌≤◌};
 
-use crate::{RunFault, WordsFault, run};
+use crate::told::tell;
+use crate::{RunFault, TypesRule, WordsFault, run};
 use edge_io::{CountSource, MemSink, MemSource};
 use std::alloc::Global;
 use std::process::Abort;
 use std::test::Fail;
+use unit_pass::Audit;
 
 // A source of these bytes.
 fn source_of(alloc: Global, bytes: &[u8], step: usize, fails: &[u64]) -> Result<MemSource, Fail>
@@ -89,6 +91,10 @@ fn write_fault_leaves_a_prefix(rt: HostRuntime) -> Result<(), Fail> {
     assert_eq!(rt; outcome.fault, Some(RunFault::WriteFault { taken: 4 }));
     assert_eq!(rt; outcome.audit.left, 0);
     assert_eq!(rt; sink.taken(), b"a\n1\n".as_slice());
+    assert_eq!(rt;
+        errs.taken(),
+        b"arrowpipe: write failed after 4 bytes\n".as_slice()
+    );
     Ok(())
 }
 
@@ -119,5 +125,140 @@ fn an_input_past_the_limit_is_too_long(rt: HostRuntime) -> Result<(), Fail> {
     assert_eq!(rt; outcome.fault, Some(RunFault::InputTooLong));
     assert_eq!(rt; outcome.status, 5);
     assert_eq!(rt; sink.taken().len(), 0);
+    Ok(())
+}
+
+// The words of a line, apart by blanks.
+fn words_of(alloc: Global, line: &str) -> Result<Vec<String>, Fail> {
+    let mut words = Vec::new(alloc);
+    for word in line.split(' ') {
+        words.push(String::from_str(alloc, word)?)?;
+    }
+    Ok(words)
+}
+
+// Runs with these words over a text, and answers the outcome's status and fault and what was told.
+fn run_words(
+    alloc: Global,
+    line: &str,
+    bytes: &[u8],
+    fails: &[u64],
+) -> Result<(u8, Option<RunFault>, MemSink), Fail> {
+    let words = words_of(alloc, line)?;
+    let mut source = source_of(alloc, bytes, 7, &[])?;
+    let mut sink = sink_of(alloc, 5, &[])?;
+    let mut errs = sink_of(alloc, 5, fails)?;
+    let outcome = run(alloc, &words, &mut source, &mut sink, &mut errs);
+    Ok((outcome.status, outcome.fault, errs))
+}
+
+#[test]
+fn words_and_schema_texts_are_refused_by_their_rules(rt: HostRuntime) -> Result<(), Fail> {
+    let cases: [(&str, u64, TypesRule); 5] = [
+        ("--schema a:u;a:u", 2, TypesRule::Twice),
+        ("--schema a", 1, TypesRule::BadEntry),
+        ("--schema a:q", 1, TypesRule::BadEntry),
+        ("--schema a:u;b:l", 2, TypesRule::BadEntry),
+        ("--audit --schema a:l;a:i", 2, TypesRule::Twice),
+    ];
+    for (line, entry, rule) in cases {
+        let (status, fault, _errs) = run_words(rt.alloc(), line, b"a,b\n1,\n", &[])?;
+        assert_eq!(rt; fault, Some(RunFault::Schema { entry, rule }));
+        assert_eq!(rt; status, 3);
+    }
+    let (status, fault, _errs) = run_words(rt.alloc(), "--audit --batch", b"a\n", &[])?;
+    assert_eq!(rt; fault, Some(RunFault::Words(WordsFault::Refused)));
+    assert_eq!(rt; status, 2);
+    Ok(())
+}
+
+#[test]
+fn fault_and_audit_are_told_line_by_line(rt: HostRuntime) -> Result<(), Fail> {
+    let cases: [(&str, &[u8], &[u64], u8, &[u8]); 6] = [
+        (
+            "--schema a:u --audit",
+            b"a,b\n1,\n",
+            &[],
+            0,
+            b"audit blocks=4 nodes=3 left=0\n",
+        ),
+        ("--schema a:u", b"a,b\n1,\n", &[], 0, b""),
+        ("--schema=a:u", b"", &[], 4, b"arrowpipe: no header\n"),
+        (
+            "--audit",
+            b"",
+            &[],
+            4,
+            b"arrowpipe: no header\naudit blocks=0 nodes=0 left=0\n",
+        ),
+        (
+            "--audit --audit",
+            b"a\n",
+            &[],
+            2,
+            b"arrowpipe: words refused\n",
+        ),
+        ("--audit", b"", &[1], 4, b""),
+    ];
+    for (line, bytes, fails, expected, told) in cases {
+        let (status, _fault, errs) = run_words(rt.alloc(), line, bytes, fails)?;
+        assert_eq!(rt; status, expected);
+        assert_eq!(rt; errs.taken(), told);
+    }
+    Ok(())
+}
+
+#[test]
+fn each_fault_has_its_line(rt: HostRuntime) -> Result<(), Fail> {
+    let cases: [(RunFault, &[u8]); 10] = [
+        (
+            RunFault::Words(WordsFault::Refused),
+            b"arrowpipe: words refused\n",
+        ),
+        (
+            RunFault::Schema {
+                entry: 1,
+                rule: TypesRule::BadEntry,
+            },
+            b"arrowpipe: schema entry 1: not a column type\n",
+        ),
+        (
+            RunFault::Schema {
+                entry: 12,
+                rule: TypesRule::Twice,
+            },
+            b"arrowpipe: schema entry 12: named before\n",
+        ),
+        (RunFault::NoHeader, b"arrowpipe: no header\n"),
+        (
+            RunFault::Ragged { row: 10, found: 0 },
+            b"arrowpipe: record 10: 0 fields\n",
+        ),
+        (
+            RunFault::Field { row: 5, column: 2 },
+            b"arrowpipe: record 5, column 2: not a value of its type\n",
+        ),
+        (
+            RunFault::InputTooLong,
+            b"arrowpipe: input longer than 1073741824 bytes\n",
+        ),
+        (RunFault::ReadFault, b"arrowpipe: read failed\n"),
+        (
+            RunFault::WriteFault { taken: 4 },
+            b"arrowpipe: write failed after 4 bytes\n",
+        ),
+        (RunFault::NoMemory, b"arrowpipe: out of memory\n"),
+    ];
+    let audit = Audit {
+        blocks: 0,
+        nodes: 0,
+        left: 0,
+    };
+    for (fault, line) in cases {
+        let mut errs = sink_of(rt.alloc(), 9, &[])?;
+        let told = tell(&mut errs, Some(fault), &audit, false);
+        assert_eq!(rt; told.is_ok(), true);
+        assert_eq!(rt; errs.taken(), line);
+    }
     Ok(())
 }

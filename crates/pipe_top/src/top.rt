@@ -1,19 +1,26 @@
 // The top call.
-ghost use Rattle.std.specs.Prelude.{◌≡◌, ◌<◌, ◌≤◌, ◌⊎◌, true, false, Some, None, Err, IfOk, IfErr, IfSome, OnOk, OnErr, length, ℕ, List};
+ghost use Rattle.std.specs.Prelude.{◌≡◌, ◌<◌, ◌≤◌, ◌⊎◌, ◌++◌, true, false, Some, None, Err, IfOk, IfErr, IfSome, OnOk, OnErr, length, ℕ, List};
 ghost use Rattle.std.specs.Io.KnownBytes.{IsAtEnd, Keeps};
 ghost use Rattle.csv_model.specs.Reading.{records_of};
 ghost use Rattle.edge_io.specs.Edge.{LosesPrefix, Rose};
 ghost use Rattle.unit_pass.specs.Tally.{risen};
 ghost use Rattle.unit_pass.specs.declared.pass.TheConstants.{SUPPLY};
-ghost use Rattle.pipe_top.specs.Answer.{Fault, Text, answer, answer_of_bytes, input_limit, status_of};
-ghost use Rattle.pipe_top.specs.Outcomes.{AtWriteFault, GotFirst, GotText, is_decided, is_write_fault};
+ghost use Rattle.words.specs.Words.{texts_of, words_of};
+ghost use Rattle.pipe_top.specs.Answer.{Asks, Fault, IsAnswer, IsAnswerTo, Text, answer_of_bytes, answer_to, input_limit, status_of};
+ghost use Rattle.pipe_top.specs.Outcomes.{AtWriteFault, GotFirst, GotText, asked_of, fault_in, is_decided, is_early, is_write_fault, wants_audit};
+ghost use Rattle.pipe_top.specs.Told.{Told, audit_if};
 ghost use Rattle.pipe_top.specs.Traffic.{run_blocks, run_nodes};
+ghost use Rattle.pipe_top.specs.declared.fault.RunFault.{RunFault as AFault};
 
 use crate::answer::answer_text;
-use crate::fault::{RunFault, WordsFault};
+use crate::asked::{Asked, read_asked};
+use crate::fault::RunFault;
+use crate::told::tell;
 use edge_io::{ReadFault, Sink, Source, WriteFault, read_all, write_all};
+use stage_plan::TypeEntry;
 use std::alloc::Global;
 use unit_pass::{Audit, Pass, open_desk};
+use words::WordsFault;
 
 // The most bytes that are read.
 const INPUT_LIMIT: u64 = 1 << 30;
@@ -21,8 +28,8 @@ const INPUT_LIMIT: u64 = 1 << 30;
 /// What a run came to.
 #[derive(Clone, Copy, PartialEq, Eq, Debug)]
 pub struct Outcome {
-    /// A function of the fault: 0 without one; 2 for the words, 4 for the header and the records, 5 for an input that
-    /// is too long, 6 and 7 for reading and writing, 9 for want of memory.
+    /// A function of the fault: 0 without one; 2 for the words, 3 for the schema text, 4 for the header and the records,
+    /// 5 for an input that is too long, 6 and 7 for reading and writing, 9 for want of memory.
     pub status: u8,
     pub fault: Option<RunFault>,
     /// The blocks and nodes that were made, and that none is left.
@@ -31,29 +38,34 @@ pub struct Outcome {
 
 /// Reads the source to its end and writes the text of the table that it spells.
 ///
-/// The command takes no words yet. Columns hold UTF-8 text; an empty field is a null. Nothing is told to `_errs` yet.
+/// `words` are those after the program's name: `[--schema TEXT] [--audit]`. Columns hold UTF-8 text; an empty field is a
+/// null. A schema text may ask for text columns alone, `u`, until columns of other types are read.
+///
+/// To `errs` goes the line `arrowpipe: TEXT` of the fault, and then, with `--audit`, the line
+/// `audit blocks=B nodes=N left=0`.
 pub fn run<S: Source, K: Sink, E: Sink>(
     alloc: Global,
     words: &[String],
     source: &mut S,
     sink: &mut K,
-    _errs: &mut E,
+    errs: &mut E,
 ) -> Outcome
     // Success: the answer is a text, all of it is in the sink, and the source was read to its end.
-    ensures text { result.fault ≡ None → IfSome (S.left source.old) (λ bytes. GotText (answer words.now bytes) (K.taken sink.old) (K.taken sink.new)) }
+    ensures text { result.fault ≡ None → IfSome (S.left source.old) (λ bytes. GotText (IsAnswer (texts_of words.now) bytes) (K.taken sink.old) (K.taken sink.new)) }
     ensures text_read_to_end { result.fault ≡ None → IsAtEnd (S.left source.new) }
     // A fault of the words or of the input is exactly the answer's.
-    ensures refused { IfSome result.fault (λ fault. is_decided fault ≡ true → IfSome (S.left source.old) (λ bytes. answer words.now bytes ≡ Fault fault)) }
-    // The words are refused exactly where there is one, whatever the source tells, which is then as before.
-    ensures refused_words { 0 < length words.now → result.fault ≡ Some (RunFault.Words WordsFault.Refused) }
-    ensures refused_words_only { result.fault ≡ Some (RunFault.Words WordsFault.Refused) → 0 < length words.now }
-    ensures refused_unread { 0 < length words.now → Keeps (S.left source.old) (S.left source.new) }
-    ensures refused_unfailed { 0 < length words.now → S.faults source.new ≡ S.faults source.old }
+    ensures refused { IfSome result.fault (λ fault. is_decided fault ≡ true → IfSome (S.left source.old) (λ bytes. IsAnswer (texts_of words.now) bytes (Fault fault))) }
+    // The words and the schema text are refused exactly where they are at fault, whatever the source tells, which is then
+    // as before.
+    ensures refused_early { (fault : AFault) → Asks (texts_of words.now) (Err fault) → (result.fault ≡ Some fault) ⊎ (result.fault ≡ Some RunFault.NoMemory) }
+    ensures refused_early_only { IfSome result.fault (λ fault. is_early fault ≡ true → Asks (texts_of words.now) (Err fault)) }
+    ensures refused_unread { (fault : AFault) → Asks (texts_of words.now) (Err fault) → Keeps (S.left source.old) (S.left source.new) }
+    ensures refused_unfailed { (fault : AFault) → Asks (texts_of words.now) (Err fault) → S.faults source.new ≡ S.faults source.old }
     // A read fails only where the source's faults rose, and a write where the sink's did.
     ensures read_fault { result.fault ≡ Some RunFault.ReadFault → Rose (S.faults source.old) (S.faults source.new) }
     ensures write_fault { IfSome result.fault (λ fault. AtWriteFault fault (λ taken. Rose (K.faults sink.old) (K.faults sink.new))) }
     // After a failed write the sink has the first bytes of the text, and after any other fault it is as before.
-    ensures write_fault_prefix { IfSome result.fault (λ fault. AtWriteFault fault (λ taken. IfSome (S.left source.old) (λ bytes. GotFirst (answer words.now bytes) (K.taken sink.old) (K.taken sink.new) taken))) }
+    ensures write_fault_prefix { IfSome result.fault (λ fault. AtWriteFault fault (λ taken. IfSome (S.left source.old) (λ bytes. GotFirst (IsAnswer (texts_of words.now) bytes) (K.taken sink.old) (K.taken sink.new) taken))) }
     ensures no_memory { result.fault ≡ Some RunFault.NoMemory → Keeps (K.taken sink.old) (K.taken sink.new) }
     ensures unwritten { IfSome result.fault (λ fault. is_write_fault fault ≡ false → Keeps (K.taken sink.old) (K.taken sink.new)) }
     // The status is a function of the fault, and the source has lost a prefix.
@@ -63,16 +75,33 @@ pub fn run<S: Source, K: Sink, E: Sink>(
     ensures audit { result.audit.left ≡ 0 }
     ensures audit_blocks { result.fault ≡ None → IfSome (S.left source.old) (λ bytes. result.audit.blocks ≡ risen 0 (run_blocks (records_of bytes))) }
     ensures audit_nodes { result.fault ≡ None → IfSome (S.left source.old) (λ bytes. result.audit.nodes ≡ risen 0 (run_nodes (records_of bytes))) }
-    ensures silent { Keeps (E.taken _errs.old) (E.taken _errs.new) }
+    // The sink of diagnostics took the fault's line and then the audit's where the words ask for it, or the first bytes
+    // of that where its own faults rose. Without memory the audit's line may be missing.
+    ensures diagnostics { Told (E.taken errs.old) (E.taken errs.new) (E.faults errs.old) (E.faults errs.new) result.fault (audit_if (wants_audit (words_of (texts_of words.now))) result.audit) }
     // Where no fault rises the answer is given, or there was no memory.
-    ensures complete { IfSome (S.left source.old) (λ bytes. (text : List ℕ) → answer words.now bytes ≡ Text text
+    ensures complete { IfSome (S.left source.old) (λ bytes. (text : List ℕ) → IsAnswer (texts_of words.now) bytes (Text text)
         → ¬ (Rose (S.faults source.old) (S.faults source.new)) → ¬ (Rose (K.faults sink.old) (K.faults sink.new)) → (result.status ≡ 0) ⊎ (result.status ≡ 9)) }
-    ensures complete_fault { IfSome (S.left source.old) (λ bytes. (fault : RunFault) → answer words.now bytes ≡ Fault fault
+    ensures complete_fault { IfSome (S.left source.old) (λ bytes. (fault : AFault) → IsAnswer (texts_of words.now) bytes (Fault fault)
         → ¬ (Rose (S.faults source.old) (S.faults source.new)) → (result.fault ≡ Some fault) ⊎ (result.status ≡ 9)) }
 {
     let (desk, mut pass) = open_desk();
-    let carried = carry_out(alloc, words, source, sink, &mut pass);
+    let Asked {
+        audit: wanted,
+        entries,
+    } = read_asked(alloc, words);
+    let carried = carry_out(alloc, entries, source, sink, &mut pass);
     let audit = desk.close(pass);
+    let outcome = outcome_of(carried, audit);
+    let _told = tell(errs, outcome.fault, &outcome.audit, wanted);
+    outcome
+}
+
+// What a run came to.
+fn outcome_of(carried: Result<(), RunFault>, audit: Audit) -> Outcome
+    ensures status { result.status ≡ status_of result.fault }
+    ensures fault { result.fault ≡ fault_in carried }
+    ensures audit { result.audit ≡ audit }
+{
     match carried {
         Ok(()) => Outcome {
             status: 0,
@@ -93,6 +122,7 @@ fn status(fault: RunFault) -> u8
 {
     match fault {
         RunFault::Words(WordsFault::Refused) => 2,
+        RunFault::Schema { entry: _, rule: _ } => 3,
         RunFault::NoHeader => 4,
         RunFault::Ragged { row: _, found: _ } => 4,
         RunFault::Field { row: _, column: _ } => 4,
@@ -121,34 +151,33 @@ fn read_input<S: Source>(alloc: Global, source: &mut S) -> Result<Vec<u8>, RunFa
     }
 }
 
-// Reads the source, makes the text and writes it.
+// Reads the source, makes the text and writes it, where the words are taken.
 fn carry_out<S: Source, K: Sink>(
     alloc: Global,
-    words: &[String],
+    entries: Result<Vec<TypeEntry>, RunFault>,
     source: &mut S,
     sink: &mut K,
     pass: &mut Pass,
 ) -> Result<(), RunFault>
     requires units { pass.old.units ≡ SUPPLY }
-    ensures text { OnOk result (IfSome (S.left source.old) (λ bytes. GotText (answer words.now bytes) (K.taken sink.old) (K.taken sink.new))) }
+    requires early { IfErr entries (λ fault. (is_early fault ≡ true) ⊎ (fault ≡ RunFault.NoMemory)) }
+    ensures text { OnOk result (IfSome (S.left source.old) (λ bytes. GotText (IsAnswerTo (asked_of entries) bytes) (K.taken sink.old) (K.taken sink.new))) }
     ensures text_read_to_end { OnOk result (IsAtEnd (S.left source.new)) }
-    ensures refused { IfErr result (λ fault. is_decided fault ≡ true → IfSome (S.left source.old) (λ bytes. answer words.now bytes ≡ Fault fault)) }
-    ensures refused_words { 0 < length words.now → result ≡ Err (RunFault.Words WordsFault.Refused) }
-    ensures refused_words_only { result ≡ Err (RunFault.Words WordsFault.Refused) → 0 < length words.now }
-    ensures refused_unread { 0 < length words.now → Keeps (S.left source.old) (S.left source.new) }
-    ensures refused_unfailed { 0 < length words.now → S.faults source.new ≡ S.faults source.old }
+    ensures refused { IfErr result (λ fault. is_decided fault ≡ true → IfSome (S.left source.old) (λ bytes. answer_to (asked_of entries) bytes ≡ Fault fault)) }
+    ensures refused_early { IfErr entries (λ fault. result ≡ Err fault) }
+    ensures refused_early_only { IfErr result (λ fault. is_early fault ≡ true → asked_of entries ≡ Err fault) }
+    ensures refused_unread { IfErr entries (λ _. Keeps (S.left source.old) (S.left source.new)) }
+    ensures refused_unfailed { IfErr entries (λ _. S.faults source.new ≡ S.faults source.old) }
     ensures read_fault { result ≡ Err RunFault.ReadFault → Rose (S.faults source.old) (S.faults source.new) }
     ensures write_fault { IfErr result (λ fault. AtWriteFault fault (λ taken. Rose (K.faults sink.old) (K.faults sink.new))) }
-    ensures write_fault_prefix { IfErr result (λ fault. AtWriteFault fault (λ taken. IfSome (S.left source.old) (λ bytes. GotFirst (answer words.now bytes) (K.taken sink.old) (K.taken sink.new) taken))) }
+    ensures write_fault_prefix { IfErr result (λ fault. AtWriteFault fault (λ taken. IfSome (S.left source.old) (λ bytes. GotFirst (IsAnswerTo (asked_of entries) bytes) (K.taken sink.old) (K.taken sink.new) taken))) }
     ensures unwritten { IfErr result (λ fault. is_write_fault fault ≡ false → Keeps (K.taken sink.old) (K.taken sink.new)) }
     ensures prefix { LosesPrefix (S.left source.old) (S.left source.new) }
     ensures units { pass.new.units ≡ pass.old.units }
     ensures blocks { OnOk result (IfSome (S.left source.old) (λ bytes. pass.new.blocks ≡ risen pass.old.blocks (run_blocks (records_of bytes)))) }
     ensures nodes { OnOk result (IfSome (S.left source.old) (λ bytes. pass.new.nodes ≡ risen pass.old.nodes (run_nodes (records_of bytes)))) }
 {
-    if !words.is_empty() {
-        return Err(RunFault::Words(WordsFault::Refused));
-    }
+    let _entries = entries?;
     let bytes = read_input(alloc, source)?;
     let text = answer_text(alloc, &bytes, pass)?;
     match write_all(sink, &text) {
