@@ -14,10 +14,12 @@ const NO_MEMORY: u8 = 9;
 fn main(rt: HostRuntime) -> ExitCode {
     let mut words = Vec::new(rt.alloc());
     let Ok(arguments) = env::args(&rt) else {
+        let _told = eprintln!(rt; "arrowpipe: words refused");
         return ExitCode::from(REFUSED);
     };
     for word in arguments.skip(1) {
         if words.push(word).is_err() {
+            let _told = eprintln!(rt; "arrowpipe: out of memory");
             return ExitCode::from(NO_MEMORY);
         }
     }
