@@ -10,8 +10,8 @@ use Rattle.csv_model.specs.Examples.{text_columns}
 use Rattle.csv_model.specs.Reading.{Record, body}
 use Rattle.csv_model.specs.declared.RowFault.{RowFault}
 use Rattle.csv_model.proofs.TextRows.{text-back}
-use Rattle.pipe_top.specs.Answer.{Text, answer_of_records, answer_of_rows}
-use Rattle.pipe_top.specs.ReadTable.{ReadsTable}
+use Rattle.pipe_top.specs.Answer.{Text, answer_of_rows}
+use Rattle.pipe_top.specs.ReadTable.{ReadsTable, answer_of_texts}
 use Rattle.pipe_top.specs.declared.table.TextTable.{TextTable}
 
 rows-answer : (header : Record) (records : List Record) (spelled : Result (List Row) RowFault) → body (text_columns header) records ≡ spelled → is_ok spelled ≡ true
@@ -21,6 +21,6 @@ rows-answer header records (Err fault) is good = absurd (false≢true good)
 
 -- the answer is the text of the header and of the rows
 pub table-answer : (table : TextTable) (records : List Record) → (reads : ReadsTable table records)
-    → answer_of_records records ≡ Text (row_text default_writer (fields_of table.header) ++ concat (map (row_text default_writer) reads.rows))
+    → answer_of_texts records ≡ Text (row_text default_writer (fields_of table.header) ++ concat (map (row_text default_writer) reads.rows))
 table-answer table records reads =
-    ap answer_of_records reads.is ∙ rows-answer (fields_of table.header) reads.rows (body (text_columns (fields_of table.header)) reads.rows) refl reads.good
+    ap answer_of_texts reads.is ∙ rows-answer (fields_of table.header) reads.rows (body (text_columns (fields_of table.header)) reads.rows) refl reads.good

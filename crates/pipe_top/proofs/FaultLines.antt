@@ -1,5 +1,5 @@
 -- The lines of faults and of the audit, from their pieces.
-use Rattle.std.proofs.Common.{ℕ, ◌≡◌, ◌++◌, ◌∷◌, ◌∙◌, List, [], Option, Result, ap, sym, subst, append_assoc, codes, decimal}
+use Rattle.std.proofs.Common.{ℕ, ◌≡◌, ◌++◌, ◌∙◌, List, Option, Result, ap, sym, subst, append_assoc, codes, decimal}
 use Rattle.edge_io.specs.declared.WriteFault.{WriteFault}
 use Rattle.pipe_top.specs.declared.fault.RunFault.{RunFault}
 use Rattle.unit_pass.specs.declared.pass.Audit.{Audit}

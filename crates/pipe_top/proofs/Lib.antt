@@ -11,5 +11,7 @@ mod RecordFields
 pub mod Runs
 mod TableRows
 pub mod Tables
+mod TextEntries
 pub mod Texts
 pub mod Views
+mod Written

@@ -3,11 +3,14 @@ use Rattle.std.specs.Prelude.{◌≡◌, ◌+◌, ℕ, nat_lt, Bool, false, not,
 use Rattle.fmt_string.specs.Table.{Column, Row}
 use Rattle.fmt_string.specs.declared.kind.DataType.{DataType}
 use Rattle.fmt_string.specs.declared.kind.DataType.TheVariants as kinds
-use Rattle.csv_model.specs.Examples.{text_columns}
+use Rattle.csv_edge.specs.Entries.{entries_of}
+use Rattle.csv_model.specs.Header.{Entry, header_of}
 use Rattle.csv_model.specs.Reading.{Record, body, records_of}
 use Rattle.csv_model.specs.Text.{table_text}
 use Rattle.csv_model.specs.declared.RowFault.{RowFault}
 use Rattle.csv_model.specs.declared.RowFault.TheVariants as row
+use Rattle.csv_model.specs.declared.fault.HeaderFault.{HeaderFault}
+use Rattle.csv_model.specs.declared.fault.HeaderFault.TheVariants as header
 use Rattle.stage_plan.specs.Types.{Reads}
 use Rattle.stage_plan.specs.declared.fault.TypesFault.{TypesFault}
 use Rattle.stage_plan.specs.declared.fault.TypesFault.TheVariants as types
@@ -28,23 +31,41 @@ abbrev pub fault_of_row : RowFault → RunFault
 fault_of_row (row.Ragged number found) = run.Ragged number found
 fault_of_row (row.Field number column) = run.Field number column
 
+-- the fault of a run whose header is refused
+abbrev pub fault_of_header : HeaderFault → RunFault
+fault_of_header header.NoHeader = run.NoHeader
+fault_of_header (header.TooManyColumns count) = run.TooManyColumns count
+fault_of_header (header.NotText column) = run.HeaderText column
+fault_of_header (header.Twice column) = run.HeaderTwice column
+fault_of_header (header.Unknown entry) = run.HeaderUnknown entry
+fault_of_header header.NoMemory = run.NoMemory
+
 -- the text of the table of these rows, where no record is refused
 abbrev pub answer_of_rows : List Column → Result (List Row) RowFault → Answer
 answer_of_rows columns (Ok rows) = Text (table_text (record { columns = columns; rows = rows }))
 answer_of_rows columns (Err fault) = Fault (fault_of_row fault)
 
--- the answer to the records of a text, the first of which is the header
-abbrev pub answer_of_records : List Record → Answer
-answer_of_records [] = Fault run.NoHeader
-answer_of_records (header ∷ records) = answer_of_rows (text_columns header) (body (text_columns header) records)
+-- the records behind the header
+abbrev pub behind_header : List Record → List Record
+behind_header [] = []
+behind_header (fields ∷ records) = records
+
+-- the answer to the records behind a header of these columns
+abbrev pub answer_of_columns : Result (List Column) HeaderFault → List Record → Answer
+answer_of_columns (Ok columns) records = answer_of_rows columns (body columns records)
+answer_of_columns (Err fault) records = Fault (fault_of_header fault)
+
+-- the answer to entries and the records of a text, the first of which is the header
+abbrev pub answer_of_records : List Entry → List Record → Answer
+answer_of_records entries records = answer_of_columns (header_of entries records) (behind_header records)
 
 -- the most bytes that are read
 abbrev pub input_limit : ℕ
 input_limit = 1_073_741_824
 
--- the answer to the bytes of an input
-abbrev pub answer_of_bytes : List ℕ → Answer
-answer_of_bytes bytes = if nat_lt input_limit (length bytes) then Fault run.InputTooLong else answer_of_records (records_of bytes)
+-- the answer to entries and the bytes of an input
+abbrev pub answer_of_bytes : List Entry → List ℕ → Answer
+answer_of_bytes entries bytes = if nat_lt input_limit (length bytes) then Fault run.InputTooLong else answer_of_records entries (records_of bytes)
 
 -- ---- what the words ask for
 
@@ -85,7 +106,7 @@ Asks words asked = OptionsAsk (words_of words) asked
 
 -- the answer to what is asked for and the bytes of the input
 abbrev pub answer_to : Result (List TypeEntry) RunFault → List ℕ → Answer
-answer_to (Ok entries) bytes = answer_of_bytes bytes
+answer_to (Ok entries) bytes = answer_of_bytes (entries_of entries) bytes
 answer_to (Err fault) bytes = Fault fault
 
 abbrev pub IsAnswerTo : Result (List TypeEntry) RunFault → List ℕ → Answer → Type 0
@@ -103,6 +124,10 @@ status_of None = 0
 status_of (Some (run.Words fault)) = 2
 status_of (Some (run.Schema entry rule)) = 3
 status_of (Some run.NoHeader) = 4
+status_of (Some (run.TooManyColumns count)) = 4
+status_of (Some (run.HeaderText column)) = 4
+status_of (Some (run.HeaderTwice column)) = 4
+status_of (Some (run.HeaderUnknown entry)) = 4
 status_of (Some (run.Ragged number found)) = 4
 status_of (Some (run.Field number column)) = 4
 status_of (Some run.InputTooLong) = 5

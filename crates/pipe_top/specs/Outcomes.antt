@@ -1,5 +1,5 @@
 -- What the outcome of a run says of the answer and of the sink.
-use Rattle.std.specs.Prelude.{ℕ, ◌≡◌, ◌≤◌, Bool, true, false, List, Option, None, Some, Result, Ok, Err, Vec, ⊤, length, take}
+use Rattle.std.specs.Prelude.{ℕ, ◌≤◌, Bool, true, false, List, Option, None, Some, Result, Ok, Err, Vec, ⊤, length, take}
 use Rattle.std.specs.Global.{Global}
 use Rattle.std.specs.Io.KnownBytes.{Appends}
 use Rattle.stage_plan.specs.declared.types.TypeEntry.{TypeEntry}
@@ -14,6 +14,10 @@ abbrev pub is_decided : RunFault → Bool
 is_decided (run.Words fault) = true
 is_decided (run.Schema entry rule) = true
 is_decided run.NoHeader = true
+is_decided (run.TooManyColumns count) = true
+is_decided (run.HeaderText column) = true
+is_decided (run.HeaderTwice column) = true
+is_decided (run.HeaderUnknown entry) = true
 is_decided (run.Ragged number found) = true
 is_decided (run.Field number column) = true
 is_decided run.InputTooLong = true
@@ -26,6 +30,10 @@ abbrev pub AtWriteFault : RunFault → (ℕ → Type 0) → Type 0
 AtWriteFault (run.Words fault) P = ⊤
 AtWriteFault (run.Schema entry rule) P = ⊤
 AtWriteFault run.NoHeader P = ⊤
+AtWriteFault (run.TooManyColumns count) P = ⊤
+AtWriteFault (run.HeaderText column) P = ⊤
+AtWriteFault (run.HeaderTwice column) P = ⊤
+AtWriteFault (run.HeaderUnknown entry) P = ⊤
 AtWriteFault (run.Ragged number found) P = ⊤
 AtWriteFault (run.Field number column) P = ⊤
 AtWriteFault run.InputTooLong P = ⊤
@@ -38,6 +46,10 @@ abbrev pub is_write_fault : RunFault → Bool
 is_write_fault (run.Words fault) = false
 is_write_fault (run.Schema entry rule) = false
 is_write_fault run.NoHeader = false
+is_write_fault (run.TooManyColumns count) = false
+is_write_fault (run.HeaderText column) = false
+is_write_fault (run.HeaderTwice column) = false
+is_write_fault (run.HeaderUnknown entry) = false
 is_write_fault (run.Ragged number found) = false
 is_write_fault (run.Field number column) = false
 is_write_fault run.InputTooLong = false
@@ -50,6 +62,10 @@ abbrev pub is_early : RunFault → Bool
 is_early (run.Words fault) = true
 is_early (run.Schema entry rule) = true
 is_early run.NoHeader = false
+is_early (run.TooManyColumns count) = false
+is_early (run.HeaderText column) = false
+is_early (run.HeaderTwice column) = false
+is_early (run.HeaderUnknown entry) = false
 is_early (run.Ragged number found) = false
 is_early (run.Field number column) = false
 is_early run.InputTooLong = false

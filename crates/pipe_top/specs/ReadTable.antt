@@ -1,5 +1,5 @@
 -- A table of text columns that was read from a text.
-use Rattle.std.specs.Prelude.{◌≡◌, ◌≤◌, ◌<◌, ◌+◌, ◌∷◌, ◌++◌, ℕ, true, List, length, map}
+use Rattle.std.specs.Prelude.{◌≡◌, ◌≤◌, ◌<◌, ◌+◌, ◌∷◌, ◌++◌, ℕ, true, List, [], length, map}
 use Rattle.std.specs.List.{concat}
 use Rattle.std.specs.Borrow.{Bor}
 use Rattle.std.specs.Result.{is_ok}
@@ -7,10 +7,16 @@ use Rattle.csv.specs.Records.{fields_of}
 use Rattle.csv.specs.declared.reader.Reader.{Reader}
 use Rattle.csv_model.specs.Examples.{text_columns}
 use Rattle.csv_model.specs.Reading.{Record, body}
-use Rattle.pipe_top.specs.Answer.{input_limit}
+use Rattle.pipe_top.specs.Answer.{Answer, Fault, answer_of_rows, input_limit}
 use Rattle.pipe_top.specs.RecordReader.{records_left, text_left}
 use Rattle.pipe_top.specs.TextTable.{IsTable}
+use Rattle.pipe_top.specs.declared.fault.RunFault.TheVariants as run
 use Rattle.pipe_top.specs.declared.table.TextTable.{TextTable}
+
+-- the answer to records whose header names columns of text
+abbrev pub answer_of_texts : List Record → Answer
+answer_of_texts [] = Fault run.NoHeader
+answer_of_texts (header ∷ records) = answer_of_rows (text_columns header) (body (text_columns header) records)
 
 -- the table has the header and the rows of these records, none of which is refused
 pub record ReadsTable (table : TextTable) (records : List Record) : Type 0 where

@@ -1,5 +1,5 @@
 -- What a run tells of its fault and of its audit, and what of that came to the sink of diagnostics.
-use Rattle.std.specs.Prelude.{ℕ, ◌≡◌, ◌≤◌, ◌⊎◌, ◌++◌, Bool, true, false, List, [], Option, None, Some, Result, Ok, Err, codes, decimal, length, map, take, if◌then◌else◌}
+use Rattle.std.specs.Prelude.{ℕ, ◌≡◌, ◌≤◌, ◌⊎◌, ◌++◌, Bool, List, [], Option, None, Some, Result, Ok, Err, codes, decimal, length, map, take, if◌then◌else◌}
 use Rattle.std.specs.List.{concat}
 use Rattle.std.specs.Borrow.{Bor}
 use Rattle.std.specs.Io.KnownBytes.{Appends}
@@ -23,6 +23,10 @@ abbrev pub fault_text : RunFault → List ℕ
 fault_text (run.Words words.Refused) = codes "words refused"
 fault_text (run.Schema entry rule) = codes "schema entry " ++ decimal entry ++ rule_text rule
 fault_text run.NoHeader = codes "no header"
+fault_text (run.TooManyColumns count) = codes "header has " ++ decimal count ++ codes " columns"
+fault_text (run.HeaderText column) = codes "header column " ++ decimal column ++ codes ": not UTF-8"
+fault_text (run.HeaderTwice column) = codes "header column " ++ decimal column ++ codes ": named before"
+fault_text (run.HeaderUnknown entry) = codes "schema entry " ++ decimal entry ++ codes ": no such column"
 fault_text (run.Ragged number found) = codes "record " ++ decimal number ++ codes ": " ++ decimal found ++ codes " fields"
 fault_text (run.Field number column) = codes "record " ++ decimal number ++ codes ", column " ++ decimal column ++ codes ": not a value of its type"
 fault_text run.InputTooLong = codes "input longer than 1073741824 bytes"

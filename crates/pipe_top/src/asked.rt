@@ -1,6 +1,7 @@
 // What the words ask for.
-ghost use Rattle.std.specs.Prelude.{◌≡◌, ◌⊎◌, true, false, List, Result, Err, IfErr, option_map};
+ghost use Rattle.std.specs.Prelude.{◌≡◌, ◌⊎◌, true, false, List, Result, All, None, Err, IfErr, IfOk, option_map};
 ghost use Rattle.fmt_string.specs.declared.kind.DataType.{DataType as AType};
+ghost use Rattle.fmt_string.specs.Kinds.{KindOk};
 ghost use Rattle.stage_plan.specs.declared.types.TypeEntry.{TypeEntry as AnEntry};
 ghost use Rattle.words.specs.Words.{texts_of, words_of};
 ghost use Rattle.pipe_top.specs.Answer.{Asks, SchemaAsks, asked_unless, first_typed, is_text};
@@ -25,6 +26,8 @@ pub(crate) fn read_asked(alloc: Global, words: &[String]) -> Asked
     ensures asks { (result.entries ≡ Err RunFault.NoMemory) ⊎ Asks (texts_of words.now) (asked_of result.entries) }
     ensures only { (result.entries ≡ Err RunFault.NoMemory) ⊎ ((asked : Result (List AnEntry) AFault) → Asks (texts_of words.now) asked → asked ≡ asked_of result.entries) }
     ensures early { IfErr result.entries (λ fault. (is_early fault ≡ true) ⊎ (fault ≡ RunFault.NoMemory)) }
+    ensures proper { IfOk result.entries (λ v. All (λ e. KindOk e.kind) v.items) }
+    ensures texts { IfOk result.entries (λ v. first_typed v.items ≡ None) }
     ensures audit { (result.entries ≡ Err RunFault.NoMemory) × (result.audit ≡ false) ⊎ (result.audit ≡ wants_audit (words_of (texts_of words.now))) }
 {
     match read_words(alloc, words) {
@@ -52,6 +55,8 @@ fn refused(fault: RunFault) -> Asked
 fn read_entries(alloc: Global, schema: Option<&str>) -> Result<Vec<TypeEntry>, RunFault>
     ensures asks { (result ≡ Err RunFault.NoMemory) ⊎ SchemaAsks (option_map (λ s. s.now) schema.entry) (asked_of result) }
     ensures early { IfErr result (λ fault. (is_early fault ≡ true) ⊎ (fault ≡ RunFault.NoMemory)) }
+    ensures proper { IfOk result (λ v. All (λ e. KindOk e.kind) v.items) }
+    ensures texts { IfOk result (λ v. first_typed v.items ≡ None) }
     ensures only { (result ≡ Err RunFault.NoMemory) ⊎ ((asked : Result (List AnEntry) AFault) → SchemaAsks (option_map (λ s. s.now) schema.entry) asked → asked ≡ asked_of result) }
 {
     let Some(text) = schema else {
@@ -66,6 +71,9 @@ fn read_entries(alloc: Global, schema: Option<&str>) -> Result<Vec<TypeEntry>, R
 
 // The entries, unless one has another type than text.
 fn text_entries(entries: Vec<TypeEntry>) -> Result<Vec<TypeEntry>, RunFault>
+    requires proper { All (λ e. KindOk e.kind) entries.items }
+    ensures proper { IfOk result (λ v. All (λ e. KindOk e.kind) v.items) }
+    ensures texts { IfOk result (λ v. first_typed v.items ≡ None) }
     ensures reads { asked_of result ≡ asked_unless (first_typed entries.items) entries.items }
     ensures early { IfErr result (λ fault. is_early fault ≡ true) }
 {

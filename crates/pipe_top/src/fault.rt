@@ -1,4 +1,5 @@
 // Why a run wrote no text, or not all of it.
+use csv_edge::HeaderFault;
 use stage_plan::TypesRule;
 use unit_pass::NoMemory;
 use words::WordsFault;
@@ -13,6 +14,14 @@ pub enum RunFault {
     Schema { entry: u64, rule: TypesRule },
     /// The input has no record, so no header.
     NoHeader,
+    /// The header has more than 1,024 fields, so many.
+    TooManyColumns { count: u64 },
+    /// A name in the header is not UTF-8, the first one. Columns are numbered from 1.
+    HeaderText { column: u32 },
+    /// A name in the header is one of those before it, the first one.
+    HeaderTwice { column: u32 },
+    /// An entry of the schema text names no column, the first one.
+    HeaderUnknown { entry: u64 },
     /// A record has another number of fields than the header. Records are numbered from 1 after the header.
     Ragged { row: u64, found: u64 },
     /// A field is not UTF-8. Records and columns are numbered from 1.
@@ -35,5 +44,23 @@ impl From<NoMemory> for RunFault {
 
     fn from(_: NoMemory) -> RunFault {
         RunFault::NoMemory
+    }
+}
+
+impl From<HeaderFault> for RunFault {
+    ghost use Rattle.std.specs.Prelude.{◌≡◌};
+    ghost use Rattle.pipe_top.specs.Answer.{fault_of_header};
+
+    ghost from_gives = { λ fault given. given ≡ fault_of_header fault };
+
+    fn from(fault: HeaderFault) -> RunFault {
+        match fault {
+            HeaderFault::NoHeader => RunFault::NoHeader,
+            HeaderFault::TooManyColumns { count } => RunFault::TooManyColumns { count },
+            HeaderFault::NotText { column } => RunFault::HeaderText { column },
+            HeaderFault::Twice { column } => RunFault::HeaderTwice { column },
+            HeaderFault::Unknown { entry } => RunFault::HeaderUnknown { entry },
+            HeaderFault::NoMemory => RunFault::NoMemory,
+        }
     }
 }

@@ -39,13 +39,14 @@ pub use words::WordsFault;
 
 /// The answers to texts that are written out here.
 pub fn worked_answers()
-    ensures null_field { answer_of_bytes (codes "a,b\n1,\n") ≡ Text (codes "a,b\n1,\n") }
-    ensures null_alone { answer_of_bytes (codes "x\n\"\"\n") ≡ Text (codes "x\n\"\"\n") }
-    ensures header_alone { answer_of_bytes (codes "a,b\n") ≡ Text (codes "a,b\n") }
-    ensures no_header { answer_of_bytes [] ≡ Fault run.NoHeader }
-    ensures not_text { answer_of_bytes (codes "a\ncaf" ++ 0xff ∷ 10 ∷ []) ≡ Fault (run.Field 1 1) }
-    ensures ragged { answer_of_bytes (codes "a,b\n1\n") ≡ Fault (run.Ragged 1 1) }
-    ensures mark_and_quotes { answer_of_bytes (0xef ∷ 0xbb ∷ 0xbf ∷ codes "a\r\n\"x,y\"\r\n") ≡ Text (codes "a\n\"x,y\"\n") }
+    ensures null_field { answer_of_bytes [] (codes "a,b\n1,\n") ≡ Text (codes "a,b\n1,\n") }
+    ensures null_alone { answer_of_bytes [] (codes "x\n\"\"\n") ≡ Text (codes "x\n\"\"\n") }
+    ensures header_alone { answer_of_bytes [] (codes "a,b\n") ≡ Text (codes "a,b\n") }
+    ensures no_header { answer_of_bytes [] [] ≡ Fault run.NoHeader }
+    ensures name_twice { answer_of_bytes [] (codes "a,a\n") ≡ Fault (run.HeaderTwice 2) }
+    ensures not_text { answer_of_bytes [] (codes "a\ncaf" ++ 0xff ∷ 10 ∷ []) ≡ Fault (run.Field 1 1) }
+    ensures ragged { answer_of_bytes [] (codes "a,b\n1\n") ≡ Fault (run.Ragged 1 1) }
+    ensures mark_and_quotes { answer_of_bytes [] (0xef ∷ 0xbb ∷ 0xbf ∷ codes "a\r\n\"x,y\"\r\n") ≡ Text (codes "a\n\"x,y\"\n") }
 {}
 
 #[cfg(test)]

@@ -4,8 +4,8 @@ ghost use Rattle.std.specs.Result.{is_ok};
 ghost use Rattle.csv.specs.Records.{fields_of};
 ghost use Rattle.csv_model.specs.Examples.{text_columns};
 ghost use Rattle.csv_model.specs.Reading.{body, records_of};
-ghost use Rattle.pipe_top.specs.Answer.{Fault, answer_of_records, answer_of_rows, input_limit};
-ghost use Rattle.pipe_top.specs.ReadTable.{ReadsTable};
+ghost use Rattle.pipe_top.specs.Answer.{Fault, answer_of_rows, input_limit};
+ghost use Rattle.pipe_top.specs.ReadTable.{ReadsTable, answer_of_texts};
 ghost use Rattle.pipe_top.specs.RecordReader.{IsReading, records_left, text_left};
 ghost use Rattle.pipe_top.specs.TextColumn.{HasTexts};
 ghost use Rattle.pipe_top.specs.TextTable.{IsTable};
@@ -27,7 +27,7 @@ pub(crate) fn read_table(alloc: Global, text: &[u8]) -> Result<TextTable, RunFau
     ensures table { IfOk result (λ table. ReadsTable table (records_of text.now)) }
     ensures few_rows { IfOk result (λ table. table.rows ≤ input_limit) }
     ensures narrow { IfOk result (λ table. 0 < table.rows → 2 * vec_len table.columns ≤ input_limit + 2) }
-    ensures fault { IfErr result (λ fault. (fault ≡ RunFault.NoMemory) ⊎ (answer_of_records (records_of text.now) ≡ Fault fault)) }
+    ensures fault { IfErr result (λ fault. (fault ≡ RunFault.NoMemory) ⊎ (answer_of_texts (records_of text.now) ≡ Fault fault)) }
 {
     let mut reader = start_reading(alloc, text);
     let mut header = ByteRecord::new(alloc);

@@ -64,9 +64,11 @@ fn tables_come_back_with_empty_fields_as_nulls(rt: HostRuntime) -> Result<(), Fa
 }
 
 #[test]
-fn bad_records_are_refused_with_their_places(rt: HostRuntime) -> Result<(), Fail> {
-    let cases: [(&[u8], RunFault); 4] = [
+fn bad_headers_and_records_are_refused_with_their_places(rt: HostRuntime) -> Result<(), Fail> {
+    let cases: [(&[u8], RunFault); 6] = [
         (b"", RunFault::NoHeader),
+        (b"a,a\n1,2\n", RunFault::HeaderTwice { column: 2 }),
+        (b"a,\xff\n", RunFault::HeaderText { column: 2 }),
         (b"a\ncaf\xff\n", RunFault::Field { row: 1, column: 1 }),
         (b"a,b\n1\n", RunFault::Ragged { row: 1, found: 1 }),
         (
@@ -172,6 +174,32 @@ fn words_and_schema_texts_are_refused_by_their_rules(rt: HostRuntime) -> Result<
     Ok(())
 }
 
+// A header of so many columns, whose names differ.
+fn wide_header(alloc: Global, columns: u32) -> Result<Vec<u8>, Fail> {
+    let mut bytes = Vec::new(alloc);
+    for column in 0..columns {
+        bytes.push(b'a' + (column / 676 % 26) as u8)?;
+        bytes.push(b'a' + (column / 26 % 26) as u8)?;
+        bytes.push(b'a' + (column % 26) as u8)?;
+        bytes.push(b',')?;
+    }
+    bytes.push(b'z')?;
+    Ok(bytes)
+}
+
+#[test]
+fn headers_are_refused_for_width_and_for_entries_of_no_column(rt: HostRuntime) -> Result<(), Fail> {
+    let alloc = rt.alloc();
+    let wide = wide_header(alloc, 1024)?;
+    let (status, fault, _errs) = run_words(alloc, "--audit", &wide, &[])?;
+    assert_eq!(rt; fault, Some(RunFault::TooManyColumns { count: 1025 }));
+    assert_eq!(rt; status, 4);
+    let (status, fault, _errs) = run_words(alloc, "--schema q:u", b"a,b\n1,\n", &[])?;
+    assert_eq!(rt; fault, Some(RunFault::HeaderUnknown { entry: 1 }));
+    assert_eq!(rt; status, 4);
+    Ok(())
+}
+
 #[test]
 fn fault_and_audit_are_told_line_by_line(rt: HostRuntime) -> Result<(), Fail> {
     let cases: [(&str, &[u8], &[u64], u8, &[u8]); 6] = [
@@ -210,7 +238,7 @@ fn fault_and_audit_are_told_line_by_line(rt: HostRuntime) -> Result<(), Fail> {
 
 #[test]
 fn each_fault_has_its_line(rt: HostRuntime) -> Result<(), Fail> {
-    let cases: [(RunFault, &[u8]); 10] = [
+    let cases: [(RunFault, &[u8]); 14] = [
         (
             RunFault::Words(WordsFault::Refused),
             b"arrowpipe: words refused\n",
@@ -230,6 +258,22 @@ fn each_fault_has_its_line(rt: HostRuntime) -> Result<(), Fail> {
             b"arrowpipe: schema entry 12: named before\n",
         ),
         (RunFault::NoHeader, b"arrowpipe: no header\n"),
+        (
+            RunFault::TooManyColumns { count: 1025 },
+            b"arrowpipe: header has 1025 columns\n",
+        ),
+        (
+            RunFault::HeaderText { column: 3 },
+            b"arrowpipe: header column 3: not UTF-8\n",
+        ),
+        (
+            RunFault::HeaderTwice { column: 2 },
+            b"arrowpipe: header column 2: named before\n",
+        ),
+        (
+            RunFault::HeaderUnknown { entry: 1 },
+            b"arrowpipe: schema entry 1: no such column\n",
+        ),
         (
             RunFault::Ragged { row: 10, found: 0 },
             b"arrowpipe: record 10: 0 fields\n",

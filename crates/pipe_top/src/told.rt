@@ -66,6 +66,16 @@ fn tell_fault<E: Sink>(errs: &mut E, fault: RunFault) -> Result<(), WriteFault>
         RunFault::Words(WordsFault::Refused) => plain(errs, "words refused"),
         RunFault::Schema { entry, rule } => counted(errs, "schema entry ", entry, rule_text(rule)),
         RunFault::NoHeader => plain(errs, "no header"),
+        RunFault::TooManyColumns { count } => counted(errs, "header has ", count, " columns"),
+        RunFault::HeaderText { column } => {
+            counted(errs, "header column ", column as u64, ": not UTF-8")
+        }
+        RunFault::HeaderTwice { column } => {
+            counted(errs, "header column ", column as u64, ": named before")
+        }
+        RunFault::HeaderUnknown { entry } => {
+            counted(errs, "schema entry ", entry, ": no such column")
+        }
         RunFault::Ragged { row, found } => placed(errs, "record ", row, ": ", found, " fields"),
         RunFault::Field { row, column } => placed(
             errs,

@@ -1,18 +1,19 @@
 // The top call.
-ghost use Rattle.std.specs.Prelude.{◌≡◌, ◌<◌, ◌≤◌, ◌⊎◌, ◌++◌, true, false, Some, None, Err, IfOk, IfErr, IfSome, OnOk, OnErr, length, ℕ, List};
+ghost use Rattle.std.specs.Prelude.{◌≡◌, ◌<◌, ◌≤◌, ◌⊎◌, ◌++◌, true, false, All, Some, None, Err, IfOk, IfErr, IfSome, OnOk, OnErr, length, ℕ, List};
 ghost use Rattle.std.specs.Io.KnownBytes.{IsAtEnd, Keeps};
 ghost use Rattle.csv_model.specs.Reading.{records_of};
+ghost use Rattle.fmt_string.specs.Kinds.{KindOk};
 ghost use Rattle.edge_io.specs.Edge.{LosesPrefix, Rose};
 ghost use Rattle.unit_pass.specs.Tally.{risen};
 ghost use Rattle.unit_pass.specs.declared.pass.TheConstants.{SUPPLY};
 ghost use Rattle.words.specs.Words.{texts_of, words_of};
-ghost use Rattle.pipe_top.specs.Answer.{Asks, Fault, IsAnswer, IsAnswerTo, Text, answer_of_bytes, answer_to, input_limit, status_of};
+ghost use Rattle.pipe_top.specs.Answer.{Asks, Fault, IsAnswer, IsAnswerTo, Text, answer_of_bytes, answer_to, first_typed, input_limit, status_of};
 ghost use Rattle.pipe_top.specs.Outcomes.{AtWriteFault, GotFirst, GotText, asked_of, fault_in, is_decided, is_early, is_write_fault, wants_audit};
 ghost use Rattle.pipe_top.specs.Told.{Told, audit_if};
 ghost use Rattle.pipe_top.specs.Traffic.{run_blocks, run_nodes};
 ghost use Rattle.pipe_top.specs.declared.fault.RunFault.{RunFault as AFault};
 
-use crate::answer::answer_text;
+use crate::answer::answer_input;
 use crate::asked::{Asked, read_asked};
 use crate::fault::RunFault;
 use crate::told::tell;
@@ -39,7 +40,10 @@ pub struct Outcome {
 /// Reads the source to its end and writes the text of the table that it spells.
 ///
 /// `words` are those after the program's name: `[--schema TEXT] [--audit]`. Columns hold UTF-8 text; an empty field is a
-/// null. A schema text may ask for text columns alone, `u`, until columns of other types are read.
+/// null. A schema text may ask for text columns alone, `u`, until columns of other types are read. The header's names are
+/// UTF-8 and differ, there are at most 1,024 of them, and each entry of the schema text names one of them.
+///
+/// The first of these faults is told: of the words, of the schema text, of reading, of the header, of the records.
 ///
 /// To `errs` goes the line `arrowpipe: TEXT` of the fault, and then, with `--audit`, the line
 /// `audit blocks=B nodes=N left=0`.
@@ -124,6 +128,10 @@ fn status(fault: RunFault) -> u8
         RunFault::Words(WordsFault::Refused) => 2,
         RunFault::Schema { entry: _, rule: _ } => 3,
         RunFault::NoHeader => 4,
+        RunFault::TooManyColumns { count: _ } => 4,
+        RunFault::HeaderText { column: _ } => 4,
+        RunFault::HeaderTwice { column: _ } => 4,
+        RunFault::HeaderUnknown { entry: _ } => 4,
         RunFault::Ragged { row: _, found: _ } => 4,
         RunFault::Field { row: _, column: _ } => 4,
         RunFault::InputTooLong => 5,
@@ -160,6 +168,8 @@ fn carry_out<S: Source, K: Sink>(
     pass: &mut Pass,
 ) -> Result<(), RunFault>
     requires units { pass.old.units ≡ SUPPLY }
+    requires proper { IfOk entries (λ v. All (λ e. KindOk e.kind) v.items) }
+    requires texts { IfOk entries (λ v. first_typed v.items ≡ None) }
     requires early { IfErr entries (λ fault. (is_early fault ≡ true) ⊎ (fault ≡ RunFault.NoMemory)) }
     ensures text { OnOk result (IfSome (S.left source.old) (λ bytes. GotText (IsAnswerTo (asked_of entries) bytes) (K.taken sink.old) (K.taken sink.new))) }
     ensures text_read_to_end { OnOk result (IsAtEnd (S.left source.new)) }
@@ -177,9 +187,9 @@ fn carry_out<S: Source, K: Sink>(
     ensures blocks { OnOk result (IfSome (S.left source.old) (λ bytes. pass.new.blocks ≡ risen pass.old.blocks (run_blocks (records_of bytes)))) }
     ensures nodes { OnOk result (IfSome (S.left source.old) (λ bytes. pass.new.nodes ≡ risen pass.old.nodes (run_nodes (records_of bytes)))) }
 {
-    let _entries = entries?;
+    let entries = entries?;
     let bytes = read_input(alloc, source)?;
-    let text = answer_text(alloc, &bytes, pass)?;
+    let text = answer_input(alloc, &bytes, &entries, pass)?;
     match write_all(sink, &text) {
         Ok(()) => Ok(()),
         Err(WriteFault::Failed { taken }) => Err(RunFault::WriteFault { taken }),

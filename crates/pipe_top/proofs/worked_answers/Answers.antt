@@ -12,6 +12,7 @@ returns c = record {
   null_alone = refl;
   header_alone = refl;
   no_header = refl;
+  name_twice = refl;
   not_text = refl;
   ragged = refl;
   mark_and_quotes = refl;

@@ -38,3 +38,15 @@ returns-in-WriteFault g c = said-for _ _ _ _ _ _ (run.WriteFault c.in-WriteFault
 
 pub returns-in-NoMemory : goal.returns-in-NoMemory
 returns-in-NoMemory g c = said-for _ _ _ _ _ _ run.NoMemory c.in-NoMemory.is c.plain-in-NoMemory.ensures
+
+pub returns-in-TooManyColumns : goal.returns-in-TooManyColumns
+returns-in-TooManyColumns g c = said-for _ _ _ _ _ _ (run.TooManyColumns c.in-TooManyColumns.count) c.in-TooManyColumns.is c.counted-in-TooManyColumns.ensures
+
+pub returns-in-HeaderText : goal.returns-in-HeaderText
+returns-in-HeaderText g c = said-for _ _ _ _ _ _ (run.HeaderText c.in-HeaderText.column) c.in-HeaderText.is c.counted-in-HeaderText.ensures
+
+pub returns-in-HeaderTwice : goal.returns-in-HeaderTwice
+returns-in-HeaderTwice g c = said-for _ _ _ _ _ _ (run.HeaderTwice c.in-HeaderTwice.column) c.in-HeaderTwice.is c.counted-in-HeaderTwice.ensures
+
+pub returns-in-HeaderUnknown : goal.returns-in-HeaderUnknown
+returns-in-HeaderUnknown g c = said-for _ _ _ _ _ _ (run.HeaderUnknown c.in-HeaderUnknown.entry) c.in-HeaderUnknown.is c.counted-in-HeaderUnknown.ensures
