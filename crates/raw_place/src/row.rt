@@ -1,0 +1,129 @@
+//! Values side by side in one block, by the raw pointer to the first.
+ghost use Rattle.std.specs.Prelude.{◌≡◌, ◌≤◌, ◌<◌, ◌^◌, List, length, get_or, [], ◌∷◌, ◌++◌, MatchResult};
+ghost use Rattle.std.specs.Vec.Ownership.{vec_owns, vec_shares, FitsInBlock};
+
+use std::alloc::Allocator;
+use std::marker::{Model, Send, Sync};
+use std::mem::{align_of, size_of};
+
+/// The raw pointer to the first of `len` values, in a block that has room for `room`; where `room` is 0 there is no block,
+/// and the pointer is not followed.
+///
+/// It can't be dropped: [`Row::free`] spends it, once it has no value.
+pub(crate) struct Row<T, A: Allocator> {
+    at: *mut T,
+    len: usize,
+    room: usize,
+    heap: A,
+    pub ghost items: { List T },
+    ghost counted: { (len ≡ length items) × (len ≤ room) },
+    ghost small: { room < 2 ^ 63 },
+}
+
+impl<T, A: Allocator> Model for Row<T, A> {
+    ghost also_owns = { λ row. vec_owns (A.dealloc_token row.heap) T.row row.at row.len row.room row.items };
+
+    ghost also_shares = { λ row _ κ. vec_shares T.row row.at row.len row.room row.items κ };
+}
+
+impl<T, A: Allocator> Row<T, A> {
+    ghost use Rattle.raw_place.specs.Lent.{row_follows};
+    ghost use Rattle.std.specs.Borrow.{sem};
+
+    /// A row that has no value and no block.
+    pub fn empty(heap: A) -> Row<T, A>
+        ensures { result.items ≡ [] }
+    {
+        let mut none: [T; 0] = [];
+        Row {
+            at: &raw mut none as *mut T,
+            len: 0,
+            room: 0,
+            heap,
+        }
+    }
+
+    /// A row that has no value yet, in a block from the allocator, whose handle comes back for want of memory.
+    pub fn with_room(heap: A, room: usize) -> Result<Row<T, A>, A>
+        requires some { 0 < room }
+        requires fits { FitsInBlock T.row room }
+        ensures { MatchResult result (λ row. (row.items ≡ []) × (row.room ≡ room)) (λ back. back ≡ heap) }
+    {
+        match heap.allocate(room * size_of::<T>(), align_of::<T>()) {
+            Ok(block) => Ok(Row {
+                at: block as *mut T,
+                len: 0,
+                room,
+                heap,
+            }),
+            Err(_) => Err(heap),
+        }
+    }
+
+    /// The values, lent.
+    pub fn as_slice(&self) -> &[T]
+        ensures items { result.now ≡ self.now.items }
+        ensures bounded { length self.now.items < 2 ^ 63 }
+    {
+        unsafe { std::slice::from_raw_parts(self.at.cast_const(), self.len) }
+    }
+
+    /// The value at the place `i`, lent to be changed where it lies.
+    pub fn lend(&mut self, i: usize) -> &mut T
+        requires { i < length self.old.items }
+        ensures* writes_back { sem 𝓛 (row_follows T.row A.row A.Allocator self.entry i result) }
+        ensures value { result.now ≡ get_or self.old.items i result.now }
+    {
+        unsafe { &mut *self.at.add(i) }
+    }
+
+    /// Moves a value behind the last one, where there is room.
+    pub fn put(&mut self, value: T)
+        requires { length self.old.items < self.old.room }
+        ensures items { self.new.items ≡ self.old.items ++ value ∷ [] }
+        ensures room { self.new.room ≡ self.old.room }
+    {
+        let len = self.len;
+        unsafe {
+            self.at.add(len).write(value);
+        }
+        self.len = len + 1;
+    }
+
+    /// Moves the last value out. Its place stays in the block.
+    pub fn take_last(&mut self) -> T
+        requires { 0 < length self.old.items }
+        ensures { self.old.items ≡ self.new.items ++ result ∷ [] }
+    {
+        let last = self.len - 1;
+        self.len = last;
+        unsafe { self.at.add(last).read() }
+    }
+
+    /// Gives the block back, once it has no value, and hands out the allocator's handle.
+    pub fn free(self) -> A
+        requires { self.items ≡ [] }
+        ensures { result ≡ self.heap }
+    {
+        if self.room > 0 {
+            unsafe {
+                self.heap.deallocate(
+                    self.at as *mut u8,
+                    self.room * size_of::<T>(),
+                    align_of::<T>(),
+                );
+            }
+        }
+        let Row {
+            at: _,
+            len: _,
+            room: _,
+            heap,
+        } = self;
+        heap
+    }
+}
+
+unsafe impl<T: Send, A: Allocator + Send> Send for Row<T, A> {}
+
+unsafe impl<T: Sync, A: Allocator + Sync> Sync for Row<T, A> {}
