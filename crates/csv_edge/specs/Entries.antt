@@ -1,10 +1,9 @@
 -- What the code's entries and names stand for.
-use Rattle.std.specs.Prelude.{◌≡◌, ℕ, Bool, List, ◌∷◌, map}
+use Rattle.std.specs.Prelude.{ℕ, Bool, List, map}
 use Rattle.std.specs.Borrow.{Bor}
 use Rattle.std.specs.List.{list_any}
 use Rattle.std.specs.Str.{bytes_eq}
 use Rattle.csv_model.specs.Header.{Entry}
-use Rattle.csv_model.specs.Reading.{Record}
 use Rattle.stage_plan.specs.declared.types.TypeEntry.{TypeEntry}
 
 -- the entries of a schema text, as a header takes them
@@ -21,7 +20,3 @@ texts borrows = map (λ b. b.now) borrows
 -- whether a text is one of those that are lent
 abbrev pub has_text : List (Bor (List ℕ)) → List ℕ → Bool
 has_text borrows text = list_any (λ b. bytes_eq text b.now) borrows
-
--- the first of the records has these fields
-abbrev pub BeginsWith : Record → List Record → Type 0
-BeginsWith fields records = (rest : List Record) × (records ≡ fields ∷ rest)

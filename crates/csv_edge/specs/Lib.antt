@@ -1,3 +1,11 @@
+pub mod Body
+pub mod BodyRows
 pub mod Entries
-pub mod FirstRecord
+pub mod FieldForms
+pub mod Fractions
+pub mod RecordReader
 pub mod TextColumns
+pub mod Chunks
+pub mod Lines
+pub mod CsvTexts
+pub mod ChunkTexts

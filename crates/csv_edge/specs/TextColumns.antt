@@ -1,9 +1,10 @@
--- What the columns of a text are: plain values, under names that differ.
+-- What the columns of a text are: read, they are plain values, under names that differ.
 use Rattle.std.specs.Prelude.{◌≡◌, ◌≢◌, List, All, true}
 use Rattle.std.specs.List.{AllPairs}
 use Rattle.fmt_string.specs.declared.kind.DataType.{DataType}
 use Rattle.fmt_string.specs.Kinds.{KindOk, is_column_type}
-use Rattle.fmt_string.specs.Table.{Column, Flat}
+use Rattle.fmt_string.specs.Table.{Column, Kind, Flat, Dict, Columns}
+use Rattle.arr_export.specs.ColumnKinds.{IsColumnKind}
 
 -- a column of plain values, whose type has the property
 abbrev pub IsFlatOf : (DataType → Type 0) → Column → Type 0
@@ -22,3 +23,14 @@ AreProper columns = All (IsFlatOf KindOk) columns
 
 abbrev pub AreAllowed : List Column → Type 0
 AreAllowed columns = All (IsFlatOf IsAllowed) columns
+
+-- ---- the columns that a text is written of
+
+-- plain values of a flat column kind, or the same by a dictionary
+abbrev pub HasTexts : Kind → Type 0
+HasTexts (Flat kind) = IsColumnKind kind
+HasTexts (Dict kind) = IsColumnKind kind
+HasTexts (Columns _) = ⊥
+
+abbrev pub HaveTexts : List Column → Type 0
+HaveTexts columns = All (λ column. HasTexts column.kind) columns

@@ -10,7 +10,8 @@ ghost use Rattle.csv_edge.specs.TextColumns.{AreAllowed, AreProper, IsAllowed, N
 
 use crate::columns::columns;
 use crate::names::check_names;
-use crate::row::{fields, first_record};
+use crate::records::{next_record, start_reading};
+use crate::row::fields;
 use csv::ByteRecord;
 use csv_model::HeaderFault;
 use fmt_string::ColumnType;
@@ -41,8 +42,9 @@ pub fn read_header(
     // Which fault it is.
     ensures fault { IfErr result (λ f. f ≢ HeaderFault.NoMemory → header_of (entries_of entries.now) (records_of bytes.now) ≡ Err f) }
 {
+    let mut reader = start_reading(alloc, bytes);
     let mut header = ByteRecord::new(alloc);
-    if !first_record(alloc, bytes, &mut header)? {
+    if !next_record(&mut reader, &mut header)? {
         return Err(HeaderFault::NoHeader);
     }
     check_count(&header)?;

@@ -1,14 +1,13 @@
 //! The names of columns: that they are text, that none is there twice, and that entries know them.
 ghost use Rattle.std.specs.Prelude.{◌≡◌, ◌≢◌, ◌≤◌, ◌<◌, ℕ, List, [], map, length, IfOk, IfErr, OnOk, IfSome, None, Some};
-ghost use Rattle.std.specs.Str.{is_utf8};
 ghost use Rattle.csv_model.specs.Header.{first_not_text, first_twice, first_unknown, names_fault, is_among};
 ghost use Rattle.csv_edge.specs.Entries.{entries_of, has_text, texts};
 
+use crate::text::is_text;
 use csv_model::HeaderFault;
 use stage_plan::TypeEntry;
 use std::alloc::Global;
 use std::collections::HashSet;
-use std::str;
 use unit_pass::NoMemory;
 
 // Refuses names of which one isn't text or is there twice, and entries of which one has no such name.
@@ -48,16 +47,6 @@ fn first_not_text(names: &[&[u8]]) -> Option<usize>
         }
     }
     None
-}
-
-// Whether a text is UTF-8.
-fn is_text(text: &[u8]) -> bool
-    ensures { result ≡ is_utf8 text.now }
-{
-    match str::from_utf8(text) {
-        Ok(_) => true,
-        Err(_) => false,
-    }
 }
 
 // The place of the first name that is one of those before it. Where there is none, all names are known.

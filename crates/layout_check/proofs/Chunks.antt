@@ -56,17 +56,17 @@ root-live t array h =
     is-live (kind_of t) (trees (kids_of t)) (maybe_tree (dict_in (out-Typed t).dict)) array
     (sym (ap (λ k. own_fault k [] array) (typed_out t)) ∙ own-none t array h)
 
-root-rules : (t : Typed) (array : ArrayTree) → LayoutOk (typed_of t) array → rules_fault in_order [] (live_node t array) ≡ None
+pub root-rules : (t : Typed) (array : ArrayTree) → LayoutOk (typed_of t) array → rules_fault in_order [] (live_node t array) ≡ None
 root-rules t array h = sym (own_fault-node t [] array (root-live t array h)) ∙ own-none t array h
 
-head : (node : Node) (rule : LayoutRule) (others : List LayoutRule) → rules_fault (rule ∷ others) [] node ≡ None → fails rule node ≡ None
+pub head : (node : Node) (rule : LayoutRule) (others : List LayoutRule) → rules_fault (rule ∷ others) [] node ≡ None → fails rule node ≡ None
 head node rule others e = not-at rule (fails rule node) (left-none (fault_by [] node rule) (rules_fault others [] node) e)
   where
     not-at : (rule : LayoutRule) (numbers : Option Numbers) → fault_at [] rule numbers ≡ None → numbers ≡ None
     not-at rule None e = refl
     not-at rule (Some numbers) e = grind arith
 
-tail : (node : Node) (rule : LayoutRule) (others : List LayoutRule) → rules_fault (rule ∷ others) [] node ≡ None → rules_fault others [] node ≡ None
+pub tail : (node : Node) (rule : LayoutRule) (others : List LayoutRule) → rules_fault (rule ∷ others) [] node ≡ None → rules_fault others [] node ≡ None
 tail node rule others e = right-none (fault_by [] node rule) (rules_fault others [] node) (left-none (fault_by [] node rule) (rules_fault others [] node) e) e
 
 not_negative : (z : ℤ) → fault_if (is_negative z) 0 z (pos 0) ≡ None → pos 0 ≤ℤ z
@@ -92,7 +92,7 @@ root-form t array h =
 pub root-count : (t : Typed) (array : ArrayTree) → LayoutOk (typed_of t) array → length (members_of array).buffers ≡ buffer_count (layout_of (out-Typed t).kind)
 root-count t array h = same_count (length (members_of array).buffers) (buffer_count (layout_of (out-Typed t).kind)) (head (live_node t array) rules.BufferCount (drop 3 in_order) (root-form t array h))
 
-root-short : (t : Typed) (array : ArrayTree) → LayoutOk (typed_of t) array → first_below (buffer_short (layout_of (out-Typed t).kind) (members_of array)) (buffer_count (layout_of (out-Typed t).kind)) ≡ None
+pub root-short : (t : Typed) (array : ArrayTree) → LayoutOk (typed_of t) array → first_below (buffer_short (layout_of (out-Typed t).kind) (members_of array)) (buffer_count (layout_of (out-Typed t).kind)) ≡ None
 root-short t array h =
     let node = live_node t array in
     head node rules.BufferShort (drop 7 in_order) (tail node rules.BufferAbsent (drop 6 in_order) (tail node rules.Dictionary (drop 5 in_order) (tail node rules.ChildCount (drop 4 in_order) (tail node rules.BufferCount (drop 3 in_order) (root-form t array h)))))

@@ -12,4 +12,5 @@ pub mod TextData
 pub mod ChildSteps
 pub mod Chunks
 pub mod Scanned
+pub mod ReadWithin
 pub mod MadeTypes

@@ -3,7 +3,7 @@ use Rattle.std.proofs.Common.{◌≡◌, ℕ, ◌≤◌, ◌<◌, ◌*◌, ◌&&
 use Rattle.std.specs.Prelude.{is_some, nat_lt}
 use Rattle.raw_array.specs.Members.{ArrayMembers}
 use Rattle.layout_check.specs.declared.layout.Layout.{Layout}
-use Rattle.layout_check.specs.declared.layout.Layout.TheVariants.{ByOffsets, ListOffsets, FixedWidth}
+use Rattle.layout_check.specs.declared.layout.Layout.TheVariants.{ByOffsets, ListOffsets, FixedWidth, TruthBits}
 use Rattle.layout_check.specs.Layout.{bytes_or_none, buffer, buffer_count, bytes, bits_need, offsets_need, data_need, end, IsLong, IsLongIfPresent}
 use Rattle.layout_check.specs.Rules.{fault_if, first_below, buffer_absent, buffer_short}
 use Rattle.layout_check.proofs.Firsts.{first_below-none_at}
@@ -52,6 +52,13 @@ long_bits : (b : Option (List ℕ)) (places : ℕ)
     → IsLong places b
 long_bits None places e = tt
 long_bits (Some b) places e = bits_enough places (length b) (not_short b (bits_need places) e)
+
+pub long-truth : (own : ArrayMembers) → first_below (buffer_absent TruthBits own) 2 ≡ None → first_below (buffer_short TruthBits own) 2 ≡ None → end own ≤ 8 * length (bytes own 1)
+long-truth own e f =
+    bits_enough (end own) (length (bytes own 1))
+    (long_enough (buffer own 1) (bits_need (end own)) 1
+    (first_below-none_at (buffer_absent TruthBits own) 2 1 (omega arith) e)
+    (first_below-none_at (buffer_short TruthBits own) 2 1 (omega arith) f))
 
 pub long-validity : (layout : Layout) (own : ArrayMembers) → first_below (buffer_short layout own) (buffer_count layout) ≡ None → 0 < buffer_count layout → IsLongIfPresent own
 long-validity layout own e h = long_bits (buffer own 0) (end own) (first_below-none_at (buffer_short layout own) (buffer_count layout) 0 h e)

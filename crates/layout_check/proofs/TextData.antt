@@ -43,7 +43,7 @@ parts true z rest h e = absurd (true≢false h)
 parts false (pos m) rest h e = (refl, e)
 parts false (negsuc m) rest h e = grind arith
 
-not_zero : (n : ℕ) → 0 < n → (n == 0) ≡ false
+pub not_zero : (n : ℕ) → 0 < n → (n == 0) ≡ false
 not_zero n h = grind arith
 
 -- from any place to one behind it

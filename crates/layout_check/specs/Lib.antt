@@ -9,3 +9,4 @@ pub mod Schemas
 pub mod SchemaAnswers
 pub mod WorkedArrays
 pub mod Scans
+pub mod Within

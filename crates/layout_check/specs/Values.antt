@@ -3,6 +3,7 @@ use Rattle.std.specs.Prelude.{ℕ, zero, suc, ◌+◌, ◌-◌, ◌*◌, ◌/◌
 use Rattle.fmt_string.specs.declared.kind.DataType.{DataType}
 use Rattle.fmt_string.specs.declared.kind.DataType.TheVariants as kinds
 use Rattle.bit_pack.specs.Packed.{bit}
+use Rattle.fmt_string.specs.Table.{Row}
 use Rattle.fmt_string.specs.Value.{Value, values}
 use Rattle.fmt_string.specs.Value.Value.{Null, Truth, Whole, Bits, Bytes, Items, Fields}
 use Rattle.tree_model.specs.Tree.{Released, Live, Trees, no_trees, more_trees, MaybeTree, absent, present, tree_list, option_tree}
@@ -103,3 +104,13 @@ tree_items (Live a children dictionary) = items a
 -- The values of an array: the items of its window, in order.
 abbrev pub values_of : KindTree → ArrayTree → List Value
 values_of typed array = each (value_at typed array) 0 (tree_items array)
+
+-- ---- the rows of a struct: of each item of its window, the item of each child
+
+abbrev pub row_items : KindTree → ArrayTree → ℕ → List Value
+row_items Released array i = []
+row_items (Live kind kids dict) Released i = []
+row_items (Live kind kids dict) (Live a children dictionary) i = field_items (readers kids) (tree_list children) (first a + i)
+
+abbrev pub rows_of : KindTree → ArrayTree → List Row
+rows_of typed array = each (row_items typed array) 0 (tree_items array)

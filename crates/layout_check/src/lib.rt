@@ -8,6 +8,9 @@
 //!   a place and two numbers; or `Ok` exactly where no rule fails at any node.
 //! - [`check_chunk`] asks two things more of the root: a struct without a dictionary, and no null item.
 //! - [`nulls_of`] counts the null items of a lawful array's window.
+//! - Laws say what whoever reads a lawful array may rely on: what holds of its root ([`lawful_root`]), that its parts are
+//!   lawful ([`lawful_parts`]), and that what is read of an item lies within the buffers, the children and the dictionary
+//!   ([`lawful_items_lie_within`], `specs/Within.antt`).
 //!
 //! The calls on arrays take no memory, and none writes. Numbers of bytes and places are computed without bounds, so no sum
 //! wraps. What the rules say stands in `specs/Schemas.antt` and `specs/Rules.antt`, the walk over arrays in
@@ -20,6 +23,7 @@ mod children;
 mod chunk;
 mod counts;
 mod indices;
+mod laws;
 mod layout;
 mod nulls;
 mod rule;
@@ -35,6 +39,9 @@ mod walk;
 mod worked_arrays;
 
 pub use chunk::{check_chunk, nulls_of};
+pub use laws::{
+    kinds_of_typed, lawful_has_no_fault, lawful_items_lie_within, lawful_parts, lawful_root,
+};
 pub use layout::Layout;
 pub use rule::{LayoutFault, LayoutRule, Path, SchemaRule};
 pub use schema::{SchemaFault, check_schema, kinds_are_valid, one_schema_answer};

@@ -1,17 +1,9 @@
-mod Answers
-mod Bits
-mod ColumnPush
-pub mod Costs
-pub mod Fields
+pub mod Bodies
+pub mod Columns
+pub mod Entries
 pub mod FaultLines
 pub mod Pieces
-mod ReadRows
-mod Reading
-mod RecordFields
 pub mod Runs
-mod TableRows
-pub mod Tables
-mod TextEntries
-pub mod Texts
-pub mod Views
+pub mod Schemas
+pub mod Widths
 mod Written

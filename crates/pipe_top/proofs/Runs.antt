@@ -1,5 +1,5 @@
 -- What a run comes to, from what its parts come to.
-use Rattle.std.proofs.Common.{ℕ, ◌≡◌, ◌⊎◌, ◌++◌, ◌∙◌, Bool, false, List, Option, None, Some, IfSome, Result, Ok, Err, IfErr, Vec, ap, sym, subst, append-nil, inl, inr}
+use Rattle.std.proofs.Common.{ℕ, ◌≡◌, ◌⊎◌, ◌++◌, ◌∙◌, Bool, false, List, Option, None, Some, IfSome, Result, Ok, Err, IfErr, IfOk, Vec, ap, sym, subst, append-nil, inl, inr}
 use Rattle.std.specs.Global.{Global}
 use Rattle.edge_io.specs.declared.WriteFault.{WriteFault}
 use Rattle.stage_plan.specs.declared.types.TypeEntry.{TypeEntry}
@@ -73,3 +73,18 @@ prefix-of-answer words left old new entries carried fault early told (inl none) 
 prefix-of-answer words left old new entries carried fault early told (inr asks) got =
     subst (λ f. IfSome f (Prefix (λ bytes taken. GotFirst (IsAnswer words bytes) old new taken) left)) (sym told)
     (by-result words left old new entries carried asks got)
+
+-- ---- the audit
+
+ok-asked : (entries : Result (Vec TypeEntry Global) RunFault) (asked : List TypeEntry) (P : List TypeEntry → Type 0) → Ok asked ≡ asked_of entries → IfOk entries (λ v. P v.items) → P asked
+ok-asked (Ok v) asked P is holds = let same : ◌≡◌ {A = Result (List TypeEntry) RunFault} (Ok asked) (Ok v.items) = is in let one : v.items ≡ asked = cc in subst P one holds
+ok-asked (Err fault) asked P is holds = let never : ◌≡◌ {A = Result (List TypeEntry) RunFault} (Ok asked) (Err fault) = is in cc
+
+-- what holds of the entries that were read holds of those that the words ask for
+pub of-asked : (words : List (List ℕ)) (entries : Result (Vec TypeEntry Global) RunFault) (carried : Result (Unit {0}) RunFault) (fault : Option RunFault)
+    (asked : List TypeEntry) (P : List TypeEntry → Type 0) → IfErr entries (λ f. carried ≡ Err f) → fault ≡ fault_in carried → fault ≡ None
+    → (entries ≡ Err run.NoMemory) ⊎ ((a : Result (List TypeEntry) RunFault) → Asks words a → a ≡ asked_of entries)
+    → Asks words (Ok asked) → IfOk entries (λ v. P v.items) → P asked
+of-asked words entries carried fault asked P early told none (inl memory) asks holds =
+    let never : ◌≡◌ {A = Option RunFault} None (Some run.NoMemory) = sym none ∙ no-memory entries carried fault memory early told in cc
+of-asked words entries carried fault asked P early told none (inr only) asks holds = ok-asked entries asked P (only (Ok asked) asks) holds

@@ -1,8 +1,7 @@
 -- What a run answers: the text of the table that was read, or the first fault, and the status of each fault.
 use Rattle.std.specs.Prelude.{◌≡◌, ◌+◌, ℕ, nat_lt, Bool, false, not, List, [], ◌∷◌, length, position, Option, None, Some, Result, Ok, Err, if◌then◌else◌}
 use Rattle.fmt_string.specs.Table.{Column, Row}
-use Rattle.fmt_string.specs.declared.kind.DataType.{DataType}
-use Rattle.fmt_string.specs.declared.kind.DataType.TheVariants as kinds
+use Rattle.csv_edge.specs.Body.{behind_header}
 use Rattle.csv_edge.specs.Entries.{entries_of}
 use Rattle.csv_model.specs.Header.{Entry, header_of}
 use Rattle.csv_model.specs.Reading.{Record, body, records_of}
@@ -14,7 +13,6 @@ use Rattle.csv_model.specs.declared.fault.HeaderFault.TheVariants as header
 use Rattle.stage_plan.specs.Types.{Reads}
 use Rattle.stage_plan.specs.declared.fault.TypesFault.{TypesFault}
 use Rattle.stage_plan.specs.declared.fault.TypesFault.TheVariants as types
-use Rattle.stage_plan.specs.declared.fault.TypesRule.TheVariants.{BadEntry}
 use Rattle.stage_plan.specs.declared.types.TypeEntry.{TypeEntry}
 use Rattle.words.specs.Words.{Options, words_of}
 use Rattle.words.specs.declared.WordsFault.{WordsFault}
@@ -45,11 +43,6 @@ abbrev pub answer_of_rows : List Column → Result (List Row) RowFault → Answe
 answer_of_rows columns (Ok rows) = Text (table_text (record { columns = columns; rows = rows }))
 answer_of_rows columns (Err fault) = Fault (fault_of_row fault)
 
--- the records behind the header
-abbrev pub behind_header : List Record → List Record
-behind_header [] = []
-behind_header (fields ∷ records) = records
-
 -- the answer to the records behind a header of these columns
 abbrev pub answer_of_columns : Result (List Column) HeaderFault → List Record → Answer
 answer_of_columns (Ok columns) records = answer_of_rows columns (body columns records)
@@ -69,22 +62,9 @@ answer_of_bytes entries bytes = if nat_lt input_limit (length bytes) then Fault 
 
 -- ---- what the words ask for
 
--- a type of text, with offsets of four bytes
-abbrev pub is_text : DataType → Bool
-is_text (kinds.Utf8 wide) = not wide
-is_text kind = false
-
--- the place of the first entry of another type
-abbrev pub first_typed : List TypeEntry → Option ℕ
-first_typed entries = position (λ e. not (is_text e.kind)) entries
-
-abbrev pub asked_unless : Option ℕ → List TypeEntry → Result (List TypeEntry) RunFault
-asked_unless None entries = Ok entries
-asked_unless (Some place) entries = Err (run.Schema (place + 1) BadEntry)
-
--- the columns that are asked for, where all are text, or the fault of the schema text
+-- the entries that are asked for, or the fault of the schema text
 abbrev pub asked_by : Result (List TypeEntry) TypesFault → Result (List TypeEntry) RunFault
-asked_by (Ok entries) = asked_unless (first_typed entries) entries
+asked_by (Ok entries) = Ok entries
 asked_by (Err (types.At entry rule)) = Err (run.Schema entry rule)
 asked_by (Err types.NoMemory) = Err run.NoMemory
 

@@ -1,14 +1,5 @@
 pub mod Answer
-pub mod ColumnBits
-pub mod LentTexts
-pub mod Lines
 pub mod Outcomes
-pub mod ReadTable
-pub mod RecordReader
-pub mod TableRows
-pub mod TextColumn
-pub mod TextItems
-pub mod TextTable
-pub mod TextTree
+pub mod Rows
 pub mod Told
 pub mod Traffic

@@ -1,39 +1,40 @@
--- The blocks and the nodes that a table of text makes.
-use Rattle.std.specs.Prelude.{ℕ, zero, suc, ◌+◌, List, [], ◌∷◌, length}
-use Rattle.std.specs.List.{concat}
-use Rattle.csv_model.specs.Reading.{Record}
-use Rattle.pipe_top.specs.TextColumn.{nulls_of}
-use Rattle.pipe_top.specs.TextTable.{texts_in}
+-- The blocks and the nodes that a run makes.
+use Rattle.std.specs.Prelude.{ℕ, ◌+◌, List, [], ◌∷◌, length, Result, Ok, Err}
+use Rattle.fmt_string.specs.Table.{Column, Row}
+use Rattle.csv_edge.specs.Body.{behind_header}
+use Rattle.csv_edge.specs.Chunks.{chunk_blocks}
+use Rattle.csv_model.specs.Header.{Entry, header_of}
+use Rattle.csv_model.specs.Reading.{Record, body}
 
--- 1 for a number above 0
-abbrev pub one_if : ℕ → ℕ
-one_if zero = 0
-one_if (suc n) = 1
+-- what was read, and nothing where it was refused
+abbrev pub read_or_none : {X E : Type 0} → Result (List X) E → List X
+read_or_none (Ok xs) = xs
+read_or_none (Err fault) = []
 
--- the blocks of a column: validity bits where a value is null, the offsets, and the data where there are bytes
-abbrev pub text_blocks : List (List ℕ) → ℕ
-text_blocks texts = one_if (nulls_of texts) + 1 + one_if (length (concat texts))
+-- the columns and the rows that the records of a text spell under entries
+abbrev pub columns_of : List Entry → List Record → List Column
+columns_of entries records = read_or_none (header_of entries records)
 
--- the blocks of the first columns
-abbrev pub blocks_upto : ℕ → List Record → ℕ
-blocks_upto zero rows = 0
-blocks_upto (suc n) rows = blocks_upto n rows + text_blocks (texts_in n rows)
+abbrev pub rows_of : List Entry → List Record → List Row
+rows_of entries records = read_or_none (body (columns_of entries records) (behind_header records))
 
--- the blocks of so many columns; no tree is built where there are no rows
-abbrev pub blocks_of : ℕ → List Record → ℕ
-blocks_of columns [] = 0
-blocks_of columns (row ∷ rows) = blocks_upto columns (row ∷ rows)
+-- the nodes of the schema: the struct and a column each
+abbrev pub schema_nodes : List Column → ℕ
+schema_nodes columns = 1 + length columns
 
--- the nodes: the struct and a column each
-abbrev pub nodes_of : ℕ → List Record → ℕ
-nodes_of columns [] = 0
-nodes_of columns (row ∷ rows) = 1 + columns
+-- the rows are one chunk, and there is none where there are no rows: its nodes are again the struct and a column each, and
+-- its blocks those of the columns' encodings
+abbrev pub chunk_nodes_of : List Column → List Row → ℕ
+chunk_nodes_of columns [] = 0
+chunk_nodes_of columns (row ∷ rows) = 1 + length columns
 
--- the blocks and the nodes of a run over these records, the first of which is the header
-abbrev pub run_blocks : List Record → ℕ
-run_blocks [] = 0
-run_blocks (header ∷ rows) = blocks_of (length header) rows
+abbrev pub chunk_blocks_of : List Column → List Row → ℕ
+chunk_blocks_of columns [] = 0
+chunk_blocks_of columns (row ∷ rows) = chunk_blocks columns (row ∷ rows)
 
-abbrev pub run_nodes : List Record → ℕ
-run_nodes [] = 0
-run_nodes (header ∷ rows) = nodes_of (length header) rows
+-- the blocks and the nodes of a run over these records, the first of which is the header: the schema is made once
+abbrev pub run_blocks : List Entry → List Record → ℕ
+run_blocks entries records = chunk_blocks_of (columns_of entries records) (rows_of entries records)
+
+abbrev pub run_nodes : List Entry → List Record → ℕ
+run_nodes entries records = schema_nodes (columns_of entries records) + chunk_nodes_of (columns_of entries records) (rows_of entries records)

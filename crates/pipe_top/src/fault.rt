@@ -9,8 +9,7 @@ use words::WordsFault;
 pub enum RunFault {
     /// The words of the command were not taken.
     Words(WordsFault),
-    /// An entry of the schema text is at fault, the first one. Entries are numbered from 1. An entry of another type than
-    /// text, `u`, is a `BadEntry` as well, until columns of such types are read.
+    /// An entry of the schema text is at fault, the first one. Entries are numbered from 1.
     Schema { entry: u64, rule: TypesRule },
     /// The input has no record, so no header.
     NoHeader,
@@ -24,7 +23,7 @@ pub enum RunFault {
     HeaderUnknown { entry: u64 },
     /// A record has another number of fields than the header. Records are numbered from 1 after the header.
     Ragged { row: u64, found: u64 },
-    /// A field is not UTF-8. Records and columns are numbered from 1.
+    /// A field is no text of its column's type. Records and columns are numbered from 1.
     Field { row: u64, column: u32 },
     /// The input is longer than 2^30 bytes.
     InputTooLong,

@@ -1,15 +1,16 @@
 //! The top call, [`run`]: from the words of the command and the bytes of a source to the text of a sink.
 //!
-//! It reads the source to its end, takes the records of the CSV text, puts the rows of text columns into one struct of
-//! array structures, reads the values back from there in place, and writes the text of the table. It promises that on
-//! success the sink got exactly the text that the definitions give (`specs/Answer.antt`), that each refusal has its
-//! cause, and that each structure and each hold that was made is given up again on every path.
+//! It reads the source to its end, takes the records of the CSV text, puts the values of their fields into one chunk, a
+//! struct of array structures, under the schema of its columns, takes both in as a stranger's would be taken, reads the
+//! values back from there in place, and writes the text of the table. It promises that on success the sink got exactly
+//! the text that the definitions give (`specs/Answer.antt`), that each refusal has its cause, and that each structure and
+//! each hold that was made is given up again on every path.
 //!
 //! The words may ask for types by a schema text, and for the audit's line. Each fault has a line of its own, which goes to
 //! a sink of diagnostics (`specs/Told.antt`); no line takes memory, and a failed write there changes nothing else.
 //!
-//! What CSV means stands in `csv_model`, the words in `words`, schema texts in `stage_plan`, the structures in
-//! `raw_array`, the sources and sinks in `edge_io`.
+//! What CSV means stands in `csv_model`, the words in `words`, schema texts in `stage_plan`, fields, chunks and their text
+//! in `csv_edge`, the structures in `raw_schema` and `raw_array`, the sources and sinks in `edge_io`.
 #![tactic(auto)]
 
 ghost use Rattle.std.specs.Prelude.{◌≡◌, ◌∷◌, ◌++◌, [], codes};
@@ -18,19 +19,11 @@ ghost use Rattle.pipe_top.specs.declared.fault.RunFault.TheVariants as run;
 
 mod answer;
 mod asked;
-mod blocks;
-mod column;
 mod fault;
-mod items;
-mod lines;
-mod read;
-mod records;
-mod table;
+mod schema;
 mod text;
 mod told;
 mod top;
-mod tree;
-mod validity;
 
 pub use fault::RunFault;
 pub use stage_plan::TypesRule;

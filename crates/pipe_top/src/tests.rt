@@ -52,10 +52,10 @@ fn expect_run(
 #[test]
 fn tables_come_back_with_empty_fields_as_nulls(rt: HostRuntime) -> Result<(), Fail> {
     let cases: [(&[u8], u64, u64, &[u8]); 4] = [
-        (b"a,b\n1,\n", 4, 3, b"a,b\n1,\n"),
-        (b"x\n\"\"\n", 2, 2, b"x\n\"\"\n"),
-        (b"a,b\n", 0, 0, b"a,b\n"),
-        (b"\xef\xbb\xbfa\r\n\"x,y\"\r\n", 2, 2, b"a\n\"x,y\"\n"),
+        (b"a,b\n1,\n", 4, 6, b"a,b\n1,\n"),
+        (b"x\n\"\"\n", 2, 4, b"x\n\"\"\n"),
+        (b"a,b\n", 0, 3, b"a,b\n"),
+        (b"\xef\xbb\xbfa\r\n\"x,y\"\r\n", 2, 4, b"a\n\"x,y\"\n"),
     ];
     for (bytes, blocks, nodes, text) in cases {
         expect_run(&rt, rt.alloc(), bytes, (0, None, blocks, nodes), text)?;
@@ -160,7 +160,7 @@ fn words_and_schema_texts_are_refused_by_their_rules(rt: HostRuntime) -> Result<
         ("--schema a:u;a:u", 2, TypesRule::Twice),
         ("--schema a", 1, TypesRule::BadEntry),
         ("--schema a:q", 1, TypesRule::BadEntry),
-        ("--schema a:u;b:l", 2, TypesRule::BadEntry),
+        ("--schema a:u;b:+l", 2, TypesRule::BadEntry),
         ("--audit --schema a:l;a:i", 2, TypesRule::Twice),
     ];
     for (line, entry, rule) in cases {
@@ -200,6 +200,92 @@ fn headers_are_refused_for_width_and_for_entries_of_no_column(rt: HostRuntime) -
     Ok(())
 }
 
+// Runs with these words, and expects this fault, these blocks and nodes where there is none, and this text.
+fn expect_typed(
+    rt: &impl Abort,
+    alloc: Global,
+    line: &str,
+    bytes: &[u8],
+    expected: (Option<RunFault>, u64, u64),
+    text: &[u8],
+) -> Result<(), Fail> {
+    let words = words_of(alloc, line)?;
+    let mut source = source_of(alloc, bytes, 7, &[])?;
+    let mut sink = sink_of(alloc, 5, &[])?;
+    let mut errs = sink_of(alloc, 5, &[])?;
+    let outcome = run(alloc, &words, &mut source, &mut sink, &mut errs);
+    let (fault, blocks, nodes) = expected;
+    assert_eq!(rt; outcome.fault, fault);
+    assert_eq!(rt; sink.taken(), text);
+    if outcome.status == 0 {
+        assert_eq!(rt; outcome.audit.blocks, blocks);
+        assert_eq!(rt; outcome.audit.nodes, nodes);
+    }
+    Ok(())
+}
+
+#[test]
+fn typed_columns_come_back_in_the_texts_of_their_types(rt: HostRuntime) -> Result<(), Fail> {
+    let cases: [(&str, &[u8], u64, u64, &[u8]); 4] = [
+        (
+            "--schema a:d:5,2",
+            b"a\n7.5\n-0.05\n",
+            1,
+            4,
+            b"a\n7.50\n-0.05\n",
+        ),
+        (
+            "--schema id:l;amount:d:10,2;paid:b",
+            b"id,name,amount,paid\n+1,x,2,TRUE\n,,,\n",
+            9,
+            10,
+            b"id,name,amount,paid\n1,x,2.00,true\n,,,\n",
+        ),
+        (
+            "--schema a:z;b:w:2;c:e",
+            b"a,b,c\n0aFF,00ff,3C0F\n",
+            4,
+            8,
+            b"a,b,c\n0aff,00ff,3c0f\n",
+        ),
+        ("--schema a:l", b"a\n", 0, 2, b"a\n"),
+    ];
+    for (line, bytes, blocks, nodes, text) in cases {
+        expect_typed(&rt, rt.alloc(), line, bytes, (None, blocks, nodes), text)?;
+    }
+    Ok(())
+}
+
+#[test]
+fn fields_outside_their_types_are_refused_with_their_places(rt: HostRuntime) -> Result<(), Fail> {
+    let cases: [(&str, &[u8], RunFault); 4] = [
+        (
+            "--schema a:d:5,2",
+            b"a\n1000\n-0.05\n",
+            RunFault::Field { row: 1, column: 1 },
+        ),
+        (
+            "--schema b:C",
+            b"a,b\n1,255\n2,256\n",
+            RunFault::Field { row: 2, column: 2 },
+        ),
+        (
+            "--schema q:l",
+            b"a,b\n1,\n",
+            RunFault::HeaderUnknown { entry: 1 },
+        ),
+        (
+            "--schema a:l",
+            b"a,b\nx\n",
+            RunFault::Ragged { row: 1, found: 1 },
+        ),
+    ];
+    for (line, bytes, fault) in cases {
+        expect_typed(&rt, rt.alloc(), line, bytes, (Some(fault), 0, 0), b"")?;
+    }
+    Ok(())
+}
+
 #[test]
 fn fault_and_audit_are_told_line_by_line(rt: HostRuntime) -> Result<(), Fail> {
     let cases: [(&str, &[u8], &[u64], u8, &[u8]); 6] = [
@@ -208,7 +294,7 @@ fn fault_and_audit_are_told_line_by_line(rt: HostRuntime) -> Result<(), Fail> {
             b"a,b\n1,\n",
             &[],
             0,
-            b"audit blocks=4 nodes=3 left=0\n",
+            b"audit blocks=4 nodes=6 left=0\n",
         ),
         ("--schema a:u", b"a,b\n1,\n", &[], 0, b""),
         ("--schema=a:u", b"", &[], 4, b"arrowpipe: no header\n"),

@@ -1,16 +1,19 @@
 // The top call.
-ghost use Rattle.std.specs.Prelude.{◌≡◌, ◌<◌, ◌≤◌, ◌⊎◌, ◌++◌, true, false, All, Some, None, Err, IfOk, IfErr, IfSome, OnOk, OnErr, length, ℕ, List};
+ghost use Rattle.std.specs.Prelude.{◌≡◌, ◌<◌, ◌≤◌, ◌⊎◌, ◌++◌, true, false, All, Some, None, Ok, Err, IfOk, IfErr, IfSome, OnOk, OnErr, length, ℕ, List};
 ghost use Rattle.std.specs.Io.KnownBytes.{IsAtEnd, Keeps};
+ghost use Rattle.csv_edge.specs.Entries.{entries_of};
+ghost use Rattle.csv_edge.specs.TextColumns.{IsAllowed};
 ghost use Rattle.csv_model.specs.Reading.{records_of};
 ghost use Rattle.fmt_string.specs.Kinds.{KindOk};
 ghost use Rattle.edge_io.specs.Edge.{LosesPrefix, Rose};
 ghost use Rattle.unit_pass.specs.Tally.{risen};
 ghost use Rattle.unit_pass.specs.declared.pass.TheConstants.{SUPPLY};
 ghost use Rattle.words.specs.Words.{texts_of, words_of};
-ghost use Rattle.pipe_top.specs.Answer.{Asks, Fault, IsAnswer, IsAnswerTo, Text, answer_of_bytes, answer_to, first_typed, input_limit, status_of};
+ghost use Rattle.pipe_top.specs.Answer.{Asks, Fault, IsAnswer, IsAnswerTo, Text, answer_of_bytes, answer_to, input_limit, status_of};
 ghost use Rattle.pipe_top.specs.Outcomes.{AtWriteFault, GotFirst, GotText, asked_of, fault_in, is_decided, is_early, is_write_fault, wants_audit};
 ghost use Rattle.pipe_top.specs.Told.{Told, audit_if};
 ghost use Rattle.pipe_top.specs.Traffic.{run_blocks, run_nodes};
+ghost use Rattle.stage_plan.specs.declared.types.TypeEntry.{TypeEntry as AnEntry};
 ghost use Rattle.pipe_top.specs.declared.fault.RunFault.{RunFault as AFault};
 
 use crate::answer::answer_input;
@@ -39,9 +42,9 @@ pub struct Outcome {
 
 /// Reads the source to its end and writes the text of the table that it spells.
 ///
-/// `words` are those after the program's name: `[--schema TEXT] [--audit]`. Columns hold UTF-8 text; an empty field is a
-/// null. A schema text may ask for text columns alone, `u`, until columns of other types are read. The header's names are
-/// UTF-8 and differ, there are at most 1,024 of them, and each entry of the schema text names one of them.
+/// `words` are those after the program's name: `[--schema TEXT] [--audit]`. A column holds values of the type that the
+/// schema text asks for, and UTF-8 text where it asks for none; an empty field is a null. The header's names are UTF-8 and
+/// differ, there are at most 1,024 of them, and each entry of the schema text names one of them.
 ///
 /// The first of these faults is told: of the words, of the schema text, of reading, of the header, of the records.
 ///
@@ -77,8 +80,10 @@ pub fn run<S: Source, K: Sink, E: Sink>(
     ensures prefix { LosesPrefix (S.left source.old) (S.left source.new) }
     // Nothing is left, and on success as many blocks and nodes were made as the table needs.
     ensures audit { result.audit.left ≡ 0 }
-    ensures audit_blocks { result.fault ≡ None → IfSome (S.left source.old) (λ bytes. result.audit.blocks ≡ risen 0 (run_blocks (records_of bytes))) }
-    ensures audit_nodes { result.fault ≡ None → IfSome (S.left source.old) (λ bytes. result.audit.nodes ≡ risen 0 (run_nodes (records_of bytes))) }
+    ensures audit_blocks { result.fault ≡ None → IfSome (S.left source.old) (λ bytes. (entries : List AnEntry) → Asks (texts_of words.now) (Ok entries)
+        → result.audit.blocks ≡ risen 0 (run_blocks (entries_of entries) (records_of bytes))) }
+    ensures audit_nodes { result.fault ≡ None → IfSome (S.left source.old) (λ bytes. (entries : List AnEntry) → Asks (texts_of words.now) (Ok entries)
+        → result.audit.nodes ≡ risen 0 (run_nodes (entries_of entries) (records_of bytes))) }
     // The sink of diagnostics took the fault's line and then the audit's where the words ask for it, or the first bytes
     // of that where its own faults rose. Without memory the audit's line may be missing.
     ensures diagnostics { Told (E.taken errs.old) (E.taken errs.new) (E.faults errs.old) (E.faults errs.new) result.fault (audit_if (wants_audit (words_of (texts_of words.now))) result.audit) }
@@ -169,7 +174,7 @@ fn carry_out<S: Source, K: Sink>(
 ) -> Result<(), RunFault>
     requires units { pass.old.units ≡ SUPPLY }
     requires proper { IfOk entries (λ v. All (λ e. KindOk e.kind) v.items) }
-    requires texts { IfOk entries (λ v. first_typed v.items ≡ None) }
+    requires allowed { IfOk entries (λ v. All (λ e. IsAllowed e.kind) v.items) }
     requires early { IfErr entries (λ fault. (is_early fault ≡ true) ⊎ (fault ≡ RunFault.NoMemory)) }
     ensures text { OnOk result (IfSome (S.left source.old) (λ bytes. GotText (IsAnswerTo (asked_of entries) bytes) (K.taken sink.old) (K.taken sink.new))) }
     ensures text_read_to_end { OnOk result (IsAtEnd (S.left source.new)) }
@@ -184,8 +189,8 @@ fn carry_out<S: Source, K: Sink>(
     ensures unwritten { IfErr result (λ fault. is_write_fault fault ≡ false → Keeps (K.taken sink.old) (K.taken sink.new)) }
     ensures prefix { LosesPrefix (S.left source.old) (S.left source.new) }
     ensures units { pass.new.units ≡ pass.old.units }
-    ensures blocks { OnOk result (IfSome (S.left source.old) (λ bytes. pass.new.blocks ≡ risen pass.old.blocks (run_blocks (records_of bytes)))) }
-    ensures nodes { OnOk result (IfSome (S.left source.old) (λ bytes. pass.new.nodes ≡ risen pass.old.nodes (run_nodes (records_of bytes)))) }
+    ensures blocks { OnOk result (IfSome (S.left source.old) (λ bytes. IfOk entries (λ v. pass.new.blocks ≡ risen pass.old.blocks (run_blocks (entries_of v.items) (records_of bytes))))) }
+    ensures nodes { OnOk result (IfSome (S.left source.old) (λ bytes. IfOk entries (λ v. pass.new.nodes ≡ risen pass.old.nodes (run_nodes (entries_of v.items) (records_of bytes))))) }
 {
     let entries = entries?;
     let bytes = read_input(alloc, source)?;

@@ -1,13 +1,63 @@
-use Rattle.std.proofs.Common.{◌∙◌, rules}
+use Rattle.std.proofs.Common.{◌∙◌, ◌+◌, ap, map, subst, sym}
+use Rattle.csv_model.specs.Text.{table_text}
+use Rattle.pipe_top.specs.Traffic.{chunk_blocks_of, chunk_nodes_of, schema_nodes}
+use Rattle.csv_edge.specs.Body.{HoldsBody}
+use Rattle.csv_edge.specs.Chunks.{HoldRows}
+use Rattle.csv_edge.specs.Entries.{entries_of}
+use Rattle.csv_edge.specs.TextColumns.{AreAllowed, AreProper}
 use Rattle.csv_model.specs.Reading.{records_of}
-use Rattle.pipe_top.proofs.TextEntries.{texts-answer, texts-fault}
+use Rattle.fmt_string.specs.ColumnView.{column_of}
+use Rattle.unit_pass.specs.Tally.{risen}
+use Rattle.pipe_top.specs.Answer.{Text}
+use Rattle.pipe_top.proofs.Bodies.{blocks-are, fault-answer, nodes-are, text-answer}
+use Rattle.pipe_top.proofs.Widths.{body-widths}
 use Rattle.pipe_top.proofs.answer.answer_input.Goals as goal
+
+pub body_columns-requires-clause-proper : goal.body_columns-requires-clause-proper
+body_columns-requires-clause-proper c = subst (λ columns. AreProper (map column_of columns)) (sym c.deref.ensures.value) c.in_ok-columns.ensures.proper
+
+pub body_columns-requires-clause-allowed : goal.body_columns-requires-clause-allowed
+body_columns-requires-clause-allowed c = subst (λ columns. AreAllowed (map column_of columns)) (sym c.deref.ensures.value) c.in_ok-columns.ensures.allowed
+
+pub table_text-requires-clause-proper : goal.table_text-requires-clause-proper
+table_text-requires-clause-proper c = subst (λ columns. AreProper (map column_of columns)) (sym c.deref-2.ensures.value) c.in_ok-columns.ensures.proper
+
+pub table_text-requires-clause-allowed : goal.table_text-requires-clause-allowed
+table_text-requires-clause-allowed c = subst (λ columns. AreAllowed (map column_of columns)) (sym c.deref-2.ensures.value) c.in_ok-columns.ensures.allowed
+
+pub table_text-requires-clause-held : goal.table_text-requires-clause-held
+table_text-requires-clause-held c =
+    let held = subst (λ columns. HoldsBody c.in_ok-builders.builders.items (map column_of columns) (records_of c.args.bytes.now)) c.deref.ensures.value c.in_ok-builders.ensures.held in
+    let columns = map column_of c.in_ok-columns.columns.items in
+    let rows : HoldRows c.in_ok-builders.builders.items columns held.rows = record { held = held.held; widths = body-widths columns _ held.rows held.spelled } in
+    (held.rows, subst (λ items. HoldRows c.in_ok-builders.builders.items (map column_of items) held.rows) (sym c.deref-2.ensures.value) rows, held.few)
 
 pub returns-clause-text : goal.returns-clause-text
 returns-clause-text c =
-    texts-answer c.args.entries.now (records_of c.args.bytes.now) _ c.requires.texts c.in_ok-_columns.ensures.found ∙ c.in_ok-text.ensures.text
+    let held = subst (λ columns. HoldsBody c.in_ok-builders.builders.items (map column_of columns) (records_of c.args.bytes.now)) c.deref.ensures.value c.in_ok-builders.ensures.held in
+    let columns = map column_of c.in_ok-columns.columns.items in
+    let rows : HoldRows c.in_ok-builders.builders.items columns held.rows = record { held = held.held; widths = body-widths columns _ held.rows held.spelled } in
+    let lent = subst (λ items. HoldRows c.in_ok-builders.builders.items (map column_of items) held.rows) (sym c.deref-2.ensures.value) rows in
+    let written = c.in_ok-text.ensures.text held.rows lent held.few in
+    let same = ap (λ items. Text (table_text (record { columns = map column_of items; rows = held.rows }))) c.deref-2.ensures.value in
+    text-answer (entries_of c.args.entries.now) (records_of c.args.bytes.now) columns c.in_ok-columns.ensures.found held.rows held.spelled ∙ sym same ∙ ap Text (sym written)
 
-pub returns-in_err-text-clause-fault : goal.returns-in_err-text-clause-fault
-returns-in_err-text-clause-fault c =
-    let told = texts-fault c.args.entries.now (records_of c.args.bytes.now) _ _ c.requires.texts c.in_ok-_columns.ensures.found c.in_err-text.ensures.fault in
-    search (rules, told)
+pub returns-clause-blocks : goal.returns-clause-blocks
+returns-clause-blocks c =
+    let held = subst (λ columns. HoldsBody c.in_ok-builders.builders.items (map column_of columns) (records_of c.args.bytes.now)) c.deref.ensures.value c.in_ok-builders.ensures.held in
+    let columns = map column_of c.in_ok-columns.columns.items in
+    let rows : HoldRows c.in_ok-builders.builders.items columns held.rows = record { held = held.held; widths = body-widths columns _ held.rows held.spelled } in
+    let lent = subst (λ items. HoldRows c.in_ok-builders.builders.items (map column_of items) held.rows) (sym c.deref-2.ensures.value) rows in
+    c.in_ok-text.ensures.blocks held.rows lent
+    ∙ ap (λ items. risen c.args.pass.now.blocks (chunk_blocks_of (map column_of items) held.rows)) c.deref-2.ensures.value
+    ∙ ap (risen c.args.pass.now.blocks) (sym (blocks-are (entries_of c.args.entries.now) (records_of c.args.bytes.now) columns c.in_ok-columns.ensures.found held.rows held.spelled))
+
+pub returns-clause-nodes : goal.returns-clause-nodes
+returns-clause-nodes c =
+    let held = subst (λ columns. HoldsBody c.in_ok-builders.builders.items (map column_of columns) (records_of c.args.bytes.now)) c.deref.ensures.value c.in_ok-builders.ensures.held in
+    let columns = map column_of c.in_ok-columns.columns.items in
+    let rows : HoldRows c.in_ok-builders.builders.items columns held.rows = record { held = held.held; widths = body-widths columns _ held.rows held.spelled } in
+    let lent = subst (λ items. HoldRows c.in_ok-builders.builders.items (map column_of items) held.rows) (sym c.deref-2.ensures.value) rows in
+    c.in_ok-text.ensures.nodes held.rows lent
+    ∙ ap (λ items. risen c.args.pass.now.nodes (schema_nodes (map column_of items) + chunk_nodes_of (map column_of items) held.rows)) c.deref-2.ensures.value
+    ∙ ap (risen c.args.pass.now.nodes) (sym (nodes-are (entries_of c.args.entries.now) (records_of c.args.bytes.now) columns c.in_ok-columns.ensures.found held.rows held.spelled))

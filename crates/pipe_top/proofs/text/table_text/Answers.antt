@@ -1,18 +1,30 @@
-use Rattle.std.proofs.Common.{◌<◌, ◌++◌, ◌∙◌, map, length, ap, sym, append-nil, arith}
-use Rattle.std.specs.List.{concat}
-use Rattle.csv.specs.Records.{fields_of}
-use Rattle.csv.specs.Writing.{default_writer, row_text}
-use Rattle.unit_pass.specs.Tally.{risen}
-use Rattle.pipe_top.proofs.Tables.{blocks-are, no-rows}
+use Rattle.std.proofs.Common.{map}
+use Rattle.csv_model.specs.Text.{header_text}
+use Rattle.fmt_string.specs.ColumnView.{column_of}
+use Rattle.pipe_top.specs.Rows.{IsSchemaOf}
+use Rattle.pipe_top.proofs.Columns.{have-kinds, have-texts}
 use Rattle.pipe_top.proofs.text.table_text.Goals as goal
 
-pub returns-then-table-eq0-clause-text : goal.returns-then-table-eq0-clause-text
-returns-then-table-eq0-clause-text c rows is =
-    let none = no-rows rows (omega (arith, is.height, c.if-table-eq0.true)) in
-    let header = row_text default_writer (fields_of c.args.table.header) in
-    c.in_ok-text.ensures _ c.in_ok-writer.ensures ∙ sym (append-nil header) ∙ ap (λ rs. header ++ concat (map (row_text default_writer) rs)) (sym none)
+pub new-requires : goal.new-requires
+new-requires c = have-texts (map column_of c.args.columns.now) c.requires.proper c.requires.allowed
 
-pub returns-clause-blocks : goal.returns-clause-blocks
-returns-clause-blocks c rows is =
-    let some : 0 < length rows = omega (arith, is.height, c.if-table-eq0.false) in
-    c.in_ok-write_table.ensures.blocks ∙ ap (risen c.args.pass.now.blocks) (blocks-are c.args.table rows is some)
+pub write_rows-requires-clause-held : goal.write_rows-requires-clause-held
+write_rows-requires-clause-held c =
+    let columns = map column_of c.args.columns.now in
+    let (rows, holds, few) = c.requires.held in
+    let schema : IsSchemaOf c.in_ok-schema.schema columns = record {
+      is = c.in_ok-schema.ensures.schema;
+      kinds = have-kinds columns c.requires.proper c.requires.allowed;
+      not_deep = c.make_schema.ensures.depth;
+    } in
+    (columns, rows, header_text columns, schema, holds, few, c.in_ok-text.ensures)
+
+pub returns-clause-text : goal.returns-clause-text
+returns-clause-text c rows holds few =
+    let columns = map column_of c.args.columns.now in
+    let schema : IsSchemaOf c.in_ok-schema.schema columns = record {
+      is = c.in_ok-schema.ensures.schema;
+      kinds = have-kinds columns c.requires.proper c.requires.allowed;
+      not_deep = c.make_schema.ensures.depth;
+    } in
+    c.in_ok-text-2.ensures columns _ (c.in_ok-write_rows.ensures.text columns rows (header_text columns) schema holds few c.in_ok-text.ensures)

@@ -1,0 +1,119 @@
+-- Columns and tables as array trees ("The Arrow C Data Interface", "The ArrowArray structure"; "Arrow Columnar Format",
+-- "Dictionary-encoded Layout" and "Struct Layout").
+use Rattle.std.specs.Prelude.{◌≡◌, ◌≤◌, ◌<◌, ℕ, pos, List, [], ◌∷◌, map, get_or, Option, None, Some, All}
+use Rattle.fmt_string.specs.declared.kind.DataType.{DataType}
+use Rattle.fmt_string.specs.declared.kind.DataType.TheVariants as kinds
+use Rattle.fmt_string.specs.Table.{Row}
+use Rattle.fmt_string.specs.Value.{Value, Null, Whole}
+use Rattle.tree_model.specs.Tree.{Live, no_trees, trees, absent, maybe_tree, IsLive, Depth}
+use Rattle.raw_array.specs.Members.{Buffer, ArrayMembers, ArrayTree, whole}
+use Rattle.raw_array.specs.declared.array.ReleaseKind.TheVariants.{Exported, Assembled}
+use Rattle.col_build.specs.Encoding.{Fits, encoded}
+use Rattle.col_build.specs.Finished.{IsEncoded}
+use Rattle.col_build.specs.declared.built.Built.{Built}
+use Rattle.layout_check.specs.Kinds.{KindTree}
+use Rattle.layout_check.specs.Values.{each, field_items, tree_items, value_at, values_of}
+use Rattle.layout_check.specs.Walk.{LayoutOk}
+
+-- ---- a column
+
+-- a buffer that is the whole of a new block
+abbrev pub made : List ℕ → Buffer
+made bytes = record { bytes = bytes; amount = whole }
+
+abbrev pub made_if : Option (List ℕ) → Option Buffer
+made_if None = None
+made_if (Some bytes) = Some (made bytes)
+
+abbrev pub made_buffers : List (Option (List ℕ)) → List (Option Buffer)
+made_buffers [] = []
+made_buffers (bytes ∷ buffers) = made_if bytes ∷ made_buffers buffers
+
+-- the encoding of the values, from its first item on
+abbrev pub column_members : DataType → List Value → ArrayMembers
+column_members kind values = record {
+  length = pos (encoded kind values).length;
+  null_count = pos (encoded kind values).null_count;
+  offset = pos 0;
+  buffers = made_buffers (encoded kind values).buffers;
+  kind = Exported;
+}
+
+abbrev pub column_tree : DataType → List Value → Option ArrayTree → ArrayTree
+column_tree kind values dictionary = Live (column_members kind values) no_trees (maybe_tree dictionary)
+
+-- the type of a column
+abbrev pub flat_type : DataType → Option KindTree → KindTree
+flat_type kind dictionary = Live kind no_trees (maybe_tree dictionary)
+
+-- ---- indices into a dictionary
+
+abbrev pub IsIndexKind : DataType → Type 0
+IsIndexKind (kinds.Int bits signed) = Unit {0}
+IsIndexKind _ = ⊥
+
+-- null, or one of so many places
+abbrev pub IsPlaceOf : ℕ → Value → Type 0
+IsPlaceOf total Null = Unit {0}
+IsPlaceOf total (Whole (pos place)) = place < total
+IsPlaceOf total _ = ⊥
+
+-- the values are indices into the dictionary
+pub record AreIndices (kind : DataType) (values : List Value) (dictionary : ArrayTree) : Type 0 where
+  pub kind_ok : IsIndexKind kind
+  pub live : IsLive dictionary
+  pub not_deep : Depth dictionary ≤ 127
+  pub places : All (IsPlaceOf (tree_items dictionary)) values
+
+abbrev pub AreIndicesIf : DataType → List Value → Option ArrayTree → Type 0
+AreIndicesIf kind values None = Unit {0}
+AreIndicesIf kind values (Some dictionary) = AreIndices kind values dictionary
+
+-- the finished column has these values, which are indices where there is a dictionary
+pub record HasValues (built : Built) (dictionary : Option ArrayTree) (kind : DataType) (values : List Value) : Type 0 where
+  pub is_encoded : IsEncoded built kind values
+  pub fits : Fits kind values
+  pub indices : AreIndicesIf kind values dictionary
+
+-- null, or what a dictionary of these values has at an index
+abbrev pub looked_up : List Value → Value → Value
+looked_up entries (Whole (pos place)) = get_or entries place Null
+looked_up entries _ = Null
+
+-- ---- a table
+
+-- a struct with as many items as there are rows, none of them null
+abbrev pub table_members : ℕ → ArrayMembers
+table_members rows = record { length = pos rows; null_count = pos 0; offset = pos 0; buffers = None ∷ []; kind = Assembled }
+
+abbrev pub table_tree : ℕ → List ArrayTree → ArrayTree
+table_tree rows columns = Live (table_members rows) (trees columns) absent
+
+abbrev pub table_type : List KindTree → KindTree
+table_type types = Live kinds.Struct (trees types) absent
+
+-- a column that a table of so many rows may have
+pub record IsColumn (rows : ℕ) (column : ArrayTree) : Type 0 where
+  pub live : IsLive column
+  pub not_deep : Depth column ≤ 127
+  pub long : rows ≤ tree_items column
+
+-- there is a lawful column for each type, and no type is released
+abbrev pub AreLawful : List KindTree → List ArrayTree → Type 0
+AreLawful [] [] = Unit {0}
+AreLawful (type ∷ types) (column ∷ columns) = IsLive type × LayoutOk type column × AreLawful types columns
+AreLawful _ _ = ⊥
+
+-- the columns have these values
+abbrev pub HaveValues : List KindTree → List ArrayTree → List (List Value) → Type 0
+HaveValues [] [] [] = Unit {0}
+HaveValues (type ∷ types) (column ∷ columns) (values ∷ others) = (values_of type column ≡ values) × HaveValues types columns others
+HaveValues _ _ _ = ⊥
+
+-- the first rows of columns: row i is item i of each column
+abbrev pub rows_of_columns : List KindTree → List ArrayTree → ℕ → List Row
+rows_of_columns types columns rows = each (field_items (map value_at types) columns) 0 rows
+
+-- the same by the columns' values
+abbrev pub rows_of_values : List (List Value) → ℕ → List Row
+rows_of_values columns rows = each (λ i. map (λ values. get_or values i Null) columns) 0 rows

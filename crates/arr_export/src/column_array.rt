@@ -1,0 +1,72 @@
+//! The array of a column.
+ghost use Rattle.std.specs.Prelude.{◌≡◌, ◌+◌, ◌-◌, ◌^◌, ◌<◌, ◌≤◌, List, length, if◌then◌else◌, is_ok, IfOk, IfErr};
+ghost use Rattle.unit_pass.specs.Tally.{risen};
+ghost use Rattle.fmt_string.specs.Value.{Value};
+ghost use Rattle.fmt_string.specs.declared.kind.DataType.{DataType};
+ghost use Rattle.col_build.specs.Finished.{IsEncoded};
+ghost use Rattle.arr_export.specs.ArrayTrees.{HasValues, column_tree};
+
+use col_build::Built;
+use raw_array::{ArrayParts, RawArray, ReleaseKind};
+use std::alloc::Global;
+use unit_pass::{NoMemory, Pass};
+
+/// A finished column as a live array, which owns its buffers and the dictionary, where there is one ("The Arrow C Data
+/// Interface", "The ArrowArray structure"; "Arrow Columnar Format", "Dictionary-encoded Layout"). No byte is copied. It
+/// draws one unit and counts one node. On want of memory the column and the dictionary come back.
+pub fn export_column(
+    alloc: Global,
+    built: Built,
+    dictionary: Option<RawArray>,
+    pass: &mut Pass,
+) -> Result<RawArray, (Built, Option<RawArray>, NoMemory)>
+    requires units { 1 ≤ pass.old.units }
+    requires holds { (kind : DataType) × (values : List Value) × HasValues built dictionary kind values }
+    ensures tree { IfOk result (λ tree. (kind : DataType) (values : List Value) → IsEncoded built kind values → tree ≡ column_tree kind values dictionary) }
+    ensures kind_back { IfErr result (λ back. back.0.kind ≡ built.kind) }
+    ensures length_back { IfErr result (λ back. back.0.length ≡ built.length) }
+    ensures null_count_back { IfErr result (λ back. back.0.null_count ≡ built.null_count) }
+    ensures buffers_back { IfErr result (λ back. back.0.buffers.items ≡ built.buffers.items) }
+    ensures dictionary_back { IfErr result (λ back. back.1 ≡ dictionary) }
+    ensures units { pass.new.units + (if is_ok result then 1 else 0) ≡ pass.old.units }
+    ensures nodes { pass.new.nodes ≡ (if is_ok result then risen pass.old.nodes 1 else pass.old.nodes) }
+    ensures blocks { pass.new.blocks ≡ pass.old.blocks }
+{
+    let Built {
+        kind,
+        length,
+        null_count,
+        buffers,
+    } = built;
+    let parts = ArrayParts {
+        length,
+        null_count,
+        offset: 0,
+        buffers,
+        children: Vec::new(alloc),
+        dictionary,
+        kind: ReleaseKind::Exported,
+    };
+    match RawArray::build(alloc, parts, pass) {
+        Ok(tree) => Ok(tree),
+        Err((parts, NoMemory)) => {
+            let ArrayParts {
+                length,
+                null_count,
+                offset: _,
+                buffers,
+                children,
+                dictionary,
+                kind: _,
+            } = parts;
+            children.destroy_empty();
+            let built = Built {
+                kind,
+                length,
+                null_count,
+                buffers,
+            };
+            Err((built, dictionary, NoMemory))
+        }
+    }
+}

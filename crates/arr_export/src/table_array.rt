@@ -1,0 +1,87 @@
+//! The array of a table.
+ghost use Rattle.std.specs.Prelude.{◌≡◌, ◌+◌, ◌-◌, ◌^◌, ◌<◌, ◌≤◌, ◌≤ℤ◌, pos, [], ◌∷◌, length, None, All, if◌then◌else◌, is_ok, IfOk, IfErr};
+ghost use Rattle.unit_pass.specs.Tally.{risen};
+ghost use Rattle.layout_check.specs.Layout.{natural};
+ghost use Rattle.arr_export.specs.ArrayTrees.{IsColumn, table_tree};
+
+use buf_block::BufView;
+use raw_array::{ArrayParts, RawArray, ReleaseKind};
+use std::alloc::Global;
+use unit_pass::{NoMemory, Pass};
+
+// The buffers of a struct of which no item is null: an absent validity bitmap.
+fn no_validity(alloc: Global) -> Result<Vec<Option<BufView>>, NoMemory>
+    ensures { IfOk result (λ buffers. buffers.items ≡ None ∷ []) }
+{
+    let Ok(mut buffers) = Vec::with_capacity(alloc, 1) else {
+        return Err(NoMemory);
+    };
+    match buffers.push(None) {
+        Ok(()) => Ok(buffers),
+        Err(_) => unreachable!(),
+    }
+}
+
+// Such buffers have no hold to be let go.
+fn end_no_validity(mut buffers: Vec<Option<BufView>>)
+    requires { buffers.items ≡ None ∷ [] }
+{
+    match buffers.pop() {
+        Some(Some(_view)) => unreachable!(),
+        Some(None) | None => {}
+    }
+    buffers.destroy_empty();
+}
+
+/// A table: a live struct of these columns with so many rows, none of them null ("Arrow Columnar Format", "Struct
+/// Layout"). Columns that are longer stand in it as they are. It draws one unit and counts one node. On want of memory the
+/// columns come back.
+pub fn export_table(
+    alloc: Global,
+    columns: Vec<RawArray>,
+    rows: i64,
+    pass: &mut Pass,
+) -> Result<RawArray, (Vec<RawArray>, NoMemory)>
+    requires units { 1 ≤ pass.old.units }
+    requires some { pos 0 ≤ℤ rows }
+    requires few_rows { rows ≤ℤ pos (2 ^ 40) }
+    requires few_columns { length columns.items < 2 ^ 32 - 1 }
+    requires columns { All (IsColumn (natural rows)) columns.items }
+    ensures tree { IfOk result (λ tree. tree ≡ table_tree (natural rows) columns.items) }
+    ensures columns_back { IfErr result (λ back. back.0.items ≡ columns.items) }
+    ensures units { pass.new.units + (if is_ok result then 1 else 0) ≡ pass.old.units }
+    ensures nodes { pass.new.nodes ≡ (if is_ok result then risen pass.old.nodes 1 else pass.old.nodes) }
+    ensures blocks { pass.new.blocks ≡ pass.old.blocks }
+{
+    let Ok(buffers) = no_validity(alloc) else {
+        return Err((columns, NoMemory));
+    };
+    let parts = ArrayParts {
+        length: rows,
+        null_count: 0,
+        offset: 0,
+        buffers,
+        children: columns,
+        dictionary: None,
+        kind: ReleaseKind::Assembled,
+    };
+    match RawArray::build(alloc, parts, pass) {
+        Ok(tree) => Ok(tree),
+        Err((parts, NoMemory)) => {
+            let ArrayParts {
+                length: _,
+                null_count: _,
+                offset: _,
+                buffers,
+                children,
+                dictionary,
+                kind: _,
+            } = parts;
+            end_no_validity(buffers);
+            match dictionary {
+                None => Err((children, NoMemory)),
+                Some(_tree) => unreachable!(),
+            }
+        }
+    }
+}

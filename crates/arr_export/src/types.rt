@@ -1,0 +1,17 @@
+//! The types that the schema of columns names.
+ghost use Rattle.std.specs.Prelude.{◌≤◌, List, All};
+ghost use Rattle.fmt_string.specs.Table.{Column};
+ghost use Rattle.tree_model.specs.Tree.{Depth};
+ghost use Rattle.layout_check.specs.Schemas.{TypedOf};
+ghost use Rattle.arr_export.specs.ColumnKinds.{AreColumnKinds, type_of_columns};
+ghost use Rattle.arr_export.specs.ColumnSchema.{SchemaOf};
+
+use fmt_string::spelling_reads_back;
+
+/// A law: the schema of columns meets the schema rules, and its types are those of the columns ("The Arrow C Data
+/// Interface", "The ArrowSchema structure").
+pub fn column_schemas_are_lawful()
+    ensures { (columns : List Column) → All (λ c. AreColumnKinds c.kind) columns → Depth (SchemaOf columns) ≤ 64 → TypedOf (SchemaOf columns) (type_of_columns columns) }
+{
+    spelling_reads_back();
+}

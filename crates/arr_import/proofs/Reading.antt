@@ -1,0 +1,417 @@
+-- The items of an array by how its type is stored.
+use Rattle.std.proofs.Common.{◌≡◌, ℕ, zero, suc, ◌+◌, ◌*◌, ◌/◌, ◌<◌, ◌≤◌, Bool, true, false, List, [], ◌∷◌, length, get_or, map, Option, None, Some, inl, inr, refl, ap, ◌∙◌, sym, subst, true≢false, arith}
+use Rattle.std.specs.Prelude.{◌⊎◌, IsTrue, if◌then◌else◌}
+use Rattle.std.specs.Global.{Box}
+use Rattle.std.proofs.lemmas.Bool.{cases_eq}
+use Rattle.std.proofs.lemmas.List.{get_or-map, length-map}
+use Rattle.std.proofs.Math.Logic.{∥∥₁_elim, ∥∥₁_map}
+use Rattle.std.proofs.Props.{props}
+use Rattle.fmt_string.specs.declared.kind.DataType.{DataType}
+use Rattle.fmt_string.specs.declared.kind.DataType.TheVariants as kinds
+use Rattle.fmt_string.specs.declared.kind.Tick.{Tick}
+use Rattle.fmt_string.specs.declared.kind.Tick.TheVariants as ticks
+use Rattle.fmt_string.specs.Kinds.{KindOk}
+use Rattle.fmt_string.specs.Value.{values}
+use Rattle.fmt_string.specs.Value.Value.{Null, Fields}
+use Rattle.bit_pack.specs.Packed.{IsWidth}
+use Rattle.tree_model.specs.Tree.{Released, Live, IsLive, absent, present, trees, maybe_tree, tree_list, children_of, child_at, dictionary_of}
+use Rattle.raw_array.specs.Members.{ArrayMembers, ArrayTree, members_of}
+use Rattle.layout_check.specs.declared.typed.Typed.{Typed, out-Typed}
+use Rattle.layout_check.specs.declared.layout.Layout.TheVariants.{ByChildren}
+use Rattle.layout_check.specs.Kinds.{KindTree, levels, NodesOk, AllNodesOk, DictNodesOk, KidsOk, DictOk, IsOneChild, IsPairOfColumns}
+use Rattle.layout_check.specs.TypedView.{typed_of, kind_of, kids_of, dict_in}
+use Rattle.layout_check.specs.Layout.{layout_of, time_width, bytes, first, is_valid}
+use Rattle.layout_check.specs.Values.{Reader, each, child_item, field_items, row_items, item, item_or_entry, value_at, readers, reader_of, tree_items}
+use Rattle.layout_check.specs.Within.{StoredWithin, ItemsWithin, IndexWithin}
+use Rattle.arr_import.specs.declared.shape.Shape.{Shape}
+use Rattle.arr_import.specs.Shapes.{shape_of, shaped_item, IsThere, NumberThere, IsListShape, AreItemsThere, shape_index, IsIndexThere}
+use Rattle.arr_import.specs.Window.{Window, Home, IsDictionary, IsStruct, IsStructValue, index_at, home_from, home_of}
+
+pub item-shaped : (kind : DataType) (kids : List Reader) (own : ArrayMembers) (children : List ArrayTree) (i : ℕ) → item kind kids own children i ≡ shaped_item (shape_of kind) kids own children i
+item-shaped kinds.Null kids own children i = refl
+item-shaped kinds.Bool kids own children i = refl
+item-shaped (kinds.Int width signed) kids own children i = refl
+item-shaped (kinds.Float width) kids own children i = refl
+item-shaped (kinds.Binary wide) kids own children i = refl
+item-shaped (kinds.Utf8 wide) kids own children i = refl
+item-shaped (kinds.FixedBinary size) kids own children i = refl
+item-shaped (kinds.Decimal precision scale false) kids own children i = refl
+item-shaped (kinds.Decimal precision scale true) kids own children i = refl
+item-shaped kinds.DateDay kids own children i = refl
+item-shaped kinds.DateMilli kids own children i = refl
+item-shaped (kinds.TimeOfDay tick) kids own children i = refl
+item-shaped (kinds.Timestamp tick zone) kids own children i = refl
+item-shaped (kinds.Duration tick) kids own children i = refl
+item-shaped kinds.IntervalMonths kids own children i = refl
+item-shaped kinds.IntervalDayTime kids own children i = refl
+item-shaped kinds.IntervalMonthDayNano kids own children i = refl
+item-shaped (kinds.List wide) kids own children i = refl
+item-shaped (kinds.FixedList size) kids own children i = refl
+item-shaped kinds.Struct kids own children i = refl
+item-shaped kinds.Map kids own children i = refl
+
+-- ---- the widths of numbers
+
+int_width : (bits : ℕ) → ∥ (bits ≡ 8) ⊎ (bits ≡ 16) ⊎ (bits ≡ 32) ⊎ (bits ≡ 64) ∥₁ → IsWidth (bits / 8) × (bits / 8 < 16)
+int_width bits h =
+    elim (cases_eq bits 8) [
+      | inl e ↦ (inl (omega (arith, e)), omega (arith, e))
+      | inr a ↦ elim (cases_eq bits 16) [
+        | inl e ↦ (inr (inl (omega (arith, e))), omega (arith, e))
+        | inr b ↦ elim (cases_eq bits 32) [
+          | inl e ↦ (inr (inr (inl (omega (arith, e)))), omega (arith, e))
+          | inr c ↦ elim (cases_eq bits 64) [
+            | inl e ↦ (inr (inr (inr (inl (omega (arith, e))))), omega (arith, e))
+            | inr d ↦ absurd (∥∥₁_elim h (hlevel props) (λ s. elim s [ inl e ↦ a e | inr s ↦ elim s [ inl e ↦ b e | inr s ↦ elim s [ inl e ↦ c e | inr e ↦ d e ] ] ]))
+          ]
+        ]
+      ]
+    ]
+
+float_width : (bits : ℕ) → ∥ (bits ≡ 16) ⊎ (bits ≡ 32) ⊎ (bits ≡ 64) ∥₁ → IsWidth (bits / 8) × (bits / 8 < 16)
+float_width bits h =
+    int_width bits (∥∥₁_map h (λ s. inr s))
+
+narrow : (width : ℕ) (signed : Bool) → width < 16 → width ≡ 16 → IsTrue signed
+narrow width signed h e = absurd (omega (arith, h, e))
+
+time-there : (tick : Tick) (stored : List ℕ) (place : ℕ) → (place + 1) * time_width tick ≤ length stored → NumberThere (time_width tick) true stored place
+time-there ticks.Second stored place h = record { width_is = inr (inr (inl refl)); widest = λ e. refl; there = h }
+time-there ticks.Milli stored place h = record { width_is = inr (inr (inl refl)); widest = λ e. refl; there = h }
+time-there ticks.Micro stored place h = record { width_is = inr (inr (inr (inl refl))); widest = λ e. refl; there = h }
+time-there ticks.Nano stored place h = record { width_is = inr (inr (inr (inl refl))); widest = λ e. refl; there = h }
+
+four-there : (stored : List ℕ) (place : ℕ) → (place + 1) * 4 ≤ length stored → NumberThere 4 true stored place
+four-there stored place h = time-there ticks.Second stored place h
+
+eight-there : (stored : List ℕ) (place : ℕ) → (place + 1) * 8 ≤ length stored → NumberThere 8 true stored place
+eight-there stored place h = time-there ticks.Nano stored place h
+
+-- what a lawful array's buffers have of an item, by how the type is stored
+there : (kind : DataType) (own : ArrayMembers) (place : ℕ) → ∥ KindOk kind ∥₁ → StoredWithin (layout_of kind) own place → IsThere (shape_of kind) (bytes own 1) (bytes own 2) place
+there kinds.Null own place ok h = tt
+there kinds.Bool own place ok h = h
+there (kinds.Int bits signed) own place ok h = record { width_is = (int_width bits ok).0; widest = narrow (bits / 8) signed (int_width bits ok).1; there = h }
+there (kinds.Float bits) own place ok h = record { width_is = (float_width bits ok).0; widest = narrow (bits / 8) false (float_width bits ok).1; there = h }
+there (kinds.Binary wide) own place ok h = (record { there = h.0.there; from = h.0.from; rise = h.0.rise }, h.1)
+there (kinds.Utf8 wide) own place ok h = (record { there = h.0.there; from = h.0.from; rise = h.0.rise }, h.1)
+there (kinds.FixedBinary size) own place ok h = h
+there (kinds.Decimal precision scale false) own place ok h = record { width_is = inr (inr (inr (inr refl))); widest = λ e. refl; there = h }
+there (kinds.Decimal precision scale true) own place ok h = h
+there kinds.DateDay own place ok h = four-there (bytes own 1) place h
+there kinds.DateMilli own place ok h = eight-there (bytes own 1) place h
+there (kinds.TimeOfDay tick) own place ok h = time-there tick (bytes own 1) place h
+there (kinds.Timestamp tick zone) own place ok h = eight-there (bytes own 1) place h
+there (kinds.Duration tick) own place ok h = eight-there (bytes own 1) place h
+there kinds.IntervalMonths own place ok h = four-there (bytes own 1) place h
+there kinds.IntervalDayTime own place ok h = h
+there kinds.IntervalMonthDayNano own place ok h = h
+there (kinds.List wide) own place ok h = record { there = h.there; from = h.from; rise = h.rise }
+there (kinds.FixedList size) own place ok h = tt
+there kinds.Struct own place ok h = tt
+there kinds.Map own place ok h = record { there = h.there; from = h.from; rise = h.rise }
+
+pub item-there : (kind : DataType) (shape : Shape) (own : ArrayMembers) (stored text : List ℕ) (place : ℕ) → shape ≡ shape_of kind → stored ≡ bytes own 1 → text ≡ bytes own 2
+    → ∥ KindOk kind ∥₁ → StoredWithin (layout_of kind) own place → IsThere shape stored text place
+item-there kind shape own stored text place s b t ok h =
+    subst (λ a. IsThere a stored text place) (sym s)
+    (subst (λ a. IsThere (shape_of kind) a text place) (sym b)
+    (subst (λ a. IsThere (shape_of kind) (bytes own 1) a place) (sym t) (there kind own place ok h)))
+
+-- ---- a node of kinds that is in order
+
+pub kind-ok : (t : Typed) → typed_of t ≡ Live (kind_of t) (trees (kids_of t)) (maybe_tree (dict_in (out-Typed t).dict)) → ∥ NodesOk (typed_of t) ∥₁ → ∥ KindOk (kind_of t) ∥₁
+kind-ok t e h = ∥∥₁_map h (λ ok. (subst NodesOk e ok).0)
+
+all-nodes-ok : (t : Typed) → typed_of t ≡ Live (kind_of t) (trees (kids_of t)) (maybe_tree (dict_in (out-Typed t).dict)) → NodesOk (typed_of t) → AllNodesOk (trees (kids_of t))
+all-nodes-ok t e ok = (subst NodesOk e ok).3
+
+each-ok : (kids : List Typed) (k : ℕ) (d : Typed) → k < length kids → AllNodesOk (trees (map typed_of kids)) → NodesOk (typed_of (get_or kids k d))
+each-ok [] k d h ok = absurd (omega (arith, h))
+each-ok (t ∷ ts) zero d h ok = ok.0
+each-ok (t ∷ ts) (suc k) d h ok = each-ok ts k d (omega (arith, h)) ok.1
+
+pub kid-ok : (t : Typed) → typed_of t ≡ Live (kind_of t) (trees (kids_of t)) (maybe_tree (dict_in (out-Typed t).dict)) → (k : ℕ) (kid : Typed)
+    → k < length (out-Typed t).kids.items → kid ≡ get_or (out-Typed t).kids.items k kid → ∥ NodesOk (typed_of t) ∥₁ → ∥ NodesOk (typed_of kid) ∥₁
+kid-ok t e k kid h is ok =
+    ∥∥₁_map ok (λ nodes. subst (λ u. NodesOk (typed_of u)) (sym is) (each-ok (out-Typed t).kids.items k kid h (all-nodes-ok t e nodes)))
+
+-- the kid at a place has the tree at the place
+pub kid-tree : (kids : List Typed) (k : ℕ) (kid : Typed) → k < length kids → kid ≡ get_or kids k kid → get_or (map typed_of kids) k Released ≡ typed_of kid
+kid-tree kids k kid h is = get_or-map typed_of kids k kid Released h ∙ ap typed_of (sym is)
+
+-- ---- the one child of a list
+
+one-of : (kids : List KindTree) (P : KindTree → Type 0) → IsOneChild (trees kids) P → length kids ≡ 1
+one-of [] P h = absurd h
+one-of (kid ∷ []) P h = refl
+one-of (kid ∷ other ∷ others) P h = absurd h
+
+one-kid : (kind : DataType) (kids : List KindTree) → KidsOk kind (trees kids) → IsListShape (shape_of kind) → length kids ≡ 1
+one-kid (kinds.List wide) kids ok h = one-of kids (λ kid. Unit {0}) ok
+one-kid (kinds.FixedList size) kids ok h = one-of kids (λ kid. Unit {0}) ok
+one-kid kinds.Map kids ok h = one-of kids IsPairOfColumns ok
+one-kid (kinds.Decimal precision scale false) kids ok h = absurd h
+one-kid (kinds.Decimal precision scale true) kids ok h = absurd h
+one-kid kind kids ok h = absurd h
+
+pub one-child : (t : Typed) → typed_of t ≡ Live (kind_of t) (trees (kids_of t)) (maybe_tree (dict_in (out-Typed t).dict))
+    → (shape : Shape) → shape ≡ shape_of (kind_of t) → IsListShape shape → ∥ NodesOk (typed_of t) ∥₁ → length (kids_of t) ≡ 1
+one-child t e shape s list ok =
+    ∥∥₁_elim ok (hlevel props) (λ nodes. one-kid (kind_of t) (kids_of t) (subst NodesOk e nodes).1 (subst IsListShape s list))
+
+items-there : (kind : DataType) (own : ArrayMembers) (place total : ℕ) → ItemsWithin (layout_of kind) own place total → AreItemsThere (shape_of kind) (bytes own 1) place total
+items-there (kinds.List wide) own place total h = h
+items-there (kinds.FixedList size) own place total h = h
+items-there kinds.Map own place total h = h
+items-there (kinds.Decimal precision scale false) own place total h = tt
+items-there (kinds.Decimal precision scale true) own place total h = tt
+items-there kind own place total h = tt
+
+pub are-items-there : (kind : DataType) (shape : Shape) (own : ArrayMembers) (stored : List ℕ) (place total : ℕ) → shape ≡ shape_of kind → stored ≡ bytes own 1
+    → ItemsWithin (layout_of kind) own place total → AreItemsThere shape stored place total
+are-items-there kind shape own stored place total s b h =
+    subst (λ a. AreItemsThere a stored place total) (sym s) (subst (λ a. AreItemsThere (shape_of kind) a place total) (sym b) (items-there kind own place total h))
+
+-- the items of the one child
+pub each-child : (kids : List KindTree) (children : List ArrayTree) (a n : ℕ) → 0 < length kids → 0 < length children
+    → each (child_item (readers (trees kids)) children) a n ≡ each (value_at (get_or kids 0 Released) (get_or children 0 Released)) a n
+each-child [] children a n h l = absurd (omega (arith, h))
+each-child (kid ∷ kids) [] a n h l = absurd (omega (arith, l))
+each-child (kid ∷ kids) (child ∷ rest) a n h l = refl
+
+-- ---- the items of an array, by what its node has
+
+at-node : (kind : DataType) (kids : List KindTree) (dict : Option KindTree) (array : ArrayTree) (j : ℕ) → IsLive array
+    → value_at (Live kind (trees kids) (maybe_tree dict)) array j
+    ≡ (if is_valid (members_of array) j then item_or_entry (reader_of (maybe_tree dict)) kind (readers (trees kids)) (members_of array) (children_of array) (dictionary_of array) j else Null)
+at-node kind kids dict Released j live = absurd live
+at-node kind kids dict (Live own children dictionary) j live = refl
+
+value-node : (t : Typed) → typed_of t ≡ Live (kind_of t) (trees (kids_of t)) (maybe_tree (dict_in (out-Typed t).dict)) → (array : ArrayTree) (j : ℕ) → IsLive array
+    → value_at (typed_of t) array j
+    ≡ (if is_valid (members_of array) j then item_or_entry (reader_of (maybe_tree (dict_in (out-Typed t).dict))) (kind_of t) (readers (trees (kids_of t))) (members_of array) (children_of array) (dictionary_of array) j else Null)
+value-node t e array j live = ap (λ k. value_at k array j) e ∙ at-node (kind_of t) (kids_of t) (dict_in (out-Typed t).dict) array j live
+
+pub value-null : (t : Typed) → typed_of t ≡ Live (kind_of t) (trees (kids_of t)) (maybe_tree (dict_in (out-Typed t).dict)) → (array : ArrayTree) (j : ℕ) → IsLive array
+    → is_valid (members_of array) j ≡ false → value_at (typed_of t) array j ≡ Null
+value-null t e array j live n =
+    value-node t e array j live
+    ∙ ap (λ b. if b then item_or_entry (reader_of (maybe_tree (dict_in (out-Typed t).dict))) (kind_of t) (readers (trees (kids_of t))) (members_of array) (children_of array) (dictionary_of array) j else Null) n
+
+valid-node : (t : Typed) → typed_of t ≡ Live (kind_of t) (trees (kids_of t)) (maybe_tree (dict_in (out-Typed t).dict)) → (array : ArrayTree) (j : ℕ) → IsLive array
+    → is_valid (members_of array) j ≡ true
+    → value_at (typed_of t) array j ≡ item_or_entry (reader_of (maybe_tree (dict_in (out-Typed t).dict))) (kind_of t) (readers (trees (kids_of t))) (members_of array) (children_of array) (dictionary_of array) j
+valid-node t e array j live v =
+    value-node t e array j live
+    ∙ ap (λ b. if b then item_or_entry (reader_of (maybe_tree (dict_in (out-Typed t).dict))) (kind_of t) (readers (trees (kids_of t))) (members_of array) (children_of array) (dictionary_of array) j else Null) v
+
+-- without a dictionary, by how the type is stored
+pub value-item : (t : Typed) → typed_of t ≡ Live (kind_of t) (trees (kids_of t)) (maybe_tree (dict_in (out-Typed t).dict)) → (array : ArrayTree) (j : ℕ) → IsLive array
+    → is_valid (members_of array) j ≡ true → dict_in (out-Typed t).dict ≡ None → (shape : Shape) → shape ≡ shape_of (kind_of t)
+    → value_at (typed_of t) array j ≡ shaped_item shape (readers (trees (kids_of t))) (members_of array) (children_of array) j
+value-item t e array j live v none shape s =
+    valid-node t e array j live v
+    ∙ ap (λ d. item_or_entry (reader_of (maybe_tree d)) (kind_of t) (readers (trees (kids_of t))) (members_of array) (children_of array) (dictionary_of array) j) none
+    ∙ item-shaped (kind_of t) (readers (trees (kids_of t))) (members_of array) (children_of array) j
+    ∙ ap (λ a. shaped_item a (readers (trees (kids_of t))) (members_of array) (children_of array) j) (sym s)
+
+-- ---- a dictionary stands behind whole numbers
+
+abbrev pub is_int : DataType → Bool
+is_int (kinds.Int bits signed) = true
+is_int _ = false
+
+int-behind : (kind : DataType) (dict : KindTree) → DictOk kind (present dict) → is_int kind ≡ true
+int-behind (kinds.Int bits signed) dict ok = refl
+int-behind kind dict ok = absurd ok
+
+pub index-int : (t : Typed) → typed_of t ≡ Live (kind_of t) (trees (kids_of t)) (maybe_tree (dict_in (out-Typed t).dict)) → (dict : KindTree)
+    → dict_in (out-Typed t).dict ≡ Some dict → ∥ NodesOk (typed_of t) ∥₁ → is_int (kind_of t) ≡ true
+index-int t e dict d ok =
+    ∥∥₁_elim ok (hlevel props) (λ nodes. int-behind (kind_of t) dict (subst (λ o. DictOk (kind_of t) (maybe_tree o)) d (subst NodesOk e nodes).2))
+
+index-shaped : (kind : DataType) (own : ArrayMembers) (j : ℕ) → is_int kind ≡ true → index_at kind own j ≡ shape_index (shape_of kind) own j
+index-shaped (kinds.Int bits signed) own j h = refl
+index-shaped kind own j h = absurd (true≢false (sym h))
+
+entry-shaped : (kind : DataType) (dict : KindTree) (kids : List Reader) (own : ArrayMembers) (children : List ArrayTree) (dictionary : ArrayTree) (j : ℕ) → is_int kind ≡ true
+    → item_or_entry (Some (value_at dict)) kind kids own children (Some dictionary) j ≡ value_at dict dictionary (shape_index (shape_of kind) own j)
+entry-shaped (kinds.Int bits signed) dict kids own children dictionary j h = refl
+entry-shaped kind dict kids own children dictionary j h = absurd (true≢false (sym h))
+
+within-shaped : (kind : DataType) (own : ArrayMembers) (j : ℕ) (dictionary : ArrayTree) → is_int kind ≡ true → is_valid own j ≡ true → IndexWithin kind own j dictionary
+    → IsIndexThere (shape_of kind) own j (tree_items dictionary)
+within-shaped (kinds.Int bits signed) own j dictionary h v w = w v
+within-shaped kind own j dictionary h v w = absurd (true≢false (sym h))
+
+pub index-there : (kind : DataType) (shape : Shape) (own : ArrayMembers) (j : ℕ) (dictionary : ArrayTree) → shape ≡ shape_of kind → is_int kind ≡ true → is_valid own j ≡ true → IndexWithin kind own j dictionary
+    → IsIndexThere shape own j (tree_items dictionary)
+index-there kind shape own j dictionary s h v w = subst (λ a. IsIndexThere a own j (tree_items dictionary)) (sym s) (within-shaped kind own j dictionary h v w)
+
+pub index-is : (kind : DataType) (shape : Shape) (own : ArrayMembers) (j : ℕ) → shape ≡ shape_of kind → is_int kind ≡ true → index_at kind own j ≡ shape_index shape own j
+index-is kind shape own j s h = index-shaped kind own j h ∙ ap (λ a. shape_index a own j) (sym s)
+
+-- the value of an item with an index is the dictionary's at the index
+pub value-entry : (t : Typed) → typed_of t ≡ Live (kind_of t) (trees (kids_of t)) (maybe_tree (dict_in (out-Typed t).dict)) → (array : ArrayTree) (j : ℕ) → IsLive array
+    → is_valid (members_of array) j ≡ true → (dict : KindTree) (dictionary : ArrayTree) → dict_in (out-Typed t).dict ≡ Some dict → dictionary_of array ≡ Some dictionary
+    → (shape : Shape) → shape ≡ shape_of (kind_of t) → is_int (kind_of t) ≡ true
+    → value_at (typed_of t) array j ≡ value_at dict dictionary (shape_index shape (members_of array) j)
+value-entry t e array j live v dict dictionary d a shape s h =
+    valid-node t e array j live v
+    ∙ ap (λ o. item_or_entry (reader_of (maybe_tree o)) (kind_of t) (readers (trees (kids_of t))) (members_of array) (children_of array) (dictionary_of array) j) d
+    ∙ ap (λ o. item_or_entry (Some (value_at dict)) (kind_of t) (readers (trees (kids_of t))) (members_of array) (children_of array) o j) a
+    ∙ entry-shaped (kind_of t) dict (readers (trees (kids_of t))) (members_of array) (children_of array) dictionary j h
+    ∙ ap (λ b. value_at dict dictionary (shape_index b (members_of array) j)) (sym s)
+
+behind-ok : (d : Option (Box Typed)) (box : Box Typed) → d ≡ Some box → DictNodesOk (maybe_tree (dict_in d)) → NodesOk (typed_of box.value)
+behind-ok d box e ok = subst (λ o. DictNodesOk (maybe_tree (dict_in o))) e ok
+
+pub dict-ok : (t : Typed) → typed_of t ≡ Live (kind_of t) (trees (kids_of t)) (maybe_tree (dict_in (out-Typed t).dict)) → (box : Box Typed) → (out-Typed t).dict ≡ Some box
+    → ∥ NodesOk (typed_of t) ∥₁ → ∥ NodesOk (typed_of box.value) ∥₁
+dict-ok t e box d ok = ∥∥₁_map ok (λ nodes. behind-ok (out-Typed t).dict box d (subst NodesOk e nodes).4)
+
+-- ---- the home of an item
+
+home-node : (kind : DataType) (kids : List KindTree) (dict : KindTree) (array dictionary : ArrayTree) (start count i : ℕ) → IsLive array → dictionary_of array ≡ Some dictionary
+    → is_valid (members_of array) (start + i) ≡ true
+    → home_from (Live kind (trees kids) (maybe_tree (Some dict))) array start count i ≡ home_from dict dictionary 0 (tree_items dictionary) (index_at kind (members_of array) (start + i))
+home-node kind kids dict Released dictionary start count i live a v = absurd live
+home-node kind kids dict (Live own children absent) dictionary start count i live a v = absurd (cc)
+home-node kind kids dict (Live own children (present behind)) dictionary start count i live a v =
+    let same : behind ≡ dictionary = cc in
+    ap (λ b. if b then home_from dict behind 0 (tree_items behind) (index_at kind own (start + i)) else here) v
+    ∙ ap (λ d. home_from dict d 0 (tree_items d) (index_at kind own (start + i))) same
+  where
+    here : Home
+    here = record { window = record { typed = Live kind (trees kids) (present dict); array = Live own children (present behind); start = start; count = count }; place = i }
+
+-- an index that isn't null goes on to the dictionary
+pub home-entry : (t : Typed) → typed_of t ≡ Live (kind_of t) (trees (kids_of t)) (maybe_tree (dict_in (out-Typed t).dict)) → (array : ArrayTree) (start count i : ℕ) → IsLive array
+    → is_valid (members_of array) (start + i) ≡ true → (w : Window) → IsDictionary w (dict_in (out-Typed t).dict) (dictionary_of array)
+    → home_from (typed_of t) array start count i ≡ home_of w (index_at (kind_of t) (members_of array) (start + i))
+home-entry t e array start count i live v w d =
+    ap (λ k. home_from k array start count i) e
+    ∙ ap (λ o. home_from (Live (kind_of t) (trees (kids_of t)) (maybe_tree o)) array start count i) d.typed
+    ∙ home-node (kind_of t) (kids_of t) w.typed array w.array start count i live d.array v
+    ∙ ap (λ u. home_of u (index_at (kind_of t) (members_of array) (start + i))) (sym d.whole)
+
+-- else the item is at home
+home-null_node : (kind : DataType) (kids : List KindTree) (dict : Option KindTree) (array : ArrayTree) (start count i : ℕ) → is_valid (members_of array) (start + i) ≡ false
+    → home_from (Live kind (trees kids) (maybe_tree dict)) array start count i ≡ record { window = record { typed = Live kind (trees kids) (maybe_tree dict); array = array; start = start; count = count }; place = i }
+home-null_node kind kids None array start count i n = refl
+home-null_node kind kids (Some dict) Released start count i n = refl
+home-null_node kind kids (Some dict) (Live own children absent) start count i n = refl
+home-null_node kind kids (Some dict) (Live own children (present dictionary)) start count i n =
+    ap (λ b. if b then home_from dict dictionary 0 (tree_items dictionary) (index_at kind own (start + i)) else here) n
+  where
+    here : Home
+    here = record { window = record { typed = Live kind (trees kids) (present dict); array = Live own children (present dictionary); start = start; count = count }; place = i }
+
+home-plain_node : (kind : DataType) (kids : List KindTree) (dict : Option KindTree) (array : ArrayTree) (start count i : ℕ) → dict ≡ None
+    → home_from (Live kind (trees kids) (maybe_tree dict)) array start count i ≡ record { window = record { typed = Live kind (trees kids) (maybe_tree dict); array = array; start = start; count = count }; place = i }
+home-plain_node kind kids None array start count i n = refl
+home-plain_node kind kids (Some dict) array start count i n = absurd (cc)
+
+pub home-null : (t : Typed) → typed_of t ≡ Live (kind_of t) (trees (kids_of t)) (maybe_tree (dict_in (out-Typed t).dict)) → (array : ArrayTree) (start count i : ℕ)
+    → is_valid (members_of array) (start + i) ≡ false
+    → home_from (typed_of t) array start count i ≡ record { window = record { typed = typed_of t; array = array; start = start; count = count }; place = i }
+home-null t e array start count i n =
+    ap (λ k. home_from k array start count i) e
+    ∙ home-null_node (kind_of t) (kids_of t) (dict_in (out-Typed t).dict) array start count i n
+    ∙ ap (λ k. record { window = record { typed = k; array = array; start = start; count = count }; place = i }) (sym e)
+
+pub home-plain : (t : Typed) → typed_of t ≡ Live (kind_of t) (trees (kids_of t)) (maybe_tree (dict_in (out-Typed t).dict)) → (array : ArrayTree) (start count i : ℕ)
+    → dict_in (out-Typed t).dict ≡ None
+    → home_from (typed_of t) array start count i ≡ record { window = record { typed = typed_of t; array = array; start = start; count = count }; place = i }
+home-plain t e array start count i n =
+    ap (λ k. home_from k array start count i) e
+    ∙ home-plain_node (kind_of t) (kids_of t) (dict_in (out-Typed t).dict) array start count i n
+    ∙ ap (λ k. record { window = record { typed = k; array = array; start = start; count = count }; place = i }) (sym e)
+
+-- a dictionary has fewer levels
+fewer : (kind : DataType) (kids : List KindTree) (dict : Option KindTree) (w : KindTree) → dict ≡ Some w → levels w < levels (Live kind (trees kids) (maybe_tree dict))
+fewer kind kids None w d = absurd (cc)
+fewer kind kids (Some dict) w d =
+    let same : dict ≡ w = cc in
+    subst (λ u. levels w < levels (Live kind (trees kids) (present u))) (sym same) (omega arith)
+
+pub fewer-levels : (t : Typed) → typed_of t ≡ Live (kind_of t) (trees (kids_of t)) (maybe_tree (dict_in (out-Typed t).dict)) → (w : KindTree) → dict_in (out-Typed t).dict ≡ Some w → levels w < levels (typed_of t)
+fewer-levels t e w d = subst (λ k. levels w < levels k) (sym e) (fewer (kind_of t) (kids_of t) (dict_in (out-Typed t).dict) w d)
+
+pub ruleset homes = (home-entry, home-null, home-plain, fewer-levels)
+
+-- ---- structs
+
+struct-layout : (kind : DataType) (kids : List KindTree) (dict : Option KindTree) → IsStruct (Live kind (trees kids) (maybe_tree dict)) → layout_of kind ≡ ByChildren
+struct-layout kinds.Struct kids dict h = refl
+struct-layout kind kids dict h = absurd h
+
+pub struct-typed : (t : Typed) → typed_of t ≡ Live (kind_of t) (trees (kids_of t)) (maybe_tree (dict_in (out-Typed t).dict)) → IsStruct (typed_of t) → layout_of (kind_of t) ≡ ByChildren
+struct-typed t e h = struct-layout (kind_of t) (kids_of t) (dict_in (out-Typed t).dict) (subst IsStruct e h)
+
+listed-trees : (kids : List KindTree) → tree_list (trees kids) ≡ kids
+listed-trees [] = refl
+listed-trees (kid ∷ kids) = ap (λ ks. kid ∷ ks) (listed-trees kids)
+
+-- the kids of a type are the children of its tree
+pub kids-typed : (t : Typed) → typed_of t ≡ Live (kind_of t) (trees (kids_of t)) (maybe_tree (dict_in (out-Typed t).dict)) → children_of (typed_of t) ≡ kids_of t
+kids-typed t e = ap children_of e ∙ listed-trees (kids_of t)
+
+field-at : (kids : List KindTree) (children : List ArrayTree) (k n : ℕ) → k < length kids → k < length children
+    → get_or (field_items (readers (trees kids)) children n) k Null ≡ value_at (get_or kids k Released) (get_or children k Released) n
+field-at [] children k n h l = absurd (omega (arith, h))
+field-at (kid ∷ kids) [] k n h l = absurd (omega (arith, l))
+field-at (kid ∷ kids) (child ∷ rest) zero n h l = refl
+field-at (kid ∷ kids) (child ∷ rest) (suc k) n h l = field-at kids rest k n (omega (arith, h)) (omega (arith, l))
+
+row-node : (kind : DataType) (kids : List KindTree) (dict : Option KindTree) (array : ArrayTree) (j : ℕ) → IsLive array
+    → row_items (Live kind (trees kids) (maybe_tree dict)) array j ≡ field_items (readers (trees kids)) (children_of array) (first (members_of array) + j)
+row-node kind kids dict Released j live = absurd live
+row-node kind kids dict (Live own children dictionary) j live = refl
+
+row-typed : (t : Typed) → typed_of t ≡ Live (kind_of t) (trees (kids_of t)) (maybe_tree (dict_in (out-Typed t).dict)) → (array : ArrayTree) (j : ℕ) → IsLive array
+    → row_items (typed_of t) array j ≡ field_items (readers (trees (kids_of t))) (children_of array) (first (members_of array) + j)
+row-typed t e array j live = ap (λ k. row_items k array j) e ∙ row-node (kind_of t) (kids_of t) (dict_in (out-Typed t).dict) array j live
+
+-- the k-th item of a row is the child's
+pub row-field : (t : Typed) → typed_of t ≡ Live (kind_of t) (trees (kids_of t)) (maybe_tree (dict_in (out-Typed t).dict)) → (array : ArrayTree) (j k : ℕ) → IsLive array
+    → k < length (kids_of t) → k < length (children_of array)
+    → get_or (row_items (typed_of t) array j) k Null ≡ value_at (get_or (kids_of t) k Released) (child_at array k) (first (members_of array) + j)
+row-field t e array j k live h l =
+    ap (λ r. get_or r k Null) (row-typed t e array j live)
+    ∙ field-at (kids_of t) (children_of array) k (first (members_of array) + j) h l
+
+item-row : (kind : DataType) (kids : List KindTree) (own : ArrayMembers) (children : List ArrayTree) (j : ℕ) → IsStructValue (item kind (readers (trees kids)) own children j)
+    → (kind ≡ kinds.Struct) × (item kind (readers (trees kids)) own children j ≡ Fields (values (field_items (readers (trees kids)) children (first own + j))))
+item-row kinds.Struct kids own children j h = (refl, refl)
+item-row (kinds.Decimal precision scale false) kids own children j h = absurd h
+item-row (kinds.Decimal precision scale true) kids own children j h = absurd h
+item-row kind kids own children j h = absurd h
+
+own-row : (t : Typed) → typed_of t ≡ Live (kind_of t) (trees (kids_of t)) (maybe_tree (dict_in (out-Typed t).dict)) → (array : ArrayTree) (j : ℕ) → IsLive array
+    → is_valid (members_of array) j ≡ true → dict_in (out-Typed t).dict ≡ None → IsStructValue (value_at (typed_of t) array j)
+    → IsStruct (typed_of t) × (value_at (typed_of t) array j ≡ Fields (values (row_items (typed_of t) array j)))
+own-row t e array j live v none h =
+    let is =
+    valid-node t e array j live v
+    ∙ ap (λ d. item_or_entry (reader_of (maybe_tree d)) (kind_of t) (readers (trees (kids_of t))) (members_of array) (children_of array) (dictionary_of array) j) none in
+    let row = item-row (kind_of t) (kids_of t) (members_of array) (children_of array) j (subst IsStructValue is h) in (
+      subst IsStruct (sym (e ∙ ap (λ k. Live k (trees (kids_of t)) (maybe_tree (dict_in (out-Typed t).dict))) row.0)) tt,
+      is ∙ row.1 ∙ ap (λ r. Fields (values r)) (sym (row-typed t e array j live)),
+    )
+
+-- the value of an item at home, where it is a struct's
+pub home-row : (t : Typed) → typed_of t ≡ Live (kind_of t) (trees (kids_of t)) (maybe_tree (dict_in (out-Typed t).dict)) → (array : ArrayTree) (j : ℕ) → IsLive array
+    → (is_valid (members_of array) j ≡ true → dict_in (out-Typed t).dict ≡ None) → IsStructValue (value_at (typed_of t) array j)
+    → IsStruct (typed_of t) × (value_at (typed_of t) array j ≡ Fields (values (row_items (typed_of t) array j)))
+home-row t e array j live own h = by (is_valid (members_of array) j) refl
+  where
+    by : (b : Bool) → is_valid (members_of array) j ≡ b → IsStruct (typed_of t) × (value_at (typed_of t) array j ≡ Fields (values (row_items (typed_of t) array j)))
+    by true v = own-row t e array j live v (own v) h
+    by false n = absurd (subst IsStructValue (value-null t e array j live n) h)
+
+pub children-count : (t : Typed) → typed_of t ≡ Live (kind_of t) (trees (kids_of t)) (maybe_tree (dict_in (out-Typed t).dict)) → length (children_of (typed_of t)) ≡ length (out-Typed t).kids.items
+children-count t e = ap length (kids-typed t e) ∙ length-map (out-Typed t).kids.items typed_of
+
+pub ruleset children = (children-count)

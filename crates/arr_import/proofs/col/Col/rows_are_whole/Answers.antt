@@ -1,0 +1,34 @@
+use Rattle.std.proofs.Common.{◌≡◌, ◌∙◌, ◌+◌, ℕ, zero, suc, List, [], ◌∷◌, Option, length, refl, ap, arith}
+use Rattle.fmt_string.specs.declared.kind.DataType.{DataType}
+use Rattle.tree_model.specs.Tree.{Released, Live, IsLive, trees, maybe_tree, children_of}
+use Rattle.raw_array.specs.Members.{ArrayTree, members_of}
+use Rattle.layout_check.specs.Kinds.{KindTree}
+use Rattle.layout_check.specs.Layout.{first}
+use Rattle.layout_check.specs.TypedView.{typed_of, kind_of, kids_of, dict_in}
+use Rattle.layout_check.specs.Values.{field_items, readers, row_items}
+use Rattle.layout_check.specs.declared.typed.Typed.{out-Typed}
+use Rattle.arr_import.proofs.Reading.{kids-typed}
+use Rattle.arr_import.proofs.col.Col.rows_are_whole.Goals as goal
+
+-- as many items as there are kids, where each has a child
+items-long : (kids : List KindTree) (children : List ArrayTree) (n : ℕ) → length children ≡ length kids → length (field_items (readers (trees kids)) children n) ≡ length kids
+items-long [] children n e = refl
+items-long (kid ∷ kids) [] n e = absurd (omega (arith, e))
+items-long (kid ∷ kids) (child ∷ rest) n e =
+    let fewer : length rest ≡ length kids = omega (arith, e) in
+    let more : length (field_items (readers (trees kids)) rest n) ≡ length kids = items-long kids rest n fewer in
+    omega (arith, more)
+
+row-long : (kind : DataType) (kids : List KindTree) (dict : Option KindTree) (array : ArrayTree) (j : ℕ) → IsLive array → length (children_of array) ≡ length kids
+    → length (row_items (Live kind (trees kids) (maybe_tree dict)) array j) ≡ length kids
+row-long kind kids dict Released j live e = absurd live
+row-long kind kids dict (Live own children dictionary) j live e = items-long kids (children_of (Live own children dictionary)) (first own + j) e
+
+pub returns : goal.returns
+returns c i =
+    let col = c.args.self.now in
+    let t = col.typed.now in
+    let long : length (row_items (typed_of t) col.array.now (col.start + i)) ≡ length (kids_of t) =
+    ap (λ k. length (row_items k col.array.now (col.start + i))) c.kinds_of_typed.ensures
+    ∙ row-long (kind_of t) (kids_of t) (dict_in (out-Typed t).dict) col.array.now (col.start + i) c.lawful_root.ensures.live c.lawful_root.ensures.children in
+    omega (arith, long, ap length (kids-typed t c.kinds_of_typed.ensures))

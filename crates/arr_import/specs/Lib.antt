@@ -1,0 +1,7 @@
+pub mod Lent
+pub mod Shapes
+pub mod Window
+pub mod Cols
+pub mod Shown
+pub mod Imports
+pub mod ImportFaults

@@ -1,0 +1,119 @@
+ghost use Rattle.std.specs.Prelude.{◌≡◌, IsTrue, is_none, ◌+◌, ◌<◌, ◌≤◌};
+ghost use Rattle.tree_model.specs.Tree.{IsLive};
+ghost use Rattle.raw_array.specs.Members.{members_of};
+ghost use Rattle.layout_check.specs.Kinds.{NodesOk};
+ghost use Rattle.layout_check.specs.TypedView.{typed_of, kind_of};
+ghost use Rattle.layout_check.specs.Layout.{buffer, bytes, first};
+ghost use Rattle.layout_check.specs.Walk.{first_fault};
+ghost use Rattle.layout_check.specs.Values.{tree_items};
+ghost use Rattle.arr_import.specs.Lent.{lent_bytes};
+ghost use Rattle.arr_import.specs.Shapes.{shape_of as shape_is};
+ghost use Rattle.std.proofs.Props.{props};
+
+use crate::shape::{Shape, shape_of};
+use layout_check::{Typed, lawful_has_no_fault, lawful_root};
+use raw_array::RawArray;
+
+/// A column: a window over the items of a lawful array, read in place. Its buffers are looked up once.
+#[derive(Clone, Copy)]
+pub struct Col<'a> {
+    pub(crate) typed: &'a Typed,
+    pub(crate) array: &'a RawArray,
+    /// The first item, counted in the array's own window.
+    pub(crate) start: u64,
+    pub(crate) count: u64,
+    /// The array's offset.
+    pub(crate) offset: u64,
+    pub(crate) shape: Shape,
+    pub(crate) validity: Option<&'a [u8]>,
+    pub(crate) stored: &'a [u8],
+    pub(crate) text: &'a [u8],
+    ghost lawful: { IsTrue (is_none (first_fault (typed_of typed.now) array.now)) },
+    ghost valid: { ∥ NodesOk (typed_of typed.now) ∥₁ },
+    ghost within: { start + count ≤ tree_items array.now },
+    ghost offset_is: { offset ≡ first (members_of array.now) },
+    ghost shape_ok: { shape ≡ shape_is (kind_of typed.now) } by { Prim.hlevel props },
+    ghost validity_is: { lent_bytes validity ≡ buffer (members_of array.now) 0 } by { Prim.hlevel props },
+    ghost stored_is: { stored.now ≡ bytes (members_of array.now) 1 },
+    ghost text_is: { text.now ≡ bytes (members_of array.now) 2 },
+}
+
+/// The validity bits, where there are some.
+fn validity_of(array: &RawArray) -> Option<&[u8]>
+    requires { IsLive array.now }
+    ensures { lent_bytes result ≡ buffer (members_of array.now) 0 }
+{
+    if array.n_buffers() > 0 {
+        array.buffer(0)
+    } else {
+        None
+    }
+}
+
+/// The bytes of a buffer, and none where it is absent or the layout has none.
+fn buffer_bytes(array: &RawArray, k: usize) -> &[u8]
+    requires live { IsLive array.now }
+    requires small { k < 3 }
+    ensures { result.now ≡ bytes (members_of array.now) k }
+{
+    if (k as i64) < array.n_buffers() {
+        match array.buffer(k) {
+            Some(bytes) => bytes,
+            None => &[],
+        }
+    } else {
+        &[]
+    }
+}
+
+impl<'a> Col<'a> {
+    ghost use Rattle.std.specs.Prelude.{pos};
+    ghost use Rattle.layout_check.specs.Kinds.{TypedOk};
+    ghost use Rattle.layout_check.specs.Walk.{LayoutOk};
+    ghost use Rattle.layout_check.specs.Values.{values_of};
+    ghost use Rattle.arr_import.specs.Window.{whole, items_of};
+    ghost use Rattle.arr_import.specs.Cols.{window_of};
+
+    /// All items of an array that [`layout_check::check_array`] accepted.
+    pub fn of(typed: &'a Typed, array: &'a RawArray) -> Col<'a>
+        requires lawful { LayoutOk (typed_of typed.now) array.now }
+        requires types { TypedOk (typed_of typed.now) }
+        ensures window { window_of result ≡ whole (typed_of typed.now) array.now }
+        ensures values { items_of (window_of result) ≡ values_of (typed_of typed.now) array.now }
+    {
+        lawful_has_no_fault(typed, array);
+        lawful_root(typed, array);
+        Col::window(typed, array, 0, array.length() as u64)
+    }
+
+    /// Some items of an array.
+    pub(crate) fn window(typed: &'a Typed, array: &'a RawArray, start: u64, count: u64) -> Col<'a>
+        requires lawful { IsTrue (is_none (first_fault (typed_of typed.now) array.now)) }
+        requires valid { ∥ NodesOk (typed_of typed.now) ∥₁ }
+        requires within { start + count ≤ tree_items array.now }
+        ensures { window_of result ≡ record { typed = typed_of typed.now; array = array.now; start = start; count = count } }
+    {
+        lawful_has_no_fault(typed, array);
+        lawful_root(typed, array);
+        Col {
+            typed,
+            array,
+            start,
+            count,
+            offset: array.offset() as u64,
+            shape: shape_of(&typed.kind),
+            validity: validity_of(array),
+            stored: buffer_bytes(array, 1),
+            text: buffer_bytes(array, 2),
+        }
+    }
+
+    /// The number of items.
+    pub fn len(&self) -> i64
+        ensures { result ≡ pos (window_of self.now).count }
+    {
+        lawful_has_no_fault(self.typed, self.array);
+        lawful_root(self.typed, self.array);
+        self.count as i64
+    }
+}

@@ -1,0 +1,155 @@
+//! The items of a column whose own values they are: no dictionary stands behind them.
+ghost use Rattle.std.specs.Prelude.{◌≡◌, ◌==◌, ◌+◌, ◌*◌, ◌<◌, ◌≤◌, ◌^◌, length, get_or};
+ghost use Rattle.bit_pack.specs.Packed.{bit};
+ghost use Rattle.raw_array.specs.Members.{members_of};
+ghost use Rattle.tree_model.specs.Tree.{Released, children_of, child_at, trees};
+ghost use Rattle.layout_check.specs.TypedView.{kind_of, kids_of};
+ghost use Rattle.layout_check.specs.Layout.{first, is_valid as is_valid_at};
+ghost use Rattle.layout_check.specs.Values.{each, child_item, listed, readers, tree_items};
+ghost use Rattle.arr_import.specs.Shapes.{shaped_item, IsThere, IsListShape, AreItemsThere};
+ghost use Rattle.arr_import.specs.declared.shape.Shape.TheVariants as shapes;
+ghost use Rattle.fmt_string.specs.Value.{values};
+ghost use Rattle.fmt_string.specs.Value.Value.{Items};
+ghost use Rattle.arr_import.specs.Window.{items_of};
+ghost use Rattle.arr_import.specs.Cols.{window_of};
+ghost use Rattle.arr_import.specs.Shown.{Shows};
+
+use crate::col::Col;
+use crate::shape::Shape;
+use crate::stored::{bits_at, bytes_at, start_at, text_at, truth_at, whole_at};
+use crate::value_ref::ValueRef;
+use bit_pack::bit_at;
+use layout_check::{
+    kinds_of_typed, lawful_has_no_fault, lawful_items_lie_within, lawful_parts, lawful_root,
+};
+
+impl<'a> Col<'a> {
+    /// What the buffers have of an item.
+    pub(crate) fn item_is_there(&self, i: u64)
+        requires { i < self.now.count }
+        ensures { IsThere self.now.shape self.now.stored.now self.now.text.now (first (members_of self.now.array.now) + (self.now.start + i)) }
+    {
+        kinds_of_typed(self.typed);
+        lawful_has_no_fault(self.typed, self.array);
+        lawful_items_lie_within(self.typed, self.array);
+    }
+
+    /// The place of an item in the buffers.
+    pub(crate) fn place(&self, i: u64) -> u64
+        requires { i < self.now.count }
+        ensures { result ≡ first (members_of self.now.array.now) + (self.now.start + i) }
+    {
+        lawful_has_no_fault(self.typed, self.array);
+        lawful_root(self.typed, self.array);
+        self.offset + (self.start + i)
+    }
+
+    pub(crate) fn is_valid(&self, i: u64) -> bool
+        requires { i < self.now.count }
+        ensures { result ≡ is_valid_at (members_of self.now.array.now) (self.now.start + i) }
+    {
+        lawful_has_no_fault(self.typed, self.array);
+        lawful_root(self.typed, self.array);
+        match self.validity {
+            Some(bits) => is_set(bits, self.place(i)),
+            None => true,
+        }
+    }
+}
+
+impl<'a> Col<'a> {
+    /// Some items of a child.
+    pub(crate) fn child_items(&self, k: usize, from: u64, count: u64) -> Col<'a>
+        requires inside { k < length (kids_of self.now.typed.now) }
+        requires within { from + count ≤ tree_items (child_at self.now.array.now k) }
+        ensures { window_of result ≡ record { typed = get_or (kids_of self.now.typed.now) k Released; array = child_at self.now.array.now k; start = from; count = count } }
+    {
+        kinds_of_typed(self.typed);
+        lawful_has_no_fault(self.typed, self.array);
+        lawful_root(self.typed, self.array);
+        lawful_parts(self.typed, self.array);
+        let kid = &self.typed.kids[k];
+        let child = self.array.child(k);
+        lawful_has_no_fault(kid, child);
+        Col::window(kid, child, from, count)
+    }
+}
+
+impl<'a> Col<'a> {
+    /// What the one child has of an item.
+    fn items_are_there(&self, i: u64)
+        requires inside { i < self.now.count }
+        requires list { IsListShape self.now.shape }
+        ensures one { length (kids_of self.now.typed.now) ≡ 1 }
+        ensures live { length (children_of self.now.array.now) ≡ 1 }
+        ensures few { tree_items (child_at self.now.array.now 0) ≤ 2 ^ 40 }
+        ensures items { AreItemsThere self.now.shape self.now.stored.now (first (members_of self.now.array.now) + (self.now.start + i)) (tree_items (child_at self.now.array.now 0)) }
+    {
+        kinds_of_typed(self.typed);
+        lawful_has_no_fault(self.typed, self.array);
+        lawful_root(self.typed, self.array);
+        lawful_parts(self.typed, self.array);
+        lawful_items_lie_within(self.typed, self.array);
+    }
+
+    /// The items between two offsets.
+    fn list(&self, wide: bool, i: u64) -> Col<'a>
+        requires inside { i < self.now.count }
+        requires shape { self.now.shape ≡ shapes.List wide }
+        ensures { listed wide (readers (trees (kids_of self.now.typed.now))) (members_of self.now.array.now) (children_of self.now.array.now) (self.now.start + i) ≡ Items (values (items_of (window_of result))) }
+    {
+        self.item_is_there(i);
+        self.items_are_there(i);
+        let place = self.place(i);
+        let here = start_at(wide, self.stored, place);
+        let next = start_at(wide, self.stored, place + 1);
+        self.child_items(0, here, next - here)
+    }
+
+    /// So many items for each item.
+    fn fixed_list(&self, size: u32, i: u64) -> Col<'a>
+        requires inside { i < self.now.count }
+        requires shape { self.now.shape ≡ shapes.FixedList size }
+        ensures { Items (values (each (child_item (readers (trees (kids_of self.now.typed.now))) (children_of self.now.array.now)) ((first (members_of self.now.array.now) + (self.now.start + i)) * size) size)) ≡ Items (values (items_of (window_of result))) }
+    {
+        self.items_are_there(i);
+        let place = self.place(i);
+        self.child_items(0, times(place, size), u64::from(size))
+    }
+
+    /// An item that isn't null, by how the type is stored.
+    pub(crate) fn item(&self, i: u64) -> ValueRef<'a>
+        requires { i < self.now.count }
+        ensures { Shows result (shaped_item self.now.shape (readers (trees (kids_of self.now.typed.now))) (members_of self.now.array.now) (children_of self.now.array.now) (self.now.start + i)) }
+    {
+        self.item_is_there(i);
+        let place = self.place(i);
+        match self.shape {
+            Shape::Nothing => ValueRef::Null,
+            Shape::Truth => ValueRef::Truth(truth_at(self.stored, place)),
+            Shape::Whole { width, signed } => {
+                ValueRef::Whole(whole_at(self.stored, place, width, signed))
+            }
+            Shape::Bits { width } => ValueRef::Bits(bits_at(self.stored, place, width)),
+            Shape::Fixed { width } => ValueRef::Bytes(bytes_at(self.stored, place, width)),
+            Shape::Text { wide } => ValueRef::Bytes(text_at(wide, self.stored, self.text, place)),
+            Shape::List { wide } => ValueRef::Items(self.list(wide, i)),
+            Shape::FixedList { size } => ValueRef::Items(self.fixed_list(size, i)),
+            Shape::Struct => ValueRef::Struct,
+        }
+    }
+}
+
+fn is_set(bits: &[u8], place: u64) -> bool
+    requires { place < 8 * length bits.now }
+    ensures { result ≡ (bit bits.now place == 1) }
+{
+    bit_at(bits, place as usize)
+}
+
+fn times(place: u64, size: u32) -> u64
+    requires { (place + 1) * size ≤ 2 ^ 40 }
+    ensures { result ≡ place * size }
+{
+    place * u64::from(size)
+}

@@ -1,0 +1,34 @@
+//! The values of lawful arrays, read in place ("Arrow Columnar Format", "Physical memory layout").
+//!
+//! - [`import`] takes a schema and an array that `layout_check` accepts, and keeps both; or it hands both back whole, with
+//!   the check's fault.
+//! - [`Col`] is a column: a window over the items of an array. [`Col::value`] shows an item: a null, a number, bytes that
+//!   are lent from the block, a list as the column of its items, or that it is a struct. [`Col::child`] is a struct's
+//!   child over the struct's window. [`Col::home`] follows an item through its dictionaries.
+//!
+//! Contracts see a column as a window (`specs/Window.antt`): the kinds, the array's tree, and which items of it. What an
+//! item is stands in `layout_check`'s `specs/Values.antt`; what a reference shows, in `specs/Shown.antt`.
+//!
+//! Nothing here but [`import`] takes memory, and nothing writes or copies bytes. A column looks its buffers up once, so
+//! that a text costs a bit, two offsets and a slice, whatever the length of the column; a list's items and a dictionary
+//! are columns that are made anew for each item that is read. Left to others: the units of the structures, which
+//! [`Imported::into_raw`] gives back, and whether the root is a table (`layout_check::check_chunk`).
+#![tactic(auto)]
+
+mod col;
+mod home;
+mod imported;
+mod item;
+mod rows;
+mod shape;
+mod stored;
+#[cfg(test)]
+mod tests;
+#[cfg(test)]
+mod trees;
+mod value;
+mod value_ref;
+
+pub use col::Col;
+pub use imported::{ImportFault, Imported, import};
+pub use value_ref::ValueRef;

@@ -1,0 +1,169 @@
+-- Columns with one more value still fit their offsets.
+use Rattle.std.proofs.Common.{◌≡◌, ◌∙◌, ◌+◌, ◌^◌, ◌<◌, ◌≤◌, ◌++◌, ℕ, Bool, true, false, List, [], ◌∷◌, length, refl, sym, ap, arith, add-zero, length-append}
+use Rattle.std.proofs.lemmas.Bool.Decides.{nat_tests}
+use Rattle.std.proofs.lemmas.List.{map-append}
+use Rattle.std.proofs.lemmas.List.Elements.{All-append, All-cons, All-nil}
+use Rattle.std.specs.Prelude.{not, nat_lt, ◌&&◌, if◌then◌else◌, map, Option, None, Some}
+use Rattle.std.specs.List.{concat, flat_map}
+use Rattle.fmt_string.specs.FieldText.{Form, Truths, Wholes, FloatBits, Text, HexBytes, SizedHex, Decimals, form_of}
+use Rattle.fmt_string.specs.Kinds.{KindOk}
+use Rattle.fmt_string.specs.Value.{Value, Null, Truth, Whole, Bits, Bytes, Items, Fields}
+use Rattle.fmt_string.specs.declared.kind.DataType.{DataType}
+use Rattle.col_build.specs.Encoding.{Fits, HasForm, are_within, byte_total, bytes_of, fault_if, is_form, is_storable, is_text, is_wide, is_within, push_fault, stored_item}
+use Rattle.col_build.specs.Holding.{HasBytes}
+use Rattle.col_build.specs.Shapes.{between_fault, shape_fault, shape_if, text_fault}
+use Rattle.col_build.specs.declared.item.PushFault.TheVariants.{WrongKind, OutOfRange, NotText}
+use Rattle.col_build.specs.declared.shape.Shape.{Shape}
+use Rattle.col_build.specs.declared.shape.Shape.TheVariants as shapes
+use Rattle.col_build.proofs.OffsetBytes.{concat-push}
+use Rattle.col_build.proofs.ShapeFacts.{fault-is}
+
+-- ---- the bytes of all items
+
+pub total-push : (values : List Value) (value : Value) → byte_total (values ++ value ∷ []) ≡ byte_total values + length (bytes_of value)
+total-push values value =
+    ap (λ (items : List (List ℕ)). length (concat items)) (map-append bytes_of values (value ∷ []))
+    ∙ ap length (concat-push (map bytes_of values) (bytes_of value)) ∙ length-append (concat (map bytes_of values)) (bytes_of value)
+
+item-le : (width : ℕ) (value : Value) → length (bytes_of value) ≤ length (stored_item width value)
+item-le width (Bytes bytes) = omega arith
+item-le width Null = omega arith
+item-le width (Truth truth) = omega arith
+item-le width (Whole number) = omega arith
+item-le width (Bits number) = omega arith
+item-le width (Items items) = omega arith
+item-le width (Fields fields) = omega arith
+
+total-le : (width : ℕ) (values : List Value) → byte_total values ≤ length (flat_map (stored_item width) values)
+total-le width [] = omega arith
+total-le width (value ∷ values) =
+    omega (arith, item-le width value, total-le width values, length-append (bytes_of value) (concat (map bytes_of values)), length-append (stored_item width value) (flat_map (stored_item width) values))
+
+-- no more bytes than there are in the buffer
+pub total-bounded : (shape : Shape) (values : List Value) (value : Value) (offsets bytes : List ℕ) (total : ℕ) → shape_fault shape total value ≡ None → byte_total values < 2 ^ 63
+    → HasBytes shape (values ++ value ∷ []) offsets bytes → length bytes < 2 ^ 63 → byte_total (values ++ value ∷ []) < 2 ^ 63
+total-bounded shapes.Truths values Null offsets bytes total taken few has small = omega (arith, total-push values Null)
+total-bounded shapes.Truths values (Truth truth) offsets bytes total taken few has small = omega (arith, total-push values (Truth truth))
+total-bounded shapes.Truths values (Whole number) offsets bytes total taken few has small = cc
+total-bounded shapes.Truths values (Bits number) offsets bytes total taken few has small = cc
+total-bounded shapes.Truths values (Bytes item) offsets bytes total taken few has small = cc
+total-bounded shapes.Truths values (Items items) offsets bytes total taken few has small = cc
+total-bounded shapes.Truths values (Fields fields) offsets bytes total taken few has small = cc
+total-bounded (shapes.Wholes width signed) values value offsets bytes total taken few has small = omega (arith, total-le width (values ++ value ∷ []), ap length has)
+total-bounded (shapes.Floats width) values value offsets bytes total taken few has small = omega (arith, total-le width (values ++ value ∷ []), ap length has)
+total-bounded (shapes.Sized size) values value offsets bytes total taken few has small = omega (arith, total-le size (values ++ value ∷ []), ap length has)
+total-bounded (shapes.Between wide text) values value offsets bytes total taken few has small = omega (arith, ap length has.1)
+
+-- ---- what is taken behind others is taken alone
+
+first : (text : Bool) (total : ℕ) (bytes : List ℕ) (reached : Bool) → nat_lt (total + length bytes) (2 ^ 31) ≡ reached → (if reached then text_fault text bytes else Some OutOfRange) ≡ None
+    → between_fault false text 0 bytes ≡ None
+first text total bytes true is taken =
+    let alone : nat_lt (0 + length bytes) (2 ^ 31) ≡ true = grind (arith, nat_tests) in
+    rw alone taken
+first text total bytes false is taken = cc
+
+alone : (shape : Shape) (total : ℕ) (value : Value) → shape_fault shape total value ≡ None → shape_fault shape 0 value ≡ None
+alone shapes.Truths total Null taken = taken
+alone shapes.Truths total (Truth t) taken = taken
+alone shapes.Truths total (Whole n) taken = taken
+alone shapes.Truths total (Bits n) taken = taken
+alone shapes.Truths total (Bytes b) taken = taken
+alone shapes.Truths total (Items vs) taken = taken
+alone shapes.Truths total (Fields vs) taken = taken
+alone (shapes.Wholes width signed) total Null taken = taken
+alone (shapes.Wholes width signed) total (Truth t) taken = taken
+alone (shapes.Wholes width signed) total (Whole n) taken = taken
+alone (shapes.Wholes width signed) total (Bits n) taken = taken
+alone (shapes.Wholes width signed) total (Bytes b) taken = taken
+alone (shapes.Wholes width signed) total (Items vs) taken = taken
+alone (shapes.Wholes width signed) total (Fields vs) taken = taken
+alone (shapes.Floats width) total Null taken = taken
+alone (shapes.Floats width) total (Truth t) taken = taken
+alone (shapes.Floats width) total (Whole n) taken = taken
+alone (shapes.Floats width) total (Bits n) taken = taken
+alone (shapes.Floats width) total (Bytes b) taken = taken
+alone (shapes.Floats width) total (Items vs) taken = taken
+alone (shapes.Floats width) total (Fields vs) taken = taken
+alone (shapes.Sized size) total Null taken = taken
+alone (shapes.Sized size) total (Truth t) taken = taken
+alone (shapes.Sized size) total (Whole n) taken = taken
+alone (shapes.Sized size) total (Bits n) taken = taken
+alone (shapes.Sized size) total (Bytes b) taken = taken
+alone (shapes.Sized size) total (Items vs) taken = taken
+alone (shapes.Sized size) total (Fields vs) taken = taken
+alone (shapes.Between true text) total Null taken = taken
+alone (shapes.Between true text) total (Truth t) taken = taken
+alone (shapes.Between true text) total (Whole n) taken = taken
+alone (shapes.Between true text) total (Bits n) taken = taken
+alone (shapes.Between true text) total (Bytes b) taken = taken
+alone (shapes.Between true text) total (Items vs) taken = taken
+alone (shapes.Between true text) total (Fields vs) taken = taken
+alone (shapes.Between false text) total Null taken = taken
+alone (shapes.Between false text) total (Truth t) taken = taken
+alone (shapes.Between false text) total (Whole n) taken = taken
+alone (shapes.Between false text) total (Bits n) taken = taken
+alone (shapes.Between false text) total (Bytes b) taken = first text total b (nat_lt (total + length b) (2 ^ 31)) refl taken
+alone (shapes.Between false text) total (Items vs) taken = taken
+alone (shapes.Between false text) total (Fields vs) taken = taken
+
+taken-alone : (kind : DataType) (values : List Value) (value : Value) → KindOk kind → HasForm (form_of kind) → push_fault kind values value ≡ None → push_fault kind [] value ≡ None
+taken-alone kind values value ok flat taken =
+    fault-is kind [] value ok flat ∙ alone (shape_if (is_wide kind) (form_of kind)) (byte_total values) value (sym (fault-is kind values value ok flat) ∙ taken)
+
+-- ---- the offsets reach
+
+reached : (is storable near text : Bool) → (if not is then Some WrongKind else if not (storable && near) then Some OutOfRange else if not text then Some NotText else None) ≡ None → near ≡ true
+reached false storable near text taken = cc
+reached true false near text taken = cc
+reached true true false text taken = cc
+reached true true true text taken = refl
+
+within-form : (wide : Bool) (form : Form) (values : List Value) (value : Value) → is_within wide form (byte_total values) ≡ true → fault_if wide (Some form) values value ≡ None
+    → is_within wide form (byte_total values + length (bytes_of value)) ≡ true
+within-form wide form values Null small taken = rw add-zero small
+within-form wide form values (Truth t) small taken = reached (is_form form (Truth t)) (is_storable form (Truth t)) (is_within wide form (byte_total values + 0)) (is_text form (Truth t)) taken
+within-form wide form values (Whole n) small taken = reached (is_form form (Whole n)) (is_storable form (Whole n)) (is_within wide form (byte_total values + 0)) (is_text form (Whole n)) taken
+within-form wide form values (Bits n) small taken = reached (is_form form (Bits n)) (is_storable form (Bits n)) (is_within wide form (byte_total values + 0)) (is_text form (Bits n)) taken
+within-form wide form values (Bytes b) small taken = reached (is_form form (Bytes b)) (is_storable form (Bytes b)) (is_within wide form (byte_total values + length b)) (is_text form (Bytes b)) taken
+within-form wide form values (Items vs) small taken = reached (is_form form (Items vs)) (is_storable form (Items vs)) (is_within wide form (byte_total values + 0)) (is_text form (Items vs)) taken
+within-form wide form values (Fields vs) small taken = reached (is_form form (Fields vs)) (is_storable form (Fields vs)) (is_within wide form (byte_total values + 0)) (is_text form (Fields vs)) taken
+
+within-kind : (wide : Bool) (form : Option Form) (values : List Value) (value : Value) → are_within wide form (byte_total values) ≡ true → fault_if wide form values value ≡ None
+    → are_within wide form (byte_total (values ++ value ∷ [])) ≡ true
+within-kind wide None values value small taken = refl
+within-kind wide (Some form) values value small taken = ap (is_within wide form) (total-push values value) ∙ within-form wide form values value small taken
+
+within-none : (wide : Bool) (form : Option Form) → are_within wide form 0 ≡ true
+within-none wide None = refl
+within-none true (Some form) = refl
+within-none false (Some Truths) = refl
+within-none false (Some (Wholes bits signed)) = refl
+within-none false (Some (FloatBits bits)) = refl
+within-none false (Some Text) = refl
+within-none false (Some HexBytes) = refl
+within-none false (Some (SizedHex size)) = refl
+within-none false (Some (Decimals precision places)) = refl
+
+-- ---- columns that fit
+
+pub fits-none : (kind : DataType) → KindOk kind → HasForm (form_of kind) → Fits kind []
+fits-none kind ok flat = record {
+  kind_ok = ok;
+  flat = flat;
+  few = omega arith;
+  each = All-nil (λ value. push_fault kind [] value ≡ None);
+  small = within-none (is_wide kind) (form_of kind);
+  bounded = omega arith;
+}
+
+pub fits-more : (kind : DataType) (values : List Value) (value : Value) → Fits kind values → push_fault kind values value ≡ None → length values < 2 ^ 40 → byte_total (values ++ value ∷ []) < 2 ^ 63
+    → Fits kind (values ++ value ∷ [])
+fits-more kind values value fits taken few bounded = record {
+  kind_ok = fits.kind_ok;
+  flat = fits.flat;
+  few = omega (arith, length-append values (value ∷ []));
+  each = All-append (λ v. push_fault kind [] v ≡ None) values (value ∷ []) fits.each (All-cons (λ v. push_fault kind [] v ≡ None) value [] (taken-alone kind values value fits.kind_ok fits.flat taken) (All-nil (λ v. push_fault kind [] v ≡ None)));
+  small = within-kind (is_wide kind) (form_of kind) values value fits.small taken;
+  bounded = bounded;
+}

@@ -1,0 +1,9 @@
+pub mod BitBytes
+pub mod OffsetBytes
+pub mod StoredFacts
+pub mod ShapeFacts
+pub mod FitsFacts
+pub mod ValidityFacts
+pub mod Pushes
+pub mod FinishFacts
+pub mod Views

@@ -1,0 +1,57 @@
+-- A builder with one more value.
+use Rattle.std.proofs.Common.{◌≡◌, ◌∙◌, ℕ, List, length, refl, sym, ap}
+use Rattle.fmt_string.specs.Value.{Value, Null, Truth, Whole, Bits, Bytes, Items, Fields}
+use Rattle.fmt_string.specs.declared.kind.DataType.{DataType}
+use Rattle.col_build.specs.Encoding.{byte_total, push_fault}
+use Rattle.col_build.specs.Holding.{HasBytes, HasValidity, Holds, ShapeOk}
+use Rattle.col_build.specs.Shapes.{shape_fault}
+use Rattle.col_build.specs.declared.builder.Builder.{Builder}
+use Rattle.col_build.specs.declared.shape.Shape.{Shape}
+use Rattle.col_build.specs.declared.shape.Shape.TheVariants as shapes
+use Rattle.col_build.proofs.ShapeFacts.{fault-is, shape-is}
+
+-- only offsets look at the bytes that are there
+shape-total : (shape : Shape) (values : List Value) (value : Value) (offsets bytes : List ℕ) → HasBytes shape values offsets bytes → shape_fault shape (byte_total values) value ≡ shape_fault shape (length bytes) value
+shape-total shapes.Truths values Null offsets bytes has = refl
+shape-total shapes.Truths values (Truth t) offsets bytes has = refl
+shape-total shapes.Truths values (Whole n) offsets bytes has = refl
+shape-total shapes.Truths values (Bits n) offsets bytes has = refl
+shape-total shapes.Truths values (Bytes b) offsets bytes has = refl
+shape-total shapes.Truths values (Items vs) offsets bytes has = refl
+shape-total shapes.Truths values (Fields vs) offsets bytes has = refl
+shape-total (shapes.Wholes width signed) values Null offsets bytes has = refl
+shape-total (shapes.Wholes width signed) values (Truth t) offsets bytes has = refl
+shape-total (shapes.Wholes width signed) values (Whole n) offsets bytes has = refl
+shape-total (shapes.Wholes width signed) values (Bits n) offsets bytes has = refl
+shape-total (shapes.Wholes width signed) values (Bytes b) offsets bytes has = refl
+shape-total (shapes.Wholes width signed) values (Items vs) offsets bytes has = refl
+shape-total (shapes.Wholes width signed) values (Fields vs) offsets bytes has = refl
+shape-total (shapes.Floats width) values Null offsets bytes has = refl
+shape-total (shapes.Floats width) values (Truth t) offsets bytes has = refl
+shape-total (shapes.Floats width) values (Whole n) offsets bytes has = refl
+shape-total (shapes.Floats width) values (Bits n) offsets bytes has = refl
+shape-total (shapes.Floats width) values (Bytes b) offsets bytes has = refl
+shape-total (shapes.Floats width) values (Items vs) offsets bytes has = refl
+shape-total (shapes.Floats width) values (Fields vs) offsets bytes has = refl
+shape-total (shapes.Sized size) values Null offsets bytes has = refl
+shape-total (shapes.Sized size) values (Truth t) offsets bytes has = refl
+shape-total (shapes.Sized size) values (Whole n) offsets bytes has = refl
+shape-total (shapes.Sized size) values (Bits n) offsets bytes has = refl
+shape-total (shapes.Sized size) values (Bytes b) offsets bytes has = refl
+shape-total (shapes.Sized size) values (Items vs) offsets bytes has = refl
+shape-total (shapes.Sized size) values (Fields vs) offsets bytes has = refl
+shape-total (shapes.Between wide text) values value offsets bytes has = ap (λ n. shape_fault (shapes.Between wide text) n value) (sym (ap length has.1))
+
+-- the fault of a value is that which its shape tells
+pub fault-held : (builder : Builder) (kind : DataType) (values : List Value) (value : Value) → Holds builder kind values → shape_fault builder.shape (length builder.bytes.items) value ≡ push_fault kind values value
+fault-held builder kind values value holds =
+    sym (
+    fault-is kind values value holds.fits.kind_ok holds.fits.flat ∙ ap (λ shape. shape_fault shape (byte_total values) value) (sym holds.shape)
+    ∙ shape-total builder.shape values value builder.offsets.items builder.bytes.items holds.bytes
+    )
+
+pub shape-held : (builder : Builder) (kind : DataType) (values : List Value) → Holds builder kind values → ShapeOk builder.shape
+shape-held builder kind values holds = rw holds.shape (shape-is kind holds.fits.kind_ok)
+
+pub validity-held : (builder : Builder) (kind : DataType) (values : List Value) → Holds builder kind values → HasValidity builder.validity.items builder.count builder.nulls values
+validity-held builder kind values holds = record { counted = holds.count; nulls_counted = holds.nulls; shown = holds.validity }

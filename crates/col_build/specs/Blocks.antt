@@ -1,0 +1,53 @@
+-- The blocks that a builder's buffers are moved into.
+use Rattle.std.specs.Prelude.{◌≡◌, ℕ, Bool, ◌≤◌, ◌+◌, pos, List, [], ◌∷◌, length, Option, None, Some, vec_capacity}
+use Rattle.buf_block.specs.declared.hold.BufView.{BufView}
+use Rattle.col_build.specs.Encoding.{if_some}
+use Rattle.col_build.specs.Finished.{AreMade, IsMade}
+use Rattle.col_build.specs.Holding.{HasOffsets}
+use Rattle.col_build.specs.declared.builder.Builder.{Builder}
+use Rattle.col_build.specs.declared.built.Built.{Built}
+use Rattle.col_build.specs.declared.finish.Kept.{Kept}
+
+-- whether a buffer of these bytes is there: 1 or 0
+abbrev pub count_if : List ℕ → ℕ
+count_if [] = 0
+count_if (byte ∷ bytes) = 1
+
+-- a block of these bytes, and room to take them out again
+pub record Keeping (kept : Kept) (content : List ℕ) : Type 0 where
+  pub made : IsMade kept.view (if_some content)
+  pub none : kept.spare.items ≡ []
+  pub room : length content ≤ vec_capacity kept.spare
+
+-- the column was made of the builder, with these buffers
+pub record IsBuilt (builder : Builder) (buffers : List (Option (List ℕ))) (built : Built) : Type 0 where
+  pub is_kind : built.kind ≡ builder.kind
+  pub length : built.length ≡ pos builder.count
+  pub null_count : built.null_count ≡ pos builder.nulls
+  pub made : AreMade built.buffers.items buffers
+
+-- two builders with the same bytes
+pub record AreSame (old new : Builder) : Type 0 where
+  pub is_kind : new.kind ≡ old.kind
+  pub shape : new.shape ≡ old.shape
+  pub count : new.count ≡ old.count
+  pub nulls : new.nulls ≡ old.nulls
+  pub validity : new.validity.items ≡ old.validity.items
+  pub offsets : new.offsets.items ≡ old.offsets.items
+  pub bytes : new.bytes.items ≡ old.bytes.items
+
+-- and with the offsets of these items
+pub record AreSameBut (wide : Bool) (items : List (List ℕ)) (old new : Builder) : Type 0 where
+  pub is_kind : new.kind ≡ old.kind
+  pub shape : new.shape ≡ old.shape
+  pub count : new.count ≡ old.count
+  pub nulls : new.nulls ≡ old.nulls
+  pub validity : new.validity.items ≡ old.validity.items
+  pub offsets : HasOffsets wide items new.offsets.items
+  pub bytes : new.bytes.items ≡ old.bytes.items
+
+-- how many of the views are there
+abbrev pub view_count : List (Option BufView) → ℕ
+view_count [] = 0
+view_count (None ∷ views) = view_count views
+view_count (Some view ∷ views) = 1 + view_count views

@@ -1,0 +1,183 @@
+-- The encoding of a flat column: the buffers that its values make ("Arrow Columnar Format", "Validity bitmaps",
+-- "Fixed-Size Primitive Layout", "Variable-size Binary Layout").
+use Rattle.std.specs.Prelude.{◌≡◌, ℕ, ◌+◌, ◌*◌, ◌/◌, ◌^◌, ◌<◌, ◌≤◌, Bool, true, false, not, nat_lt, ◌==◌, ◌&&◌, if◌then◌else◌, List, [], ◌∷◌, length, map, replicate, Option, None, Some, All}
+use Rattle.std.specs.List.{concat, flat_map}
+use Rattle.std.specs.Str.{is_utf8}
+use Rattle.bit_pack.specs.Packed.{le_bytes, stored, offset_width}
+use Rattle.fmt_string.specs.FieldText.{Form, Truths, Wholes, FloatBits, Text, HexBytes, SizedHex, Decimals, form_of, in_range}
+use Rattle.fmt_string.specs.Kinds.{KindOk}
+use Rattle.fmt_string.specs.Value.{Value, Null, Truth, Whole, Bits, Bytes}
+use Rattle.fmt_string.specs.declared.kind.DataType.{DataType}
+use Rattle.fmt_string.specs.declared.kind.DataType.TheVariants as kinds
+use Rattle.col_build.specs.declared.item.PushFault.{PushFault}
+use Rattle.col_build.specs.declared.item.PushFault.TheVariants.{WrongKind, OutOfRange, NotText}
+
+-- ---- bits: eight flags a byte, the least significant bit first, and clear behind the last flag
+
+abbrev pub bit_value : Bool → ℕ
+bit_value false = 0
+bit_value true = 1
+
+abbrev pub byte_of : List Bool → ℕ
+byte_of [] = 0
+byte_of (flag ∷ flags) = bit_value flag + 2 * byte_of flags
+
+abbrev pub bit_bytes : List Bool → List ℕ
+bit_bytes [] = []
+bit_bytes (a ∷ b ∷ c ∷ d ∷ e ∷ f ∷ g ∷ h ∷ flags) = byte_of (a ∷ b ∷ c ∷ d ∷ e ∷ f ∷ g ∷ h ∷ []) ∷ bit_bytes flags
+bit_bytes flags = byte_of flags ∷ []
+
+-- ---- values in their places
+
+abbrev pub is_null : Value → Bool
+is_null Null = true
+is_null _ = false
+
+abbrev pub null_total : List Value → ℕ
+null_total [] = 0
+null_total (Null ∷ values) = 1 + null_total values
+null_total (_ ∷ values) = null_total values
+
+-- the bytes of an item that is stored in place: a null has zeros there
+abbrev pub stored_item : ℕ → Value → List ℕ
+stored_item width (Whole number) = le_bytes width (stored width number)
+stored_item width (Bits number) = le_bytes width number
+stored_item width (Bytes bytes) = bytes
+stored_item width _ = replicate width 0
+
+abbrev pub is_set : Value → Bool
+is_set (Truth truth) = truth
+is_set _ = false
+
+-- the bytes of an item that stands between two offsets: a null has none
+abbrev pub bytes_of : Value → List ℕ
+bytes_of (Bytes bytes) = bytes
+bytes_of _ = []
+
+-- where items that stand one behind the other begin, from a place on, and where the last one ends
+abbrev pub ends : ℕ → List (List ℕ) → List ℕ
+ends at [] = at ∷ []
+ends at (item ∷ items) = at ∷ ends (at + length item) items
+
+abbrev pub offset_bytes : Bool → List (List ℕ) → List ℕ
+offset_bytes wide items = flat_map (le_bytes (offset_width wide)) (ends 0 items)
+
+-- ---- a column
+
+pub record Encoded : Type 0 where
+  pub length : ℕ
+  pub null_count : ℕ
+  pub buffers : List (Option (List ℕ))
+
+-- a buffer of no bytes is absent
+abbrev pub if_some : List ℕ → Option (List ℕ)
+if_some [] = None
+if_some (byte ∷ bytes) = Some (byte ∷ bytes)
+
+-- a validity bitmap is there exactly where an item is null: a set bit is valid
+abbrev pub validity_of : List Value → Option (List ℕ)
+validity_of values = if null_total values == 0 then None else Some (bit_bytes (map (λ value. not (is_null value)) values))
+
+abbrev pub in_place : ℕ → List Value → List (Option (List ℕ))
+in_place width values = validity_of values ∷ if_some (flat_map (stored_item width) values) ∷ []
+
+-- an offsets buffer is always there
+abbrev pub by_offsets : Bool → List Value → List (Option (List ℕ))
+by_offsets wide values = validity_of values ∷ Some (offset_bytes wide (map bytes_of values)) ∷ if_some (concat (map bytes_of values)) ∷ []
+
+-- offsets of 64 bits
+abbrev pub is_wide : DataType → Bool
+is_wide (kinds.Binary wide) = wide
+is_wide (kinds.Utf8 wide) = wide
+is_wide _ = false
+
+abbrev pub buffers_by : Bool → Form → List Value → List (Option (List ℕ))
+buffers_by wide Truths values = validity_of values ∷ if_some (bit_bytes (map is_set values)) ∷ []
+buffers_by wide (Wholes bits signed) values = in_place (bits / 8) values
+buffers_by wide (FloatBits bits) values = in_place (bits / 8) values
+buffers_by wide Text values = by_offsets wide values
+buffers_by wide HexBytes values = by_offsets wide values
+buffers_by wide (SizedHex size) values = in_place size values
+buffers_by wide (Decimals precision places) values = in_place 16 values
+
+-- a type that is no flat column kind has no encoding
+abbrev pub buffers_if : Bool → Option Form → List Value → List (Option (List ℕ))
+buffers_if wide None values = []
+buffers_if wide (Some form) values = buffers_by wide form values
+
+abbrev pub encoded : DataType → List Value → Encoded
+encoded kind values = record { length = length values; null_count = null_total values; buffers = buffers_if (is_wide kind) (form_of kind) values }
+
+-- ---- which items a column takes
+
+abbrev pub is_form : Form → Value → Bool
+is_form Truths (Truth truth) = true
+is_form (Wholes bits signed) (Whole number) = true
+is_form (FloatBits bits) (Bits number) = true
+is_form Text (Bytes bytes) = true
+is_form HexBytes (Bytes bytes) = true
+is_form (SizedHex size) (Bytes bytes) = true
+is_form (Decimals precision places) (Whole number) = true
+is_form _ _ = false
+
+-- the range is that of the stored number: a decimal's precision isn't looked at
+abbrev pub is_storable : Form → Value → Bool
+is_storable (Wholes bits signed) (Whole number) = in_range bits signed number
+is_storable (Decimals precision places) (Whole number) = in_range 128 true number
+is_storable (FloatBits bits) (Bits number) = nat_lt number (2 ^ bits)
+is_storable (SizedHex size) (Bytes bytes) = length bytes == size
+is_storable _ _ = true
+
+abbrev pub is_text : Form → Value → Bool
+is_text Text (Bytes bytes) = is_utf8 bytes
+is_text _ _ = true
+
+abbrev pub is_by_offsets : Form → Bool
+is_by_offsets Text = true
+is_by_offsets HexBytes = true
+is_by_offsets _ = false
+
+-- how many bytes stand between the offsets of the values
+abbrev pub byte_total : List Value → ℕ
+byte_total values = length (concat (map bytes_of values))
+
+-- offsets of 32 bits reach so many bytes
+abbrev pub is_within : Bool → Form → ℕ → Bool
+is_within false form total = if is_by_offsets form then nat_lt total (2 ^ 31) else true
+is_within true form total = true
+
+abbrev pub form_fault : Bool → Form → List Value → Value → Option PushFault
+form_fault wide form values value =
+    if not (is_form form value) then Some WrongKind
+    else if not (is_storable form value && is_within wide form (byte_total values + length (bytes_of value))) then Some OutOfRange
+    else if not (is_text form value) then Some NotText
+    else None
+
+abbrev pub fault_if : Bool → Option Form → List Value → Value → Option PushFault
+fault_if wide form values Null = None
+fault_if wide None values value = Some WrongKind
+fault_if wide (Some form) values value = form_fault wide form values value
+
+-- why a column of these values doesn't take another, or none where it does
+abbrev pub push_fault : DataType → List Value → Value → Option PushFault
+push_fault kind values value = fault_if (is_wide kind) (form_of kind) values value
+
+-- ---- the columns that have an encoding
+
+abbrev pub HasForm : Option Form → Type 0
+HasForm None = ⊥
+HasForm (Some form) = Unit {0}
+
+-- the offsets, if there are any, reach so many bytes
+abbrev pub are_within : Bool → Option Form → ℕ → Bool
+are_within wide None total = true
+are_within wide (Some form) total = is_within wide form total
+
+-- each value is one that the column takes, and the offsets reach all bytes
+pub record Fits (kind : DataType) (values : List Value) : Type 0 where
+  pub kind_ok : KindOk kind
+  pub flat : HasForm (form_of kind)
+  pub few : length values ≤ 2 ^ 40
+  pub each : All (λ value. push_fault kind [] value ≡ None) values
+  pub small : are_within (is_wide kind) (form_of kind) (byte_total values) ≡ true
+  pub bounded : byte_total values < 2 ^ 63

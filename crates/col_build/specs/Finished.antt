@@ -1,0 +1,42 @@
+-- What a finished column is made of.
+use Rattle.std.specs.Prelude.{◌≡◌, ℕ, ◌+◌, pos, List, [], ◌∷◌, length, Option, None, Some}
+use Rattle.buf_block.specs.declared.hold.BufView.{BufView}
+use Rattle.buf_block.specs.declared.hold.TheConstants.{AMOUNT}
+use Rattle.fmt_string.specs.Value.{Value}
+use Rattle.fmt_string.specs.declared.kind.DataType.{DataType}
+use Rattle.col_build.specs.Encoding.{encoded}
+use Rattle.col_build.specs.declared.built.Built.{Built}
+
+-- the view is the whole of a block of these bytes, by the block's first hold
+pub record IsWhole (view : BufView) (content : List ℕ) : Type 0 where
+  pub bytes : view.hold.bytes ≡ content
+  pub amount : view.hold.amount ≡ AMOUNT
+  pub start : view.start ≡ 0
+  pub len : view.len ≡ length content
+
+abbrev pub IsMade : Option BufView → Option (List ℕ) → Type 0
+IsMade None None = Unit {0}
+IsMade (Some view) (Some bytes) = IsWhole view bytes
+IsMade _ _ = ⊥
+
+abbrev pub AreMade : List (Option BufView) → List (Option (List ℕ)) → Type 0
+AreMade [] [] = Unit {0}
+AreMade (view ∷ views) (bytes ∷ buffers) = IsMade view bytes × AreMade views buffers
+AreMade _ _ = ⊥
+
+-- how many buffers are there
+abbrev pub present_count : List (Option (List ℕ)) → ℕ
+present_count [] = 0
+present_count (None ∷ buffers) = present_count buffers
+present_count (Some bytes ∷ buffers) = 1 + present_count buffers
+
+-- how many blocks the encoding of a column is made of
+abbrev pub blocks_of : DataType → List Value → ℕ
+blocks_of kind values = present_count (encoded kind values).buffers
+
+-- the finished column is the encoding of these values
+pub record IsEncoded (built : Built) (kind : DataType) (values : List Value) : Type 0 where
+  pub is_kind : built.kind ≡ kind
+  pub length : built.length ≡ pos (encoded kind values).length
+  pub null_count : built.null_count ≡ pos (encoded kind values).null_count
+  pub buffers : AreMade built.buffers.items (encoded kind values).buffers

@@ -1,0 +1,68 @@
+-- What a builder holds: the buffers of the encoding of its values, in the making.
+use Rattle.std.specs.Prelude.{◌≡◌, ◌≢◌, ◌⊎◌, ℕ, ◌^◌, ◌<◌, Bool, IsTrue, List, [], ◌∷◌, ◌++◌, length, map, Result}
+use Rattle.std.specs.List.{concat, flat_map}
+use Rattle.bit_pack.specs.Packed.{IsWidth}
+use Rattle.fmt_string.specs.FieldText.{form_of}
+use Rattle.fmt_string.specs.Value.{Value}
+use Rattle.fmt_string.specs.declared.kind.DataType.{DataType}
+use Rattle.col_build.specs.Encoding.{Fits, bit_bytes, bytes_of, if_some, is_set, is_wide, null_total, offset_bytes, push_fault, stored_item, validity_of}
+use Rattle.col_build.specs.Shapes.{IsAnswer, shape_if}
+use Rattle.col_build.specs.declared.builder.Builder.{Builder}
+use Rattle.col_build.specs.declared.item.PushFault.{PushFault}
+use Rattle.col_build.specs.declared.shape.Shape.{Shape}
+use Rattle.col_build.specs.declared.shape.Shape.TheVariants as shapes
+
+-- the offsets of these items; before the first there may be none yet
+abbrev pub HasOffsets : Bool → List (List ℕ) → List ℕ → Type 0
+HasOffsets wide items offsets = (offsets ≡ offset_bytes wide items) ⊎ ((offsets ≡ []) × (items ≡ []))
+
+-- the offsets and the bytes of these values; only items between offsets have offsets
+abbrev pub HasBytes : Shape → List Value → List ℕ → List ℕ → Type 0
+HasBytes shapes.Truths values offsets bytes = bytes ≡ bit_bytes (map is_set values)
+HasBytes (shapes.Wholes width signed) values offsets bytes = bytes ≡ flat_map (stored_item width) values
+HasBytes (shapes.Floats width) values offsets bytes = bytes ≡ flat_map (stored_item width) values
+HasBytes (shapes.Sized size) values offsets bytes = bytes ≡ flat_map (stored_item size) values
+HasBytes (shapes.Between wide text) values offsets bytes = HasOffsets wide (map bytes_of values) offsets × (bytes ≡ concat (map bytes_of values))
+
+-- the numbers of a shape are in their ranges
+abbrev pub ShapeOk : Shape → Type 0
+ShapeOk (shapes.Wholes width signed) = IsWidth width × (width ≡ 16 → IsTrue signed)
+ShapeOk (shapes.Floats width) = IsWidth width × (width ≢ 16)
+ShapeOk (shapes.Sized size) = size < 2 ^ 31
+ShapeOk shape = Unit {0}
+
+-- the validity bits of these values, so many of them nulls
+pub record HasValidity (bits : List ℕ) (count nulls : ℕ) (values : List Value) : Type 0 where
+  pub counted : count ≡ length values
+  pub nulls_counted : nulls ≡ null_total values
+  pub shown : if_some bits ≡ validity_of values
+
+-- the builder of a type holds these values
+pub record Holds (builder : Builder) (kind : DataType) (values : List Value) : Type 0 where
+  pub is_kind : builder.kind ≡ kind
+  pub shape : builder.shape ≡ shape_if (is_wide kind) (form_of kind)
+  pub count : builder.count ≡ length values
+  pub nulls : builder.nulls ≡ null_total values
+  pub validity : if_some builder.validity.items ≡ validity_of values
+  pub bytes : HasBytes builder.shape values builder.offsets.items builder.bytes.items
+  pub fits : Fits kind values
+
+-- the builder holds some values
+abbrev pub HoldsSome : Builder → Type 0
+HoldsSome builder = (kind : DataType) × (values : List Value) × Holds builder kind values
+
+-- and fewer than the most that there can be
+abbrev pub HoldsFew : Builder → Type 0
+HoldsFew builder = (kind : DataType) × (values : List Value) × Holds builder kind values × (length values < 2 ^ 40)
+
+-- what the old builder held the new one holds
+abbrev pub Keeps : Builder → Builder → Type 0
+Keeps old new = (kind : DataType) (values : List Value) → Holds old kind values → Holds new kind values
+
+-- and one value more
+abbrev pub Adds : Value → Builder → Builder → Type 0
+Adds value old new = (kind : DataType) (values : List Value) → Holds old kind values → Holds new kind (values ++ value ∷ [])
+
+-- the answer is that of a push of the value: it fails where the column doesn't take it, and for want of memory
+abbrev pub IsPushed : Value → Builder → Result (Unit {0}) PushFault → Type 0
+IsPushed value old result = (kind : DataType) (values : List Value) → Holds old kind values → IsAnswer result (push_fault kind values value)

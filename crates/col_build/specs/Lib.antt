@@ -1,0 +1,6 @@
+pub mod Items
+pub mod Encoding
+pub mod Shapes
+pub mod Holding
+pub mod Finished
+pub mod Blocks

@@ -1,0 +1,109 @@
+ghost use Rattle.std.specs.Prelude.{◌≡◌, ◌≤◌, ◌<◌, ◌^◌, ◌+◌, ◌∷◌, [], List, Bool, pos, length, map, if◌then◌else◌, is_ok, IfOk, IfErr, OnOk, OnErr};
+ghost use Rattle.unit_pass.specs.Tally.{risen};
+ghost use Rattle.fmt_string.specs.FieldText.{form_of};
+ghost use Rattle.fmt_string.specs.Kinds.{KindOk};
+ghost use Rattle.fmt_string.specs.Value.{Value};
+ghost use Rattle.fmt_string.specs.declared.kind.DataType.{DataType};
+ghost use Rattle.col_build.specs.Encoding.{Fits, HasForm, is_null};
+ghost use Rattle.col_build.specs.Items.{value_of};
+
+use crate::finish::{finish_in_place, finish_offsets};
+use crate::shape::{Shape, shape_of};
+use crate::store::store;
+use crate::validity::{make_room, push_validity};
+use crate::{Built, Item, PushFault};
+use fmt_string::DataType;
+use std::alloc::Global;
+use unit_pass::{NoMemory, Pass};
+
+/// A flat column in the making. Contracts say which values it holds, by `Holds`: its buffers are those of their encoding.
+#[derive(Drop)]
+pub struct Builder {
+    pub(crate) kind: DataType,
+    pub(crate) shape: Shape,
+    pub(crate) count: usize,
+    pub(crate) nulls: usize,
+    pub(crate) validity: Vec<u8>,
+    pub(crate) offsets: Vec<u8>,
+    pub(crate) bytes: Vec<u8>,
+}
+
+// Whether an item is null.
+fn is_null(item: &Item<'_>) -> bool
+    ensures { result ≡ is_null (value_of item.now) }
+{
+    match item {
+        Item::Null => true,
+        _ => false,
+    }
+}
+
+impl Builder {
+    ghost use Rattle.col_build.specs.Finished.{IsEncoded, blocks_of};
+    ghost use Rattle.col_build.specs.Holding.{Adds, Holds, HoldsFew, HoldsSome, IsPushed, Keeps};
+
+    /// A column of a flat type, without values. Takes no memory.
+    pub fn new(alloc: Global, kind: DataType) -> Builder
+        requires kind { KindOk kind }
+        requires flat { HasForm (form_of kind) }
+        ensures { Holds result kind [] }
+    {
+        Builder {
+            shape: shape_of(&kind),
+            kind,
+            count: 0,
+            nulls: 0,
+            validity: Vec::new(alloc),
+            offsets: Vec::new(alloc),
+            bytes: Vec::new(alloc),
+        }
+    }
+
+    /// Adds an item behind those that are there. Where it isn't taken the column is as before.
+    pub fn push(&mut self, item: Item<'_>) -> Result<(), PushFault>
+        requires holds { HoldsFew self.old }
+        ensures added { OnOk result (Adds (value_of item.entry) self.old self.new) }
+        ensures kept { OnErr result (Keeps self.old self.new) }
+        ensures answer { IsPushed (value_of item.entry) self.old result }
+    {
+        let null = is_null(&item);
+        make_room(&mut self.validity, self.count, self.nulls, null)?;
+        store(
+            self.shape,
+            self.count,
+            &mut self.offsets,
+            &mut self.bytes,
+            item,
+        )?;
+        push_validity(&mut self.validity, self.count, self.nulls, null);
+        self.count += 1;
+        self.nulls += usize::from(null);
+        Ok(())
+    }
+
+    /// How many items there are.
+    pub fn len(&self) -> i64
+        requires holds { HoldsSome self.now }
+        ensures { (kind : DataType) (values : List Value) → Holds self.now kind values → result ≡ pos (length values) }
+    {
+        self.count as i64
+    }
+
+    /// The column of the items, whose buffers are moved into blocks; no byte is copied. Draws a unit and counts a block for
+    /// each buffer that is there. `NoMemory` comes for want of memory alone, and the builder comes back with it.
+    pub fn finish(self, alloc: Global, pass: &mut Pass) -> Result<Built, (Builder, NoMemory)>
+        requires holds { HoldsSome self }
+        requires units { 3 ≤ pass.old.units }
+        ensures encoded { IfOk result (λ built. (kind : DataType) (values : List Value) → Holds self kind values → IsEncoded built kind values) }
+        ensures fits { (kind : DataType) (values : List Value) → Holds self kind values → Fits kind values }
+        ensures back { IfErr result (λ e. Keeps self e.0) }
+        ensures units { (kind : DataType) (values : List Value) → Holds self kind values → pass.new.units + (if is_ok result then blocks_of kind values else 0) ≡ pass.old.units }
+        ensures blocks { OnOk result ((kind : DataType) (values : List Value) → Holds self kind values → pass.new.blocks ≡ risen pass.old.blocks (blocks_of kind values)) }
+        ensures nodes { pass.new.nodes ≡ pass.old.nodes }
+    {
+        match self.shape {
+            Shape::Between { wide, text: _ } => finish_offsets(self, wide, alloc, pass),
+            _ => finish_in_place(self, alloc, pass),
+        }
+    }
+}

@@ -1,0 +1,302 @@
+// The buffers of a builder, moved into blocks, and taken out again where memory runs out.
+ghost use Rattle.std.specs.Prelude.{◌≡◌, ◌+◌, ◌<◌, ◌≤◌, ◌^◌, ◌++◌, ◌∷◌, [], ℕ, List, length, pos, if◌then◌else◌, is_ok, IfOk, IfErr, OnOk, vec_len, vec_capacity};
+ghost use Rattle.unit_pass.specs.Tally.{risen};
+ghost use Rattle.unit_pass.specs.declared.pass.TheConstants.{SUPPLY};
+ghost use Rattle.col_build.specs.Blocks.{AreSame, AreSameBut, IsBuilt, Keeping, count_if};
+ghost use Rattle.col_build.specs.Encoding.{if_some, offset_bytes};
+ghost use Rattle.col_build.specs.Holding.{HasOffsets};
+ghost use Rattle.col_build.specs.Finished.{IsMade};
+
+use crate::store::begin_offsets;
+use crate::{Builder, Built};
+use buf_block::{BufView, make};
+use fmt_string::DataType;
+use std::alloc::Global;
+use unit_pass::{NoMemory, Pass, SUPPLY};
+
+// A view of a block, and room to take its bytes out again.
+pub(crate) struct Kept {
+    pub(crate) view: Option<BufView>,
+    pub(crate) spare: Vec<u8>,
+}
+
+// A view of a whole block of these bytes, and nothing where there are none.
+fn whole_block(alloc: Global, bytes: Vec<u8>, pass: &mut Pass) -> Result<Option<BufView>, Vec<u8>>
+    requires { 1 ≤ pass.old.units }
+    ensures made { IfOk result (λ view. IsMade view (if_some bytes.items)) }
+    ensures back { IfErr result (λ same. same.items ≡ bytes.items) }
+    ensures units { pass.new.units + (if is_ok result then count_if bytes.items else 0) ≡ pass.old.units }
+    ensures blocks { pass.new.blocks ≡ (if is_ok result then risen pass.old.blocks (count_if bytes.items) else pass.old.blocks) }
+    ensures nodes { pass.new.nodes ≡ pass.old.nodes }
+{
+    let _counted = pass.blocks();
+    let len = bytes.len();
+    if len == 0 {
+        return Ok(None);
+    }
+    match make(alloc, bytes, pass) {
+        Ok(hold) => Ok(Some(BufView {
+            hold,
+            start: 0,
+            len,
+        })),
+        Err((bytes, NoMemory)) => Err(bytes),
+    }
+}
+
+// The same, with room to take the bytes out again.
+fn kept_block(alloc: Global, bytes: Vec<u8>, pass: &mut Pass) -> Result<Kept, Vec<u8>>
+    requires { 1 ≤ pass.old.units }
+    ensures made { IfOk result (λ kept. Keeping kept bytes.items) }
+    ensures back { IfErr result (λ same. same.items ≡ bytes.items) }
+    ensures units { pass.new.units + (if is_ok result then count_if bytes.items else 0) ≡ pass.old.units }
+    ensures blocks { pass.new.blocks ≡ (if is_ok result then risen pass.old.blocks (count_if bytes.items) else pass.old.blocks) }
+    ensures nodes { pass.new.nodes ≡ pass.old.nodes }
+{
+    let Ok(spare) = Vec::with_capacity(alloc, bytes.len()) else {
+        return Err(bytes);
+    };
+    match whole_block(alloc, bytes, pass) {
+        Ok(view) => Ok(Kept { view, spare }),
+        Err(bytes) => Err(bytes),
+    }
+}
+
+// The bytes of a kept block, whose hold is let go.
+fn take_out(kept: Kept, pass: &mut Pass) -> Vec<u8>
+    requires kept { (content : List ℕ) × Keeping kept content × (pass.old.units + count_if content ≤ SUPPLY) }
+    ensures bytes { (content : List ℕ) → Keeping kept content → result.items ≡ content }
+    ensures units { (content : List ℕ) → Keeping kept content → pass.new.units ≡ pass.old.units + count_if content }
+    ensures blocks { pass.new.blocks ≡ pass.old.blocks }
+    ensures nodes { pass.new.nodes ≡ pass.old.nodes }
+{
+    let Kept { view, mut spare } = kept;
+    if let Some(view) = view {
+        let BufView {
+            hold,
+            start: _,
+            len: _,
+        } = view;
+        match spare.extend_from_slice(hold.bytes()) {
+            Ok(()) => {}
+            Err(_) => unreachable!(),
+        }
+        let _left = hold.let_go(pass);
+    }
+    spare
+}
+
+// Appends where there is room.
+fn put(views: &mut Vec<Option<BufView>>, view: Option<BufView>)
+    requires { vec_len views.old < vec_capacity views.old }
+    ensures items { views.new.items ≡ views.old.items ++ view ∷ [] }
+    ensures len { vec_len views.new ≡ vec_len views.old + 1 }
+    ensures capacity { vec_capacity views.old ≤ vec_capacity views.new }
+{
+    match views.push(view) {
+        Ok(()) => {}
+        Err(_failed) => unreachable!(),
+    }
+}
+
+// The validity bits and the bytes in blocks.
+fn two_blocks(
+    alloc: Global,
+    validity: Vec<u8>,
+    bytes: Vec<u8>,
+    pass: &mut Pass,
+) -> Result<(Option<BufView>, Option<BufView>), (Vec<u8>, Vec<u8>)>
+    requires { 2 ≤ pass.old.units }
+    ensures validity { IfOk result (λ views. IsMade views.0 (if_some validity.items)) }
+    ensures bytes { IfOk result (λ views. IsMade views.1 (if_some bytes.items)) }
+    ensures back { IfErr result (λ same. (same.0.items ≡ validity.items) × (same.1.items ≡ bytes.items)) }
+    ensures units { pass.new.units + (if is_ok result then count_if validity.items + count_if bytes.items else 0) ≡ pass.old.units }
+    ensures blocks { OnOk result (pass.new.blocks ≡ risen pass.old.blocks (count_if validity.items + count_if bytes.items)) }
+    ensures nodes { pass.new.nodes ≡ pass.old.nodes }
+{
+    let _supply = pass.units();
+    let validity = match kept_block(alloc, validity, pass) {
+        Ok(validity) => validity,
+        Err(validity) => return Err((validity, bytes)),
+    };
+    match whole_block(alloc, bytes, pass) {
+        Ok(bytes) => {
+            let Kept { view, spare: _ } = validity;
+            Ok((view, bytes))
+        }
+        Err(bytes) => Err((take_out(validity, pass), bytes)),
+    }
+}
+
+// The validity bits, the offsets and the bytes in blocks.
+fn three_blocks(
+    alloc: Global,
+    validity: Vec<u8>,
+    offsets: Vec<u8>,
+    bytes: Vec<u8>,
+    pass: &mut Pass,
+) -> Result<(Option<BufView>, Option<BufView>, Option<BufView>), (Vec<u8>, Vec<u8>, Vec<u8>)>
+    requires { 3 ≤ pass.old.units }
+    ensures validity { IfOk result (λ views. IsMade views.0 (if_some validity.items)) }
+    ensures offsets { IfOk result (λ views. IsMade views.1 (if_some offsets.items)) }
+    ensures bytes { IfOk result (λ views. IsMade views.2 (if_some bytes.items)) }
+    ensures back { IfErr result (λ same. (same.0.items ≡ validity.items) × (same.1.items ≡ offsets.items) × (same.2.items ≡ bytes.items)) }
+    ensures units { pass.new.units + (if is_ok result then count_if validity.items + count_if offsets.items + count_if bytes.items else 0) ≡ pass.old.units }
+    ensures blocks { OnOk result (pass.new.blocks ≡ risen pass.old.blocks (count_if validity.items + count_if offsets.items + count_if bytes.items)) }
+    ensures nodes { pass.new.nodes ≡ pass.old.nodes }
+{
+    let _supply = pass.units();
+    let validity = match kept_block(alloc, validity, pass) {
+        Ok(validity) => validity,
+        Err(validity) => return Err((validity, offsets, bytes)),
+    };
+    match two_blocks(alloc, offsets, bytes, pass) {
+        Ok((offsets, bytes)) => {
+            let Kept { view, spare: _ } = validity;
+            Ok((view, offsets, bytes))
+        }
+        Err((offsets, bytes)) => Err((take_out(validity, pass), offsets, bytes)),
+    }
+}
+
+// The column of these buffers.
+fn built(kind: DataType, count: usize, nulls: usize, buffers: Vec<Option<BufView>>) -> Built
+    requires count { count < 2 ^ 63 }
+    requires nulls { nulls < 2 ^ 63 }
+    ensures is_kind { result.kind ≡ kind }
+    ensures length { result.length ≡ pos count }
+    ensures null_count { result.null_count ≡ pos nulls }
+    ensures buffers { result.buffers ≡ buffers }
+{
+    Built {
+        kind,
+        length: count as i64,
+        null_count: nulls as i64,
+        buffers,
+    }
+}
+
+// The column of a builder whose items lie in place.
+pub(crate) fn finish_in_place(
+    builder: Builder,
+    alloc: Global,
+    pass: &mut Pass,
+) -> Result<Built, (Builder, NoMemory)>
+    requires units { 2 ≤ pass.old.units }
+    requires count { builder.count < 2 ^ 63 }
+    requires nulls { builder.nulls < 2 ^ 63 }
+    ensures built { IfOk result (IsBuilt builder (if_some builder.validity.items ∷ if_some builder.bytes.items ∷ [])) }
+    ensures same { IfErr result (λ e. AreSame builder e.0) }
+    ensures units { pass.new.units + (if is_ok result then count_if builder.validity.items + count_if builder.bytes.items else 0) ≡ pass.old.units }
+    ensures blocks { OnOk result (pass.new.blocks ≡ risen pass.old.blocks (count_if builder.validity.items + count_if builder.bytes.items)) }
+    ensures nodes { pass.new.nodes ≡ pass.old.nodes }
+{
+    let Ok(mut buffers) = Vec::with_capacity(alloc, 2) else {
+        return Err((builder, NoMemory));
+    };
+    let Builder {
+        kind,
+        shape,
+        count,
+        nulls,
+        validity,
+        offsets,
+        bytes,
+    } = builder;
+    match two_blocks(alloc, validity, bytes, pass) {
+        Ok((validity, bytes)) => {
+            put(&mut buffers, validity);
+            put(&mut buffers, bytes);
+            Ok(built(kind, count, nulls, buffers))
+        }
+        Err((validity, bytes)) => {
+            buffers.destroy_empty();
+            let builder = Builder {
+                kind,
+                shape,
+                count,
+                nulls,
+                validity,
+                offsets,
+                bytes,
+            };
+            Err((builder, NoMemory))
+        }
+    }
+}
+
+// The column of a builder whose items lie between offsets.
+fn finish_between(
+    builder: Builder,
+    alloc: Global,
+    pass: &mut Pass,
+) -> Result<Built, (Builder, NoMemory)>
+    requires units { 3 ≤ pass.old.units }
+    requires count { builder.count < 2 ^ 63 }
+    requires nulls { builder.nulls < 2 ^ 63 }
+    ensures built { IfOk result (IsBuilt builder (if_some builder.validity.items ∷ if_some builder.offsets.items ∷ if_some builder.bytes.items ∷ [])) }
+    ensures same { IfErr result (λ e. AreSame builder e.0) }
+    ensures units { pass.new.units + (if is_ok result then count_if builder.validity.items + count_if builder.offsets.items + count_if builder.bytes.items else 0) ≡ pass.old.units }
+    ensures blocks { OnOk result (pass.new.blocks ≡ risen pass.old.blocks (count_if builder.validity.items + count_if builder.offsets.items + count_if builder.bytes.items)) }
+    ensures nodes { pass.new.nodes ≡ pass.old.nodes }
+{
+    let Ok(mut buffers) = Vec::with_capacity(alloc, 3) else {
+        return Err((builder, NoMemory));
+    };
+    let Builder {
+        kind,
+        shape,
+        count,
+        nulls,
+        validity,
+        offsets,
+        bytes,
+    } = builder;
+    match three_blocks(alloc, validity, offsets, bytes, pass) {
+        Ok((validity, offsets, bytes)) => {
+            put(&mut buffers, validity);
+            put(&mut buffers, offsets);
+            put(&mut buffers, bytes);
+            Ok(built(kind, count, nulls, buffers))
+        }
+        Err((validity, offsets, bytes)) => {
+            buffers.destroy_empty();
+            let builder = Builder {
+                kind,
+                shape,
+                count,
+                nulls,
+                validity,
+                offsets,
+                bytes,
+            };
+            Err((builder, NoMemory))
+        }
+    }
+}
+
+// The same, where there may be no offsets yet.
+pub(crate) fn finish_offsets(
+    builder: Builder,
+    wide: bool,
+    alloc: Global,
+    pass: &mut Pass,
+) -> Result<Built, (Builder, NoMemory)>
+    requires units { 3 ≤ pass.old.units }
+    requires count { builder.count < 2 ^ 63 }
+    requires nulls { builder.nulls < 2 ^ 63 }
+    ensures built { IfOk result (λ built. (items : List (List ℕ)) → HasOffsets wide items builder.offsets.items
+        → IsBuilt builder (if_some builder.validity.items ∷ if_some (offset_bytes wide items) ∷ if_some builder.bytes.items ∷ []) built) }
+    ensures same { IfErr result (λ e. (items : List (List ℕ)) → HasOffsets wide items builder.offsets.items → AreSameBut wide items builder e.0) }
+    ensures units { (items : List (List ℕ)) → HasOffsets wide items builder.offsets.items
+        → pass.new.units + (if is_ok result then count_if builder.validity.items + count_if (offset_bytes wide items) + count_if builder.bytes.items else 0) ≡ pass.old.units }
+    ensures blocks { OnOk result ((items : List (List ℕ)) → HasOffsets wide items builder.offsets.items
+        → pass.new.blocks ≡ risen pass.old.blocks (count_if builder.validity.items + count_if (offset_bytes wide items) + count_if builder.bytes.items)) }
+    ensures nodes { pass.new.nodes ≡ pass.old.nodes }
+{
+    let mut builder = builder;
+    match begin_offsets(&mut builder.offsets, wide) {
+        Ok(()) => finish_between(builder, alloc, pass),
+        Err(_) => Err((builder, NoMemory)),
+    }
+}

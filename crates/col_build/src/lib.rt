@@ -1,0 +1,36 @@
+//! Columns in the making: the buffers of a flat column, filled item by item ("Arrow Columnar Format", "Physical memory
+//! layout").
+//!
+//! A [`Builder`] is made for a flat type and takes [`Item`]s. [`Builder::push`] adds one behind those that are there, or
+//! answers why the column doesn't take it and changes nothing. [`Builder::finish`] moves the buffers into blocks and
+//! answers the column as [`Built`]; where memory runs out it gives the builder back with all its items.
+//!
+//! - What the buffers of a column are is said by `specs/Encoding.antt`, from the values alone: the validity bitmap, the
+//!   offsets and the data, which of them are absent, and what a null has in its place. The same module says which items a
+//!   column takes (`push_fault`).
+//! - A contract says which values a builder holds by `Holds`, a relation over its buffers in the making. It holds of a new
+//!   builder and no values, each push adds its value or keeps them, and the finished column is the encoding of just these
+//!   values (`IsEncoded`).
+//! - A push allocates only to let a buffer grow, by amortised growth. Validity bits are made with the first null, for all
+//!   items before it. No byte is copied to finish, but where memory runs out.
+//! - The holds of a finished column are the caller's to let go, and its way into an array is left to the crates above.
+#![tactic(auto)]
+
+mod bits;
+mod builder;
+mod built;
+mod finish;
+mod item;
+mod laws;
+mod numbers;
+mod shape;
+mod store;
+mod validity;
+
+pub use builder::Builder;
+pub use built::Built;
+pub use item::{Item, PushFault};
+pub use laws::worked_encodings;
+
+#[cfg(test)]
+mod tests;

@@ -1,0 +1,53 @@
+// Validity bits, which begin with the first null ("Arrow Columnar Format", "Validity bitmaps").
+ghost use Rattle.std.specs.Prelude.{◌≡◌, ◌≢◌, ◌+◌, ◌/◌, ◌≤◌, ◌++◌, ◌∷◌, [], Bool, List, true, OnOk, IfErr, vec_len, vec_capacity};
+ghost use Rattle.fmt_string.specs.Value.{Value};
+ghost use Rattle.col_build.specs.Encoding.{if_some, is_null, validity_of};
+ghost use Rattle.col_build.specs.Holding.{HasValidity};
+ghost use Rattle.col_build.specs.declared.item.PushFault.TheVariants.{NoMemory};
+
+use crate::PushFault;
+use crate::bits::{fill_to_clear, push_bit};
+
+// Makes room for the bit of an item behind so many, so many of them nulls.
+pub(crate) fn make_room(
+    validity: &mut Vec<u8>,
+    count: usize,
+    nulls: usize,
+    null: bool,
+) -> Result<(), PushFault>
+    ensures items { validity.new.items ≡ validity.old.items }
+    ensures first { OnOk result (nulls ≡ 0 → null ≡ true → vec_len validity.new + (count / 8 + 1) ≤ vec_capacity validity.new) }
+    ensures next { OnOk result (nulls ≢ 0 → vec_len validity.new + 1 ≤ vec_capacity validity.new) }
+    ensures why { IfErr result (λ fault. fault ≡ NoMemory) }
+{
+    let more = if nulls != 0 {
+        1
+    } else if null {
+        count / 8 + 1
+    } else {
+        0
+    };
+    match validity.reserve(more) {
+        Ok(()) => Ok(()),
+        Err(_) => Err(PushFault::NoMemory),
+    }
+}
+
+// Adds the bit of an item behind so many, for which there is room.
+pub(crate) fn push_validity(validity: &mut Vec<u8>, count: usize, nulls: usize, null: bool)
+    requires has { (values : List Value) × HasValidity validity.old.items count nulls values }
+    requires first { nulls ≡ 0 → null ≡ true → vec_len validity.old + (count / 8 + 1) ≤ vec_capacity validity.old }
+    requires next { nulls ≢ 0 → vec_len validity.old + 1 ≤ vec_capacity validity.old }
+    ensures { (values : List Value) (value : Value) → HasValidity validity.old.items count nulls values → is_null value ≡ null → if_some validity.new.items ≡ validity_of (values ++ value ∷ []) }
+{
+    if nulls == 0 {
+        if null {
+            fill_to_clear(validity, count);
+        }
+        return;
+    }
+    match push_bit(validity, count, !null) {
+        Ok(()) => {}
+        Err(_) => unreachable!(),
+    }
+}

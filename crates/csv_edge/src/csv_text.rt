@@ -1,0 +1,76 @@
+//! The text of a table in the making: its header, and the rows of chunks, read in place.
+//!
+//! A field is written from the item that its column shows ([`Col::value`]), by the form of the column, which is found once
+//! for a table; a chunk's columns are found once for a chunk. A row or a field takes no memory but that of the text. Whether
+//! a chunk is lawful is for `layout_check` to find before. A row is written of each item of the chunk's window, whether or
+//! not the struct's item is null.
+ghost use Rattle.std.specs.Prelude.{◌≡◌, ◌++◌, ℕ, List, map, IfOk, OnOk};
+ghost use Rattle.fmt_string.specs.ColumnView.{column_of};
+ghost use Rattle.fmt_string.specs.Table.{Column};
+ghost use Rattle.csv_model.specs.Text.{header_text, rows_text};
+ghost use Rattle.arr_export.specs.ColumnKinds.{type_of_columns};
+ghost use Rattle.arr_import.specs.Cols.{window_of};
+ghost use Rattle.csv_edge.specs.CsvTexts.{HasText, rows_in};
+ghost use Rattle.csv_edge.specs.TextColumns.{HaveTexts};
+
+use crate::chunk_text::{chunk_columns, count_rows, write_rows};
+use crate::column_form::{column_forms, write_names};
+use crate::form::FieldForm;
+use crate::writer::{finish_lines, new_writer};
+use arr_import::Col;
+use csv::Writer;
+use fmt_string::ColumnType;
+use std::alloc::Global;
+use unit_pass::NoMemory;
+
+/// The text of a table in the making: the names of its columns, and the rows of the chunks that were added. Contracts see
+/// by `HasText` which columns it is of and what it has written. After a `NoMemory` it is good for nothing but to be dropped.
+#[derive(Drop)]
+pub struct CsvText {
+    writer: Writer<Vec<u8>>,
+    forms: Vec<FieldForm>,
+    // Where the text of a field is put together.
+    room: Vec<u8>,
+}
+
+impl CsvText {
+    /// The text of a table of these columns and no rows yet: the header. `NoMemory` comes for want of memory alone.
+    pub fn new(alloc: Global, columns: &[ColumnType]) -> Result<CsvText, NoMemory>
+        requires { HaveTexts (map column_of columns.now) }
+        ensures { IfOk result (λ text. HasText text (map column_of columns.now) (header_text (map column_of columns.now))) }
+    {
+        let forms = column_forms(alloc, columns)?;
+        let mut writer = new_writer(alloc);
+        write_names(&mut writer, columns)?;
+        Ok(CsvText {
+            writer,
+            forms,
+            room: Vec::new(alloc),
+        })
+    }
+
+    /// Writes the rows of a chunk, read in place: a column with a dictionary by its values, a null as an empty field.
+    /// `NoMemory` comes for want of memory alone.
+    pub fn add(&mut self, alloc: Global, chunk: Col<'_>) -> Result<(), NoMemory>
+        requires { (columns : List Column) × (written : List ℕ) × HasText self.old columns written × ((window_of chunk).typed ≡ type_of_columns columns) }
+        ensures { OnOk result ((columns : List Column) (written : List ℕ) → HasText self.old columns written → (window_of chunk.entry).typed ≡ type_of_columns columns
+            → HasText self.new columns (written ++ rows_text columns (rows_in (window_of chunk.entry)))) }
+    {
+        let columns = chunk_columns(alloc, &self.forms, &chunk)?;
+        let rows = count_rows(&chunk);
+        write_rows(&mut self.writer, &columns, rows, &mut self.room)?;
+        Ok(())
+    }
+
+    /// The text. `NoMemory` comes for want of memory alone.
+    pub fn finish(self) -> Result<Vec<u8>, NoMemory>
+        ensures { IfOk result (λ text. (columns : List Column) (written : List ℕ) → HasText self columns written → text.items ≡ written) }
+    {
+        let CsvText {
+            writer,
+            forms: _,
+            room: _,
+        } = self;
+        finish_lines(writer)
+    }
+}

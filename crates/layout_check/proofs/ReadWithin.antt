@@ -1,0 +1,342 @@
+-- What is read of a lawful array lies within its parts.
+use Rattle.std.proofs.Common.{◌≡◌, ℕ, zero, suc, ◌+◌, ◌*◌, ◌/◌, ◌<◌, ◌≤◌, ◌==◌, ◌&&◌, Bool, true, false, ℤ, pos, negsuc, List, [], ◌∷◌, ◌++◌, length, map, drop, get_or, Option, None, Some, refl, ap, ◌∙◌, sym, subst, true≢false, arith}
+use Rattle.std.specs.Prelude.{if◌then◌else◌, is_none, nat_lt, int_lt, ◌≤ℤ◌, IsTrue, ◌^◌}
+use Rattle.std.specs.Option.{option_or}
+use Rattle.std.specs.Global.{Box}
+use Rattle.std.proofs.Math.Nat.{mul-le-mul_right}
+use Rattle.fmt_string.specs.declared.kind.DataType.{DataType}
+use Rattle.fmt_string.specs.declared.kind.DataType.TheVariants as kinds
+use Rattle.bit_pack.specs.Packed.{offset_width}
+use Rattle.tree_model.specs.Tree.{Released, Live, IsLive, Trees, no_trees, more_trees, MaybeTree, absent, present, tree_list, option_tree, children_of, dictionary_of, child_at}
+use Rattle.raw_array.specs.Members.{ArrayMembers, ArrayTree, members_of}
+use Rattle.layout_check.specs.declared.typed.Typed.{Typed, out-Typed}
+use Rattle.layout_check.specs.declared.layout.Layout.{Layout}
+use Rattle.layout_check.specs.declared.layout.Layout.TheVariants.{NoBuffers, FixedWidth, TruthBits, ByOffsets, ListOffsets, FixedItems, ByChildren}
+use Rattle.layout_check.specs.declared.rule.LayoutRule.{LayoutRule}
+use Rattle.layout_check.specs.declared.rule.LayoutRule.TheVariants as rules
+use Rattle.layout_check.specs.declared.rule.Numbers.{Numbers}
+use Rattle.layout_check.specs.Kinds.{KindTree}
+use Rattle.layout_check.specs.TypedView.{typed_of, live_node, kids_of, kind_of, dict_in}
+use Rattle.layout_check.specs.Layout.{layout_of, buffer_count, items, first, end, natural, bytes, offset, offsets_need, is_valid, stored_number, IsLongIfPresent}
+use Rattle.layout_check.specs.Rules.{Node, fails, fault_if, count_wrong, in_order, one_if, window_limit, first_below, buffer_absent, buffer_short, offsets_fall_if, is_behind_offsets, is_outside, items_need, short_child, child_short, live_length, length_if, index_wrong, indices_wrong}
+use Rattle.layout_check.specs.Walk.{Steps, LayoutOk, first_fault, fault_from, own_fault, children_fault, dictionary_fault, rules_fault, first_some, fault_by, fault_at, node_fault, node_of, visit_fault, visits, walks_of, walk_of, walk_children, walk_dictionary, dictionary_step}
+use Rattle.layout_check.specs.Values.{tree_items}
+use Rattle.layout_check.specs.Within.{StoredWithin, ItemsWithin, IndexWithin}
+use Rattle.layout_check.proofs.Levels.{typed_out}
+use Rattle.layout_check.proofs.Firsts.{first_below-none_at}
+use Rattle.layout_check.proofs.Long.{long-bytes, long-data, long-list, long-fixed, long-truth, long-validity}
+use Rattle.layout_check.proofs.Faults.{first_some-append, fault_from-typed}
+use Rattle.layout_check.proofs.Lawful.{first_fault-lawful, lawful-first_fault, left-none, right-none}
+use Rattle.layout_check.proofs.TextData.{offsets-from, offsets-rise, offsets-next, offsets-within, offsets-last, natural-rise, not_zero}
+use Rattle.layout_check.proofs.Chunks.{head, tail, root-live, root-rules, root-short}
+
+pub ruleset one_level = (typed_out)
+
+-- ---- lawful, and no fault
+
+is_none-none : {X : Type 0} → (o : Option X) → IsTrue (is_none o) → o ≡ None
+is_none-none None h = refl
+is_none-none (Some x) h = absurd (true≢false (sym h))
+
+pub lawful-no_fault : (typed : KindTree) (array : ArrayTree) → IsTrue (is_none (first_fault typed array)) → LayoutOk typed array
+lawful-no_fault typed array h = first_fault-lawful typed array (is_none-none (first_fault typed array) h)
+
+pub no_fault-lawful : (typed : KindTree) (array : ArrayTree) → LayoutOk typed array → IsTrue (is_none (first_fault typed array))
+no_fault-lawful typed array h = ap is_none (lawful-first_fault typed array h)
+
+-- ---- the rules of the root, one by one
+
+drop-none : (node : Node) (n : ℕ) (some : List LayoutRule) → rules_fault some [] node ≡ None → rules_fault (drop n some) [] node ≡ None
+drop-none node zero some e = e
+drop-none node (suc n) [] e = e
+drop-none node (suc n) (rule ∷ others) e = drop-none node n others (tail node rule others e)
+
+root-dictionary_count : (t : Typed) (array : ArrayTree) → LayoutOk (typed_of t) array → count_wrong (one_if (dictionary_of array)) (one_if (dict_in (out-Typed t).dict)) ≡ None
+root-dictionary_count t array h = head (live_node t array) rules.Dictionary (drop 5 in_order) (drop-none (live_node t array) 4 in_order (root-rules t array h))
+
+root-child_count : (t : Typed) (array : ArrayTree) → LayoutOk (typed_of t) array → count_wrong (length (children_of array)) (length (kids_of t)) ≡ None
+root-child_count t array h = head (live_node t array) rules.ChildCount (drop 4 in_order) (drop-none (live_node t array) 3 in_order (root-rules t array h))
+
+root-absent : (t : Typed) (array : ArrayTree) → LayoutOk (typed_of t) array → first_below (buffer_absent (layout_of (kind_of t)) (members_of array)) (buffer_count (layout_of (kind_of t))) ≡ None
+root-absent t array h = head (live_node t array) rules.BufferAbsent (drop 6 in_order) (drop-none (live_node t array) 5 in_order (root-rules t array h))
+
+root-falls : (t : Typed) (array : ArrayTree) → LayoutOk (typed_of t) array → offsets_fall_if (is_behind_offsets (layout_of (kind_of t))) (members_of array) ≡ None
+root-falls t array h = head (live_node t array) rules.OffsetsFall (drop 8 in_order) (drop-none (live_node t array) 7 in_order (root-rules t array h))
+
+root-child_short : (t : Typed) (array : ArrayTree) → LayoutOk (typed_of t) array → child_short (items_need (layout_of (kind_of t)) (members_of array)) 0 (children_of array) ≡ None
+root-child_short t array h = head (live_node t array) rules.ChildShort (drop 9 in_order) (drop-none (live_node t array) 8 in_order (root-rules t array h))
+
+root-indices : (t : Typed) (array : ArrayTree) → LayoutOk (typed_of t) array → indices_wrong (kind_of t) (members_of array) (length_if (dictionary_of array)) ≡ None
+root-indices t array h = head (live_node t array) rules.IndexRange (drop 12 in_order) (drop-none (live_node t array) 11 in_order (root-rules t array h))
+
+root-window : (t : Typed) (array : ArrayTree) → LayoutOk (typed_of t) array → fault_if (nat_lt window_limit (end (members_of array))) 0 (pos (end (members_of array))) (pos window_limit) ≡ None
+root-window t array h = head (live_node t array) rules.WindowTooLong [] (drop-none (live_node t array) 12 in_order (root-rules t array h))
+
+same_count : (found needed : ℕ) → count_wrong found needed ≡ None → found ≡ needed
+same_count found needed e = grind arith
+
+within_limit : (n limit : ℕ) → fault_if (nat_lt limit n) 0 (pos n) (pos limit) ≡ None → n ≤ limit
+within_limit n limit e = grind arith
+
+pub root-end : (t : Typed) (array : ArrayTree) → LayoutOk (typed_of t) array → end (members_of array) ≤ 2 ^ 40
+root-end t array h = within_limit (end (members_of array)) window_limit (root-window t array h)
+
+pub root-children : (t : Typed) (array : ArrayTree) → LayoutOk (typed_of t) array → length (children_of array) ≡ length (kids_of t)
+root-children t array h = same_count (length (children_of array)) (length (kids_of t)) (root-child_count t array h)
+
+pub root-dictionary : (t : Typed) (array : ArrayTree) → LayoutOk (typed_of t) array → one_if (dictionary_of array) ≡ one_if (dict_in (out-Typed t).dict)
+root-dictionary t array h = same_count (one_if (dictionary_of array)) (one_if (dict_in (out-Typed t).dict)) (root-dictionary_count t array h)
+
+-- the validity bits are long enough; where the layout has no buffer, there are none
+validity-here : (own : ArrayMembers) (count : ℕ) → length own.buffers ≡ count → (0 < count → IsLongIfPresent own) → IsLongIfPresent own
+validity-here own zero e h = subst (λ b. IsLongIfPresent (record own { buffers = b })) (sym (nil own.buffers e)) tt
+  where
+    nil : {X : Type 0} → (xs : List X) → length xs ≡ 0 → xs ≡ []
+    nil [] e = refl
+    nil (x ∷ xs) e = absurd (omega (arith, e))
+validity-here own (suc n) e h = h (omega arith)
+
+pub root-validity : (t : Typed) (array : ArrayTree) → LayoutOk (typed_of t) array → length (members_of array).buffers ≡ buffer_count (layout_of (kind_of t)) → IsLongIfPresent (members_of array)
+root-validity t array h e = validity-here (members_of array) (buffer_count (layout_of (kind_of t))) e (long-validity (layout_of (kind_of t)) (members_of array) (root-short t array h))
+
+pub tree_items-items : (array : ArrayTree) → tree_items array ≡ items (members_of array)
+tree_items-items Released = refl
+tree_items-items (Live own children dictionary) = refl
+
+-- ---- the fault of a part doesn't depend on the way to it
+
+other-path : (p q : Steps) (rule : LayoutRule) (numbers : Option Numbers) → fault_at p rule numbers ≡ None → fault_at q rule numbers ≡ None
+other-path p q rule None e = refl
+other-path p q rule (Some numbers) e = grind arith
+
+rules-path : (p q : Steps) (node : Node) (some : List LayoutRule) → rules_fault some p node ≡ None → rules_fault some q node ≡ None
+rules-path p q node [] e = refl
+rules-path p q node (rule ∷ others) e =
+    ap (λ o. option_or o (rules_fault others q node)) (other-path p q rule (fails rule node) (left-none (fault_by p node rule) (rules_fault others p node) e))
+    ∙ rules-path p q node others (right-none (fault_by p node rule) (rules_fault others p node) (left-none (fault_by p node rule) (rules_fault others p node) e) e)
+
+node-path : (p q : Steps) (node : Option Node) → node_fault p node ≡ None → node_fault q node ≡ None
+node-path p q None e = grind arith
+node-path p q (Some node) e = rules-path p q node in_order e
+
+both-none : {X : Type 0} → (a b : Option X) → a ≡ None → b ≡ None → option_or a b ≡ None
+both-none a b e f = ap (λ o. option_or o b) e ∙ f
+
+mutual
+  any-path : (typed : KindTree) (p q : Steps) (array : ArrayTree) → fault_from typed p array ≡ None → fault_from typed q array ≡ None
+  any-path Released p q array e = refl
+  any-path (Live kind kids dict) p q Released e =
+      both-none (node_fault q None) None (node-path p q None (left-none (node_fault p None) None e)) refl
+  any-path (Live kind kids dict) p q (Live own children dictionary) e =
+      let node = node_of kind kids dict (Live own children dictionary) in
+      let below = λ (path : Steps). first_some visit_fault (walk_children (walks_of kids) 0 path (tree_list children) ++ walk_dictionary (walk_of dict) path (option_tree dictionary)) in
+      let at : node_fault p node ≡ None = left-none (node_fault p node) (below p) e in
+      let rest : below p ≡ None = right-none (node_fault p node) (below p) at e in
+      let split = λ (path : Steps). first_some-append visit_fault (walk_children (walks_of kids) 0 path (tree_list children)) (walk_dictionary (walk_of dict) path (option_tree dictionary)) in
+      let kids_fault = λ (path : Steps). first_some visit_fault (walk_children (walks_of kids) 0 path (tree_list children)) in
+      let dict_fault = λ (path : Steps). first_some visit_fault (walk_dictionary (walk_of dict) path (option_tree dictionary)) in
+      let both : option_or (kids_fault p) (dict_fault p) ≡ None = sym (split p) ∙ rest in
+      let first : kids_fault p ≡ None = left-none (kids_fault p) (dict_fault p) both in
+      both-none (node_fault q node) (below q) (node-path p q node at)
+      (split q
+      ∙ both-none (kids_fault q) (dict_fault q)
+      (kids-path kids 0 p q (tree_list children) first)
+      (dict-path dict p q (option_tree dictionary) (right-none (kids_fault p) (dict_fault p) first both)))
+
+  kids-path : (kids : Trees DataType) (k : ℕ) (p q : Steps) (children : List ArrayTree)
+      → first_some visit_fault (walk_children (walks_of kids) k p children) ≡ None
+      → first_some visit_fault (walk_children (walks_of kids) k q children) ≡ None
+  kids-path no_trees k p q children e = refl
+  kids-path (more_trees kid kids) k p q [] e = refl
+  kids-path (more_trees kid kids) k p q (child ∷ rest) e =
+      let here = λ (path : Steps). fault_from kid (path ++ k ∷ []) child in
+      let others = λ (path : Steps). first_some visit_fault (walk_children (walks_of kids) (suc k) path rest) in
+      let split = λ (path : Steps). first_some-append visit_fault (visits kid (path ++ k ∷ []) child) (walk_children (walks_of kids) (suc k) path rest) in
+      let both : option_or (here p) (others p) ≡ None = sym (split p) ∙ e in
+      let first : here p ≡ None = left-none (here p) (others p) both in
+      split q
+      ∙ both-none (here q) (others q)
+      (any-path kid (p ++ k ∷ []) (q ++ k ∷ []) child first)
+      (kids-path kids (suc k) p q rest (right-none (here p) (others p) first both))
+
+  dict-path : (dict : MaybeTree DataType) (p q : Steps) (dictionary : Option ArrayTree)
+      → first_some visit_fault (walk_dictionary (walk_of dict) p dictionary) ≡ None
+      → first_some visit_fault (walk_dictionary (walk_of dict) q dictionary) ≡ None
+  dict-path absent p q dictionary e = refl
+  dict-path (present dict) p q None e = refl
+  dict-path (present dict) p q (Some dictionary) e = any-path dict (p ++ dictionary_step ∷ []) (q ++ dictionary_step ∷ []) dictionary e
+
+lawful-from : (typed : KindTree) (path : Steps) (array : ArrayTree) → fault_from typed path array ≡ None → LayoutOk typed array
+lawful-from typed path array e = first_fault-lawful typed array (any-path typed path [] array e)
+
+-- ---- the parts of a lawful array
+
+parts-none : (t : Typed) (array : ArrayTree) → LayoutOk (typed_of t) array
+    → (children_fault (kids_of t) 0 [] (children_of array) ≡ None) × (dictionary_fault (dict_in (out-Typed t).dict) [] (dictionary_of array) ≡ None)
+parts-none t array h =
+    let own = own_fault (typed_of t) [] array in
+    let kids = children_fault (kids_of t) 0 [] (children_of array) in
+    let dict = dictionary_fault (dict_in (out-Typed t).dict) [] (dictionary_of array) in
+    let all : option_or own (option_or kids dict) ≡ None = sym (fault_from-typed t [] array (root-live t array h)) ∙ lawful-first_fault (typed_of t) array h in
+    let below : option_or kids dict ≡ None = right-none own (option_or kids dict) (left-none own (option_or kids dict) all) all in
+    let first : kids ≡ None = left-none kids dict below in
+    (first, right-none kids dict first below)
+
+child-none : (kids : List KindTree) (n : ℕ) (path : Steps) (children : List ArrayTree) (k : ℕ) → children_fault kids n path children ≡ None → length children ≡ length kids → k < length kids
+    → LayoutOk (get_or kids k Released) (get_or children k Released)
+child-none [] n path children k e same h = absurd (omega (arith, h))
+child-none (kid ∷ kids) n path [] k e same h = absurd (omega (arith, same))
+child-none (kid ∷ kids) n path (child ∷ rest) zero e same h =
+    lawful-from kid (path ++ n ∷ []) child (left-none (fault_from kid (path ++ n ∷ []) child) (children_fault kids (suc n) path rest) e)
+child-none (kid ∷ kids) n path (child ∷ rest) (suc k) e same h =
+    let here = fault_from kid (path ++ n ∷ []) child in
+    let others = children_fault kids (suc n) path rest in
+    child-none kids (suc n) path rest k (right-none here others (left-none here others e) e) (omega (arith, same)) (omega (arith, h))
+
+pub child-lawful : (t : Typed) (array : ArrayTree) → LayoutOk (typed_of t) array → (k : ℕ) → k < length (kids_of t) → LayoutOk (get_or (kids_of t) k Released) (child_at array k)
+child-lawful t array h k l = child-none (kids_of t) 0 [] (children_of array) k (parts-none t array h).0 (root-children t array h) l
+
+dictionary-none : (dict : Option KindTree) (dictionary : Option ArrayTree) (typed : KindTree) (array : ArrayTree) → dictionary_fault dict [] dictionary ≡ None → dict ≡ Some typed → dictionary ≡ Some array → LayoutOk typed array
+dictionary-none dict dictionary typed array e d a =
+    lawful-from typed ([] ++ dictionary_step ∷ []) array (sym (ap (λ o. dictionary_fault o [] dictionary) d ∙ ap (λ o. dictionary_fault (Some typed) [] o) a) ∙ e)
+
+pub dictionary-lawful : (t : Typed) (array : ArrayTree) → LayoutOk (typed_of t) array → (dict : KindTree) (dictionary : ArrayTree) → dict_in (out-Typed t).dict ≡ Some dict → dictionary_of array ≡ Some dictionary → LayoutOk dict dictionary
+dictionary-lawful t array h dict dictionary d a = dictionary-none (dict_in (out-Typed t).dict) (dictionary_of array) dict dictionary (parts-none t array h).1 d a
+
+-- ---- what the buffers have of an item
+
+one_more : (first count i width size : ℕ) → i < count → (first + count) * width ≤ size → (first + i + 1) * width ≤ size
+one_more first count i width size h l =
+    let below : first + i + 1 ≤ first + count = omega (arith, h) in
+    omega (arith, mul-le-mul_right width below, l)
+
+some_offsets : (wide : Bool) (n : ℕ) → 0 < n → offsets_need wide n ≡ (n + 1) * offset_width wide
+some_offsets wide zero h = absurd (omega (arith, h))
+some_offsets wide (suc n) h = refl
+
+two_offsets : (wide : Bool) (own : ArrayMembers) (i : ℕ) → i < items own → offsets_need wide (end own) ≤ length (bytes own 1) → (first own + i + 1 + 1) * offset_width wide ≤ length (bytes own 1)
+two_offsets wide own i h l =
+    let below : first own + i + 1 + 1 ≤ end own + 1 = omega (arith, h) in
+    let some : 0 < end own = omega (arith, h) in
+    omega (arith, mul-le-mul_right (offset_width wide) below, some_offsets wide (end own) some, l)
+
+stored-within : (layout : Layout) (own : ArrayMembers) (i : ℕ) → i < items own
+    → first_below (buffer_absent layout own) (buffer_count layout) ≡ None → first_below (buffer_short layout own) (buffer_count layout) ≡ None
+    → offsets_fall_if (is_behind_offsets layout) own ≡ None
+    → StoredWithin layout own (first own + i)
+stored-within NoBuffers own i h e f r = tt
+stored-within (FixedWidth width) own i h e f r = one_more (first own) (items own) i width (length (bytes own 1)) h (long-fixed width own e f)
+stored-within TruthBits own i h e f r = omega (arith, h, long-truth own e f)
+stored-within (ByOffsets wide) own i h e f r = (
+  record {
+    there = two_offsets wide own i h (long-bytes wide own e f);
+    from = offsets-from wide own i r h;
+    rise = offsets-rise wide own i r h;
+  },
+  offsets-within wide own i r h (long-bytes wide own e f) (long-data wide own e f),
+)
+stored-within (ListOffsets wide) own i h e f r = record {
+  there = two_offsets wide own i h (long-list wide own e f);
+  from = offsets-from wide own i r h;
+  rise = offsets-rise wide own i r h;
+}
+stored-within (FixedItems size) own i h e f r = tt
+stored-within ByChildren own i h e f r = tt
+
+pub item-stored : (t : Typed) (array : ArrayTree) → LayoutOk (typed_of t) array → (i : ℕ) → i < tree_items array → StoredWithin (layout_of (kind_of t)) (members_of array) (first (members_of array) + i)
+item-stored t array h i l =
+    stored-within (layout_of (kind_of t)) (members_of array) i (subst (λ n. i < n) (tree_items-items array) l) (root-absent t array h) (root-short t array h) (root-falls t array h)
+
+-- ---- what a child has of an item
+
+not_short : (needed k : ℕ) (own : ArrayMembers) → short_child needed k (Some own.length) ≡ None → needed ≤ items own
+not_short needed k own e = by own.length e
+  where
+    by : (found : ℤ) → fault_if (int_lt found (pos needed)) k found (pos needed) ≡ None → needed ≤ natural found
+    by (pos n) e = grind arith
+    by (negsuc n) e = grind arith
+
+child-long : (needed n : ℕ) (children : List ArrayTree) (k : ℕ) → child_short needed n children ≡ None → IsLive (get_or children k Released) → k < length children → needed ≤ tree_items (get_or children k Released)
+child-long needed n [] k e live h = absurd live
+child-long needed n (Released ∷ rest) zero e live h = absurd live
+child-long needed n (Live own below dictionary ∷ rest) zero e live h = not_short needed n own (left-none (short_child needed n (Some own.length)) (child_short needed (suc n) rest) e)
+child-long needed n (child ∷ rest) (suc k) e live h =
+    let here = short_child needed n (live_length child) in
+    let others = child_short needed (suc n) rest in
+    child-long needed (suc n) rest k (right-none here others (left-none here others e) e) live (omega (arith, h))
+
+some_need : (n need : ℕ) → 0 < n → (if n == 0 then 0 else need) ≡ need
+some_need n need h = ap (λ b. if b then 0 else need) (not_zero n h)
+
+items-within : (layout : Layout) (own : ArrayMembers) (i total : ℕ) → i < items own
+    → offsets_fall_if (is_behind_offsets layout) own ≡ None → items_need layout own ≤ total
+    → ItemsWithin layout own (first own + i) total
+items-within NoBuffers own i total h r l = tt
+items-within (FixedWidth width) own i total h r l = tt
+items-within TruthBits own i total h r l = tt
+items-within (ByOffsets wide) own i total h r l = tt
+items-within (ListOffsets wide) own i total h r l =
+    let some : 0 < end own = omega (arith, h) in
+    let rise = natural-rise (offset wide own (first own + i + 1)) (offset wide own (end own)) (offsets-next wide own i r h) (offsets-last wide own i r h) in
+    omega (arith, rise, some_need (end own) (natural (offset wide own (end own))) some, l)
+items-within (FixedItems size) own i total h r l = one_more (first own) (items own) i size total h l
+items-within ByChildren own i total h r l = omega (arith, h, l)
+
+pub child-needed : (t : Typed) (array : ArrayTree) → LayoutOk (typed_of t) array
+    → ((k : ℕ) → k < length (kids_of t) → IsLive (child_at array k))
+    → (k : ℕ) → k < length (kids_of t) → items_need (layout_of (kind_of t)) (members_of array) ≤ tree_items (child_at array k)
+child-needed t array h live k m =
+    child-long (items_need (layout_of (kind_of t)) (members_of array)) 0 (children_of array) k (root-child_short t array h) (live k m) (omega (arith, m, root-children t array h))
+
+pub item-children : (t : Typed) (array : ArrayTree) → LayoutOk (typed_of t) array
+    → ((k : ℕ) → k < length (kids_of t) → IsLive (child_at array k))
+    → (i k : ℕ) → i < tree_items array → k < length (kids_of t) → ItemsWithin (layout_of (kind_of t)) (members_of array) (first (members_of array) + i) (tree_items (child_at array k))
+item-children t array h live i k l m =
+    items-within (layout_of (kind_of t)) (members_of array) i (tree_items (child_at array k)) (subst (λ n. i < n) (tree_items-items array) l) (root-falls t array h) (child-needed t array h live k m)
+
+-- ---- an index
+
+not_outside : (z : ℤ) (total : ℤ) (i : ℕ) → fault_if (is_outside total z) i z total ≡ None → (pos 0 ≤ℤ z) × (natural z < natural total)
+not_outside (pos n) (pos total) i e = (grind arith, grind arith)
+not_outside (pos n) (negsuc total) i e = absurd (grind arith)
+not_outside (negsuc n) total i e = absurd (grind arith)
+
+valid-none : (valid outside : Bool) (i : ℕ) (z total : ℤ) → fault_if (valid && outside) i z total ≡ None → IsTrue valid → fault_if outside i z total ≡ None
+valid-none true outside i z total e h = e
+valid-none false outside i z total e h = absurd (true≢false (sym h))
+
+index-within : (kind : DataType) (own : ArrayMembers) (i : ℕ) (dictionary : ArrayTree) → i < items own → IsLive dictionary → indices_wrong kind own (live_length dictionary) ≡ None → IndexWithin kind own i dictionary
+index-within kind own i Released h live e = absurd live
+index-within (kinds.Int bits signed) own i (Live members below behind) h live e = λ valid.
+    not_outside (stored_number (bits / 8) signed own i) members.length i
+    (valid-none (is_valid own i) (is_outside members.length (stored_number (bits / 8) signed own i)) i (stored_number (bits / 8) signed own i) members.length
+    (first_below-none_at (index_wrong (bits / 8) signed own members.length) (items own) i h e) valid)
+index-within kind own i (Live members below behind) h live e = tt
+
+pub item-index : (t : Typed) (array : ArrayTree) → LayoutOk (typed_of t) array → (i : ℕ) (dictionary : ArrayTree) → i < tree_items array → dictionary_of array ≡ Some dictionary → IsLive dictionary → IndexWithin (kind_of t) (members_of array) i dictionary
+item-index t array h i dictionary l d live =
+    index-within (kind_of t) (members_of array) i dictionary (subst (λ n. i < n) (tree_items-items array) l) live
+    (sym (ap (λ o. indices_wrong (kind_of t) (members_of array) (length_if o)) d) ∙ root-indices t array h)
+
+-- ---- each part of a lawful array is live, for each has a type
+
+pub kid-live : (kids : List Typed) (k : ℕ) (child : ArrayTree) → k < length (map typed_of kids) → LayoutOk (get_or (map typed_of kids) k Released) child → IsLive child
+kid-live [] k child h ok = absurd (omega (arith, h))
+kid-live (t ∷ ts) zero child h ok = root-live t child ok
+kid-live (t ∷ ts) (suc k) child h ok = kid-live ts k child (omega (arith, h)) ok
+
+-- no child's window has more than 2^40 items
+
+few-items : (t : Typed) (array : ArrayTree) → LayoutOk (typed_of t) array → tree_items array ≤ 2 ^ 40
+few-items t array h = omega (arith, root-end t array h, tree_items-items array)
+
+pub kid-few : (kids : List Typed) (k : ℕ) (child : ArrayTree) → k < length (map typed_of kids) → LayoutOk (get_or (map typed_of kids) k Released) child → tree_items child ≤ 2 ^ 40
+kid-few [] k child h ok = absurd (omega (arith, h))
+kid-few (t ∷ ts) zero child h ok = few-items t child ok
+kid-few (t ∷ ts) (suc k) child h ok = kid-few ts k child (omega (arith, h)) ok
+
+pub dict-live : (dict : Option (Box Typed)) (typed : KindTree) (array : ArrayTree) → dict_in dict ≡ Some typed → LayoutOk typed array → IsLive array
+dict-live None typed array e ok = absurd (cc)
+dict-live (Some box) typed array e ok =
+    let same : typed ≡ typed_of box.value = cc in
+    root-live box.value array (subst (λ t. LayoutOk t array) same ok)

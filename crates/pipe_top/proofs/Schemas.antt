@@ -1,0 +1,17 @@
+-- The schemas of proper columns.
+use Rattle.std.proofs.Common.{◌≡◌, ◌<◌, ℕ, List, length, map, All, sym, subst}
+use Rattle.std.proofs.lemmas.List.{get_or-map, length-map}
+use Rattle.fmt_string.specs.declared.kind.ColumnType.{ColumnType}
+use Rattle.fmt_string.specs.ColumnView.{column_of}
+use Rattle.fmt_string.specs.Table.{Column}
+use Rattle.arr_export.specs.ColumnSchema.{KindsOk}
+use Rattle.arr_export.specs.SchemaSize.{AreFlat}
+use Rattle.csv_edge.specs.TextColumns.{AreProper}
+
+pub proper-flat : (columns : List Column) → AreProper columns → AreFlat columns
+proper-flat columns proper k d small = ((proper k d small).0, (proper k d small).1)
+
+pub proper-kinds : (columns : List ColumnType) → AreProper (map column_of columns) → All (λ c. KindsOk (column_of c).kind) columns
+proper-kinds columns proper k d small =
+    let there = proper k (column_of d) (subst (λ n. k < n) (sym (length-map columns column_of)) small) in
+    subst (λ c. KindsOk c.kind) (get_or-map column_of columns k d (column_of d) small) (subst KindsOk (sym there.1) there.2)
