@@ -17,7 +17,7 @@ use Rattle.stage_plan.specs.Code.{entry_of}
 use Rattle.stage_plan.specs.declared.types.Entry.{Entry}
 use Rattle.fmt_string.specs.declared.kind.DataType.{DataType}
 use Rattle.fmt_string.specs.FormatString.{FormatIs}
-use Rattle.fmt_string.specs.Kinds.{KindOk}
+use Rattle.fmt_string.specs.Kinds.{KindOk, is_column_type}
 use Rattle.stage_plan.specs.Types.{parts, EntryIs, EntryReads, FirstFaultIs, NamesDiffer, Reads, TypesIs}
 use Rattle.stage_plan.proofs.Walk.{Answer, Named, Settled, Settles, fault, fault_after, fault_only, whole, whole_only}
 
@@ -65,6 +65,17 @@ entries_valid law (p ∷ ps) (e ∷ es) each (suc k) d within = entries_valid la
 pub kinds_valid : ((text : List ℕ) (kind : DataType) → FormatIs text kind → KindOk kind) → (text : List ℕ) (es : List TypeEntry)
     → TypesIs text es → All (λ e. KindOk e.kind) es
 kinds_valid law text es is = entries_valid law (parts text) es is.each
+
+-- and those of a column
+columns_of : (ps : List (List ℕ)) (es : List TypeEntry) → AllZip EntryIs ps es → All (λ e. is_column_type e.kind ≡ true) es
+columns_of [] [] each k d within = absurd (omega arith)
+columns_of [] (e ∷ es) each k d within = absurd each
+columns_of (p ∷ ps) [] each k d within = absurd each
+columns_of (p ∷ ps) (e ∷ es) each zero d within = each.0.2.1
+columns_of (p ∷ ps) (e ∷ es) each (suc k) d within = columns_of ps es each.1 k d (omega arith)
+
+pub kinds_of_columns : (text : List ℕ) (es : List TypeEntry) → TypesIs text es → All (λ e. is_column_type e.kind ≡ true) es
+kinds_of_columns text es is = columns_of (parts text) es is.each
 
 -- ---- what is kept
 

@@ -1,6 +1,6 @@
-ghost use Rattle.std.specs.Prelude.{◌≡◌, ◌≢◌, ◌+◌, ◌==◌, false, length, List, All, Option, Result, IfOk, IfErr, IfSome, IfNone, map, option_map, position};
+ghost use Rattle.std.specs.Prelude.{◌≡◌, ◌≢◌, ◌+◌, ◌==◌, false, true, length, List, All, Option, Result, IfOk, IfErr, IfSome, IfNone, map, option_map, position};
 ghost use Rattle.fmt_string.specs.declared.kind.DataType.{DataType as AType};
-ghost use Rattle.fmt_string.specs.Kinds.{KindOk};
+ghost use Rattle.fmt_string.specs.Kinds.{KindOk, is_column_type};
 ghost use Rattle.stage_plan.specs.declared.fault.TypesFault.{TypesFault as AFault};
 ghost use Rattle.stage_plan.specs.declared.fault.TypesFault.TheVariants as faults;
 ghost use Rattle.stage_plan.specs.declared.types.TypeEntry.{TypeEntry as AnEntry};
@@ -40,6 +40,8 @@ pub fn read_types(alloc: Global, text: &str) -> Result<Vec<TypeEntry>, TypesFaul
     ensures found { IfOk result (λ entries. TypesIs text.now entries.items) }
     // Each type is a proper one.
     ensures valid { IfOk result (λ entries. All (λ e. KindOk e.kind) entries.items) }
+    // Each is the type of a column.
+    ensures column { IfOk result (λ entries. All (λ e. is_column_type e.kind ≡ true) entries.items) }
     // Which fault it is.
     ensures fault { IfErr result (λ f. f ≢ faults.NoMemory → TypesFaultIs text.now f) }
     // A text with entries is read, and a fault is answered, unless memory runs out.

@@ -5,7 +5,7 @@ use Rattle.stage_plan.specs.declared.types.TypeEntry.{TypeEntry}
 use Rattle.stage_plan.specs.declared.fault.TypesFault.{TypesFault}
 use Rattle.stage_plan.specs.declared.fault.TypesFault.TheVariants.{At}
 use Rattle.stage_plan.specs.declared.fault.TypesRule.TheVariants.{BadEntry, Twice}
-use Rattle.stage_plan.proofs.Loop.{ReadSoFar, at_start, one_more, bad, bad_only, twice, twice_only, done, done_only, settles_none, settles_some, was_there, was_new, put_in, kinds_valid}
+use Rattle.stage_plan.proofs.Loop.{ReadSoFar, at_start, one_more, bad, bad_only, twice, twice_only, done, done_only, settles_none, settles_some, was_there, was_new, put_in, kinds_valid, kinds_of_columns}
 use Rattle.stage_plan.proofs.Cuts.{entry}
 use Rattle.stage_plan.proofs.types.read_types.Goals as goal
 
@@ -69,6 +69,12 @@ pub returns-clause-valid : goal.returns-clause-valid
 returns-clause-valid c =
     let all = ap (map (λ p. p.now)) c.deref-part-items.ensures.value ∙ c.in_ok-parts.ensures ∙ ap parts c.as_bytes.ensures.value in
     kinds_valid c.spelled_is_valid.ensures c.args.text.now c.loop-part.entries.items
+    (done c.deref-part-items.result.now c.loop-part.part-index c.loop-part.names.keys c.loop-part.entries.items c.loop-part.invariant (omega arith) c.args.text.now all)
+
+pub returns-clause-column : goal.returns-clause-column
+returns-clause-column c =
+    let all = ap (map (λ p. p.now)) c.deref-part-items.ensures.value ∙ c.in_ok-parts.ensures ∙ ap parts c.as_bytes.ensures.value in
+    kinds_of_columns c.args.text.now c.loop-part.entries.items
     (done c.deref-part-items.result.now c.loop-part.part-index c.loop-part.names.keys c.loop-part.entries.items c.loop-part.invariant (omega arith) c.args.text.now all)
 
 pub returns-clause-only : goal.returns-clause-only
