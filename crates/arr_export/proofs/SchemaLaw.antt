@@ -1,5 +1,5 @@
 -- The schema of columns meets the rules, and names their types.
-use Rattle.std.proofs.Common.{◌≡◌, ◌≤◌, ◌<◌, ◌+◌, ℕ, suc, true, List, [], ◌∷◌, Option, None, Some, All, map, refl, inl, inr, arith}
+use Rattle.std.proofs.Common.{◌≤◌, ◌+◌, ℕ, suc, true, List, [], ◌∷◌, Option, None, Some, All, map, refl, inl, inr, arith}
 use Rattle.fmt_string.specs.FieldText.{form_of}
 use Rattle.fmt_string.specs.FormatString.{FormatIs}
 use Rattle.fmt_string.specs.Kinds.{KindOk}
@@ -7,8 +7,7 @@ use Rattle.fmt_string.specs.Spelling.{spelling_of}
 use Rattle.fmt_string.specs.Table.{Column, Kind, Flat, Dict, Columns, Members, no_members, more_members}
 use Rattle.fmt_string.specs.declared.kind.DataType.{DataType}
 use Rattle.fmt_string.specs.declared.kind.DataType.TheVariants as kinds
-use Rattle.tree_model.specs.Tree.{Live, Trees, no_trees, absent, trees, Depth, depth_of_all}
-use Rattle.raw_schema.specs.Members.{SchemaMembers}
+use Rattle.tree_model.specs.Tree.{Live, no_trees, absent, trees, Depth, depth_of_all}
 use Rattle.col_build.specs.Encoding.{HasForm}
 use Rattle.layout_check.specs.Schemas.{ChildrenFit, MapFits, TypedFrom, KidsTyped, TypedOf}
 use Rattle.arr_export.specs.ColumnSchema.{SchemaOf, column_schema, member_schemas, schema_of_column, values_schema}

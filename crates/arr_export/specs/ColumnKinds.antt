@@ -8,7 +8,7 @@ use Rattle.fmt_string.specs.declared.kind.DataType.TheVariants as kinds
 use Rattle.tree_model.specs.Tree.{Live, Trees, no_trees, more_trees, absent, present}
 use Rattle.col_build.specs.Encoding.{HasForm}
 use Rattle.layout_check.specs.Kinds.{KindTree}
-use Rattle.arr_export.specs.ArrayTrees.{flat_type, table_type}
+use Rattle.arr_export.specs.ArrayTrees.{table_type}
 
 abbrev mutual
   -- values of a type; indices of 32 bits into a dictionary of values; or a struct of columns

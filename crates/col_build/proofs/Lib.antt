@@ -4,6 +4,7 @@ pub mod StoredFacts
 pub mod ShapeFacts
 pub mod FitsFacts
 pub mod ValidityFacts
+pub mod Laid
 pub mod Pushes
 pub mod FinishFacts
 pub mod Views

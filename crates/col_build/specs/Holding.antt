@@ -31,6 +31,11 @@ ShapeOk (shapes.Floats width) = IsWidth width × (width ≢ 16)
 ShapeOk (shapes.Sized size) = size < 2 ^ 31
 ShapeOk shape = Unit {0}
 
+-- a shape lays items out as the builder's own does: it is the same, but that of texts one may test them and the other not
+abbrev pub IsLaidAs : Shape → Shape → Type 0
+IsLaidAs (shapes.Between wide text) own = (tested : Bool) × (own ≡ shapes.Between wide tested)
+IsLaidAs shape own = own ≡ shape
+
 -- the validity bits of these values, so many of them nulls
 pub record HasValidity (bits : List ℕ) (count nulls : ℕ) (values : List Value) : Type 0 where
   pub counted : count ≡ length values

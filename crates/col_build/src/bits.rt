@@ -5,6 +5,7 @@ ghost use Rattle.col_build.specs.Encoding.{bit_bytes};
 use unit_pass::NoMemory;
 
 // Adds a bit behind so many.
+#[inline(always)]
 pub(crate) fn push_bit(bits: &mut Vec<u8>, count: usize, flag: bool) -> Result<(), NoMemory>
     requires shows { (flags : List Bool) × (length flags ≡ count) × (bits.old.items ≡ bit_bytes flags) }
     ensures added { OnOk result ((flags : List Bool) → length flags ≡ count → bits.old.items ≡ bit_bytes flags → bits.new.items ≡ bit_bytes (flags ++ flag ∷ [])) }

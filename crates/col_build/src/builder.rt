@@ -1,8 +1,9 @@
-ghost use Rattle.std.specs.Prelude.{◌≡◌, ◌≤◌, ◌<◌, ◌^◌, ◌+◌, ◌∷◌, [], List, Bool, pos, length, map, if◌then◌else◌, is_ok, IfOk, IfErr, OnOk, OnErr};
+ghost use Rattle.std.specs.Prelude.{◌≡◌, ◌≤◌, ◌<◌, ◌^◌, ◌+◌, ◌∷◌, [], List, Bool, true, pos, length, map, if◌then◌else◌, is_ok, IfOk, IfErr, OnOk, OnErr};
 ghost use Rattle.unit_pass.specs.Tally.{risen};
 ghost use Rattle.fmt_string.specs.FieldText.{form_of};
 ghost use Rattle.fmt_string.specs.Kinds.{KindOk};
-ghost use Rattle.fmt_string.specs.Value.{Value};
+ghost use Rattle.fmt_string.specs.Value.{Value, Bytes};
+ghost use Rattle.std.specs.Str.{is_utf8};
 ghost use Rattle.fmt_string.specs.declared.kind.DataType.{DataType};
 ghost use Rattle.col_build.specs.Encoding.{Fits, HasForm, is_null};
 ghost use Rattle.col_build.specs.Items.{value_of};
@@ -29,6 +30,7 @@ pub struct Builder {
 }
 
 // Whether an item is null.
+#[inline(always)]
 fn is_null(item: &Item<'_>) -> bool
     ensures { result ≡ is_null (value_of item.now) }
 {
@@ -40,7 +42,8 @@ fn is_null(item: &Item<'_>) -> bool
 
 impl Builder {
     ghost use Rattle.col_build.specs.Finished.{IsEncoded, blocks_of};
-    ghost use Rattle.col_build.specs.Holding.{Adds, Holds, HoldsFew, HoldsSome, IsPushed, Keeps};
+    ghost use Rattle.col_build.specs.Holding.{Adds, Holds, HoldsFew, HoldsSome, IsLaidAs, IsPushed, Keeps};
+    ghost use Rattle.col_build.specs.Shapes.{shape_fault};
 
     /// A column of a flat type, without values. Takes no memory.
     pub fn new(alloc: Global, kind: DataType) -> Builder
@@ -59,26 +62,62 @@ impl Builder {
         }
     }
 
-    /// Adds an item behind those that are there. Where it isn't taken the column is as before.
-    pub fn push(&mut self, item: Item<'_>) -> Result<(), PushFault>
+    // Adds an item, by a shape that lays it out as the builder's own does and takes it where that does.
+    #[inline(always)]
+    fn push_as(&mut self, shape: Shape, item: Item<'_>) -> Result<(), PushFault>
         requires holds { HoldsFew self.old }
+        requires laid { IsLaidAs shape self.old.shape }
+        requires same { shape_fault shape (length self.old.bytes.items) (value_of item) ≡ shape_fault self.old.shape (length self.old.bytes.items) (value_of item) }
         ensures added { OnOk result (Adds (value_of item.entry) self.old self.new) }
         ensures kept { OnErr result (Keeps self.old self.new) }
         ensures answer { IsPushed (value_of item.entry) self.old result }
     {
         let null = is_null(&item);
         make_room(&mut self.validity, self.count, self.nulls, null)?;
-        store(
-            self.shape,
-            self.count,
-            &mut self.offsets,
-            &mut self.bytes,
-            item,
-        )?;
+        store(shape, self.count, &mut self.offsets, &mut self.bytes, item)?;
         push_validity(&mut self.validity, self.count, self.nulls, null);
         self.count += 1;
         self.nulls += usize::from(null);
         Ok(())
+    }
+
+    /// Adds an item behind those that are there. Where it isn't taken the column is as before.
+    #[inline(always)]
+    pub fn push(&mut self, item: Item<'_>) -> Result<(), PushFault>
+        requires holds { HoldsFew self.old }
+        ensures added { OnOk result (Adds (value_of item.entry) self.old self.new) }
+        ensures kept { OnErr result (Keeps self.old self.new) }
+        ensures answer { IsPushed (value_of item.entry) self.old result }
+    {
+        self.push_as(self.shape, item)
+    }
+
+    // Adds bytes by a call, so that a push of a text is short where it is laid out.
+    #[inline(never)]
+    fn push_bytes(&mut self, bytes: &[u8]) -> Result<(), PushFault>
+        requires holds { HoldsFew self.old }
+        ensures added { OnOk result (Adds (Bytes bytes.now) self.old self.new) }
+        ensures kept { OnErr result (Keeps self.old self.new) }
+        ensures answer { IsPushed (Bytes bytes.now) self.old result }
+    {
+        self.push(Item::Bytes(bytes))
+    }
+
+    /// Adds a text that is UTF-8, which isn't tested again. Else as [`Builder::push`] of its bytes.
+    #[inline(always)]
+    pub fn push_text(&mut self, text: &[u8]) -> Result<(), PushFault>
+        requires holds { HoldsFew self.old }
+        requires text { is_utf8 text.now ≡ true }
+        ensures added { OnOk result (Adds (Bytes text.now) self.old self.new) }
+        ensures kept { OnErr result (Keeps self.old self.new) }
+        ensures answer { IsPushed (Bytes text.now) self.old result }
+    {
+        match self.shape {
+            Shape::Between { wide, text: _ } => {
+                self.push_as(Shape::Between { wide, text: false }, Item::Bytes(text))
+            }
+            _ => self.push_bytes(text),
+        }
     }
 
     /// How many items there are.

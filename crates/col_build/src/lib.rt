@@ -2,8 +2,9 @@
 //! layout").
 //!
 //! A [`Builder`] is made for a flat type and takes [`Item`]s. [`Builder::push`] adds one behind those that are there, or
-//! answers why the column doesn't take it and changes nothing. [`Builder::finish`] moves the buffers into blocks and
-//! answers the column as [`Built`]; where memory runs out it gives the builder back with all its items.
+//! answers why the column doesn't take it and changes nothing; [`Builder::push_text`] does so with a text that the caller
+//! has tested by [`is_text`]. [`Builder::finish`] moves the buffers into blocks and answers the column as [`Built`]; where
+//! memory runs out it gives the builder back with all its items.
 //!
 //! - What the buffers of a column are is said by `specs/Encoding.antt`, from the values alone: the validity bitmap, the
 //!   offsets and the data, which of them are absent, and what a null has in its place. The same module says which items a
@@ -25,12 +26,16 @@ mod laws;
 mod numbers;
 mod shape;
 mod store;
+mod text;
 mod validity;
 
 pub use builder::Builder;
 pub use built::Built;
 pub use item::{Item, PushFault};
 pub use laws::worked_encodings;
+pub use text::is_text;
 
 #[cfg(test)]
 mod tests;
+#[cfg(test)]
+mod text_tests;

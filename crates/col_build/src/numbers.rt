@@ -7,6 +7,7 @@ ghost use Rattle.col_build.specs.Shapes.{Stored, past, range_fault};
 use crate::PushFault;
 
 // Appends bytes.
+#[inline(always)]
 pub(crate) fn append(bytes: &mut Vec<u8>, more: &[u8]) -> Result<(), PushFault>
     ensures { Stored result bytes.old.items bytes.new.items None more.now }
 {
@@ -17,6 +18,7 @@ pub(crate) fn append(bytes: &mut Vec<u8>, more: &[u8]) -> Result<(), PushFault>
 }
 
 // Appends the lowest bytes of a number, so many of them.
+#[inline(always)]
 pub(crate) fn append_number(bytes: &mut Vec<u8>, width: usize, number: u64) -> Result<(), PushFault>
     requires width { IsWidth width }
     requires narrow { width ≢ 16 }
@@ -31,6 +33,7 @@ pub(crate) fn append_number(bytes: &mut Vec<u8>, width: usize, number: u64) -> R
 }
 
 // Appends the sixteen bytes of a number.
+#[inline(always)]
 fn append_sixteen(bytes: &mut Vec<u8>, number: u128) -> Result<(), PushFault>
     ensures { Stored result bytes.old.items bytes.new.items None (le_bytes 16 number) }
 {
@@ -38,6 +41,7 @@ fn append_sixteen(bytes: &mut Vec<u8>, number: u128) -> Result<(), PushFault>
 }
 
 // Two to the power of the bits that a number of a width has beside its sign.
+#[inline(always)]
 fn past_largest(width: usize, signed: bool) -> i128
     requires width { IsWidth width }
     requires narrow { width ≢ 16 }
@@ -56,6 +60,7 @@ fn past_largest(width: usize, signed: bool) -> i128
 }
 
 // Whether a number is in the range of a width.
+#[inline(always)]
 fn fits(number: i128, width: usize, signed: bool) -> bool
     requires width { IsWidth width }
     requires narrow { width ≢ 16 }
@@ -65,7 +70,28 @@ fn fits(number: i128, width: usize, signed: bool) -> bool
     number < past && if signed { -past <= number } else { 0 <= number }
 }
 
-// Appends a whole number that is in the range of its width. Sixteen bytes hold each number.
+// Appends a whole number that is in the range of its width.
+#[inline(always)]
+fn append_fitting(
+    bytes: &mut Vec<u8>,
+    width: usize,
+    signed: bool,
+    number: i128,
+) -> Result<(), PushFault>
+    requires width { IsWidth width }
+    requires narrow { width ≢ 16 }
+    ensures { Stored result bytes.old.items bytes.new.items (range_fault (in_range (8 * width) signed number)) (le_bytes width (stored width number)) }
+{
+    if !fits(number, width, signed) {
+        return Err(PushFault::OutOfRange);
+    }
+    let low = (number.cast_unsigned() % (1 << 64)) as u64;
+    append_number(bytes, width, low)
+}
+
+// Appends a whole number that is in the range of its width. Sixteen bytes hold each number. The code of each width stands
+// by itself, so that its bounds are constants.
+#[inline(always)]
 pub(crate) fn append_whole(
     bytes: &mut Vec<u8>,
     width: usize,
@@ -76,14 +102,13 @@ pub(crate) fn append_whole(
     requires widest { width ≡ 16 → IsTrue signed }
     ensures { Stored result bytes.old.items bytes.new.items (range_fault (in_range (8 * width) signed number)) (le_bytes width (stored width number)) }
 {
-    if width == 16 {
-        return append_sixteen(bytes, number.cast_unsigned());
+    match width {
+        1 => append_fitting(bytes, 1, signed, number),
+        2 => append_fitting(bytes, 2, signed, number),
+        4 => append_fitting(bytes, 4, signed, number),
+        8 => append_fitting(bytes, 8, signed, number),
+        _ => append_sixteen(bytes, number.cast_unsigned()),
     }
-    if !fits(number, width, signed) {
-        return Err(PushFault::OutOfRange);
-    }
-    let low = (number.cast_unsigned() % (1 << 64)) as u64;
-    append_number(bytes, width, low)
 }
 
 // Appends the bits of a float that has no others.

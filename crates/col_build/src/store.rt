@@ -1,7 +1,6 @@
 // Items, each behind the last in the buffers of a shape ("Arrow Columnar Format", "Physical memory layout").
 ghost use Rattle.std.specs.Prelude.{◌≡◌, ◌≢◌, ◌==◌, ◌⊎◌, ◌+◌, ◌^◌, ◌<◌, ◌++◌, ◌∷◌, [], ℕ, Bool, List, None, Some, length, map, replicate, true, IsTrue, OnOk, OnErr, IfErr};
 ghost use Rattle.std.specs.List.{concat};
-ghost use Rattle.std.specs.Str.{is_utf8};
 ghost use Rattle.bit_pack.specs.Packed.{IsWidth, le_bytes, offset_width};
 ghost use Rattle.fmt_string.specs.Value.{Value};
 ghost use Rattle.col_build.specs.Encoding.{bit_bytes, bytes_of, is_set, offset_bytes, stored_item};
@@ -14,9 +13,11 @@ ghost use Rattle.col_build.specs.declared.shape.Shape.TheVariants.{Truths, Whole
 use crate::bits::push_bit;
 use crate::numbers::{append, append_bits, append_number, append_whole};
 use crate::shape::Shape;
+use crate::text::is_text;
 use crate::{Item, PushFault};
 
 // Appends so many zeros.
+#[inline(always)]
 fn append_zeros(bytes: &mut Vec<u8>, count: usize) -> Result<(), PushFault>
     requires { count < 2 ^ 31 }
     ensures { Stored result bytes.old.items bytes.new.items None (replicate count 0) }
@@ -27,6 +28,7 @@ fn append_zeros(bytes: &mut Vec<u8>, count: usize) -> Result<(), PushFault>
     }
 }
 
+#[inline(always)]
 fn store_whole(
     bytes: &mut Vec<u8>,
     width: usize,
@@ -77,20 +79,8 @@ fn store_sized(bytes: &mut Vec<u8>, size: usize, item: Item<'_>) -> Result<(), P
     }
 }
 
-// Whether bytes are UTF-8.
-fn is_text(bytes: &[u8]) -> bool
-    ensures { result ≡ is_utf8 bytes.now }
-{
-    if bytes.is_ascii() {
-        return true;
-    }
-    match str::from_utf8(bytes) {
-        Ok(_) => true,
-        Err(_) => false,
-    }
-}
-
 // Appends an offset.
+#[inline(always)]
 fn append_offset(offsets: &mut Vec<u8>, wide: bool, end: usize) -> Result<(), PushFault>
     ensures { Stored result offsets.old.items offsets.new.items None (le_bytes (offset_width wide) end) }
 {
@@ -102,6 +92,7 @@ fn append_offset(offsets: &mut Vec<u8>, wide: bool, end: usize) -> Result<(), Pu
 }
 
 // Makes the first offset, where there is none yet.
+#[inline(always)]
 pub(crate) fn begin_offsets(offsets: &mut Vec<u8>, wide: bool) -> Result<(), PushFault>
     ensures begun { OnOk result ((items : List (List ℕ)) → HasOffsets wide items offsets.old.items → offsets.new.items ≡ offset_bytes wide items) }
     ensures kept { OnErr result (offsets.new.items ≡ offsets.old.items) }
@@ -114,6 +105,7 @@ pub(crate) fn begin_offsets(offsets: &mut Vec<u8>, wide: bool) -> Result<(), Pus
 }
 
 // Ends an item at a place in the bytes of all.
+#[inline(always)]
 fn end_item(offsets: &mut Vec<u8>, wide: bool, end: usize) -> Result<(), PushFault>
     ensures added { OnOk result ((items : List (List ℕ)) (item : List ℕ) → HasOffsets wide items offsets.old.items → length (concat items) + length item ≡ end → HasOffsets wide (items ++ item ∷ []) offsets.new.items) }
     ensures kept { OnErr result ((items : List (List ℕ)) → HasOffsets wide items offsets.old.items → HasOffsets wide items offsets.new.items) }
@@ -124,6 +116,7 @@ fn end_item(offsets: &mut Vec<u8>, wide: bool, end: usize) -> Result<(), PushFau
 }
 
 // Whether offsets reach so many bytes.
+#[inline(always)]
 fn is_reached(wide: bool, total: usize) -> bool
     ensures { result ≡ reaches wide total }
 {
@@ -131,6 +124,7 @@ fn is_reached(wide: bool, total: usize) -> bool
 }
 
 // Why bytes aren't taken behind so many.
+#[inline(always)]
 fn fault_between(wide: bool, text: bool, start: usize, more: &[u8]) -> Option<PushFault>
     requires { start < 2 ^ 63 }
     ensures { result ≡ between_fault wide text start more.now }
@@ -145,6 +139,7 @@ fn fault_between(wide: bool, text: bool, start: usize, more: &[u8]) -> Option<Pu
 }
 
 // Adds bytes between offsets.
+#[inline(always)]
 fn append_between(
     offsets: &mut Vec<u8>,
     bytes: &mut Vec<u8>,
@@ -170,6 +165,7 @@ fn append_between(
     }
 }
 
+#[inline(always)]
 fn store_truth(bits: &mut Vec<u8>, count: usize, item: Item<'_>) -> Result<(), PushFault>
     requires has { (values : List Value) × HasBytes Truths values [] bits.old.items × (length values ≡ count) }
     ensures added { OnOk result ((values : List Value) → length values ≡ count → HasBytes Truths values [] bits.old.items → HasBytes Truths (values ++ value_of item.entry ∷ []) [] bits.new.items) }
@@ -187,6 +183,7 @@ fn store_truth(bits: &mut Vec<u8>, count: usize, item: Item<'_>) -> Result<(), P
     }
 }
 
+#[inline(always)]
 fn store_between(
     offsets: &mut Vec<u8>,
     bytes: &mut Vec<u8>,
@@ -206,6 +203,7 @@ fn store_between(
 }
 
 // Adds an item behind so many. Where it isn't taken the values stay.
+#[inline(always)]
 pub(crate) fn store(
     shape: Shape,
     count: usize,

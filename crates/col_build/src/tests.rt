@@ -77,7 +77,7 @@ fn push_refused(rt: &impl Abort, builder: &mut Builder, items: &[(Item<'_>, Push
 }
 
 // Pushes an item that is taken, once more where memory runs out.
-fn push_one(rt: &impl Abort, builder: &mut Builder, item: Item<'_>)
+pub(crate) fn push_one(rt: &impl Abort, builder: &mut Builder, item: Item<'_>)
     requires few { HoldsFew builder.old }
     ensures { Adds (value_of item.entry) builder.old builder.new }
 {
@@ -127,7 +127,7 @@ fn expect_built(
 }
 
 // Finishes the column, once more where memory runs out, and expects these counts and buffers.
-fn expect_finish(
+pub(crate) fn expect_finish(
     rt: &impl Abort,
     alloc: Global,
     builder: Builder,
@@ -153,7 +153,7 @@ fn expect_finish(
 }
 
 // Builds a column of these items, which takes none of the others, and expects these counts and buffers.
-fn expect_column(
+pub(crate) fn expect_column(
     rt: &impl Abort,
     alloc: Global,
     kind: DataType,
@@ -177,13 +177,13 @@ fn expect_column(
 }
 
 // A type of whole numbers.
-fn int(bits: u8, signed: bool) -> DataType
+pub(crate) fn int(bits: u8, signed: bool) -> DataType
     ensures { result ≡ Int bits signed }
 {
     DataType::Int { bits, signed }
 }
 
-fn decimal() -> DataType
+pub(crate) fn decimal() -> DataType
     ensures { result ≡ Decimal 1 (pos 0) false }
 {
     DataType::Decimal {

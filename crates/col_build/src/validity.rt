@@ -9,6 +9,7 @@ use crate::PushFault;
 use crate::bits::{fill_to_clear, push_bit};
 
 // Makes room for the bit of an item behind so many, so many of them nulls.
+#[inline(always)]
 pub(crate) fn make_room(
     validity: &mut Vec<u8>,
     count: usize,
@@ -20,13 +21,10 @@ pub(crate) fn make_room(
     ensures next { OnOk result (nulls ≢ 0 → vec_len validity.new + 1 ≤ vec_capacity validity.new) }
     ensures why { IfErr result (λ fault. fault ≡ NoMemory) }
 {
-    let more = if nulls != 0 {
-        1
-    } else if null {
-        count / 8 + 1
-    } else {
-        0
-    };
+    if nulls == 0 && !null {
+        return Ok(());
+    }
+    let more = if nulls != 0 { 1 } else { count / 8 + 1 };
     match validity.reserve(more) {
         Ok(()) => Ok(()),
         Err(_) => Err(PushFault::NoMemory),
@@ -34,6 +32,7 @@ pub(crate) fn make_room(
 }
 
 // Adds the bit of an item behind so many, for which there is room.
+#[inline(always)]
 pub(crate) fn push_validity(validity: &mut Vec<u8>, count: usize, nulls: usize, null: bool)
     requires has { (values : List Value) × HasValidity validity.old.items count nulls values }
     requires first { nulls ≡ 0 → null ≡ true → vec_len validity.old + (count / 8 + 1) ≤ vec_capacity validity.old }
