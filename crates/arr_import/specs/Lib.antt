@@ -5,3 +5,4 @@ pub mod Cols
 pub mod Shown
 pub mod Imports
 pub mod ImportFaults
+pub mod Flats

@@ -35,6 +35,7 @@ impl<'a> Col<'a> {
     }
 
     /// The place of an item in the buffers.
+    #[inline(always)]
     pub(crate) fn place(&self, i: u64) -> u64
         requires { i < self.now.count }
         ensures { result ≡ first (members_of self.now.array.now) + (self.now.start + i) }
@@ -44,6 +45,7 @@ impl<'a> Col<'a> {
         self.offset + (self.start + i)
     }
 
+    #[inline(always)]
     pub(crate) fn is_valid(&self, i: u64) -> bool
         requires { i < self.now.count }
         ensures { result ≡ is_valid_at (members_of self.now.array.now) (self.now.start + i) }
@@ -140,6 +142,7 @@ impl<'a> Col<'a> {
     }
 }
 
+#[inline(always)]
 fn is_set(bits: &[u8], place: u64) -> bool
     requires { place < 8 * length bits.now }
     ensures { result ≡ (bit bits.now place == 1) }

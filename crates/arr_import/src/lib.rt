@@ -3,7 +3,8 @@
 //! - [`import`] takes a schema and an array that `layout_check` accepts, and keeps both; or it hands both back whole, with
 //!   the check's fault.
 //! - [`Col`] is a column: a window over the items of an array. [`Col::value`] shows an item: a null, a number, bytes that
-//!   are lent from the block, a list as the column of its items, or that it is a struct. [`Col::child`] is a struct's
+//!   are lent from the block, a list as the column of its items, or that it is a struct. [`Col::truth`], [`Col::whole`],
+//!   [`Col::bits`] and [`Col::bytes`] show the items of one kind alone, at less cost. [`Col::child`] is a struct's
 //!   child over the struct's window. [`Col::home`] follows an item through its dictionaries.
 //!
 //! Contracts see a column as a window (`specs/Window.antt`): the kinds, the array's tree, and which items of it. What an
@@ -16,6 +17,7 @@
 #![tactic(auto)]
 
 mod col;
+mod flat;
 mod home;
 mod imported;
 mod item;

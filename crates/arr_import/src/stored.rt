@@ -5,6 +5,7 @@ ghost use Rattle.layout_check.specs.Layout.{natural, offset_in};
 
 use bit_pack::{bit_at, int_at, offset_at, unsigned_at};
 
+#[inline(always)]
 pub fn truth_at(stored: &[u8], place: u64) -> bool
     requires { place < 8 * length stored.now }
     ensures { result ≡ (bit stored.now place == 1) }
@@ -12,6 +13,7 @@ pub fn truth_at(stored: &[u8], place: u64) -> bool
     bit_at(stored, place as usize)
 }
 
+#[inline(always)]
 pub fn whole_at(stored: &[u8], place: u64, width: u8, signed: bool) -> i128
     requires width { IsWidth width }
     requires widest { width ≡ 16 → IsTrue signed }
@@ -22,6 +24,7 @@ pub fn whole_at(stored: &[u8], place: u64, width: u8, signed: bool) -> i128
     int_at(stored, place as usize * width, width, signed)
 }
 
+#[inline(always)]
 pub fn bits_at(stored: &[u8], place: u64, width: u8) -> u64
     requires width { IsWidth width }
     requires narrow { width ≢ 16 }
@@ -32,6 +35,7 @@ pub fn bits_at(stored: &[u8], place: u64, width: u8) -> u64
     unsigned_at(stored, place as usize * width, width)
 }
 
+#[inline(always)]
 pub fn bytes_at(stored: &[u8], place: u64, width: u32) -> &[u8]
     requires within { (place + 1) * width ≤ length stored.now }
     ensures { result.now ≡ take width (drop (place * width) stored.now) }
@@ -42,6 +46,7 @@ pub fn bytes_at(stored: &[u8], place: u64, width: u32) -> &[u8]
 }
 
 /// An offset of a list or a text.
+#[inline(always)]
 pub fn start_at(wide: bool, offsets: &[u8], place: u64) -> u64
     requires there { (place + 1) * offset_width wide ≤ length offsets.now }
     requires from { pos 0 ≤ℤ offset_in wide offsets.now place }
@@ -50,6 +55,7 @@ pub fn start_at(wide: bool, offsets: &[u8], place: u64) -> u64
     offset_at(offsets, place as usize, wide) as u64
 }
 
+#[inline(always)]
 pub fn text_at<'a>(wide: bool, offsets: &[u8], text: &'a [u8], place: u64) -> &'a [u8]
     requires there { (place + 1 + 1) * offset_width wide ≤ length offsets.now }
     requires from { pos 0 ≤ℤ offset_in wide offsets.now place }

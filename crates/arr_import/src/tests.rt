@@ -43,6 +43,7 @@ fn show(rt: &impl Abort, levels: u8, col: &Col<'_>, i: i64, want: &Want<'_>)
     requires from { pos 0 ≤ℤ i }
     requires below { i <ℤ pos (window_of col.now).count }
 {
+    show_alone(rt, col, i, want);
     match (col.value(i), want) {
         (ValueRef::Null, Want::Null) => {}
         (ValueRef::Truth(found), Want::Truth(want)) => assert_eq!(rt; found, *want),
@@ -56,6 +57,25 @@ fn show(rt: &impl Abort, levels: u8, col: &Col<'_>, i: i64, want: &Want<'_>)
         }
         _ => panic!(rt; "another kind of value at {i}"),
     }
+}
+
+/// The reads of one kind show an item of their kind alone.
+fn show_alone(rt: &impl Abort, col: &Col<'_>, i: i64, want: &Want<'_>)
+    requires from { pos 0 ≤ℤ i }
+    requires below { i <ℤ pos (window_of col.now).count }
+{
+    let (mut truth, mut whole, mut bits, mut bytes) = (None, None, None, None);
+    match want {
+        Want::Truth(want) => truth = Some(*want),
+        Want::Whole(want) => whole = Some(*want),
+        Want::Bits(want) => bits = Some(*want),
+        Want::Bytes(want) => bytes = Some(*want),
+        _ => {}
+    }
+    assert_eq!(rt; col.truth(i), truth);
+    assert_eq!(rt; col.whole(i), whole);
+    assert_eq!(rt; col.bits(i), bits);
+    assert_eq!(rt; col.bytes(i), bytes);
 }
 
 #[cycle(show)]

@@ -1,7 +1,7 @@
 //! What a column shows.
-ghost use Rattle.std.specs.Prelude.{◌≡◌, true, None, ◌≤ℤ◌, ◌<ℤ◌, ℕ, pos, ◌+◌, ◌<◌, ◌≤◌, length, get_or};
+ghost use Rattle.std.specs.Prelude.{◌≡◌, ◌≢◌, true, None, ◌≤ℤ◌, ◌<ℤ◌, Bool, ℕ, ℤ, List, IfSome, IfNone, pos, ◌+◌, ◌<◌, ◌≤◌, length, get_or};
 ghost use Rattle.fmt_string.specs.Value.{Value};
-ghost use Rattle.fmt_string.specs.Value.Value.{Null};
+ghost use Rattle.fmt_string.specs.Value.Value.{Null, Truth, Whole, Bits, Bytes};
 ghost use Rattle.tree_model.specs.Tree.{Released, child_at, children_of};
 ghost use Rattle.raw_array.specs.Members.{members_of};
 ghost use Rattle.layout_check.specs.TypedView.{typed_of, kids_of, dict_in};
@@ -10,9 +10,11 @@ ghost use Rattle.layout_check.specs.Layout.{first, natural, is_valid as is_valid
 ghost use Rattle.layout_check.specs.Values.{row_items, tree_items};
 ghost use Rattle.arr_import.specs.Window.{IsRow, IsStruct, IsStructValue, child_window, home_of, item_at};
 ghost use Rattle.arr_import.specs.Cols.{window_of};
+ghost use Rattle.arr_import.specs.Flats.{IsFlat};
 ghost use Rattle.arr_import.specs.Shown.{Shows};
 
 use crate::col::Col;
+use crate::flat::Flat;
 use crate::value_ref::ValueRef;
 use layout_check::{kinds_of_typed, lawful_has_no_fault, lawful_items_lie_within, lawful_root};
 
@@ -30,6 +32,86 @@ impl<'a> Col<'a> {
         }
         let (home, place) = self.home_at(i);
         home.own_value(place)
+    }
+
+    /// Item `i` where it is of a plain kind, also through a dictionary.
+    #[inline(always)]
+    fn flat(&self, i: i64) -> Flat<'a>
+        requires from { pos 0 ≤ℤ i }
+        requires below { i <ℤ pos (window_of self.now).count }
+        ensures { IsFlat result (item_at (window_of self.now) (natural i)) }
+    {
+        if self.typed.dict.is_none() {
+            return self.own_flat(i as u64);
+        }
+        self.entry_flat(i as u64)
+    }
+
+    /// The same, where a dictionary stands behind the column.
+    fn entry_flat(&self, i: u64) -> Flat<'a>
+        requires { i < self.now.count }
+        ensures { IsFlat result (item_at (window_of self.now) i) }
+    {
+        let (home, place) = self.home_at(i);
+        home.own_flat(place)
+    }
+
+    /// Item `i` where it is a truth value, also through a dictionary; none where it is null or of any other kind.
+    #[inline(always)]
+    pub fn truth(&self, i: i64) -> Option<bool>
+        requires from { pos 0 ≤ℤ i }
+        requires below { i <ℤ pos (window_of self.now).count }
+        ensures some { IfSome result (λ truth. item_at (window_of self.now) (natural i) ≡ Truth truth) }
+        ensures none { IfNone result ((truth : Bool) → item_at (window_of self.now) (natural i) ≢ Truth truth) }
+    {
+        match self.flat(i) {
+            Flat::Truth(truth) => Some(truth),
+            _ => None,
+        }
+    }
+
+    /// Item `i` where it is a whole number: of an integer, date, time or duration, or a decimal's unscaled number. None as
+    /// [`Col::truth`].
+    #[inline(always)]
+    pub fn whole(&self, i: i64) -> Option<i128>
+        requires from { pos 0 ≤ℤ i }
+        requires below { i <ℤ pos (window_of self.now).count }
+        ensures some { IfSome result (λ number. item_at (window_of self.now) (natural i) ≡ Whole number) }
+        ensures none { IfNone result ((number : ℤ) → item_at (window_of self.now) (natural i) ≢ Whole number) }
+    {
+        match self.flat(i) {
+            Flat::Whole(number) => Some(number),
+            _ => None,
+        }
+    }
+
+    /// The bits of item `i` where it is a float. None as [`Col::truth`].
+    #[inline(always)]
+    pub fn bits(&self, i: i64) -> Option<u64>
+        requires from { pos 0 ≤ℤ i }
+        requires below { i <ℤ pos (window_of self.now).count }
+        ensures some { IfSome result (λ bits. item_at (window_of self.now) (natural i) ≡ Bits bits) }
+        ensures none { IfNone result ((bits : ℕ) → item_at (window_of self.now) (natural i) ≢ Bits bits) }
+    {
+        match self.flat(i) {
+            Flat::Bits(bits) => Some(bits),
+            _ => None,
+        }
+    }
+
+    /// The bytes of item `i` where it is a text, binary or of a fixed size, lent from the array's blocks. None as
+    /// [`Col::truth`].
+    #[inline(always)]
+    pub fn bytes(&self, i: i64) -> Option<&'a [u8]>
+        requires from { pos 0 ≤ℤ i }
+        requires below { i <ℤ pos (window_of self.now).count }
+        ensures some { IfSome result (λ bytes. item_at (window_of self.now) (natural i) ≡ Bytes bytes.now) }
+        ensures none { IfNone result ((bytes : List ℕ) → item_at (window_of self.now) (natural i) ≢ Bytes bytes) }
+    {
+        match self.flat(i) {
+            Flat::Bytes(bytes) => Some(bytes),
+            _ => None,
+        }
     }
 
     /// Where item `i` stands: this column and `i` where it has no dictionary or the index is null, else what the

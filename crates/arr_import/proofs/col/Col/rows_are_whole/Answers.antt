@@ -1,7 +1,7 @@
-use Rattle.std.proofs.Common.{◌≡◌, ◌∙◌, ◌+◌, ℕ, zero, suc, List, [], ◌∷◌, Option, length, refl, ap, arith}
+use Rattle.std.proofs.Common.{◌≡◌, ◌∙◌, ◌+◌, ℕ, List, [], ◌∷◌, Option, length, refl, ap, arith}
 use Rattle.fmt_string.specs.declared.kind.DataType.{DataType}
 use Rattle.tree_model.specs.Tree.{Released, Live, IsLive, trees, maybe_tree, children_of}
-use Rattle.raw_array.specs.Members.{ArrayTree, members_of}
+use Rattle.raw_array.specs.Members.{ArrayTree}
 use Rattle.layout_check.specs.Kinds.{KindTree}
 use Rattle.layout_check.specs.Layout.{first}
 use Rattle.layout_check.specs.TypedView.{typed_of, kind_of, kids_of, dict_in}
