@@ -1,5 +1,5 @@
 -- The chunk of rows meets the rules of a chunk, and its rows are these.
-use Rattle.std.proofs.Common.{◌≡◌, ◌∙◌, ◌≤◌, ◌<◌, ◌+◌, ◌^◌, ℕ, zero, suc, List, [], ◌∷◌, length, map, get_or, None, All, refl, sym, ap, subst, arith}
+use Rattle.std.proofs.Common.{◌≡◌, ◌∙◌, ◌≤◌, ◌<◌, ◌+◌, ℕ, zero, suc, List, [], ◌∷◌, length, map, get_or, None, All, refl, ap, arith}
 use Rattle.std.proofs.lemmas.List.{get_or-map, length-map}
 use Rattle.fmt_string.specs.Table.{Column, Row, Kind, Flat, Dict, Columns}
 use Rattle.fmt_string.specs.Value.{Value, Null}

@@ -1,11 +1,11 @@
 -- The arrays of builders that hold rows.
-use Rattle.std.proofs.Common.{◌≡◌, ◌∙◌, ◌≤◌, ◌<◌, ◌+◌, ℕ, zero, suc, List, [], ◌∷◌, length, get_or, All, None, refl, ap, subst, arith}
+use Rattle.std.proofs.Common.{◌≡◌, ◌∙◌, ◌≤◌, ◌<◌, ◌+◌, ℕ, zero, suc, List, [], ◌∷◌, length, get_or, All, refl, ap, subst, arith}
 use Rattle.std.proofs.lemmas.List.{length-map}
 use Rattle.std.proofs.lemmas.List.Sums.{sum_by-cons}
 use Rattle.fmt_string.specs.Table.{Column, Row, Kind, Flat, Dict, Columns}
 use Rattle.fmt_string.specs.Value.{Value, Null}
 use Rattle.raw_array.specs.Members.{ArrayTree}
-use Rattle.col_build.specs.Holding.{Holds, HoldsSome}
+use Rattle.col_build.specs.Holding.{HoldsSome}
 use Rattle.col_build.specs.declared.builder.Builder.{Builder}
 use Rattle.arr_export.specs.ArrayTrees.{IsColumn}
 use Rattle.csv_edge.specs.Body.{HoldEach, HoldsKind, column_values}

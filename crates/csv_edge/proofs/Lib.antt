@@ -10,12 +10,13 @@ pub mod Tables
 pub mod Unscaled
 pub mod Hexadecimals
 pub mod PointText
+pub mod DigitText
 pub mod Views
 pub mod ChunkCosts
 pub mod HeldRows
 pub mod Taken
+pub mod FieldPush
 pub mod BodyRows
 pub mod BodyRead
 pub mod Lines
 pub mod ChunkTexts
-pub mod AllowedTypes

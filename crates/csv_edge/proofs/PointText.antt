@@ -13,7 +13,7 @@ glyph_is : (d : ℕ) → d < 10 → digit_glyph false d ≡ 48 + d
 glyph_is d small = rw (lt-ltb d 10 small) refl
 
 -- the digits of a number of more than one digit
-steps : (n : ℕ) → 10 ≤ n → n < 10 ^ 64 → decimal n ≡ decimal (n / 10) ++ (digit_glyph false (n % 10) ∷ [])
+pub steps : (n : ℕ) → 10 ≤ n → n < 10 ^ 64 → decimal n ≡ decimal (n / 10) ++ (digit_glyph false (n % 10) ∷ [])
 steps n some small = decimal_step_wide n some small ∙ ap (λ (d : ℕ). decimal (n / 10) ++ (d ∷ [])) (sym (glyph_is (n % 10) (omega arith)))
 
 one : (n : ℕ) → n < 10 → decimal n ≡ digit_glyph false (n % 10) ∷ []
@@ -91,7 +91,7 @@ none_before places n small short =
 
 -- ---- the texts that are written
 
-length-last_digits : (count n : ℕ) → length (last_digits 10 count n) ≡ count
+pub length-last_digits : (count n : ℕ) → length (last_digits 10 count n) ≡ count
 length-last_digits zero n = refl
 length-last_digits (suc count) n = omega (arith, length-append (last_digits 10 count (n / 10)) (digit_glyph false (n % 10) ∷ []), length-last_digits count (n / 10))
 

@@ -1,8 +1,8 @@
 -- The columns of a body in the making, and one more row for them.
-use Rattle.std.specs.Prelude.{◌≡◌, ◌≤◌, ◌<◌, ◌+◌, ◌^◌, ◌++◌, ℕ, List, [], ◌∷◌, length, get_or, drop, None, Some, Result, Ok, Err}
+use Rattle.std.specs.Prelude.{◌≡◌, ◌≤◌, ◌<◌, ◌+◌, ◌^◌, ◌++◌, ℕ, List, [], ◌∷◌, length, get_or, drop, Option, None, Some, Result, Ok, Err}
 use Rattle.std.specs.Borrow.{Bor}
 use Rattle.col_build.specs.Encoding.{byte_total, bytes_of, push_fault}
-use Rattle.col_build.specs.Holding.{Holds}
+use Rattle.col_build.specs.Holding.{Adds, Holds}
 use Rattle.col_build.specs.declared.builder.Builder.{Builder}
 use Rattle.csv.specs.declared.reader.Reader.{Reader}
 use Rattle.fmt_string.specs.declared.kind.DataType.{DataType}
@@ -24,6 +24,14 @@ use Rattle.csv_edge.specs.declared.form.FieldForm.{FieldForm}
 -- the column of this type takes the value
 abbrev pub Takes : Builder → Value → Type 0
 Takes builder value = (kind : DataType) × (values : List Value) × Holds builder kind values × (length values < 2 ^ 40) × (push_fault kind values value ≡ None)
+
+-- the column takes the value if there is one
+abbrev pub TakesSome : Builder → Option Value → Type 0
+TakesSome builder found = (value : Value) → found ≡ Some value → Takes builder value
+
+-- there is a value, which the column holds besides
+abbrev pub AddsSome : Option Value → Builder → Builder → Type 0
+AddsSome found old new = (value : Value) × (found ≡ Some value) × Adds value old new
 
 -- the column of this form has room for a field of so many bytes
 pub record HasRoom (form : FieldForm) (builder : Builder) (size : ℕ) : Type 0 where

@@ -1,22 +1,28 @@
 //! The columns of a body in the making.
-ghost use Rattle.std.specs.Prelude.{◌≡◌, ◌<◌, ◌^◌, [], length, map, true, false, vec_len, IfErr, IfOk, OnOk, Ok, Some};
+ghost use Rattle.std.specs.Prelude.{◌≡◌, ◌<◌, ◌^◌, [], length, map, true, false, vec_len, option_map, IfErr, IfOk, OnOk, Ok, None, Some};
+ghost use Rattle.std.specs.Str.{IsAscii, is_utf8};
 ghost use Rattle.csv.specs.Records.{fields_of};
 ghost use Rattle.col_build.specs.Encoding.{HasForm};
 ghost use Rattle.col_build.specs.Holding.{Adds};
 ghost use Rattle.col_build.specs.Items.{value_of};
 ghost use Rattle.fmt_string.specs.ColumnView.{column_of};
-ghost use Rattle.fmt_string.specs.FieldText.{form_of};
+ghost use Rattle.fmt_string.specs.FieldText.{HexBytes, SizedHex, Text, form_of, read_form};
 ghost use Rattle.fmt_string.specs.Kinds.{KindOk};
 ghost use Rattle.fmt_string.specs.Table.{Flat};
-ghost use Rattle.csv_edge.specs.BodyRows.{AddsField, AddsFields, AddsRow, HasRoom, HasRoomFor, HasRows, RefusesFields, RefusesRow, SpellsNone, Takes};
+ghost use Rattle.fmt_string.specs.Value.{Bytes};
+ghost use Rattle.csv_edge.specs.BodyRows.{AddsField, AddsFields, AddsRow, AddsSome, HasRoom, HasRoomFor, HasRows, RefusesFields, RefusesRow, SpellsNone, Takes, TakesSome};
 ghost use Rattle.csv_edge.specs.FieldForms.{IsProper, form_in};
 ghost use Rattle.csv_edge.specs.TextColumns.{AreAllowed, AreProper, IsAllowed, IsFlatOf};
 
 use crate::body::BodyFault;
-use crate::form::{FieldForm, form_of};
-use crate::reading::read_in_form;
+use crate::decimal::decimal;
+use crate::form::{FieldForm, flat_form};
+use crate::hexadecimal::read_bits;
+use crate::reading::{bytes, sized_bytes};
 use crate::row::field;
-use col_build::{Builder, Item, PushFault};
+use crate::truth::truth;
+use crate::whole::whole;
+use col_build::{Builder, Item, PushFault, is_text};
 use csv::ByteRecord;
 use csv_model::RowFault;
 use fmt_string::{ColKind, ColumnType, DataType, clone_kind};
@@ -46,20 +52,8 @@ fn flat_kind(column: &ColumnType) -> &DataType
     }
 }
 
-// The form of a flat type.
-fn flat_form(kind: &DataType) -> FieldForm
-    requires kind { KindOk kind.now }
-    requires flat { HasForm (form_of kind.now) }
-    ensures is { form_of kind.now ≡ Some (form_in result) }
-    ensures proper { IsProper result }
-{
-    match form_of(kind) {
-        Some(form) => form,
-        None => unreachable!(),
-    }
-}
-
 // Adds an item that the column takes.
+#[inline(always)]
 fn push_item(builder: &mut Builder, item: Item<'_>) -> Result<(), NoMemory>
     requires { Takes builder.old (value_of item) }
     ensures { OnOk result (Adds (value_of item.entry) builder.old builder.new) }
@@ -71,19 +65,14 @@ fn push_item(builder: &mut Builder, item: Item<'_>) -> Result<(), NoMemory>
     }
 }
 
-// Adds the value that a field spells, where it spells one.
-fn push_field(
-    form: FieldForm,
-    text: &[u8],
-    room: &mut Vec<u8>,
-    builder: &mut Builder,
-) -> Result<bool, NoMemory>
-    requires proper { IsProper form }
-    requires fits { HasRoom form builder.old (length text.now) }
-    ensures added { result ≡ Ok true → AddsField form text.now builder.old builder.new }
-    ensures none { result ≡ Ok false → SpellsNone form text.now }
+// Adds an item where there is one.
+#[inline(always)]
+fn push_some(item: Option<Item<'_>>, builder: &mut Builder) -> Result<bool, NoMemory>
+    requires { TakesSome builder.old (option_map value_of item) }
+    ensures added { result ≡ Ok true → AddsSome (option_map value_of item.entry) builder.old builder.new }
+    ensures none { result ≡ Ok false → option_map value_of item.entry ≡ None }
 {
-    match read_in_form(form, text, room)? {
+    match item {
         Some(item) => {
             push_item(builder, item)?;
             Ok(true)
@@ -92,7 +81,123 @@ fn push_field(
     }
 }
 
-// Adds the values that the fields of a record spell, each to its column.
+// Whether a field is UTF-8, which ASCII is.
+#[inline(always)]
+fn is_utf8(text: &[u8], ascii: bool) -> bool
+    requires { ascii ≡ true → IsAscii text.now }
+    ensures { result ≡ is_utf8 text.now }
+{
+    ascii || is_text(text)
+}
+
+// Adds a text that is UTF-8.
+#[inline(always)]
+fn add_text(builder: &mut Builder, text: &[u8]) -> Result<(), NoMemory>
+    requires text { is_utf8 text.now ≡ true }
+    requires takes { Takes builder.old (Bytes text.now) }
+    ensures { OnOk result (Adds (Bytes text.now) builder.old builder.new) }
+{
+    match builder.push_text(text) {
+        Ok(()) => Ok(()),
+        Err(PushFault::NoMemory) => Err(NoMemory),
+        Err(_) => unreachable!(),
+    }
+}
+
+// Adds a text where it is UTF-8.
+#[inline(always)]
+fn push_text(text: &[u8], ascii: bool, builder: &mut Builder) -> Result<bool, NoMemory>
+    requires ascii { ascii ≡ true → IsAscii text.now }
+    requires takes { TakesSome builder.old (read_form Text text.now) }
+    ensures added { result ≡ Ok true → AddsSome (read_form Text text.now) builder.old builder.new }
+    ensures none { result ≡ Ok false → read_form Text text.now ≡ None }
+{
+    if !is_utf8(text, ascii) {
+        return Ok(false);
+    }
+    add_text(builder, text)?;
+    Ok(true)
+}
+
+// Adds the bytes that a field spells.
+fn push_bytes(text: &[u8], room: &mut Vec<u8>, builder: &mut Builder) -> Result<bool, NoMemory>
+    requires takes { TakesSome builder.old (read_form HexBytes text.now) }
+    ensures added { result ≡ Ok true → AddsSome (read_form HexBytes text.now) builder.old builder.new }
+    ensures none { result ≡ Ok false → read_form HexBytes text.now ≡ None }
+{
+    push_some(bytes(text, room)?, builder)
+}
+
+// Adds so many bytes that a field spells.
+fn push_sized(
+    size: u32,
+    text: &[u8],
+    room: &mut Vec<u8>,
+    builder: &mut Builder,
+) -> Result<bool, NoMemory>
+    requires takes { TakesSome builder.old (read_form (SizedHex size) text.now) }
+    ensures added { result ≡ Ok true → AddsSome (read_form (SizedHex size) text.now) builder.old builder.new }
+    ensures none { result ≡ Ok false → read_form (SizedHex size) text.now ≡ None }
+{
+    push_some(sized_bytes(size, text, room)?, builder)
+}
+
+// Adds the value that a field spells in a form, where it spells one. In each form it is an item of one variant, known where
+// it is added.
+#[inline(always)]
+fn push_spelled(
+    form: FieldForm,
+    text: &[u8],
+    ascii: bool,
+    room: &mut Vec<u8>,
+    builder: &mut Builder,
+) -> Result<bool, NoMemory>
+    requires proper { IsProper form }
+    requires ascii { ascii ≡ true → IsAscii text.now }
+    requires takes { TakesSome builder.old (read_form (form_in form) text.now) }
+    ensures added { result ≡ Ok true → AddsSome (read_form (form_in form) text.now) builder.old builder.new }
+    ensures none { result ≡ Ok false → read_form (form_in form) text.now ≡ None }
+{
+    match form {
+        FieldForm::Text => push_text(text, ascii, builder),
+        FieldForm::Wholes { bits, signed } => {
+            push_some(whole(bits, signed, text).map(|n| Item::Whole(n)), builder)
+        }
+        FieldForm::Decimals { precision, places } => push_some(
+            decimal(precision, places, text).map(|n| Item::Whole(n)),
+            builder,
+        ),
+        FieldForm::Truths => push_some(truth(text).map(|t| Item::Truth(t)), builder),
+        FieldForm::FloatBits { bits } => {
+            push_some(read_bits(bits, text).map(|n| Item::Bits(n)), builder)
+        }
+        FieldForm::HexBytes => push_bytes(text, room, builder),
+        FieldForm::SizedHex { size } => push_sized(size, text, room, builder),
+    }
+}
+
+// Adds the value that a field spells, where it spells one. An empty field is null.
+fn push_field(
+    form: FieldForm,
+    text: &[u8],
+    ascii: bool,
+    room: &mut Vec<u8>,
+    builder: &mut Builder,
+) -> Result<bool, NoMemory>
+    requires proper { IsProper form }
+    requires fits { HasRoom form builder.old (length text.now) }
+    requires ascii { ascii ≡ true → IsAscii text.now }
+    ensures added { result ≡ Ok true → AddsField form text.now builder.old builder.new }
+    ensures none { result ≡ Ok false → SpellsNone form text.now }
+{
+    if text.is_empty() {
+        push_item(builder, Item::Null)?;
+        return Ok(true);
+    }
+    push_spelled(form, text, ascii, room, builder)
+}
+
+// Adds the values that the fields of a record spell, each to its column. Whether they are ASCII is tested once for all.
 fn push_fields(
     forms: &[FieldForm],
     row: &ByteRecord,
@@ -106,8 +211,9 @@ fn push_fields(
     ensures added { OnOk result (AddsFields forms.now (fields_of row.now) number (length forms.now) builders.old.items builders.new.items) }
     ensures fault { IfErr result (λ fault. RefusesFields fault forms.now (fields_of row.now) number builders.old.items) }
 {
+    let ascii = row.as_slice().is_ascii();
     for j in 0..forms.len() {
-        if !push_field(forms[j], field(row, j), room, &mut builders[j])? {
+        if !push_field(forms[j], field(row, j), ascii, room, &mut builders[j])? {
             let column = j as u32 + 1;
             return Err(BodyFault::Row(RowFault::Field {
                 row: number,

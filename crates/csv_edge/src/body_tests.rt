@@ -152,3 +152,58 @@ fn each_column_holds_a_value_a_row(rt: HostRuntime) -> Result<(), Fail> {
     }
     Ok(())
 }
+
+// A text of three columns, of which the second is one of numbers, and the field that is no UTF-8, if there is one. Texts that
+// aren't ASCII stand beside others that are.
+static UTF8: [(&[u8], Option<RowFault>); 10] = [
+    (b"a,b,c\ncaf\xc3\xa9,1,x\nx,2,y\n", None),
+    (b"a,b,c\nx,1,\xe2\x82\xac\ny,2,\n", None),
+    (b"a,b,c\nx,1,y\n\xf0\x9f\x98\x80,2,\xc2\xa2\n", None),
+    (
+        b"a,b,c\nx,1,y\n\xff,2,y\n",
+        Some(RowFault::Field { row: 2, column: 1 }),
+    ),
+    (
+        b"a,b,c\nx,1,caf\xc3\n",
+        Some(RowFault::Field { row: 1, column: 3 }),
+    ),
+    (
+        b"a,b,c\ncaf\xc3\xa9,1,caf\xe9\n",
+        Some(RowFault::Field { row: 1, column: 3 }),
+    ),
+    // The two bytes of one character, in two fields.
+    (
+        b"a,b,c\n\xc3,,\xa9\n",
+        Some(RowFault::Field { row: 1, column: 1 }),
+    ),
+    (
+        b"a,b,c\nx,,\xa9\n",
+        Some(RowFault::Field { row: 1, column: 3 }),
+    ),
+    // More bytes than the character needs, and half of a surrogate pair.
+    (
+        b"a,b,c\n\xc3\xa9,1,\xc1\x81\n",
+        Some(RowFault::Field { row: 1, column: 3 }),
+    ),
+    (
+        b"a,b,c\n\xed\xa0\x80,1,\xc3\xa9\n",
+        Some(RowFault::Field { row: 1, column: 1 }),
+    ),
+];
+
+#[test]
+fn a_text_beside_others_is_utf8(rt: HostRuntime) -> Result<(), Fail> {
+    let alloc = rt.alloc();
+    for (text, wanted) in &UTF8 {
+        let named = columns_of(alloc, *text, "b:l")?;
+        assert!(rt; text.len() <= 100);
+        match read_body(alloc, *text, named.as_slice()) {
+            Ok(builders) => {
+                expect_lengths(&rt, builders.as_slice(), 3, 2);
+                assert_eq!(rt; None, *wanted);
+            }
+            Err(fault) => assert_eq!(rt; Some(fault), wanted.map(|fault| BodyFault::Row(fault))),
+        }
+    }
+    Ok(())
+}

@@ -2,21 +2,18 @@
 ghost use Rattle.std.specs.Prelude.{◌≡◌, ◌<◌, ◌-◌, ◌^◌, ◌++◌, ◌∷◌, [], ℕ, List, map, length, IfOk, OnOk};
 ghost use Rattle.std.specs.List.{concat};
 ghost use Rattle.csv.specs.Writing.{default_writer, row_text};
-ghost use Rattle.fmt_string.specs.FieldText.{Form, written_form};
-ghost use Rattle.fmt_string.specs.Value.{Value};
 ghost use Rattle.tree_model.specs.Tree.{children_of};
-ghost use Rattle.col_build.specs.Items.{value_of};
 ghost use Rattle.arr_import.specs.Cols.{window_of};
-ghost use Rattle.arr_import.specs.Shown.{Shows};
 ghost use Rattle.arr_import.specs.Window.{IsStruct};
 ghost use Rattle.csv_edge.specs.ChunkTexts.{AreChildren, HasItem, HasRow, row_at, rows_at, text_in};
 ghost use Rattle.csv_edge.specs.Lines.{HasFields, HasLines};
 
+use crate::decimal_text::{decimal_text, whole_text};
 use crate::form::FieldForm;
+use crate::hexadecimal::{bits_text, bytes_text};
+use crate::truth::truth_text;
 use crate::writer::{end_line, write_text};
-use crate::writing::written_in_form;
-use arr_import::{Col, ValueRef};
-use col_build::Item;
+use arr_import::Col;
 use csv::Writer;
 use std::alloc::Global;
 use unit_pass::NoMemory;
@@ -49,16 +46,43 @@ pub(crate) fn chunk_columns<'a>(
     Ok(columns)
 }
 
-// An item to be written. A list or a struct has no text, as a null.
-fn item_of<'a>(value: ValueRef<'a>) -> Item<'a>
-    ensures { (form : Form) (v : Value) → Shows value.entry v → written_form form (value_of result) ≡ written_form form v }
+// The text of an item, read as its column's form has it. A null has none, nor has an item of another form.
+#[inline(always)]
+fn item_text<'a: 'b, 'b>(
+    column: &ChunkColumn<'a>,
+    i: u64,
+    room: &'b mut Vec<u8>,
+) -> Result<&'b [u8], NoMemory>
+    requires { HasItem column.now i }
+    ensures { IfOk result (λ text. text.now ≡ text_in i column.now) }
 {
-    match value {
-        ValueRef::Truth(truth) => Item::Truth(truth),
-        ValueRef::Whole(number) => Item::Whole(number),
-        ValueRef::Bits(bits) => Item::Bits(bits),
-        ValueRef::Bytes(bytes) => Item::Bytes(bytes),
-        ValueRef::Null | ValueRef::Items(_) | ValueRef::Struct => Item::Null,
+    let items = &column.items;
+    let i = i as i64;
+    match column.form {
+        FieldForm::Text => match items.bytes(i) {
+            Some(text) => Ok(text),
+            None => Ok(b""),
+        },
+        FieldForm::Wholes { .. } => match items.whole(i) {
+            Some(number) => whole_text(number, room),
+            None => Ok(b""),
+        },
+        FieldForm::Decimals { places, .. } => match items.whole(i) {
+            Some(number) => decimal_text(places, number, room),
+            None => Ok(b""),
+        },
+        FieldForm::Truths => match items.truth(i) {
+            Some(truth) => Ok(truth_text(truth)),
+            None => Ok(b""),
+        },
+        FieldForm::FloatBits { bits } => match items.bits(i) {
+            Some(number) => bits_text(bits, number, room),
+            None => Ok(b""),
+        },
+        FieldForm::HexBytes | FieldForm::SizedHex { .. } => match items.bytes(i) {
+            Some(bytes) => bytes_text(bytes, room),
+            None => Ok(b""),
+        },
     }
 }
 
@@ -73,8 +97,7 @@ fn write_item(
     ensures { OnOk result ((text : List ℕ) (fields : List (List ℕ)) → length fields < 2 ^ 64 - 1
         → HasFields writer.old text fields → HasFields writer.new text (fields ++ text_in i column.now ∷ [])) }
 {
-    let item = item_of(column.items.value(i as i64));
-    let text = written_in_form(column.form, item, room)?;
+    let text = item_text(column, i, room)?;
     write_text(writer, text)?;
     Ok(())
 }

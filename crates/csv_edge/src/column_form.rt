@@ -9,10 +9,10 @@ ghost use Rattle.csv_edge.specs.FieldForms.{IsProper, form_in};
 ghost use Rattle.csv_edge.specs.Lines.{HasLines};
 ghost use Rattle.csv_edge.specs.TextColumns.{HasTexts, HaveTexts};
 
-use crate::form::{FieldForm, form_of};
+use crate::form::{FieldForm, flat_form};
 use crate::writer::{end_line, write_text};
 use csv::Writer;
-use fmt_string::{ColKind, ColumnType, DataType};
+use fmt_string::{ColKind, ColumnType};
 use std::alloc::Global;
 use unit_pass::NoMemory;
 
@@ -54,17 +54,5 @@ fn column_form(kind: &ColKind) -> FieldForm
         ColKind::Flat(values) => flat_form(values),
         ColKind::Dict(values) => flat_form(values),
         ColKind::Columns(_) => unreachable!(),
-    }
-}
-
-// The form of a flat type.
-fn flat_form(kind: &DataType) -> FieldForm
-    requires { IsColumnKind kind.now }
-    ensures form { form_of kind.now ≡ Some (form_in result) }
-    ensures proper { IsProper result }
-{
-    match form_of(kind) {
-        Some(form) => form,
-        None => unreachable!(),
     }
 }

@@ -1,9 +1,9 @@
 //! The text of a table in the making: its header, and the rows of chunks, read in place.
 //!
-//! A field is written from the item that its column shows ([`Col::value`]), by the form of the column, which is found once
-//! for a table; a chunk's columns are found once for a chunk. A row or a field takes no memory but that of the text. Whether
-//! a chunk is lawful is for `layout_check` to find before. A row is written of each item of the chunk's window, whether or
-//! not the struct's item is null.
+//! A field is written from the item of its column, which is read as the form of the column has it ([`Col::whole`] and its
+//! like). The form is found once for a table, and a chunk's columns once for a chunk. A row or a field takes no memory but
+//! that of the text. Whether a chunk is lawful is for `layout_check` to find before. A row is written of each item of the
+//! chunk's window, whether or not the struct's item is null.
 ghost use Rattle.std.specs.Prelude.{◌≡◌, ◌++◌, ℕ, List, map, IfOk, OnOk};
 ghost use Rattle.fmt_string.specs.ColumnView.{column_of};
 ghost use Rattle.fmt_string.specs.Table.{Column};

@@ -1,33 +1,91 @@
 //! Numbers as text.
-ghost use Rattle.std.specs.Prelude.{◌≡◌, ◌++◌, ◌<◌, ◌^◌, decimal, replicate, IfOk};
+ghost use Rattle.std.specs.Prelude.{◌≡◌, ◌++◌, ◌∷◌, ◌<◌, ◌≤◌, ◌^◌, decimal, drop, length, replicate, if◌then◌else◌, IfOk};
 ghost use Rattle.std.specs.Fmt.{signed_decimal};
 ghost use Rattle.fmt_string.specs.FieldText.{decimal_text, point_text};
 
-use itoa::Buffer;
+use crate::powers::power;
+use itoa::{Buffer, write_digits};
 use unit_pass::NoMemory;
+
+// What the text of a number of 64 bits takes at most: a minus, 20 digits, a point and 18 digits.
+const WIDTH: usize = 40;
 
 /// The text of a whole number.
 pub fn whole_text<'a>(number: i128, room: &'a mut Vec<u8>) -> Result<&'a [u8], NoMemory>
     ensures { IfOk result (λ text. text.now ≡ signed_decimal number) }
 {
+    let size = number.unsigned_abs();
+    if size > u128::from(u64::MAX) {
+        return long_whole_text(number, room);
+    }
+    room.resize(WIDTH, 0)?;
+    let minus = number < 0;
+    let start = write_whole(minus, size as u64, room.as_mut_slice(), WIDTH);
+    Ok(&room.as_slice()[start..])
+}
+
+// The same of a number of any size.
+fn long_whole_text<'a>(number: i128, room: &'a mut Vec<u8>) -> Result<&'a [u8], NoMemory>
+    ensures { IfOk result (λ text. text.now ≡ signed_decimal number) }
+{
     let mut buffer = Buffer::new();
     room.clear();
-    room.extend_from_slice(signed_digits(number, &mut buffer))?;
+    room.extend_from_slice(buffer.format(number).as_bytes())?;
     Ok(room.as_slice())
 }
 
-// The digits of a number, behind a minus where it is below 0.
-fn signed_digits<'a>(number: i128, buffer: &'a mut Buffer) -> &'a [u8]
-    ensures { result.now ≡ signed_decimal number }
+// Writes the digits of a number so that they end at a place, behind a minus where one is asked for, and says where they start.
+fn write_whole(minus: bool, number: u64, text: &mut [u8], end: usize) -> usize
+    requires room { 21 ≤ end }
+    requires within { end ≤ length text.old }
+    ensures text { drop result text.new ≡ (if minus then 45 ∷ decimal number else decimal number) ++ drop end text.old }
+    ensures start { result ≤ length text.new }
 {
-    if number < i128::from(i64::MIN) || number > i128::from(i64::MAX) {
-        return buffer.format(number).as_bytes();
+    let start = write_digits(number, text, end);
+    if !minus {
+        return start;
     }
-    buffer.format(number as i64).as_bytes()
+    text[start - 1] = b'-';
+    start - 1
 }
 
 /// The text of a decimal, by its number in units of 10^-places.
 pub fn decimal_text<'a>(
+    places: u32,
+    number: i128,
+    room: &'a mut Vec<u8>,
+) -> Result<&'a [u8], NoMemory>
+    ensures { IfOk result (λ text. text.now ≡ decimal_text places number) }
+{
+    let size = number.unsigned_abs();
+    if places > 18 || size > u128::from(u64::MAX) {
+        return long_decimal_text(places, number, room);
+    }
+    room.resize(WIDTH, 0)?;
+    let minus = number < 0;
+    let start = write_decimal(minus, size as u64, places as usize, room.as_mut_slice());
+    Ok(&room.as_slice()[start..])
+}
+
+// Writes a number at the end of a text, with a point before so many of its digits, and says where it starts.
+fn write_decimal(minus: bool, number: u64, places: usize, text: &mut [u8]) -> usize
+    requires few { places ≤ 18 }
+    requires room { length text.old ≡ 40 }
+    ensures text { drop result text.new ≡ (if minus then 45 ∷ point_text places number else point_text places number) }
+    ensures start { result ≤ length text.new }
+{
+    if places == 0 {
+        return write_whole(minus, number, text, WIDTH);
+    }
+    let unit = power(places);
+    // The unit puts a digit before the zeros behind the point, and it gives way to the point.
+    let point = write_digits(unit + number % unit, text, WIDTH);
+    text[point] = b'.';
+    write_whole(minus, number / unit, text, point)
+}
+
+// The same of any number of places, and of a number of any size.
+fn long_decimal_text<'a>(
     places: u32,
     number: i128,
     room: &'a mut Vec<u8>,

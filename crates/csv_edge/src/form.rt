@@ -1,7 +1,8 @@
 //! The form of a column: how its fields are read and written.
-ghost use Rattle.std.specs.Prelude.{◌≡◌, option_map, IfSome, true};
+ghost use Rattle.std.specs.Prelude.{◌≡◌, option_map, IfSome, Some, true};
 ghost use Rattle.fmt_string.specs.FieldText.{form_of, places, time_bits};
 ghost use Rattle.fmt_string.specs.Kinds.{KindOk};
+ghost use Rattle.arr_export.specs.ColumnKinds.{IsColumnKind};
 ghost use Rattle.csv_edge.specs.FieldForms.{IsProper, form_in};
 
 use fmt_string::{DataType, Tick};
@@ -56,6 +57,18 @@ pub fn form_of(kind: &DataType) -> Option<FieldForm>
         }
         _ => return None,
     })
+}
+
+// The form of a type that a column has.
+pub(crate) fn flat_form(kind: &DataType) -> FieldForm
+    requires { IsColumnKind kind.now }
+    ensures is { form_of kind.now ≡ Some (form_in result) }
+    ensures proper { IsProper result }
+{
+    match form_of(kind) {
+        Some(form) => form,
+        None => unreachable!(),
+    }
 }
 
 // The form of whole numbers with a sign.

@@ -41,7 +41,6 @@ mod release;
 mod row;
 #[cfg(test)]
 mod tests;
-mod text;
 mod truth;
 mod whole;
 mod writer;

@@ -3,7 +3,7 @@ ghost use Rattle.std.specs.Prelude.{◌≡◌, ◌≢◌, ◌≤◌, ◌<◌, �
 ghost use Rattle.csv_model.specs.Header.{first_not_text, first_twice, first_unknown, names_fault, is_among};
 ghost use Rattle.csv_edge.specs.Entries.{entries_of, has_text, texts};
 
-use crate::text::is_text;
+use col_build::is_text;
 use csv_model::HeaderFault;
 use stage_plan::TypeEntry;
 use std::alloc::Global;

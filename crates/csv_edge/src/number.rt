@@ -9,6 +9,7 @@ ghost use Rattle.fmt_string.specs.FieldText.{is_numeral};
 pub const SHORT: usize = 19;
 
 /// The digits in front of a text: the number that they write, and how many there are.
+#[inline(always)]
 pub fn short_front(text: &[u8]) -> (u64, usize)
     requires { length text.now ≤ SHORT }
     ensures count { result.1 ≡ prefix_len is_ascii_digit text.now }
@@ -65,6 +66,7 @@ fn long_front(text: &[u8]) -> Option<(u128, usize)>
 }
 
 /// Whether a text begins with `-`, and what is behind the sign where there is one.
+#[inline(always)]
 pub fn split_sign(text: &[u8]) -> (bool, &[u8])
     ensures minus { result.0 ≡ starts_with_minus text.now }
     ensures digits { result.1.now ≡ without_leading_sign text.now }
@@ -77,6 +79,7 @@ pub fn split_sign(text: &[u8]) -> (bool, &[u8])
 }
 
 /// The number of a numeral, where it fits 64 bits.
+#[inline(always)]
 pub fn magnitude(text: &[u8]) -> Option<u64>
     ensures numeral { IfSome result (λ n. is_numeral text.now ≡ true) }
     ensures value { IfSome result (λ n. n ≡ digits_value 10 text.now) }

@@ -10,10 +10,9 @@ ghost use Rattle.csv_edge.specs.FieldForms.{IsHex, IsProper, form_in, read_in};
 use crate::decimal::decimal;
 use crate::form::{FieldForm, form_of};
 use crate::hexadecimal::{read_bits, read_bytes};
-use crate::text::is_text;
 use crate::truth::truth;
 use crate::whole::whole;
-use col_build::Item;
+use col_build::{Item, is_text};
 use fmt_string::DataType;
 use unit_pass::NoMemory;
 
@@ -84,7 +83,7 @@ fn item_of<'a>(
 }
 
 // The bytes that pairs of digits write.
-fn bytes<'a>(text: &[u8], room: &'a mut Vec<u8>) -> Result<Option<Item<'a>>, NoMemory>
+pub(crate) fn bytes<'a>(text: &[u8], room: &'a mut Vec<u8>) -> Result<Option<Item<'a>>, NoMemory>
     ensures { IfOk result (λ item. option_map value_of item ≡ read_form HexBytes text.now) }
 {
     match read_bytes(text, room)? {
@@ -94,7 +93,7 @@ fn bytes<'a>(text: &[u8], room: &'a mut Vec<u8>) -> Result<Option<Item<'a>>, NoM
 }
 
 // So many bytes that pairs of digits write.
-fn sized_bytes<'a>(
+pub(crate) fn sized_bytes<'a>(
     size: u32,
     text: &[u8],
     room: &'a mut Vec<u8>,

@@ -19,6 +19,7 @@ pub(crate) fn fields(alloc: Global, row: &ByteRecord) -> Result<Vec<&[u8]>, NoMe
 }
 
 // The field of a record at a place, and nothing where there is none.
+#[inline(always)]
 pub(crate) fn field(row: &ByteRecord, place: usize) -> &[u8]
     ensures { result.now ≡ get_or (fields_of row.now) place [] }
 {

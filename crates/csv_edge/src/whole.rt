@@ -6,6 +6,7 @@ ghost use Rattle.fmt_string.specs.Value.{Whole};
 use crate::number::{magnitude, split_sign};
 
 /// The whole number that a text spells, where so many bits hold it.
+#[inline(always)]
 pub fn whole(bits: u8, signed: bool, text: &[u8]) -> Option<i128>
     requires { IsFlatForm (Wholes bits signed) }
     ensures { option_map Whole result ≡ read_whole bits signed text.now }
@@ -16,6 +17,7 @@ pub fn whole(bits: u8, signed: bool, text: &[u8]) -> Option<i128>
 }
 
 // The number with its sign, where it is in range.
+#[inline(always)]
 fn within(bits: u8, signed: bool, minus: bool, number: u64) -> Option<i128>
     requires { IsFlatForm (Wholes bits signed) }
     ensures { let z = if minus then neg_ℤ (pos number) else pos number in result ≡ (if in_range bits signed z then Some z else None) }
@@ -36,6 +38,7 @@ fn within(bits: u8, signed: bool, minus: bool, number: u64) -> Option<i128>
 }
 
 // The greatest number of so many bits, of which one may be that of the sign.
+#[inline(always)]
 fn most(bits: u8, signed: bool) -> u64
     requires { IsFlatForm (Wholes bits signed) }
     ensures { result + 1 ≡ 2 ^ (if signed then bits - 1 else bits) }

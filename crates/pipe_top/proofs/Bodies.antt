@@ -1,11 +1,11 @@
 -- The answer to the records of a text, and the blocks and nodes of its table, from what its parts read.
-use Rattle.std.proofs.Common.{◌≡◌, ◌∙◌, ◌⊎◌, ◌+◌, List, Result, Ok, Err, ap, sym, inl, inr}
+use Rattle.std.proofs.Common.{◌≡◌, ◌∙◌, ◌⊎◌, ◌+◌, List, Ok, ap, inl, inr}
 use Rattle.fmt_string.specs.Table.{Column, Row}
 use Rattle.csv_edge.specs.Body.{behind_header}
 use Rattle.csv_model.specs.Header.{Entry, header_of}
 use Rattle.csv_model.specs.Reading.{Record, body}
 use Rattle.csv_model.specs.Text.{table_text}
-use Rattle.pipe_top.specs.Answer.{Answer, Fault, Text, answer_of_columns, answer_of_records, answer_of_rows}
+use Rattle.pipe_top.specs.Answer.{Fault, Text, answer_of_columns, answer_of_records, answer_of_rows}
 use Rattle.pipe_top.specs.Traffic.{chunk_blocks_of, chunk_nodes_of, columns_of, read_or_none, rows_of, run_blocks, run_nodes, schema_nodes}
 use Rattle.pipe_top.specs.declared.fault.RunFault.{RunFault}
 use Rattle.pipe_top.specs.declared.fault.RunFault.TheVariants as run

@@ -1,5 +1,5 @@
 -- The columns of a header are flat, and what builders of their rows hold.
-use Rattle.std.proofs.Common.{◌≡◌, ◌∙◌, ◌<◌, ◌≤◌, ℕ, ℤ, pos, true, false, List, [], ◌∷◌, length, All, Option, None, Some, refl, ap, sym, subst, arith}
+use Rattle.std.proofs.Common.{◌≡◌, ◌∙◌, ◌<◌, ℤ, pos, true, false, List, [], ◌∷◌, length, All, Option, None, Some, refl, sym, subst, arith}
 use Rattle.std.proofs.lemmas.Bool.{false≢true}
 use Rattle.std.specs.Prelude.{is_some}
 use Rattle.fmt_string.specs.FieldText.{Form, form_of}
@@ -15,7 +15,7 @@ use Rattle.arr_export.specs.ColumnKinds.{AreColumnKinds, IsColumnKind}
 use Rattle.csv_edge.specs.Body.{HoldsKind}
 use Rattle.csv_edge.specs.Chunks.{chunk_blocks}
 use Rattle.csv_edge.specs.TextColumns.{AreAllowed, AreProper, HasTexts}
-use Rattle.pipe_top.specs.Traffic.{chunk_blocks_of, chunk_nodes_of}
+use Rattle.pipe_top.specs.Traffic.{chunk_blocks_of}
 
 some-form : (form : Option Form) → is_some form ≡ true → HasForm form
 some-form None is = absurd (false≢true is)

@@ -1,6 +1,5 @@
 pub mod Bodies
 pub mod Columns
-pub mod Entries
 pub mod FaultLines
 pub mod Pieces
 pub mod Runs

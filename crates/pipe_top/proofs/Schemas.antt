@@ -1,5 +1,5 @@
 -- The schemas of proper columns.
-use Rattle.std.proofs.Common.{◌≡◌, ◌<◌, ℕ, List, length, map, All, sym, subst}
+use Rattle.std.proofs.Common.{◌<◌, List, map, All, sym, subst}
 use Rattle.std.proofs.lemmas.List.{get_or-map, length-map}
 use Rattle.fmt_string.specs.declared.kind.ColumnType.{ColumnType}
 use Rattle.fmt_string.specs.ColumnView.{column_of}

@@ -1,5 +1,5 @@
 -- What a run answers: the text of the table that was read, or the first fault, and the status of each fault.
-use Rattle.std.specs.Prelude.{◌≡◌, ◌+◌, ℕ, nat_lt, Bool, false, not, List, [], ◌∷◌, length, position, Option, None, Some, Result, Ok, Err, if◌then◌else◌}
+use Rattle.std.specs.Prelude.{◌≡◌, ℕ, nat_lt, List, [], length, Option, None, Some, Result, Ok, Err, if◌then◌else◌}
 use Rattle.fmt_string.specs.Table.{Column, Row}
 use Rattle.csv_edge.specs.Body.{behind_header}
 use Rattle.csv_edge.specs.Entries.{entries_of}

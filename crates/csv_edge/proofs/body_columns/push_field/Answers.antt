@@ -1,29 +1,21 @@
-use Rattle.std.proofs.Common.{◌≡◌, ◌∙◌, [], Some, ap, arith, sym}
-use Rattle.std.specs.Option.{option_map}
-use Rattle.col_build.specs.Items.{value_of}
-use Rattle.fmt_string.specs.FieldText.{read_field}
-use Rattle.csv_edge.specs.FieldForms.{form_in}
-use Rattle.csv_edge.proofs.Taken.{field-taken}
+use Rattle.std.proofs.Common.{◌∙◌, refl, sym}
+use Rattle.csv_edge.proofs.FieldPush.{empty-added, spelled-added, spelled-none, spelled-taken}
 use Rattle.csv_edge.proofs.body_columns.push_field.Goals as goal
 
 pub push_item-requires : goal.push_item-requires
 push_item-requires c =
     let room = c.requires.fits in
-    let reads : read_field room.kind c.args.text.now ≡ Some (value_of c.in-Some.item) = sym (c.in_ok-item.ensures.in_kind room.kind room.in_form) ∙ ap (option_map value_of) c.in-Some.is in (
-      room.kind,
-      room.values,
-      room.holds,
-      room.few,
-      (field-taken room.kind (form_in c.args.form) room.values c.args.text.now _ room.in_form c.requires.proper room.bytes reads).none,
-    )
+    (room.kind, room.values, room.holds, room.few, refl)
 
-pub returns-in_ok-push_item-in-Some-clause-added : goal.returns-in_ok-push_item-in-Some-clause-added
-returns-in_ok-push_item-in-Some-clause-added c found kind values is holds =
-    let room = c.requires.fits in
-    let reads : read_field kind c.args.text.now ≡ Some (value_of c.in-Some.item) = sym (c.in_ok-item.ensures.in_kind kind is) ∙ ap (option_map value_of) c.in-Some.is in
-    record {
-      value = value_of c.in-Some.item;
-      reads = reads;
-      short = (field-taken kind (form_in c.args.form) [] c.args.text.now _ is c.requires.proper (omega (arith, room.bytes)) reads).short;
-      holds = c.in_ok-push_item-in-Some.ensures kind values holds;
-    }
+pub push_spelled-requires-clause-takes : goal.push_spelled-requires-clause-takes
+push_spelled-requires-clause-takes c = spelled-taken c.args.form c.args.text.now c.args.builder.now (sym c.is_empty.ensures ∙ c.if-is_empty.false) c.requires.proper c.requires.fits
+
+pub returns-then-is_empty-clause-added : goal.returns-then-is_empty-clause-added
+returns-then-is_empty-clause-added c found = empty-added c.args.form c.args.text.now c.args.builder.now c.push_item.new.builder (sym c.is_empty.ensures ∙ c.if-is_empty.true) c.in_ok-push_item.ensures
+
+pub returns-clause-added : goal.returns-clause-added
+returns-clause-added c found =
+    spelled-added c.args.form c.args.text.now c.args.builder.now c.push_spelled.new.builder (sym c.is_empty.ensures ∙ c.if-is_empty.false) c.requires.proper c.requires.fits (c.push_spelled.ensures.added found)
+
+pub returns-clause-none : goal.returns-clause-none
+returns-clause-none c found = spelled-none c.args.form c.args.text.now (sym c.is_empty.ensures ∙ c.if-is_empty.false) (c.push_spelled.ensures.none found)

@@ -3,10 +3,14 @@ use Rattle.std.proofs.lemmas.List.{get_or-set_other, length-set}
 use Rattle.csv.specs.Records.{fields_of}
 use Rattle.col_build.specs.declared.builder.Builder.{Builder}
 use Rattle.unit_pass.specs.declared.no_memory.NoMemory.{NoMemory}
-use Rattle.csv_edge.specs.BodyRows.{AddsField, HasRoom, SpellsNone}
+use Rattle.csv_edge.specs.BodyRows.{AddsField, HasFields, HasRoom, SpellsNone}
 use Rattle.csv_edge.specs.declared.form.FieldForm.TheVariants.{Truths}
 use Rattle.csv_edge.proofs.BodyRows.{field-more, field-refused, field-room, form-proper, no-fields}
+use Rattle.csv_edge.proofs.FieldPush.{field-ascii}
 use Rattle.csv_edge.proofs.body_columns.push_fields.Goals as goal
+
+pub push_field-requires-clause-ascii : goal.push_field-requires-clause-ascii
+push_field-requires-clause-ascii c = field-ascii c.is_ascii-ascii.result _ c.args.row.now c.as_slice.result.now c.field.result.now c.loop-j.j c.is_ascii-ascii.ensures.cases c.as_slice.ensures c.field.ensures
 
 pub push_field-requires-clause-proper : goal.push_field-requires-clause-proper
 push_field-requires-clause-proper c = form-proper c.args.forms.now c.args.builders.now.items (fields_of c.args.row.now) c.requires.fits c.loop-j.j Truths c.index_mut.result.now c.loop-j-test.true
@@ -51,3 +55,8 @@ loop-j-preserved c =
           field-more c.args.forms.now c.args.builders.now.items before columns rows fields c.args.number j Truths b new held (c.loop-j.invariant.so_far columns rows held) c.loop-j-test.true
           (omega (arith, c.requires.count, c.loop-j-test.true)) c.loop-j.invariant.count (c.loop-j.invariant.others j b (omega arith)) adds;
     }
+
+pub returns-clause-added : goal.returns-clause-added
+returns-clause-added c columns rows held =
+    let end : c.loop-j.j ≡ length c.args.forms.now = omega arith in
+    subst (HasFields c.args.forms.now c.loop-j.builders.items columns rows (fields_of c.args.row.now) c.args.number) end (c.loop-j.invariant.so_far columns rows held)

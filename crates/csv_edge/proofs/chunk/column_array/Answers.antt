@@ -1,8 +1,7 @@
-use Rattle.std.proofs.Common.{◌≡◌, ◌∙◌, ap, arith, subst, sym, None}
+use Rattle.std.proofs.Common.{◌∙◌, ap, arith, sym}
 use Rattle.unit_pass.specs.Tally.{risen}
 use Rattle.raw_array.specs.Members.{Cost, holds_of}
 use Rattle.raw_array.specs.View.{buffers_of}
-use Rattle.col_build.specs.Encoding.{encoded}
 use Rattle.csv_edge.specs.Chunks.{own_blocks}
 use Rattle.csv_edge.proofs.ChunkCosts.{column-blocks, column-cost, few-blocks, finished-holds}
 use Rattle.csv_edge.proofs.chunk.column_array.Goals as goal

@@ -9,7 +9,7 @@ use Rattle.csv_model.specs.Reading.{records_of}
 use Rattle.fmt_string.specs.ColumnView.{column_of}
 use Rattle.unit_pass.specs.Tally.{risen}
 use Rattle.pipe_top.specs.Answer.{Text}
-use Rattle.pipe_top.proofs.Bodies.{blocks-are, fault-answer, nodes-are, text-answer}
+use Rattle.pipe_top.proofs.Bodies.{blocks-are, nodes-are, text-answer}
 use Rattle.pipe_top.proofs.Widths.{body-widths}
 use Rattle.pipe_top.proofs.answer.answer_input.Goals as goal
 

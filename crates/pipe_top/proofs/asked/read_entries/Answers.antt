@@ -3,8 +3,7 @@ use Rattle.stage_plan.specs.declared.fault.TypesFault.{TypesFault}
 use Rattle.stage_plan.specs.declared.types.TypeEntry.{TypeEntry}
 use Rattle.stage_plan.specs.declared.fault.TypesFault.TheVariants as types
 use Rattle.std.proofs.lemmas.Bool.{false≢true}
-use Rattle.stage_plan.specs.Types.{Reads, TypesFaultIs, parts}
-use Rattle.pipe_top.proofs.Entries.{entries-allowed}
+use Rattle.stage_plan.specs.Types.{Reads, TypesFaultIs}
 use Rattle.pipe_top.specs.Answer.{EntriesRead, SchemaAsks}
 use Rattle.pipe_top.proofs.asked.read_entries.Goals as goal
 
@@ -33,6 +32,3 @@ returns-in-Err-At-clause-asks c =
     let is = c.in-Err-At.field-0-is in
     let reads : TypesFaultIs c.in-Some.text.now c.in-Err-At.field-0 = c.in-Err-At.ensures.fault (λ e. false≢true (ap is-memory (sym is ∙ e))) in
     inr (Err fault, text-read c.args.schema c.in-Some.text (Err fault) c.in-Some.is (subst (TypesFaultIs c.in-Some.text.now) is reads), refl)
-
-pub returns-in-Ok-clause-allowed : goal.returns-in-Ok-clause-allowed
-returns-in-Ok-clause-allowed c = entries-allowed (parts c.in-Some.text.now) c.in-Ok.entries.items c.in-Ok.ensures.found.each

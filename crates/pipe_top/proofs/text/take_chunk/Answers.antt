@@ -1,5 +1,4 @@
-use Rattle.std.proofs.Common.{◌≡◌, ◌≤◌, ◌^◌, length, List, Result, Ok, arith, sym, subst}
-use Rattle.fmt_string.specs.Table.{Column, Row}
+use Rattle.std.proofs.Common.{◌≡◌, ◌≤◌, ◌^◌, length, Result, Ok, arith, sym, subst}
 use Rattle.layout_check.specs.Kinds.{KindTree}
 use Rattle.layout_check.specs.SchemaAnswers.{FirstFault}
 use Rattle.layout_check.specs.Schemas.{TypedOf}

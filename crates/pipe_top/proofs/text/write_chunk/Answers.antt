@@ -1,4 +1,4 @@
-use Rattle.std.proofs.Common.{◌≡◌, ◌++◌, ◌∙◌, ap, subst}
+use Rattle.std.proofs.Common.{◌++◌, ◌∙◌, ap, subst}
 use Rattle.arr_export.specs.ColumnKinds.{type_of_columns}
 use Rattle.arr_import.specs.Window.{whole}
 use Rattle.csv_edge.specs.CsvTexts.{HasText, rows_in}
