@@ -4,6 +4,7 @@
 use edge_io::{StdSink, StdSource};
 use pipe_top::run;
 use std::env;
+use std::io::{self, ErrorKind};
 use std::process::ExitCode;
 
 /// The status for arguments that are not text, which no command takes.
@@ -11,18 +12,34 @@ const REFUSED: u8 = 2;
 /// The status where there is no memory.
 const NO_MEMORY: u8 = 9;
 
-fn main(rt: HostRuntime) -> ExitCode {
+// The words behind the program's name.
+fn words(rt: &HostRuntime) -> io::Result<Vec<String>> {
     let mut words = Vec::new(rt.alloc());
-    let Ok(arguments) = env::args(&rt) else {
-        let _told = eprintln!(rt; "arrowpipe: words refused");
-        return ExitCode::from(REFUSED);
-    };
-    for word in arguments.skip(1) {
-        if words.push(word).is_err() {
+    for word in env::args(rt)?.skip(1) {
+        words.push(word)?;
+    }
+    Ok(words)
+}
+
+// Tells why there are no words: one is no text, or there is no memory.
+fn no_words(rt: &HostRuntime, why: ErrorKind) -> ExitCode {
+    match why {
+        ErrorKind::OutOfMemory => {
             let _told = eprintln!(rt; "arrowpipe: out of memory");
-            return ExitCode::from(NO_MEMORY);
+            ExitCode::from(NO_MEMORY)
+        }
+        _ => {
+            let _told = eprintln!(rt; "arrowpipe: words refused");
+            ExitCode::from(REFUSED)
         }
     }
+}
+
+fn main(rt: HostRuntime) -> ExitCode {
+    let words = match words(&rt) {
+        Ok(words) => words,
+        Err(error) => return no_words(&rt, error.kind()),
+    };
     let mut source = StdSource::new(rt.stdin());
     let mut sink = StdSink::new(rt.stdout());
     let mut errs = StdSink::new(rt.stderr());
