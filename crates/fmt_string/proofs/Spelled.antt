@@ -127,3 +127,5 @@ spelled (kinds.FixedList size) ok = record {
 }
 spelled kinds.Struct ok = alone (codes "+s") kinds.Struct (39, lit< tt, refl)
 spelled kinds.Map ok = alone (codes "+m") kinds.Map (40, lit< tt, refl)
+spelled kinds.BinaryView ok = alone (codes "vz") kinds.BinaryView (42, lit< tt, refl)
+spelled kinds.Utf8View ok = alone (codes "vu") kinds.Utf8View (41, lit< tt, refl)

@@ -59,6 +59,8 @@ valid_is kinds.IntervalMonthDayNano h = tt
 valid_is (kinds.List wide) h = tt
 valid_is kinds.Struct h = tt
 valid_is kinds.Map h = tt
+valid_is kinds.BinaryView h = tt
+valid_is kinds.Utf8View h = tt
 
 passes : (test : Keyword → Bool) (ks : List Keyword) (i : ℕ) (d : Keyword) → list_all test ks ≡ true → i < length ks → test (get_or ks i d) ≡ true
 passes test [] i d all lt = absurd (omega arith)

@@ -56,6 +56,8 @@ word_of (kinds.List true) = codes "+L"
 word_of (kinds.FixedList size) = codes "+w:"
 word_of kinds.Struct = codes "+s"
 word_of kinds.Map = codes "+m"
+word_of kinds.BinaryView = codes "vz"
+word_of kinds.Utf8View = codes "vu"
 
 abbrev pub width_text : Bool → List ℕ
 width_text false = []

@@ -47,6 +47,8 @@ pub fn clone_kind(alloc: Global, kind: &DataType) -> Result<DataType, NoMemory>
         DataType::FixedList { size } => DataType::FixedList { size: *size },
         DataType::Struct => DataType::Struct,
         DataType::Map => DataType::Map,
+        DataType::BinaryView => DataType::BinaryView,
+        DataType::Utf8View => DataType::Utf8View,
     })
 }
 
@@ -65,6 +67,8 @@ pub fn is_flat(kind: &DataType) -> bool
             | DataType::FixedList { .. }
             | DataType::Struct
             | DataType::Map
+            | DataType::BinaryView
+            | DataType::Utf8View
     )
 }
 

@@ -95,6 +95,8 @@ fn word(kind: &DataType) -> &'static [u8]
         DataType::FixedList { .. } => b"+w:",
         DataType::Struct => b"+s",
         DataType::Map => b"+m",
+        DataType::BinaryView => b"vz",
+        DataType::Utf8View => b"vu",
     }
 }
 

@@ -44,3 +44,5 @@ pub first_below-none_at : (f : ℕ → Option Numbers) (n i : ℕ) → i < n →
 first_below-none_at f n i h e =
     let same : (n - suc i) + suc i ≡ n = omega (arith, h) in
     none-at_later f (n - suc i) i (ap (first_below f) same ∙ e)
+
+pub ruleset one_more = (first_below-none)

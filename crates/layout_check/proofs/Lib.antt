@@ -14,3 +14,6 @@ pub mod Chunks
 pub mod Scanned
 pub mod ReadWithin
 pub mod MadeTypes
+pub mod Named
+pub mod Placed
+pub mod ViewsScanned

@@ -1,11 +1,12 @@
 -- A buffer that is there where something is needed, and not short, is as long as its need.
-use Rattle.std.proofs.Common.{◌≡◌, ℕ, ◌≤◌, ◌<◌, ◌*◌, ◌&&◌, not, Bool, pos, List, length, Option, None, Some, arith}
-use Rattle.std.specs.Prelude.{is_some, nat_lt}
+use Rattle.std.proofs.Common.{◌≡◌, ℕ, ◌≤◌, ◌<◌, ◌*◌, ◌&&◌, not, Bool, pos, List, length, Option, None, Some, arith, suc, ◌+◌, ◌-◌, subst}
+use Rattle.std.specs.Prelude.{is_some, nat_lt, max, if◌then◌else◌}
 use Rattle.raw_array.specs.Members.{ArrayMembers}
 use Rattle.layout_check.specs.declared.layout.Layout.{Layout}
-use Rattle.layout_check.specs.declared.layout.Layout.TheVariants.{ByOffsets, ListOffsets, FixedWidth, TruthBits}
-use Rattle.layout_check.specs.Layout.{bytes_or_none, buffer, buffer_count, bytes, bits_need, offsets_need, data_need, end, IsLong, IsLongIfPresent}
+use Rattle.layout_check.specs.declared.layout.Layout.TheVariants.{ByOffsets, ListOffsets, FixedWidth, TruthBits, Views}
+use Rattle.layout_check.specs.Layout.{bytes_or_none, buffer, buffer_count, bytes, bits_need, offsets_need, data_need, end, IsLong, IsLongIfPresent, need, view_width, data_buffers, data_place, data_length, data_lengths, lengths_need}
 use Rattle.layout_check.specs.Rules.{fault_if, first_below, buffer_absent, buffer_short}
+use Rattle.layout_check.specs.Within.{AreThere}
 use Rattle.layout_check.proofs.Firsts.{first_below-none_at}
 
 long_enough : (b : Option (List ℕ)) (needed k : ℕ)
@@ -60,9 +61,62 @@ long-truth own e f =
     (first_below-none_at (buffer_absent TruthBits own) 2 1 (omega arith) e)
     (first_below-none_at (buffer_short TruthBits own) 2 1 (omega arith) f))
 
-pub long-validity : (layout : Layout) (own : ArrayMembers) → first_below (buffer_short layout own) (buffer_count layout) ≡ None → 0 < buffer_count layout → IsLongIfPresent own
-long-validity layout own e h = long_bits (buffer own 0) (end own) (first_below-none_at (buffer_short layout own) (buffer_count layout) 0 h e)
+pub long-validity : (layout : Layout) (own : ArrayMembers) → first_below (buffer_short layout own) (buffer_count layout own) ≡ None → 0 < buffer_count layout own → IsLongIfPresent own
+long-validity layout own e h = long_bits (buffer own 0) (end own) (first_below-none_at (buffer_short layout own) (buffer_count layout own) 0 h e)
 
-pub ruleset long = (long-bytes, long-data, long-list, long-validity)
+-- ---- views
+
+least : (n : ℕ) → n ≡ max 3 n → 3 ≤ n
+least n e = omega (arith, e)
+
+most : (n : ℕ) → 3 ≤ n → max 3 n ≡ n
+most n h = omega (arith, h)
+
+-- views have three buffers at least
+pub some_views : (own : ArrayMembers) → length own.buffers ≡ buffer_count Views own → 3 ≤ length own.buffers
+some_views own e = least (length own.buffers) e
+
+-- a buffer of views is as long as its need
+long-at : (own : ArrayMembers) (k : ℕ) → suc k < buffer_count Views own
+    → first_below (buffer_absent Views own) (buffer_count Views own) ≡ None → first_below (buffer_short Views own) (buffer_count Views own) ≡ None
+    → need Views own (suc k) ≤ length (bytes own (suc k))
+long-at own k h e f =
+    long_enough (buffer own (suc k)) (need Views own (suc k)) (suc k)
+    (first_below-none_at (buffer_absent Views own) (buffer_count Views own) (suc k) h e)
+    (first_below-none_at (buffer_short Views own) (buffer_count Views own) (suc k) h f)
+
+at_least : (n : ℕ) → 3 ≤ max 3 n
+at_least n = omega arith
+
+at_most : (n k : ℕ) → k < n - 3 → suc (suc k) < max 3 n
+at_most n k h = omega (arith, h)
+
+behind : (n : ℕ) → suc (suc (n - 3)) < max 3 n
+behind n = omega arith
+
+pub long-views : (own : ArrayMembers) → first_below (buffer_absent Views own) (buffer_count Views own) ≡ None → first_below (buffer_short Views own) (buffer_count Views own) ≡ None → end own * view_width ≤ length (bytes own 1)
+long-views own e f = long-at own 0 (omega (arith, at_least (length own.buffers))) e f
+
+below : (k n a b : ℕ) → k < n → (if nat_lt k n then a else b) ≡ a
+below k n a b h = grind arith
+
+not_below : (n a b : ℕ) → (if nat_lt n n then a else b) ≡ b
+not_below n a b = grind arith
+
+pub long-lengths : (own : ArrayMembers) → first_below (buffer_absent Views own) (buffer_count Views own) ≡ None → first_below (buffer_short Views own) (buffer_count Views own) ≡ None → lengths_need own ≤ length (data_lengths own)
+long-lengths own e f =
+    let here = long-at own (suc (data_buffers own)) (behind (length own.buffers)) e f in
+    let place : suc (suc (data_buffers own)) ≡ data_place (data_buffers own) = omega arith in
+    subst (λ p. lengths_need own ≤ length (bytes own p)) place
+    (subst (λ n. n ≤ length (bytes own (suc (suc (data_buffers own))))) (not_below (data_buffers own) (data_length own (data_buffers own)) (lengths_need own)) here)
+
+pub long-named : (own : ArrayMembers) → first_below (buffer_absent Views own) (buffer_count Views own) ≡ None → first_below (buffer_short Views own) (buffer_count Views own) ≡ None → AreThere own
+long-named own e f = λ k h.
+    let here = long-at own (suc k) (at_most (length own.buffers) k h) e f in
+    let place : suc (suc k) ≡ data_place k = omega arith in
+    subst (λ p. data_length own k ≤ length (bytes own p)) place
+    (subst (λ n. n ≤ length (bytes own (suc (suc k)))) (below k (data_buffers own) (data_length own k) (lengths_need own) h) here)
+
+pub ruleset long = (long-bytes, long-data, long-list, long-validity, some_views, long-views, long-lengths, long-named)
 
 pub ruleset valid = (long-fixed, long-validity)

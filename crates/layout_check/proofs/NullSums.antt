@@ -4,7 +4,7 @@ use Rattle.std.specs.Prelude.{if◌then◌else◌, ◌==◌}
 use Rattle.bit_pack.specs.Packed.{bit, clear_count}
 use Rattle.raw_array.specs.Members.{ArrayMembers}
 use Rattle.layout_check.specs.declared.layout.Layout.{Layout}
-use Rattle.layout_check.specs.declared.layout.Layout.TheVariants.{NoBuffers, FixedWidth, TruthBits, ByOffsets, ListOffsets, FixedItems, ByChildren}
+use Rattle.layout_check.specs.declared.layout.Layout.TheVariants.{NoBuffers, FixedWidth, TruthBits, ByOffsets, ListOffsets, FixedItems, ByChildren, Views}
 use Rattle.layout_check.specs.Layout.{buffer, buffer_count, first, is_valid_by}
 use Rattle.layout_check.specs.Rules.{null_total, null_count_wrong, null_count_wrong_in}
 
@@ -31,7 +31,7 @@ pub ruleset nulls = (null_total-clear, null_total-absent)
 
 -- the count of nulls where the layout has no buffer, and where it has some
 
-pub no_buffers : (layout : Layout) (own : ArrayMembers) → buffer_count layout ≡ 0 → null_count_wrong_in layout own ≡ None
+pub no_buffers : (layout : Layout) (own : ArrayMembers) → buffer_count layout own ≡ 0 → null_count_wrong_in layout own ≡ None
 no_buffers NoBuffers own e = refl
 no_buffers (FixedWidth width) own e = absurd (omega (arith, e))
 no_buffers TruthBits own e = absurd (omega (arith, e))
@@ -39,8 +39,9 @@ no_buffers (ByOffsets wide) own e = absurd (omega (arith, e))
 no_buffers (ListOffsets wide) own e = absurd (omega (arith, e))
 no_buffers (FixedItems size) own e = absurd (omega (arith, e))
 no_buffers ByChildren own e = absurd (omega (arith, e))
+no_buffers Views own e = absurd (omega (arith, e))
 
-pub some_buffers : (layout : Layout) (own : ArrayMembers) → ¬ (buffer_count layout ≡ 0) → null_count_wrong_in layout own ≡ null_count_wrong own
+pub some_buffers : (layout : Layout) (own : ArrayMembers) → ¬ (buffer_count layout own ≡ 0) → null_count_wrong_in layout own ≡ null_count_wrong own
 some_buffers NoBuffers own e = absurd (e refl)
 some_buffers (FixedWidth width) own e = refl
 some_buffers TruthBits own e = refl
@@ -48,5 +49,6 @@ some_buffers (ByOffsets wide) own e = refl
 some_buffers (ListOffsets wide) own e = refl
 some_buffers (FixedItems size) own e = refl
 some_buffers ByChildren own e = refl
+some_buffers Views own e = refl
 
 pub ruleset by_layout = (no_buffers, some_buffers)

@@ -11,23 +11,24 @@ use Rattle.tree_model.specs.Tree.{Released, Live, IsLive, Trees, no_trees, more_
 use Rattle.raw_array.specs.Members.{ArrayMembers, ArrayTree, members_of}
 use Rattle.layout_check.specs.declared.typed.Typed.{Typed, out-Typed}
 use Rattle.layout_check.specs.declared.layout.Layout.{Layout}
-use Rattle.layout_check.specs.declared.layout.Layout.TheVariants.{NoBuffers, FixedWidth, TruthBits, ByOffsets, ListOffsets, FixedItems, ByChildren}
+use Rattle.layout_check.specs.declared.layout.Layout.TheVariants.{NoBuffers, FixedWidth, TruthBits, ByOffsets, ListOffsets, FixedItems, ByChildren, Views}
 use Rattle.layout_check.specs.declared.rule.LayoutRule.{LayoutRule}
 use Rattle.layout_check.specs.declared.rule.LayoutRule.TheVariants as rules
 use Rattle.layout_check.specs.declared.rule.Numbers.{Numbers}
 use Rattle.layout_check.specs.Kinds.{KindTree}
 use Rattle.layout_check.specs.TypedView.{typed_of, live_node, kids_of, kind_of, dict_in}
-use Rattle.layout_check.specs.Layout.{layout_of, buffer_count, items, first, end, natural, bytes, offset, offsets_need, is_valid, stored_number, IsLongIfPresent}
-use Rattle.layout_check.specs.Rules.{Node, fails, fault_if, count_wrong, in_order, one_if, window_limit, first_below, buffer_absent, buffer_short, offsets_fall_if, is_behind_offsets, is_outside, items_need, short_child, child_short, live_length, length_if, index_wrong, indices_wrong}
+use Rattle.layout_check.specs.Layout.{layout_of, buffer_count, items, first, end, natural, bytes, offset, offsets_need, is_valid, stored_number, IsLongIfPresent, view_width}
+use Rattle.layout_check.specs.Rules.{Node, fails, fault_if, count_wrong, in_order, one_if, window_limit, first_below, buffer_absent, buffer_short, offsets_fall_if, is_behind_offsets, is_outside, items_need, short_child, child_short, live_length, length_if, index_wrong, indices_wrong, views_misplaced}
 use Rattle.layout_check.specs.Walk.{Steps, LayoutOk, first_fault, fault_from, own_fault, children_fault, dictionary_fault, rules_fault, first_some, fault_by, fault_at, node_fault, node_of, visit_fault, visits, walks_of, walk_of, walk_children, walk_dictionary, dictionary_step}
 use Rattle.layout_check.specs.Values.{tree_items}
-use Rattle.layout_check.specs.Within.{StoredWithin, ItemsWithin, IndexWithin}
+use Rattle.layout_check.specs.Within.{StoredWithin, ItemsWithin, IndexWithin, ViewWithin}
 use Rattle.layout_check.proofs.Levels.{typed_out}
 use Rattle.layout_check.proofs.Firsts.{first_below-none_at}
-use Rattle.layout_check.proofs.Long.{long-bytes, long-data, long-list, long-fixed, long-truth, long-validity}
+use Rattle.layout_check.proofs.Long.{long-bytes, long-data, long-list, long-fixed, long-truth, long-validity, long-views, long-named}
 use Rattle.layout_check.proofs.Faults.{first_some-append, fault_from-typed}
 use Rattle.layout_check.proofs.Lawful.{first_fault-lawful, lawful-first_fault, left-none, right-none}
 use Rattle.layout_check.proofs.TextData.{offsets-from, offsets-rise, offsets-next, offsets-within, offsets-last, natural-rise, not_zero}
+use Rattle.layout_check.proofs.Placed.{view-within}
 use Rattle.layout_check.proofs.Chunks.{head, tail, root-live, root-rules, root-short}
 
 pub ruleset one_level = (typed_out)
@@ -57,7 +58,7 @@ root-dictionary_count t array h = head (live_node t array) rules.Dictionary (dro
 root-child_count : (t : Typed) (array : ArrayTree) → LayoutOk (typed_of t) array → count_wrong (length (children_of array)) (length (kids_of t)) ≡ None
 root-child_count t array h = head (live_node t array) rules.ChildCount (drop 4 in_order) (drop-none (live_node t array) 3 in_order (root-rules t array h))
 
-root-absent : (t : Typed) (array : ArrayTree) → LayoutOk (typed_of t) array → first_below (buffer_absent (layout_of (kind_of t)) (members_of array)) (buffer_count (layout_of (kind_of t))) ≡ None
+root-absent : (t : Typed) (array : ArrayTree) → LayoutOk (typed_of t) array → first_below (buffer_absent (layout_of (kind_of t)) (members_of array)) (buffer_count (layout_of (kind_of t)) (members_of array)) ≡ None
 root-absent t array h = head (live_node t array) rules.BufferAbsent (drop 6 in_order) (drop-none (live_node t array) 5 in_order (root-rules t array h))
 
 root-falls : (t : Typed) (array : ArrayTree) → LayoutOk (typed_of t) array → offsets_fall_if (is_behind_offsets (layout_of (kind_of t))) (members_of array) ≡ None
@@ -67,10 +68,10 @@ root-child_short : (t : Typed) (array : ArrayTree) → LayoutOk (typed_of t) arr
 root-child_short t array h = head (live_node t array) rules.ChildShort (drop 9 in_order) (drop-none (live_node t array) 8 in_order (root-rules t array h))
 
 root-indices : (t : Typed) (array : ArrayTree) → LayoutOk (typed_of t) array → indices_wrong (kind_of t) (members_of array) (length_if (dictionary_of array)) ≡ None
-root-indices t array h = head (live_node t array) rules.IndexRange (drop 12 in_order) (drop-none (live_node t array) 11 in_order (root-rules t array h))
+root-indices t array h = head (live_node t array) rules.IndexRange (drop 14 in_order) (drop-none (live_node t array) 13 in_order (root-rules t array h))
 
 root-window : (t : Typed) (array : ArrayTree) → LayoutOk (typed_of t) array → fault_if (nat_lt window_limit (end (members_of array))) 0 (pos (end (members_of array))) (pos window_limit) ≡ None
-root-window t array h = head (live_node t array) rules.WindowTooLong [] (drop-none (live_node t array) 12 in_order (root-rules t array h))
+root-window t array h = head (live_node t array) rules.WindowTooLong [] (drop-none (live_node t array) 14 in_order (root-rules t array h))
 
 same_count : (found needed : ℕ) → count_wrong found needed ≡ None → found ≡ needed
 same_count found needed e = grind arith
@@ -96,8 +97,8 @@ validity-here own zero e h = subst (λ b. IsLongIfPresent (record own { buffers 
     nil (x ∷ xs) e = absurd (omega (arith, e))
 validity-here own (suc n) e h = h (omega arith)
 
-pub root-validity : (t : Typed) (array : ArrayTree) → LayoutOk (typed_of t) array → length (members_of array).buffers ≡ buffer_count (layout_of (kind_of t)) → IsLongIfPresent (members_of array)
-root-validity t array h e = validity-here (members_of array) (buffer_count (layout_of (kind_of t))) e (long-validity (layout_of (kind_of t)) (members_of array) (root-short t array h))
+pub root-validity : (t : Typed) (array : ArrayTree) → LayoutOk (typed_of t) array → length (members_of array).buffers ≡ buffer_count (layout_of (kind_of t)) (members_of array) → IsLongIfPresent (members_of array)
+root-validity t array h e = validity-here (members_of array) (buffer_count (layout_of (kind_of t)) (members_of array)) e (long-validity (layout_of (kind_of t)) (members_of array) (root-short t array h))
 
 pub tree_items-items : (array : ArrayTree) → tree_items array ≡ items (members_of array)
 tree_items-items Released = refl
@@ -221,7 +222,7 @@ two_offsets wide own i h l =
     omega (arith, mul-le-mul_right (offset_width wide) below, some_offsets wide (end own) some, l)
 
 stored-within : (layout : Layout) (own : ArrayMembers) (i : ℕ) → i < items own
-    → first_below (buffer_absent layout own) (buffer_count layout) ≡ None → first_below (buffer_short layout own) (buffer_count layout) ≡ None
+    → first_below (buffer_absent layout own) (buffer_count layout own) ≡ None → first_below (buffer_short layout own) (buffer_count layout own) ≡ None
     → offsets_fall_if (is_behind_offsets layout) own ≡ None
     → StoredWithin layout own (first own + i)
 stored-within NoBuffers own i h e f r = tt
@@ -242,10 +243,31 @@ stored-within (ListOffsets wide) own i h e f r = record {
 }
 stored-within (FixedItems size) own i h e f r = tt
 stored-within ByChildren own i h e f r = tt
+stored-within Views own i h e f r = one_more (first own) (items own) i view_width (length (bytes own 1)) h (long-views own e f)
 
 pub item-stored : (t : Typed) (array : ArrayTree) → LayoutOk (typed_of t) array → (i : ℕ) → i < tree_items array → StoredWithin (layout_of (kind_of t)) (members_of array) (first (members_of array) + i)
 item-stored t array h i l =
     stored-within (layout_of (kind_of t)) (members_of array) i (subst (λ n. i < n) (tree_items-items array) l) (root-absent t array h) (root-short t array h) (root-falls t array h)
+
+views-placed : (t : Typed) (array : ArrayTree) → LayoutOk (typed_of t) array → views_misplaced (layout_of (kind_of t)) (members_of array) ≡ None
+views-placed t array h = head (live_node t array) rules.ViewPlace (drop 11 in_order) (drop-none (live_node t array) 10 in_order (root-rules t array h))
+
+view-there : (layout : Layout) (own : ArrayMembers) (i : ℕ) → i < items own
+    → first_below (buffer_absent layout own) (buffer_count layout own) ≡ None → first_below (buffer_short layout own) (buffer_count layout own) ≡ None
+    → views_misplaced layout own ≡ None
+    → ViewWithin layout own i
+view-there Views own i h e f p = view-within own i (long-named own e f) p h
+view-there NoBuffers own i h e f p = tt
+view-there (FixedWidth width) own i h e f p = tt
+view-there TruthBits own i h e f p = tt
+view-there (ByOffsets wide) own i h e f p = tt
+view-there (ListOffsets wide) own i h e f p = tt
+view-there (FixedItems size) own i h e f p = tt
+view-there ByChildren own i h e f p = tt
+
+pub item-view : (t : Typed) (array : ArrayTree) → LayoutOk (typed_of t) array → (i : ℕ) → i < tree_items array → ViewWithin (layout_of (kind_of t)) (members_of array) i
+item-view t array h i l =
+    view-there (layout_of (kind_of t)) (members_of array) i (subst (λ n. i < n) (tree_items-items array) l) (root-absent t array h) (root-short t array h) (views-placed t array h)
 
 -- ---- what a child has of an item
 
@@ -281,6 +303,7 @@ items-within (ListOffsets wide) own i total h r l =
     omega (arith, rise, some_need (end own) (natural (offset wide own (end own))) some, l)
 items-within (FixedItems size) own i total h r l = one_more (first own) (items own) i size total h l
 items-within ByChildren own i total h r l = omega (arith, h, l)
+items-within Views own i total h r l = tt
 
 pub child-needed : (t : Typed) (array : ArrayTree) → LayoutOk (typed_of t) array
     → ((k : ℕ) → k < length (kids_of t) → IsLive (child_at array k))

@@ -1,6 +1,6 @@
 -- The layout of an array, by its type: how many buffers it has, what they need, and what its items are
 -- ("Arrow Columnar Format", "Physical memory layout").
-use Rattle.std.specs.Prelude.{ℕ, zero, suc, ◌+◌, ◌-◌, ◌*◌, ◌≤◌, ◌/◌, ℤ, pos, negsuc, Bool, true, false, nat_lt, ◌==◌, ◌||◌, if◌then◌else◌, List, [], length, take, drop, get_or, Option, Some, None}
+use Rattle.std.specs.Prelude.{ℕ, zero, suc, ◌+◌, ◌-◌, ◌*◌, ◌≤◌, ◌/◌, ℤ, pos, negsuc, Bool, true, false, nat_lt, max, ◌==◌, ◌||◌, if◌then◌else◌, List, [], length, take, drop, get_or, Option, Some, None}
 use Rattle.fmt_string.specs.declared.kind.DataType.{DataType}
 use Rattle.fmt_string.specs.declared.kind.DataType.TheVariants as kinds
 use Rattle.fmt_string.specs.declared.kind.Tick.{Tick}
@@ -8,7 +8,7 @@ use Rattle.fmt_string.specs.declared.kind.Tick.TheVariants.{Second, Milli, Micro
 use Rattle.bit_pack.specs.Packed.{bit, number_at, meant, offset_width}
 use Rattle.raw_array.specs.Members.{ArrayMembers, bytes_in}
 use Rattle.layout_check.specs.declared.layout.Layout.{Layout}
-use Rattle.layout_check.specs.declared.layout.Layout.TheVariants.{NoBuffers, FixedWidth, TruthBits, ByOffsets, ListOffsets, FixedItems, ByChildren}
+use Rattle.layout_check.specs.declared.layout.Layout.TheVariants.{NoBuffers, FixedWidth, TruthBits, ByOffsets, ListOffsets, FixedItems, ByChildren, Views}
 
 abbrev pub time_width : Tick → ℕ
 time_width Second = 4
@@ -41,15 +41,19 @@ layout_of (kinds.List wide) = ListOffsets wide
 layout_of (kinds.FixedList size) = FixedItems size
 layout_of kinds.Struct = ByChildren
 layout_of kinds.Map = ListOffsets false
+layout_of kinds.BinaryView = Views
+layout_of kinds.Utf8View = Views
 
-abbrev pub buffer_count : Layout → ℕ
-buffer_count NoBuffers = 0
-buffer_count (FixedWidth width) = 2
-buffer_count TruthBits = 2
-buffer_count (ByOffsets wide) = 3
-buffer_count (ListOffsets wide) = 2
-buffer_count (FixedItems size) = 1
-buffer_count ByChildren = 1
+-- how many buffers an array must have: of views as many as it has, and at least validity, the views and the lengths
+abbrev pub buffer_count : Layout → ArrayMembers → ℕ
+buffer_count NoBuffers a = 0
+buffer_count (FixedWidth width) a = 2
+buffer_count TruthBits a = 2
+buffer_count (ByOffsets wide) a = 3
+buffer_count (ListOffsets wide) a = 2
+buffer_count (FixedItems size) a = 1
+buffer_count ByChildren a = 1
+buffer_count Views a = max 3 (length a.buffers)
 
 -- ---- an array's own members
 
@@ -124,6 +128,34 @@ abbrev pub data_need : Bool → ArrayMembers → ℕ
 data_need wide a =
     if (end a == 0) || nat_lt (length (bytes a 1)) (offsets_need wide (end a)) then 0 else natural (offset wide a (end a))
 
+-- ---- the buffers of views: validity, the views, data buffers, and the lengths of these
+
+abbrev pub view_width : ℕ
+view_width = 16
+
+-- how many data buffers there are
+abbrev pub data_buffers : ArrayMembers → ℕ
+data_buffers a = length a.buffers - 3
+
+-- the place of a data buffer among the buffers, and of the lengths behind the last
+abbrev pub data_place : ℕ → ℕ
+data_place k = k + 2
+
+abbrev pub data_lengths : ArrayMembers → List ℕ
+data_lengths a = bytes a (data_place (data_buffers a))
+
+abbrev pub lengths_need : ArrayMembers → ℕ
+lengths_need a = data_buffers a * 8
+
+-- what the lengths say of a data buffer, where they are long enough to say it
+abbrev pub data_length : ArrayMembers → ℕ → ℕ
+data_length a k =
+    if nat_lt (length (data_lengths a)) (lengths_need a) then 0 else natural (offset_in true (data_lengths a) k)
+
+-- what a data buffer needs, and the lengths behind the last
+abbrev pub named_need : ArrayMembers → ℕ → ℕ
+named_need a k = if nat_lt k (data_buffers a) then data_length a k else lengths_need a
+
 -- how many bytes of its k-th buffer an array needs
 abbrev pub need : Layout → ArrayMembers → ℕ → ℕ
 need layout a zero = bits_need (end a)
@@ -135,6 +167,8 @@ need (ListOffsets wide) a (suc k) = offsets_need wide (end a)
 need NoBuffers a (suc k) = 0
 need (FixedItems size) a (suc k) = 0
 need ByChildren a (suc k) = 0
+need Views a (suc zero) = end a * view_width
+need Views a (suc (suc k)) = named_need a k
 
 -- a validity buffer that is there has a bit for each place up to the window's end
 abbrev pub IsLong : ℕ → Option (List ℕ) → Type 0

@@ -1,5 +1,6 @@
 pub mod Kinds
 pub mod Layout
+pub mod Views
 pub mod Rules
 pub mod Walk
 pub mod TypedView

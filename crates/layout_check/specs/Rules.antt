@@ -6,15 +6,17 @@ use Rattle.std.specs.Str.{is_utf8}
 use Rattle.std.specs.Str.Lossy.{utf8_valid_len}
 use Rattle.fmt_string.specs.declared.kind.DataType.{DataType}
 use Rattle.fmt_string.specs.declared.kind.DataType.TheVariants as kinds
+use Rattle.bit_pack.specs.Packed.{number_at}
 use Rattle.tree_model.specs.Tree.{Released, Live}
 use Rattle.raw_array.specs.Members.{ArrayMembers, ArrayTree}
 use Rattle.layout_check.specs.declared.rule.LayoutRule.{LayoutRule}
 use Rattle.layout_check.specs.declared.rule.LayoutRule.TheVariants as rules
 use Rattle.layout_check.specs.declared.rule.Numbers.{Numbers}
 use Rattle.layout_check.specs.Kinds.{KindTree}
-use Rattle.layout_check.specs.Layout.{is_valid, layout_of, buffer_count, need, bytes, buffer, offset, offset_in, first, items, end, natural, data_of, stored_number}
+use Rattle.layout_check.specs.Layout.{is_valid, layout_of, buffer_count, need, bytes, buffer, offset, offset_in, first, items, end, natural, data_of, data_buffers, data_length, stored_number}
+use Rattle.layout_check.specs.Views.{view_length, view_prefix, view_buffer, view_offset, view_data, is_long}
 use Rattle.layout_check.specs.declared.layout.Layout.{Layout}
-use Rattle.layout_check.specs.declared.layout.Layout.TheVariants.{NoBuffers, ByOffsets, ListOffsets, FixedItems, ByChildren}
+use Rattle.layout_check.specs.declared.layout.Layout.TheVariants.{NoBuffers, ByOffsets, ListOffsets, FixedItems, ByChildren, Views}
 
 -- A live node with its type: the members, the parts, and what stands below the type.
 pub record Node : Type 0 where
@@ -136,14 +138,19 @@ child_short needed k (child ∷ rest) = option_or (short_child needed k (live_le
 
 -- ---- items
 
--- a valid text item that isn't UTF-8, with the length of its longest valid prefix and its own
+-- a valid text that isn't UTF-8, with the length of its longest valid prefix and its own
+abbrev pub bad_text : ArrayMembers → ℕ → List ℕ → Option Numbers
+bad_text own i text = fault_if (is_valid own i && not (is_utf8 text)) i (pos (utf8_valid_len text)) (pos (length text))
+
 abbrev pub not_text : Bool → ArrayMembers → ℕ → Option Numbers
-not_text wide own i =
-    let text = data_of wide own i in
-    fault_if (is_valid own i && not (is_utf8 text)) i (pos (utf8_valid_len text)) (pos (length text))
+not_text wide own i = bad_text own i (data_of wide own i)
+
+abbrev pub view_not_text : ArrayMembers → ℕ → Option Numbers
+view_not_text own i = bad_text own i (view_data own i)
 
 abbrev pub texts_wrong : DataType → ArrayMembers → Option Numbers
 texts_wrong (kinds.Utf8 wide) own = first_below (not_text wide own) (items own)
+texts_wrong kinds.Utf8View own = first_below (view_not_text own) (items own)
 texts_wrong _ own = None
 
 -- an index, valid or not, that is no place of a dictionary of so many items
@@ -162,6 +169,44 @@ indices_wrong kind own None = None
 indices_wrong (kinds.Int bits signed) own (Some total) = first_below (index_wrong (bits / 8) signed own total) (items own)
 indices_wrong _ own (Some total) = None
 
+-- ---- views
+
+-- a long view that names no data: there is no such buffer, it begins before 0, or it ends behind the buffer's length
+abbrev pub named_outside : ArrayMembers → ℕ → Option Numbers
+named_outside own i =
+    let buffer = view_buffer own i in
+    let from = view_offset own i in
+    let to = natural from + natural (view_length own i) in
+    let size = data_length own (natural buffer) in
+    if is_outside (pos (data_buffers own)) buffer then fault i buffer (pos (data_buffers own))
+    else if is_negative from then fault i from (pos 0)
+    else fault_if (nat_lt size to) i (pos to) (pos size)
+
+-- a view with a length below 0, or a long one that names no data
+abbrev pub view_outside : ArrayMembers → ℕ → Option Numbers
+view_outside own i =
+    let size = view_length own i in
+    if is_negative size then fault i size (pos 0)
+    else if is_long size then named_outside own i
+    else None
+
+abbrev pub misplaced : ArrayMembers → ℕ → Option Numbers
+misplaced own i = if is_valid own i then view_outside own i else None
+
+abbrev pub views_misplaced : Layout → ArrayMembers → Option Numbers
+views_misplaced Views own = first_below (misplaced own) (items own)
+views_misplaced _ own = None
+
+-- a valid long view whose prefix isn't how its data begin
+abbrev pub prefix_wrong : ArrayMembers → ℕ → Option Numbers
+prefix_wrong own i =
+    let begin = number_at (view_data own i) 0 4 in
+    fault_if (is_valid own i && is_long (view_length own i) && not (view_prefix own i == begin)) i (pos (view_prefix own i)) (pos begin)
+
+abbrev pub prefixes_wrong : Layout → ArrayMembers → Option Numbers
+prefixes_wrong Views own = first_below (prefix_wrong own) (items own)
+prefixes_wrong _ own = None
+
 abbrev pub length_if : Option ArrayTree → Option ℤ
 length_if None = None
 length_if (Some array) = live_length array
@@ -176,14 +221,16 @@ abbrev pub fails : LayoutRule → Node → Option Numbers
 fails rules.Released node = None
 fails rules.NegativeLength node = fault_if (is_negative node.own.length) 0 node.own.length (pos 0)
 fails rules.NegativeOffset node = fault_if (is_negative node.own.offset) 0 node.own.offset (pos 0)
-fails rules.BufferCount node = count_wrong (length node.own.buffers) (buffer_count (layout_of node.kind))
+fails rules.BufferCount node = count_wrong (length node.own.buffers) (buffer_count (layout_of node.kind) node.own)
 fails rules.ChildCount node = count_wrong (length node.children) (length node.kids)
 fails rules.Dictionary node = count_wrong (one_if node.dictionary) (one_if node.dict)
-fails rules.BufferAbsent node = first_below (buffer_absent (layout_of node.kind) node.own) (buffer_count (layout_of node.kind))
+fails rules.BufferAbsent node = first_below (buffer_absent (layout_of node.kind) node.own) (buffer_count (layout_of node.kind) node.own)
 fails rules.OffsetsFall node = offsets_fall_if (is_behind_offsets (layout_of node.kind)) node.own
-fails rules.BufferShort node = first_below (buffer_short (layout_of node.kind) node.own) (buffer_count (layout_of node.kind))
+fails rules.BufferShort node = first_below (buffer_short (layout_of node.kind) node.own) (buffer_count (layout_of node.kind) node.own)
 fails rules.ChildShort node = child_short (items_need (layout_of node.kind) node.own) 0 node.children
 fails rules.NullCount node = null_count_wrong_in (layout_of node.kind) node.own
+fails rules.ViewPlace node = views_misplaced (layout_of node.kind) node.own
+fails rules.ViewPrefix node = prefixes_wrong (layout_of node.kind) node.own
 fails rules.NotText node = texts_wrong node.kind node.own
 fails rules.IndexRange node = indices_wrong node.kind node.own (length_if node.dictionary)
 fails rules.WindowTooLong node = fault_if (nat_lt window_limit (end node.own)) 0 (pos (end node.own)) (pos window_limit)
@@ -200,7 +247,7 @@ buffer_rules = rules.BufferAbsent ∷ rules.BufferShort ∷ rules.OffsetsFall �
 
 abbrev pub item_rules : List LayoutRule
 item_rules =
-    rules.ChildShort ∷ rules.NullCount ∷ rules.NotText ∷ rules.IndexRange ∷ rules.WindowTooLong ∷ []
+    rules.ChildShort ∷ rules.NullCount ∷ rules.ViewPlace ∷ rules.ViewPrefix ∷ rules.NotText ∷ rules.IndexRange ∷ rules.WindowTooLong ∷ []
 
 abbrev pub in_order : List LayoutRule
 in_order = form_rules ++ buffer_rules ++ item_rules

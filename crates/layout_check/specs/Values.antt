@@ -10,6 +10,7 @@ use Rattle.tree_model.specs.Tree.{Released, Live, Trees, no_trees, more_trees, M
 use Rattle.raw_array.specs.Members.{ArrayMembers, ArrayTree}
 use Rattle.layout_check.specs.Kinds.{KindTree}
 use Rattle.layout_check.specs.Layout.{first, items, bytes, is_valid, natural, offset, data_of, time_width, stored_bytes, stored_number}
+use Rattle.layout_check.specs.Views.{view_data}
 
 -- f at each of the numbers from a on, so many of them
 abbrev pub each : {X : Type 0} → (ℕ → X) → ℕ → ℕ → List X
@@ -71,6 +72,8 @@ item (kinds.List wide) kids a children i = listed wide kids a children i
 item (kinds.FixedList size) kids a children i = Items (values (each (child_item kids children) ((first a + i) * size) size))
 item kinds.Struct kids a children i = Fields (values (field_items kids children (first a + i)))
 item kinds.Map kids a children i = listed false kids a children i
+item kinds.BinaryView kids a children i = Bytes (view_data a i)
+item kinds.Utf8View kids a children i = Bytes (view_data a i)
 
 -- the item of an array with a dictionary is the dictionary's item at the stored index
 abbrev pub item_or_entry : Option Reader → DataType → List Reader → ArrayMembers → List ArrayTree → Option ArrayTree → ℕ → Value

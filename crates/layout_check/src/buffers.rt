@@ -2,12 +2,13 @@ ghost use Rattle.std.specs.Prelude.{◌≡◌, None, if◌then◌else◌, ◌==�
 ghost use Rattle.bit_pack.specs.Packed.{offset_width};
 ghost use Rattle.tree_model.specs.Tree.{IsLive};
 ghost use Rattle.raw_array.specs.Members.{ArrayTree, members_of};
-ghost use Rattle.layout_check.specs.Layout.{natural, first, items, offset as offset_is, end, bytes as bytes_at, offsets_need as offsets_needed, data_need as data_needed, need as needed_of, buffer_count as count_of};
+ghost use Rattle.layout_check.specs.Layout.{natural, first, items, offset as offset_is, end, bytes as bytes_at, offsets_need as offsets_needed, data_need as data_needed, named_need as named_needed, need as needed_of, buffer_count as count_of};
 ghost use Rattle.layout_check.specs.Rules.{offsets_fall_if, is_behind_offsets, buffer_absent as absent_at, fault_if, offset_falls as falls_at, offsets_fall as fall_of, buffer_short as short_at, first_below};
 
 use crate::layout::{Layout, buffer_count};
 use crate::rule::Numbers;
 use crate::scans::offsets_rise;
+use crate::views::{data_buffers, data_length};
 use bit_pack::offset_at;
 use raw_array::RawArray;
 
@@ -93,12 +94,31 @@ pub fn wide_need(end: u64, width: u32) -> u128
     u128::from(end) * u128::from(width)
 }
 
+/// What a data buffer of views needs, counted from the first, and the lengths behind the last.
+fn named_need(array: &RawArray, k: usize) -> u128
+    requires live { IsLive array.now }
+    requires buffers { 3 ≤ length (members_of array.now).buffers }
+    ensures need { result ≡ named_needed (members_of array.now) k }
+    ensures bound { result < 2 ^ 64 }
+{
+    let count = data_buffers(array);
+    let needed = count as u128 * 8;
+    if k >= count {
+        return needed;
+    }
+    if (bytes(array, count + 2).len() as u128) < needed {
+        return 0;
+    }
+    u128::from(data_length(array, k))
+}
+
 /// How many bytes of its k-th buffer an array needs.
+#[tactic(auto, using(crate::proofs::Long::some_views))]
 fn need(layout: Layout, array: &RawArray, k: usize) -> u128
     requires live { IsLive array.now }
     requires length { pos 0 ≤ℤ (members_of array.now).length }
     requires offset { pos 0 ≤ℤ (members_of array.now).offset }
-    requires count { length (members_of array.now).buffers ≡ count_of layout }
+    requires count { length (members_of array.now).buffers ≡ count_of layout (members_of array.now) }
     ensures need { result ≡ needed_of layout (members_of array.now) k }
     ensures bound { result < 2 ^ 97 }
 {
@@ -117,6 +137,13 @@ fn need(layout: Layout, array: &RawArray, k: usize) -> u128
             }
         }
         Layout::ListOffsets { wide } => offsets_need(wide, u128::from(end)),
+        Layout::Views => {
+            if k == 1 {
+                wide_need(end, 16)
+            } else {
+                named_need(array, k - 2)
+            }
+        }
         Layout::NoBuffers | Layout::FixedItems { .. } | Layout::ByChildren => 0,
     }
 }
@@ -125,8 +152,8 @@ fn buffer_short(layout: Layout, array: &RawArray, k: usize) -> Option<Numbers>
     requires live { IsLive array.now }
     requires length { pos 0 ≤ℤ (members_of array.now).length }
     requires offset { pos 0 ≤ℤ (members_of array.now).offset }
-    requires count { length (members_of array.now).buffers ≡ count_of layout }
-    requires inside { k < count_of layout }
+    requires count { length (members_of array.now).buffers ≡ count_of layout (members_of array.now) }
+    requires inside { k < count_of layout (members_of array.now) }
     ensures { result ≡ short_at layout (members_of array.now) k }
 {
     let needed = need(layout, array, k);
@@ -151,8 +178,8 @@ fn buffer_absent(layout: Layout, array: &RawArray, k: usize) -> Option<Numbers>
     requires live { IsLive array.now }
     requires length { pos 0 ≤ℤ (members_of array.now).length }
     requires offset { pos 0 ≤ℤ (members_of array.now).offset }
-    requires count { length (members_of array.now).buffers ≡ count_of layout }
-    requires inside { k < count_of layout }
+    requires count { length (members_of array.now).buffers ≡ count_of layout (members_of array.now) }
+    requires inside { k < count_of layout (members_of array.now) }
     ensures { result ≡ absent_at layout (members_of array.now) k }
 {
     if k == 0 {
@@ -180,10 +207,10 @@ pub fn buffers_absent(layout: Layout, array: &RawArray) -> Option<Numbers>
     requires live { IsLive array.now }
     requires length { pos 0 ≤ℤ (members_of array.now).length }
     requires offset { pos 0 ≤ℤ (members_of array.now).offset }
-    requires count { length (members_of array.now).buffers ≡ count_of layout }
-    ensures { result ≡ first_below (absent_at layout (members_of array.now)) (count_of layout) }
+    requires count { length (members_of array.now).buffers ≡ count_of layout (members_of array.now) }
+    ensures { result ≡ first_below (absent_at layout (members_of array.now)) (count_of layout (members_of array.now)) }
 {
-    for k in 0..buffer_count(layout) {
+    for k in 0..buffer_count(layout, array) {
         if let Some(numbers) = buffer_absent(layout, array, k) {
             return Some(numbers);
         }
@@ -196,10 +223,10 @@ pub fn buffers_short(layout: Layout, array: &RawArray) -> Option<Numbers>
     requires live { IsLive array.now }
     requires length { pos 0 ≤ℤ (members_of array.now).length }
     requires offset { pos 0 ≤ℤ (members_of array.now).offset }
-    requires count { length (members_of array.now).buffers ≡ count_of layout }
-    ensures { result ≡ first_below (short_at layout (members_of array.now)) (count_of layout) }
+    requires count { length (members_of array.now).buffers ≡ count_of layout (members_of array.now) }
+    ensures { result ≡ first_below (short_at layout (members_of array.now)) (count_of layout (members_of array.now)) }
 {
-    for k in 0..buffer_count(layout) {
+    for k in 0..buffer_count(layout, array) {
         if let Some(numbers) = buffer_short(layout, array, k) {
             return Some(numbers);
         }
@@ -299,9 +326,9 @@ pub fn layout_falls(layout: Layout, array: &RawArray) -> Option<Numbers>
     requires live { IsLive array.now }
     requires length { pos 0 ≤ℤ (members_of array.now).length }
     requires offset { pos 0 ≤ℤ (members_of array.now).offset }
-    requires count { length (members_of array.now).buffers ≡ count_of layout }
-    requires there { first_below (absent_at layout (members_of array.now)) (count_of layout) ≡ None }
-    requires enough { first_below (short_at layout (members_of array.now)) (count_of layout) ≡ None }
+    requires count { length (members_of array.now).buffers ≡ count_of layout (members_of array.now) }
+    requires there { first_below (absent_at layout (members_of array.now)) (count_of layout (members_of array.now)) ≡ None }
+    requires enough { first_below (short_at layout (members_of array.now)) (count_of layout (members_of array.now)) ≡ None }
     ensures { result ≡ offsets_fall_if (is_behind_offsets layout) (members_of array.now) }
 {
     match layout {

@@ -9,7 +9,7 @@ ghost use Rattle.layout_check.specs.Layout.{layout_of as layout_is, buffer_count
 ghost use Rattle.layout_check.specs.Rules.{one_if, items_need};
 ghost use Rattle.layout_check.specs.Walk.{LayoutOk, first_fault};
 ghost use Rattle.layout_check.specs.Values.{tree_items};
-ghost use Rattle.layout_check.specs.Within.{StoredWithin, ItemsWithin, IndexWithin};
+ghost use Rattle.layout_check.specs.Within.{StoredWithin, ViewWithin, ItemsWithin, IndexWithin};
 
 use crate::typed::Typed;
 use raw_array::RawArray;
@@ -33,7 +33,7 @@ pub fn lawful_root(typed: &Typed, array: &RawArray)
     ensures offset { pos 0 ≤ℤ (members_of array.now).offset }
     ensures items { tree_items array.now ≡ items (members_of array.now) }
     ensures end { end (members_of array.now) ≤ 2 ^ 40 }
-    ensures count { length (members_of array.now).buffers ≡ count_of (layout_is (kind_of typed.now)) }
+    ensures count { length (members_of array.now).buffers ≡ count_of (layout_is (kind_of typed.now)) (members_of array.now) }
     ensures long { IsLongIfPresent (members_of array.now) }
     ensures children { length (children_of array.now) ≡ length (kids_of typed.now) }
     ensures dictionary { one_if (dictionary_of array.now) ≡ one_if (dict_in (out-Typed typed.now).dict) }
@@ -53,5 +53,6 @@ pub fn lawful_items_lie_within(typed: &Typed, array: &RawArray)
     ensures stored { (i : ℕ) → i < tree_items array.now → StoredWithin (layout_is (kind_of typed.now)) (members_of array.now) (first (members_of array.now) + i) }
     ensures needed { (k : ℕ) → k < length (kids_of typed.now) → items_need (layout_is (kind_of typed.now)) (members_of array.now) ≤ tree_items (child_at array.now k) }
     ensures children { (i k : ℕ) → i < tree_items array.now → k < length (kids_of typed.now) → ItemsWithin (layout_is (kind_of typed.now)) (members_of array.now) (first (members_of array.now) + i) (tree_items (child_at array.now k)) }
+    ensures views { (i : ℕ) → i < tree_items array.now → ViewWithin (layout_is (kind_of typed.now)) (members_of array.now) i }
     ensures index { (i : ℕ) (dict : KindTree) (dictionary : ArrayTree) → i < tree_items array.now → dict_in (out-Typed typed.now).dict ≡ Some dict → dictionary_of array.now ≡ Some dictionary → IndexWithin (kind_of typed.now) (members_of array.now) i dictionary }
 {}

@@ -35,6 +35,7 @@ mod schema_tests;
 mod tests;
 mod texts;
 mod typed;
+mod views;
 mod walk;
 mod worked_arrays;
 

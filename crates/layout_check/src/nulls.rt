@@ -90,11 +90,11 @@ pub fn nulls_wrong(layout: Layout, array: &RawArray) -> Option<Numbers>
     requires live { IsLive array.now }
     requires length { pos 0 ≤ℤ (members_of array.now).length }
     requires offset { pos 0 ≤ℤ (members_of array.now).offset }
-    requires count { length (members_of array.now).buffers ≡ count_of layout }
-    requires enough { first_below (short_at layout (members_of array.now)) (count_of layout) ≡ None }
+    requires count { length (members_of array.now).buffers ≡ count_of layout (members_of array.now) }
+    requires enough { first_below (short_at layout (members_of array.now)) (count_of layout (members_of array.now)) ≡ None }
     ensures { result ≡ null_count_wrong_in layout (members_of array.now) }
 {
-    if buffer_count(layout) == 0 {
+    if buffer_count(layout, array) == 0 {
         None
     } else {
         null_count_wrong(array)

@@ -6,7 +6,7 @@ use fmt_string::FormatFault;
 use schema_meta::MetaFault;
 
 /// What an array must meet ("Arrow Columnar Format", "Physical memory layout"). At a node the rules are tried from the
-/// first to the last of this list. A fault's place is 0 where none is named here. The places up to the window's end are
+/// first to the last of this list, but that the two on views come before [`LayoutRule::NotText`]. A fault's place is 0 where none is named here. The places up to the window's end are
 /// its offset and its length together.
 #[derive(Clone, Copy, Debug, PartialEq, Eq)]
 pub enum LayoutRule {
@@ -16,7 +16,7 @@ pub enum LayoutRule {
     NegativeLength,
     /// The offset is below 0: the offset, and 0.
     NegativeOffset,
-    /// The number of buffers isn't the layout's: found and needed.
+    /// The number of buffers isn't the layout's: found and needed. Views need at least 3.
     BufferCount,
     /// The number of children isn't the type's: found and needed.
     ChildCount,
@@ -44,6 +44,13 @@ pub enum LayoutRule {
     /// A chunk's root isn't a struct, or has a dictionary. Only [`check_chunk`](crate::check_chunk) tries it, before
     /// [`LayoutRule::TopNulls`] and after all others.
     TopKind,
+    /// A valid view names no data, at the item: its length is below 0 (the length, and 0); or it is above 12, and its data
+    /// buffer is none (the buffer's number, and how many there are), its offset is below 0 (the offset, and 0), or its data
+    /// end behind the buffer's length (their end, and that length).
+    ViewPlace,
+    /// A valid view of a length above 12 begins with other bytes than its data: at the item, its prefix and the first four
+    /// bytes, as numbers.
+    ViewPrefix,
 }
 
 /// What a schema must meet, in the order in which it is tried at a node but for [`SchemaRule::Deep`], which comes first.

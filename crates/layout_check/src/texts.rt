@@ -6,12 +6,13 @@ ghost use Rattle.tree_model.specs.Tree.{IsLive};
 ghost use Rattle.raw_array.specs.Members.{ArrayTree, members_of};
 ghost use Rattle.layout_check.specs.Layout.{IsLongIfPresent, natural, data_between as data_between_places, layout_of as layout_is, first, items, offset as offset_is, end, data_of, bytes as bytes_at, offsets_need as offsets_needed, data_need as data_needed, buffer_count as count_of};
 ghost use Rattle.layout_check.specs.Scans.{used_data as used_bytes};
-ghost use Rattle.layout_check.specs.Rules.{fault_if, buffer_absent as absent_at, buffer_short as short_at, first_below, offsets_fall as fall_of, offsets_fall_if, is_behind_offsets, not_text as text_fault, texts_wrong as text_faults};
+ghost use Rattle.layout_check.specs.Rules.{fault_if, buffer_absent as absent_at, buffer_short as short_at, first_below, offsets_fall as fall_of, offsets_fall_if, is_behind_offsets, not_text as text_fault, texts_wrong as text_faults, views_misplaced as misplaced_views};
 
 use crate::buffers::{bytes, offset_of, window_end, window_len, window_start};
 use crate::nulls::is_valid;
 use crate::rule::Numbers;
 use crate::scans::cut_between_characters;
+use crate::views::view_text_wrong;
 use fmt_string::DataType;
 use raw_array::RawArray;
 
@@ -63,7 +64,7 @@ fn item_data(wide: bool, array: &RawArray, i: u64) -> &[u8]
 
 /// A text that isn't UTF-8.
 #[tactic(auto, using(crate::proofs::TextData::utf8))]
-fn not_utf8(i: u64, text: &[u8]) -> Option<Numbers>
+pub fn not_utf8(i: u64, text: &[u8]) -> Option<Numbers>
     ensures { result ≡ fault_if (not (is_utf8 text.now)) i (pos (utf8_valid_len text.now)) (pos (length text.now)) }
 {
     match str::from_utf8(text) {
@@ -213,14 +214,16 @@ pub fn texts_wrong(kind: &DataType, array: &RawArray) -> Option<Numbers>
     requires live { IsLive array.now }
     requires length { pos 0 ≤ℤ (members_of array.now).length }
     requires offset { pos 0 ≤ℤ (members_of array.now).offset }
-    requires count { length (members_of array.now).buffers ≡ count_of (layout_is kind.now) }
-    requires there { first_below (absent_at (layout_is kind.now) (members_of array.now)) (count_of (layout_is kind.now)) ≡ None }
-    requires enough { first_below (short_at (layout_is kind.now) (members_of array.now)) (count_of (layout_is kind.now)) ≡ None }
+    requires count { length (members_of array.now).buffers ≡ count_of (layout_is kind.now) (members_of array.now) }
+    requires there { first_below (absent_at (layout_is kind.now) (members_of array.now)) (count_of (layout_is kind.now) (members_of array.now)) ≡ None }
+    requires enough { first_below (short_at (layout_is kind.now) (members_of array.now)) (count_of (layout_is kind.now) (members_of array.now)) ≡ None }
     requires rise { offsets_fall_if (is_behind_offsets (layout_is kind.now)) (members_of array.now) ≡ None }
+    requires placed { misplaced_views (layout_is kind.now) (members_of array.now) ≡ None }
     ensures { result ≡ text_faults kind.now (members_of array.now) }
 {
     match kind {
         DataType::Utf8 { wide } => text_wrong(*wide, array),
+        DataType::Utf8View => view_text_wrong(array),
         _ => None,
     }
 }

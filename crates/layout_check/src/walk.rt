@@ -21,6 +21,7 @@ use crate::nulls::nulls_wrong;
 use crate::rule::{DICTIONARY_STEP, LayoutFault, LayoutRule, Numbers, Path, ruled};
 use crate::texts::texts_wrong;
 use crate::typed::Typed;
+use crate::views::{prefixes_wrong, views_misplaced};
 use raw_array::RawArray;
 
 /// Checks an array against its kinds ("Arrow Columnar Format", "Physical memory layout"). The fault is the first rule of
@@ -74,10 +75,10 @@ fn check_buffers(typed: &Typed, array: &RawArray, path: &Path) -> Result<(), Lay
     requires live { IsLive array.now }
     requires length { pos 0 ≤ℤ (members_of array.now).length }
     requires offset { pos 0 ≤ℤ (members_of array.now).offset }
-    requires buffers { length (members_of array.now).buffers ≡ count_of (layout_is (out-Typed typed.now).kind) }
+    requires buffers { length (members_of array.now).buffers ≡ count_of (layout_is (out-Typed typed.now).kind) (members_of array.now) }
     ensures fault { found result ≡ rules_fault buffer_rules (steps_of path.now) (live_node typed.now array.now) }
-    ensures there { OnOk result (first_below (absent_at (layout_is (out-Typed typed.now).kind) (members_of array.now)) (count_of (layout_is (out-Typed typed.now).kind)) ≡ None) }
-    ensures enough { OnOk result (first_below (short_at (layout_is (out-Typed typed.now).kind) (members_of array.now)) (count_of (layout_is (out-Typed typed.now).kind)) ≡ None) }
+    ensures there { OnOk result (first_below (absent_at (layout_is (out-Typed typed.now).kind) (members_of array.now)) (count_of (layout_is (out-Typed typed.now).kind) (members_of array.now)) ≡ None) }
+    ensures enough { OnOk result (first_below (short_at (layout_is (out-Typed typed.now).kind) (members_of array.now)) (count_of (layout_is (out-Typed typed.now).kind) (members_of array.now)) ≡ None) }
     ensures rise { OnOk result (offsets_fall_if (is_behind_offsets (layout_is (out-Typed typed.now).kind)) (members_of array.now) ≡ None) }
 {
     let layout = layout_of(&typed.kind);
@@ -96,15 +97,17 @@ fn check_items(typed: &Typed, array: &RawArray, path: &Path) -> Result<(), Layou
     requires type_ok { KindOk (out-Typed typed.now).kind }
     requires length { pos 0 ≤ℤ (members_of array.now).length }
     requires offset { pos 0 ≤ℤ (members_of array.now).offset }
-    requires buffers { length (members_of array.now).buffers ≡ count_of (layout_is (out-Typed typed.now).kind) }
-    requires there { first_below (absent_at (layout_is (out-Typed typed.now).kind) (members_of array.now)) (count_of (layout_is (out-Typed typed.now).kind)) ≡ None }
-    requires enough { first_below (short_at (layout_is (out-Typed typed.now).kind) (members_of array.now)) (count_of (layout_is (out-Typed typed.now).kind)) ≡ None }
+    requires buffers { length (members_of array.now).buffers ≡ count_of (layout_is (out-Typed typed.now).kind) (members_of array.now) }
+    requires there { first_below (absent_at (layout_is (out-Typed typed.now).kind) (members_of array.now)) (count_of (layout_is (out-Typed typed.now).kind) (members_of array.now)) ≡ None }
+    requires enough { first_below (short_at (layout_is (out-Typed typed.now).kind) (members_of array.now)) (count_of (layout_is (out-Typed typed.now).kind) (members_of array.now)) ≡ None }
     requires rise { offsets_fall_if (is_behind_offsets (layout_is (out-Typed typed.now).kind)) (members_of array.now) ≡ None }
     ensures { found result ≡ rules_fault item_rules (steps_of path.now) (live_node typed.now array.now) }
 {
     let layout = layout_of(&typed.kind);
     ruled(path, LayoutRule::ChildShort, children_short(layout, array))?;
     ruled(path, LayoutRule::NullCount, nulls_wrong(layout, array))?;
+    ruled(path, LayoutRule::ViewPlace, views_misplaced(layout, array))?;
+    ruled(path, LayoutRule::ViewPrefix, prefixes_wrong(layout, array))?;
     ruled(path, LayoutRule::NotText, texts_wrong(&typed.kind, array))?;
     ruled(
         path,
@@ -121,7 +124,7 @@ fn check_form(typed: &Typed, array: &RawArray, path: &Path) -> Result<(), Layout
     ensures fault { found result ≡ rules_fault form_rules (steps_of path.now) (live_node typed.now array.now) }
     ensures length { OnOk result (pos 0 ≤ℤ (members_of array.now).length) }
     ensures offset { OnOk result (pos 0 ≤ℤ (members_of array.now).offset) }
-    ensures buffers { OnOk result (length (members_of array.now).buffers ≡ count_of (layout_is (out-Typed typed.now).kind)) }
+    ensures buffers { OnOk result (length (members_of array.now).buffers ≡ count_of (layout_is (out-Typed typed.now).kind) (members_of array.now)) }
     ensures children { OnOk result (length (children_of array.now) ≡ length (out-Typed typed.now).kids.items) }
     ensures few { OnOk result (length (out-Typed typed.now).kids.items < 2 ^ 32 - 1) }
 {

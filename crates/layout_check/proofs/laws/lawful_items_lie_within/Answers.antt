@@ -5,7 +5,7 @@ use Rattle.layout_check.specs.Kinds.{KindTree}
 use Rattle.layout_check.specs.declared.typed.Typed.{out-Typed}
 use Rattle.layout_check.specs.TypedView.{kids_of, dict_in}
 use Rattle.layout_check.specs.Values.{tree_items}
-use Rattle.layout_check.proofs.ReadWithin.{item-stored, child-needed, item-children, item-index, child-lawful, dictionary-lawful, kid-live, dict-live}
+use Rattle.layout_check.proofs.ReadWithin.{item-stored, child-needed, item-children, item-view, item-index, child-lawful, dictionary-lawful, kid-live, dict-live}
 use Rattle.layout_check.proofs.laws.lawful_items_lie_within.Goals as goal
 
 pub returns : goal.returns
@@ -17,6 +17,7 @@ returns c =
       stored = item-stored typed array c.requires;
       needed = child-needed typed array c.requires live;
       children = item-children typed array c.requires live;
+      views = item-view typed array c.requires;
       index = λ (i : ℕ) (dict : KindTree) (dictionary : ArrayTree) (h : i < tree_items array) (d : dict_in (out-Typed typed).dict ≡ Some dict) (a : dictionary_of array ≡ Some dictionary).
           item-index typed array c.requires i dictionary h a (dict-live (out-Typed typed).dict dict dictionary d (dictionary-lawful typed array c.requires dict dictionary d a));
     }

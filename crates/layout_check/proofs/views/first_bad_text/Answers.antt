@@ -1,0 +1,13 @@
+use Rattle.std.proofs.Common.{rules, ◌≡◌, ◌<◌, Some, sym}
+use Rattle.raw_array.specs.Members.{members_of}
+use Rattle.layout_check.specs.Layout.{items}
+use Rattle.layout_check.specs.Rules.{view_not_text}
+use Rattle.layout_check.proofs.Firsts.{first_below-some}
+use Rattle.layout_check.proofs.views.first_bad_text.Goals as goal
+
+pub returns-in-Some : goal.returns-in-Some
+returns-in-Some c =
+    let own = members_of c.args.array.now in
+    let inside : c.loop-i.i < items own = search rules in
+    let is : view_not_text own c.loop-i.i ≡ Some c.in-Some.numbers = search rules in
+    sym (first_below-some (view_not_text own) (items own) c.loop-i.i c.in-Some.numbers inside c.loop-i.invariant is)

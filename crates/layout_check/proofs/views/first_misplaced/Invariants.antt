@@ -1,0 +1,7 @@
+use Rattle.std.proofs.Common.{◌≡◌, None}
+use Rattle.raw_array.specs.Members.{members_of}
+use Rattle.layout_check.specs.Rules.{misplaced, first_below}
+use Rattle.layout_check.proofs.views.first_misplaced.Given as goal
+
+abbrev pub invariant-loop-i : goal.invariant-loop-i
+invariant-loop-i l = first_below (misplaced (members_of l.array)) l.i ≡ None
