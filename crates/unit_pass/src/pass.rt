@@ -1,5 +1,7 @@
+//! Desks, the passes that they give out, and units.
 ghost use Rattle.std.specs.Prelude.{◌≡◌, ◌+◌, ◌-◌, ◌*◌, ◌<◌, ◌≤◌};
-ghost use Rattle.unit_pass.specs.Tally.{risen};
+ghost use Rattle.unit_pass.specs.Tally.{risen, last_count};
+ghost use Rattle.unit_pass.specs.declared.pass.TheConstants.{SUPPLY};
 
 use std::marker::Model;
 
@@ -32,7 +34,7 @@ pub struct Unit {
 }
 
 /// Units, at most [`SUPPLY`], and the counts of the blocks and nodes that were made with it. Contracts see it as the
-/// record of the three numbers.
+/// record of the three numbers with their bounds, so each proof about a pass has the bounds at hand, without a call.
 ///
 /// It can't be dropped: only [`Pass::join`] and [`Desk::close`] take it. A count that has come to its last value, 2^64 - 1,
 /// stays there. No call takes memory or can be refused.
@@ -40,18 +42,24 @@ pub struct Pass {
     units: u64,
     blocks: u64,
     nodes: u64,
+    ghost supply: { units ≤ SUPPLY },
+    ghost most_blocks: { blocks ≤ last_count },
+    ghost most_nodes: { nodes ≤ last_count },
 }
 
 impl Model for Pass {
-    ghost use Rattle.std.specs.Prelude.{◌≤◌};
     ghost use Rattle.unit_pass.specs.Tally.{Tally};
-    ghost use Rattle.unit_pass.specs.declared.pass.TheConstants.{SUPPLY};
 
     ghost Value = { Tally };
 
-    ghost view = { λ p. record { units = p.units; blocks = p.blocks; nodes = p.nodes } };
-
-    ghost invariant = { λ p. p.units ≤ SUPPLY };
+    ghost view = { λ p. record {
+      units = p.units;
+      blocks = p.blocks;
+      nodes = p.nodes;
+      supply = p.supply;
+      most_blocks = p.most_blocks;
+      most_nodes = p.most_nodes;
+    } };
 }
 
 /// Opens a desk, with all its units in one pass that has counted nothing.
@@ -156,6 +164,8 @@ impl Pass {
         ensures units { self.new.units ≡ self.old.units + other.units }
         ensures blocks { self.new.blocks ≡ risen self.old.blocks other.blocks }
         ensures nodes { self.new.nodes ≡ risen self.old.nodes other.nodes }
+        ensures same_blocks { other.blocks ≡ 0 → self.new.blocks ≡ self.old.blocks }
+        ensures same_nodes { other.nodes ≡ 0 → self.new.nodes ≡ self.old.nodes }
     {
         let Pass {
             units,

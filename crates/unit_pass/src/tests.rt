@@ -1,3 +1,4 @@
+//! A desk that closes once all its units are back, and names that give their bytes back.
 use crate::{Audit, Name, SUPPLY, open_desk};
 use std::test::Fail;
 
