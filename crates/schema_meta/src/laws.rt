@@ -1,3 +1,4 @@
+//! A law of the reading.
 ghost use Rattle.std.specs.Prelude.{◌≡◌, ℕ, List, Result};
 ghost use Rattle.schema_meta.specs.declared.pair.Pair.{Pair};
 ghost use Rattle.schema_meta.specs.declared.fault.MetaFault.{MetaFault};
