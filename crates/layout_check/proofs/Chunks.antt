@@ -89,15 +89,15 @@ root-form t array h =
     let node = live_node t array in
     tail node rules.NegativeOffset (drop 2 in_order) (tail node rules.NegativeLength (drop 1 in_order) (root-rules t array h))
 
-pub root-count : (t : Typed) (array : ArrayTree) → LayoutOk (typed_of t) array → length (members_of array).buffers ≡ buffer_count (layout_of (out-Typed t).kind) (members_of array)
-root-count t array h = same_count (length (members_of array).buffers) (buffer_count (layout_of (out-Typed t).kind) (members_of array)) (head (live_node t array) rules.BufferCount (drop 3 in_order) (root-form t array h))
+pub root-count : (t : Typed) (array : ArrayTree) → LayoutOk (typed_of t) array → length (members_of array).buffers ≡ buffer_count (layout_of (out-Typed t).kind) (length (members_of array).buffers)
+root-count t array h = same_count (length (members_of array).buffers) (buffer_count (layout_of (out-Typed t).kind) (length (members_of array).buffers)) (head (live_node t array) rules.BufferCount (drop 3 in_order) (root-form t array h))
 
-pub root-short : (t : Typed) (array : ArrayTree) → LayoutOk (typed_of t) array → first_below (buffer_short (layout_of (out-Typed t).kind) (members_of array)) (buffer_count (layout_of (out-Typed t).kind) (members_of array)) ≡ None
+pub root-short : (t : Typed) (array : ArrayTree) → LayoutOk (typed_of t) array → first_below (buffer_short (layout_of (out-Typed t).kind) (members_of array)) (buffer_count (layout_of (out-Typed t).kind) (length (members_of array).buffers)) ≡ None
 root-short t array h =
     let node = live_node t array in
     head node rules.BufferShort (drop 7 in_order) (tail node rules.BufferAbsent (drop 6 in_order) (tail node rules.Dictionary (drop 5 in_order) (tail node rules.ChildCount (drop 4 in_order) (tail node rules.BufferCount (drop 3 in_order) (root-form t array h)))))
 
-pub root-long : (t : Typed) (array : ArrayTree) → LayoutOk (typed_of t) array → 0 < buffer_count (layout_of (out-Typed t).kind) (members_of array) → IsLongIfPresent (members_of array)
+pub root-long : (t : Typed) (array : ArrayTree) → LayoutOk (typed_of t) array → 0 < buffer_count (layout_of (out-Typed t).kind) (length (members_of array).buffers) → IsLongIfPresent (members_of array)
 root-long t array h some = long-validity (layout_of (out-Typed t).kind) (members_of array) (root-short t array h) some
 
 -- ---- its type
@@ -138,7 +138,7 @@ nulls-live kind kids dict (Live own children dictionary) live = refl
 pub nulls-typed : (t : Typed) (array : ArrayTree) → IsLive array → nulls_in (typed_of t) array ≡ null_items (layout_of (out-Typed t).kind) (members_of array)
 nulls-typed t array live = ap (λ k. nulls_in k array) (typed_out t) ∙ nulls-live (kind_of t) (trees (kids_of t)) (maybe_tree (dict_in (out-Typed t).dict)) array live
 
-pub no_buffers : (layout : Layout) (own : ArrayMembers) → buffer_count layout own ≡ 0 → null_items layout own ≡ items own
+pub no_buffers : (layout : Layout) (own : ArrayMembers) → buffer_count layout (length own.buffers) ≡ 0 → null_items layout own ≡ items own
 no_buffers NoBuffers own e = refl
 no_buffers (FixedWidth width) own e = absurd (omega (arith, e))
 no_buffers TruthBits own e = absurd (omega (arith, e))
@@ -148,7 +148,7 @@ no_buffers (FixedItems size) own e = absurd (omega (arith, e))
 no_buffers ByChildren own e = absurd (omega (arith, e))
 no_buffers Views own e = absurd (omega (arith, e))
 
-pub some_buffers : (layout : Layout) (own : ArrayMembers) → ¬ (buffer_count layout own ≡ 0) → null_items layout own ≡ null_total own (items own)
+pub some_buffers : (layout : Layout) (own : ArrayMembers) → ¬ (buffer_count layout (length own.buffers) ≡ 0) → null_items layout own ≡ null_total own (items own)
 some_buffers NoBuffers own e = absurd (e refl)
 some_buffers (FixedWidth width) own e = refl
 some_buffers TruthBits own e = refl

@@ -93,7 +93,7 @@ pub form_fault : (t : Typed) (path : Steps) (array : ArrayTree)
     → rules_fault form_rules path (live_node t array)
     ≡ option_or (fault_at path rules.NegativeLength (fault_if (is_negative (members_of array).length) 0 (members_of array).length (pos 0)))
     (option_or (fault_at path rules.NegativeOffset (fault_if (is_negative (members_of array).offset) 0 (members_of array).offset (pos 0)))
-    (option_or (fault_at path rules.BufferCount (count_wrong (length (members_of array).buffers) (buffer_count (layout_of (out-Typed t).kind) (members_of array))))
+    (option_or (fault_at path rules.BufferCount (count_wrong (length (members_of array).buffers) (buffer_count (layout_of (out-Typed t).kind) (length (members_of array).buffers))))
     (option_or (fault_at path rules.ChildCount (count_wrong (length (children_of array)) (length (out-Typed t).kids.items)))
     (option_or (fault_at path rules.Dictionary (count_wrong (one_if (dictionary_of array)) (one_if (out-Typed t).dict))) None))))
 form_fault t path array =
@@ -104,7 +104,7 @@ form_fault t path array =
     by kids dict =
         option_or (fault_at path rules.NegativeLength (fault_if (is_negative (members_of array).length) 0 (members_of array).length (pos 0)))
         (option_or (fault_at path rules.NegativeOffset (fault_if (is_negative (members_of array).offset) 0 (members_of array).offset (pos 0)))
-        (option_or (fault_at path rules.BufferCount (count_wrong (length (members_of array).buffers) (buffer_count (layout_of (out-Typed t).kind) (members_of array))))
+        (option_or (fault_at path rules.BufferCount (count_wrong (length (members_of array).buffers) (buffer_count (layout_of (out-Typed t).kind) (length (members_of array).buffers))))
         (option_or (fault_at path rules.ChildCount (count_wrong (length (children_of array)) kids))
         (option_or (fault_at path rules.Dictionary (count_wrong (one_if (dictionary_of array)) dict)) None))))
 

@@ -1,5 +1,5 @@
 -- The number of null items is that of clear bits.
-use Rattle.std.proofs.Common.{◌≡◌, ℕ, zero, suc, ◌+◌, ◌-◌, ◌<◌, List, None, Some, refl, ap, ◌∙◌, arith}
+use Rattle.std.proofs.Common.{length, ◌≡◌, ℕ, zero, suc, ◌+◌, ◌-◌, ◌<◌, List, None, Some, refl, ap, ◌∙◌, arith}
 use Rattle.std.specs.Prelude.{if◌then◌else◌, ◌==◌}
 use Rattle.bit_pack.specs.Packed.{bit, clear_count}
 use Rattle.raw_array.specs.Members.{ArrayMembers}
@@ -31,7 +31,7 @@ pub ruleset nulls = (null_total-clear, null_total-absent)
 
 -- the count of nulls where the layout has no buffer, and where it has some
 
-pub no_buffers : (layout : Layout) (own : ArrayMembers) → buffer_count layout own ≡ 0 → null_count_wrong_in layout own ≡ None
+pub no_buffers : (layout : Layout) (own : ArrayMembers) → buffer_count layout (length own.buffers) ≡ 0 → null_count_wrong_in layout own ≡ None
 no_buffers NoBuffers own e = refl
 no_buffers (FixedWidth width) own e = absurd (omega (arith, e))
 no_buffers TruthBits own e = absurd (omega (arith, e))
@@ -41,7 +41,7 @@ no_buffers (FixedItems size) own e = absurd (omega (arith, e))
 no_buffers ByChildren own e = absurd (omega (arith, e))
 no_buffers Views own e = absurd (omega (arith, e))
 
-pub some_buffers : (layout : Layout) (own : ArrayMembers) → ¬ (buffer_count layout own ≡ 0) → null_count_wrong_in layout own ≡ null_count_wrong own
+pub some_buffers : (layout : Layout) (own : ArrayMembers) → ¬ (buffer_count layout (length own.buffers) ≡ 0) → null_count_wrong_in layout own ≡ null_count_wrong own
 some_buffers NoBuffers own e = absurd (e refl)
 some_buffers (FixedWidth width) own e = refl
 some_buffers TruthBits own e = refl

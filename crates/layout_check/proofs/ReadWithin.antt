@@ -58,7 +58,7 @@ root-dictionary_count t array h = head (live_node t array) rules.Dictionary (dro
 root-child_count : (t : Typed) (array : ArrayTree) → LayoutOk (typed_of t) array → count_wrong (length (children_of array)) (length (kids_of t)) ≡ None
 root-child_count t array h = head (live_node t array) rules.ChildCount (drop 4 in_order) (drop-none (live_node t array) 3 in_order (root-rules t array h))
 
-root-absent : (t : Typed) (array : ArrayTree) → LayoutOk (typed_of t) array → first_below (buffer_absent (layout_of (kind_of t)) (members_of array)) (buffer_count (layout_of (kind_of t)) (members_of array)) ≡ None
+root-absent : (t : Typed) (array : ArrayTree) → LayoutOk (typed_of t) array → first_below (buffer_absent (layout_of (kind_of t)) (members_of array)) (buffer_count (layout_of (kind_of t)) (length (members_of array).buffers)) ≡ None
 root-absent t array h = head (live_node t array) rules.BufferAbsent (drop 6 in_order) (drop-none (live_node t array) 5 in_order (root-rules t array h))
 
 root-falls : (t : Typed) (array : ArrayTree) → LayoutOk (typed_of t) array → offsets_fall_if (is_behind_offsets (layout_of (kind_of t))) (members_of array) ≡ None
@@ -97,8 +97,8 @@ validity-here own zero e h = subst (λ b. IsLongIfPresent (record own { buffers 
     nil (x ∷ xs) e = absurd (omega (arith, e))
 validity-here own (suc n) e h = h (omega arith)
 
-pub root-validity : (t : Typed) (array : ArrayTree) → LayoutOk (typed_of t) array → length (members_of array).buffers ≡ buffer_count (layout_of (kind_of t)) (members_of array) → IsLongIfPresent (members_of array)
-root-validity t array h e = validity-here (members_of array) (buffer_count (layout_of (kind_of t)) (members_of array)) e (long-validity (layout_of (kind_of t)) (members_of array) (root-short t array h))
+pub root-validity : (t : Typed) (array : ArrayTree) → LayoutOk (typed_of t) array → length (members_of array).buffers ≡ buffer_count (layout_of (kind_of t)) (length (members_of array).buffers) → IsLongIfPresent (members_of array)
+root-validity t array h e = validity-here (members_of array) (buffer_count (layout_of (kind_of t)) (length (members_of array).buffers)) e (long-validity (layout_of (kind_of t)) (members_of array) (root-short t array h))
 
 pub tree_items-items : (array : ArrayTree) → tree_items array ≡ items (members_of array)
 tree_items-items Released = refl
@@ -222,7 +222,7 @@ two_offsets wide own i h l =
     omega (arith, mul-le-mul_right (offset_width wide) below, some_offsets wide (end own) some, l)
 
 stored-within : (layout : Layout) (own : ArrayMembers) (i : ℕ) → i < items own
-    → first_below (buffer_absent layout own) (buffer_count layout own) ≡ None → first_below (buffer_short layout own) (buffer_count layout own) ≡ None
+    → first_below (buffer_absent layout own) (buffer_count layout (length own.buffers)) ≡ None → first_below (buffer_short layout own) (buffer_count layout (length own.buffers)) ≡ None
     → offsets_fall_if (is_behind_offsets layout) own ≡ None
     → StoredWithin layout own (first own + i)
 stored-within NoBuffers own i h e f r = tt
@@ -253,7 +253,7 @@ views-placed : (t : Typed) (array : ArrayTree) → LayoutOk (typed_of t) array �
 views-placed t array h = head (live_node t array) rules.ViewPlace (drop 11 in_order) (drop-none (live_node t array) 10 in_order (root-rules t array h))
 
 view-there : (layout : Layout) (own : ArrayMembers) (i : ℕ) → i < items own
-    → first_below (buffer_absent layout own) (buffer_count layout own) ≡ None → first_below (buffer_short layout own) (buffer_count layout own) ≡ None
+    → first_below (buffer_absent layout own) (buffer_count layout (length own.buffers)) ≡ None → first_below (buffer_short layout own) (buffer_count layout (length own.buffers)) ≡ None
     → views_misplaced layout own ≡ None
     → ViewWithin layout own i
 view-there Views own i h e f p = view-within own i (long-named own e f) p h

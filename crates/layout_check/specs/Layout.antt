@@ -44,16 +44,17 @@ layout_of kinds.Map = ListOffsets false
 layout_of kinds.BinaryView = Views
 layout_of kinds.Utf8View = Views
 
--- how many buffers an array must have: of views as many as it has, and at least validity, the views and the lengths
-abbrev pub buffer_count : Layout → ArrayMembers → ℕ
-buffer_count NoBuffers a = 0
-buffer_count (FixedWidth width) a = 2
-buffer_count TruthBits a = 2
-buffer_count (ByOffsets wide) a = 3
-buffer_count (ListOffsets wide) a = 2
-buffer_count (FixedItems size) a = 1
-buffer_count ByChildren a = 1
-buffer_count Views a = max 3 (length a.buffers)
+-- how many buffers an array with so many must have: of views as many as it has, and at least validity, the views and the
+-- lengths
+abbrev pub buffer_count : Layout → ℕ → ℕ
+buffer_count NoBuffers found = 0
+buffer_count (FixedWidth width) found = 2
+buffer_count TruthBits found = 2
+buffer_count (ByOffsets wide) found = 3
+buffer_count (ListOffsets wide) found = 2
+buffer_count (FixedItems size) found = 1
+buffer_count ByChildren found = 1
+buffer_count Views found = max 3 found
 
 -- ---- an array's own members
 

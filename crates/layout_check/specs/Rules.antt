@@ -221,12 +221,12 @@ abbrev pub fails : LayoutRule → Node → Option Numbers
 fails rules.Released node = None
 fails rules.NegativeLength node = fault_if (is_negative node.own.length) 0 node.own.length (pos 0)
 fails rules.NegativeOffset node = fault_if (is_negative node.own.offset) 0 node.own.offset (pos 0)
-fails rules.BufferCount node = count_wrong (length node.own.buffers) (buffer_count (layout_of node.kind) node.own)
+fails rules.BufferCount node = count_wrong (length node.own.buffers) (buffer_count (layout_of node.kind) (length node.own.buffers))
 fails rules.ChildCount node = count_wrong (length node.children) (length node.kids)
 fails rules.Dictionary node = count_wrong (one_if node.dictionary) (one_if node.dict)
-fails rules.BufferAbsent node = first_below (buffer_absent (layout_of node.kind) node.own) (buffer_count (layout_of node.kind) node.own)
+fails rules.BufferAbsent node = first_below (buffer_absent (layout_of node.kind) node.own) (buffer_count (layout_of node.kind) (length node.own.buffers))
 fails rules.OffsetsFall node = offsets_fall_if (is_behind_offsets (layout_of node.kind)) node.own
-fails rules.BufferShort node = first_below (buffer_short (layout_of node.kind) node.own) (buffer_count (layout_of node.kind) node.own)
+fails rules.BufferShort node = first_below (buffer_short (layout_of node.kind) node.own) (buffer_count (layout_of node.kind) (length node.own.buffers))
 fails rules.ChildShort node = child_short (items_need (layout_of node.kind) node.own) 0 node.children
 fails rules.NullCount node = null_count_wrong_in (layout_of node.kind) node.own
 fails rules.ViewPlace node = views_misplaced (layout_of node.kind) node.own

@@ -118,7 +118,7 @@ fn need(layout: Layout, array: &RawArray, k: usize) -> u128
     requires live { IsLive array.now }
     requires length { pos 0 ≤ℤ (members_of array.now).length }
     requires offset { pos 0 ≤ℤ (members_of array.now).offset }
-    requires count { length (members_of array.now).buffers ≡ count_of layout (members_of array.now) }
+    requires count { length (members_of array.now).buffers ≡ count_of layout (length (members_of array.now).buffers) }
     ensures need { result ≡ needed_of layout (members_of array.now) k }
     ensures bound { result < 2 ^ 97 }
 {
@@ -152,8 +152,8 @@ fn buffer_short(layout: Layout, array: &RawArray, k: usize) -> Option<Numbers>
     requires live { IsLive array.now }
     requires length { pos 0 ≤ℤ (members_of array.now).length }
     requires offset { pos 0 ≤ℤ (members_of array.now).offset }
-    requires count { length (members_of array.now).buffers ≡ count_of layout (members_of array.now) }
-    requires inside { k < count_of layout (members_of array.now) }
+    requires count { length (members_of array.now).buffers ≡ count_of layout (length (members_of array.now).buffers) }
+    requires inside { k < count_of layout (length (members_of array.now).buffers) }
     ensures { result ≡ short_at layout (members_of array.now) k }
 {
     let needed = need(layout, array, k);
@@ -178,8 +178,8 @@ fn buffer_absent(layout: Layout, array: &RawArray, k: usize) -> Option<Numbers>
     requires live { IsLive array.now }
     requires length { pos 0 ≤ℤ (members_of array.now).length }
     requires offset { pos 0 ≤ℤ (members_of array.now).offset }
-    requires count { length (members_of array.now).buffers ≡ count_of layout (members_of array.now) }
-    requires inside { k < count_of layout (members_of array.now) }
+    requires count { length (members_of array.now).buffers ≡ count_of layout (length (members_of array.now).buffers) }
+    requires inside { k < count_of layout (length (members_of array.now).buffers) }
     ensures { result ≡ absent_at layout (members_of array.now) k }
 {
     if k == 0 {
@@ -207,10 +207,10 @@ pub fn buffers_absent(layout: Layout, array: &RawArray) -> Option<Numbers>
     requires live { IsLive array.now }
     requires length { pos 0 ≤ℤ (members_of array.now).length }
     requires offset { pos 0 ≤ℤ (members_of array.now).offset }
-    requires count { length (members_of array.now).buffers ≡ count_of layout (members_of array.now) }
-    ensures { result ≡ first_below (absent_at layout (members_of array.now)) (count_of layout (members_of array.now)) }
+    requires count { length (members_of array.now).buffers ≡ count_of layout (length (members_of array.now).buffers) }
+    ensures { result ≡ first_below (absent_at layout (members_of array.now)) (count_of layout (length (members_of array.now).buffers)) }
 {
-    for k in 0..buffer_count(layout, array) {
+    for k in 0..buffer_count(layout, array.n_buffers() as usize) {
         if let Some(numbers) = buffer_absent(layout, array, k) {
             return Some(numbers);
         }
@@ -223,10 +223,10 @@ pub fn buffers_short(layout: Layout, array: &RawArray) -> Option<Numbers>
     requires live { IsLive array.now }
     requires length { pos 0 ≤ℤ (members_of array.now).length }
     requires offset { pos 0 ≤ℤ (members_of array.now).offset }
-    requires count { length (members_of array.now).buffers ≡ count_of layout (members_of array.now) }
-    ensures { result ≡ first_below (short_at layout (members_of array.now)) (count_of layout (members_of array.now)) }
+    requires count { length (members_of array.now).buffers ≡ count_of layout (length (members_of array.now).buffers) }
+    ensures { result ≡ first_below (short_at layout (members_of array.now)) (count_of layout (length (members_of array.now).buffers)) }
 {
-    for k in 0..buffer_count(layout, array) {
+    for k in 0..buffer_count(layout, array.n_buffers() as usize) {
         if let Some(numbers) = buffer_short(layout, array, k) {
             return Some(numbers);
         }
@@ -326,9 +326,9 @@ pub fn layout_falls(layout: Layout, array: &RawArray) -> Option<Numbers>
     requires live { IsLive array.now }
     requires length { pos 0 ≤ℤ (members_of array.now).length }
     requires offset { pos 0 ≤ℤ (members_of array.now).offset }
-    requires count { length (members_of array.now).buffers ≡ count_of layout (members_of array.now) }
-    requires there { first_below (absent_at layout (members_of array.now)) (count_of layout (members_of array.now)) ≡ None }
-    requires enough { first_below (short_at layout (members_of array.now)) (count_of layout (members_of array.now)) ≡ None }
+    requires count { length (members_of array.now).buffers ≡ count_of layout (length (members_of array.now).buffers) }
+    requires there { first_below (absent_at layout (members_of array.now)) (count_of layout (length (members_of array.now).buffers)) ≡ None }
+    requires enough { first_below (short_at layout (members_of array.now)) (count_of layout (length (members_of array.now).buffers)) ≡ None }
     ensures { result ≡ offsets_fall_if (is_behind_offsets layout) (members_of array.now) }
 {
     match layout {

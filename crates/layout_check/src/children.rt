@@ -15,9 +15,9 @@ fn items_need(layout: Layout, array: &RawArray) -> u128
     requires live { IsLive array.now }
     requires length { pos 0 ≤ℤ (members_of array.now).length }
     requires offset { pos 0 ≤ℤ (members_of array.now).offset }
-    requires count { length (members_of array.now).buffers ≡ count_of layout (members_of array.now) }
-    requires there { first_below (absent_at layout (members_of array.now)) (count_of layout (members_of array.now)) ≡ None }
-    requires enough { first_below (short_at layout (members_of array.now)) (count_of layout (members_of array.now)) ≡ None }
+    requires count { length (members_of array.now).buffers ≡ count_of layout (length (members_of array.now).buffers) }
+    requires there { first_below (absent_at layout (members_of array.now)) (count_of layout (length (members_of array.now).buffers)) ≡ None }
+    requires enough { first_below (short_at layout (members_of array.now)) (count_of layout (length (members_of array.now).buffers)) ≡ None }
     ensures need { result ≡ items_needed layout (members_of array.now) }
     ensures bound { result < 2 ^ 97 }
 {
@@ -67,9 +67,9 @@ pub fn children_short(layout: Layout, array: &RawArray) -> Option<Numbers>
     requires live { IsLive array.now }
     requires length { pos 0 ≤ℤ (members_of array.now).length }
     requires offset { pos 0 ≤ℤ (members_of array.now).offset }
-    requires count { length (members_of array.now).buffers ≡ count_of layout (members_of array.now) }
-    requires there { first_below (absent_at layout (members_of array.now)) (count_of layout (members_of array.now)) ≡ None }
-    requires enough { first_below (short_at layout (members_of array.now)) (count_of layout (members_of array.now)) ≡ None }
+    requires count { length (members_of array.now).buffers ≡ count_of layout (length (members_of array.now).buffers) }
+    requires there { first_below (absent_at layout (members_of array.now)) (count_of layout (length (members_of array.now).buffers)) ≡ None }
+    requires enough { first_below (short_at layout (members_of array.now)) (count_of layout (length (members_of array.now).buffers)) ≡ None }
     ensures { result ≡ child_short (items_needed layout (members_of array.now)) 0 (children_of array.now) }
 {
     first_short(items_need(layout, array), array)

@@ -1,6 +1,6 @@
-ghost use Rattle.std.specs.Prelude.{◌≡◌, None, Some, IsOk, IsTrue, is_some, not, ◌&&◌, ◌↔◌, ◌≤ℤ◌, pos, ◌<◌, length, Option};
+ghost use Rattle.std.specs.Prelude.{◌≡◌, None, Some, IsOk, IsTrue, is_some, not, ◌&&◌, ◌↔◌, ◌≤ℤ◌, pos, ◌<◌, ℕ, length, Option};
 ghost use Rattle.tree_model.specs.Tree.{IsLive};
-ghost use Rattle.raw_array.specs.Members.{ArrayMembers, ArrayTree, members_of};
+ghost use Rattle.raw_array.specs.Members.{ArrayTree, members_of};
 ghost use Rattle.layout_check.specs.Kinds.{TypedOk};
 ghost use Rattle.layout_check.specs.declared.typed.Typed.{out-Typed};
 ghost use Rattle.layout_check.specs.TypedView.{typed_of};
@@ -38,7 +38,7 @@ pub fn nulls_of(typed: &Typed, array: &RawArray) -> i64
 {
     lawful_root(typed, array);
     let length = array.length();
-    if buffer_count(layout_of(&typed.kind), array) == 0 {
+    if buffer_count(layout_of(&typed.kind), array.n_buffers() as usize) == 0 {
         length
     } else {
         null_total(array) as i64
@@ -51,13 +51,13 @@ fn lawful_root(typed: &Typed, array: &RawArray)
     ensures live { IsLive array.now }
     ensures length { pos 0 ≤ℤ (members_of array.now).length }
     ensures offset { pos 0 ≤ℤ (members_of array.now).offset }
-    ensures count { length (members_of array.now).buffers ≡ count_of (layout_is (out-Typed typed.now).kind) (members_of array.now) }
-    ensures long { 0 < count_of (layout_is (out-Typed typed.now).kind) (members_of array.now) → IsLongIfPresent (members_of array.now) }
+    ensures count { length (members_of array.now).buffers ≡ count_of (layout_is (out-Typed typed.now).kind) (length (members_of array.now).buffers) }
+    ensures long { 0 < count_of (layout_is (out-Typed typed.now).kind) (length (members_of array.now).buffers) → IsLongIfPresent (members_of array.now) }
 {}
 
 fn is_struct(kind: &DataType) -> bool
     ensures exact { result ≡ is_struct_kind kind.now }
-    ensures buffers { IsTrue result → (own : ArrayMembers) → count_of (layout_is kind.now) own ≡ 1 }
+    ensures buffers { IsTrue result → (found : ℕ) → count_of (layout_is kind.now) found ≡ 1 }
 {
     matches!(kind, DataType::Struct)
 }
@@ -66,7 +66,7 @@ fn is_struct(kind: &DataType) -> bool
 #[tactic(auto, using(crate::proofs::Chunks::tables))]
 fn is_table(typed: &Typed) -> bool
     ensures exact { result ≡ is_table_tree (typed_of typed.now) }
-    ensures buffers { IsTrue result → (own : ArrayMembers) → count_of (layout_is (out-Typed typed.now).kind) own ≡ 1 }
+    ensures buffers { IsTrue result → (found : ℕ) → count_of (layout_is (out-Typed typed.now).kind) found ≡ 1 }
 {
     is_struct(&typed.kind) && typed.dict.is_none()
 }

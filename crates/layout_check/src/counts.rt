@@ -46,10 +46,13 @@ pub fn wrong_count(found: usize, needed: usize) -> Option<Numbers>
 /// The number of buffers is the layout's.
 pub fn buffers_wrong(layout: Layout, array: &RawArray) -> Option<Numbers>
     requires { IsLive array.now }
-    ensures passed { IfNone result (length (members_of array.now).buffers ≡ count_of layout (members_of array.now)) }
-    ensures fault { result ≡ count_wrong (length (members_of array.now).buffers) (count_of layout (members_of array.now)) }
+    ensures passed { IfNone result (length (members_of array.now).buffers ≡ count_of layout (length (members_of array.now).buffers)) }
+    ensures fault { result ≡ count_wrong (length (members_of array.now).buffers) (count_of layout (length (members_of array.now).buffers)) }
 {
-    wrong_count(array.n_buffers() as usize, buffer_count(layout, array))
+    wrong_count(
+        array.n_buffers() as usize,
+        buffer_count(layout, array.n_buffers() as usize),
+    )
 }
 
 /// The number of children is the type's.

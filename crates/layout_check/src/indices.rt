@@ -130,9 +130,9 @@ pub fn indices_wrong(kind: &DataType, array: &RawArray) -> Option<Numbers>
     requires type_ok { KindOk kind.now }
     requires length { pos 0 ≤ℤ (members_of array.now).length }
     requires offset { pos 0 ≤ℤ (members_of array.now).offset }
-    requires count { length (members_of array.now).buffers ≡ count_of (layout_is kind.now) (members_of array.now) }
-    requires there { first_below (absent_at (layout_is kind.now) (members_of array.now)) (count_of (layout_is kind.now) (members_of array.now)) ≡ None }
-    requires enough { first_below (short_at (layout_is kind.now) (members_of array.now)) (count_of (layout_is kind.now) (members_of array.now)) ≡ None }
+    requires count { length (members_of array.now).buffers ≡ count_of (layout_is kind.now) (length (members_of array.now).buffers) }
+    requires there { first_below (absent_at (layout_is kind.now) (members_of array.now)) (count_of (layout_is kind.now) (length (members_of array.now).buffers)) ≡ None }
+    requires enough { first_below (short_at (layout_is kind.now) (members_of array.now)) (count_of (layout_is kind.now) (length (members_of array.now).buffers)) ≡ None }
     ensures { result ≡ index_faults kind.now (members_of array.now) (length_if (dictionary_of array.now)) }
 {
     let total = dictionary_total(array)?;

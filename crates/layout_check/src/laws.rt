@@ -33,7 +33,7 @@ pub fn lawful_root(typed: &Typed, array: &RawArray)
     ensures offset { pos 0 ≤ℤ (members_of array.now).offset }
     ensures items { tree_items array.now ≡ items (members_of array.now) }
     ensures end { end (members_of array.now) ≤ 2 ^ 40 }
-    ensures count { length (members_of array.now).buffers ≡ count_of (layout_is (kind_of typed.now)) (members_of array.now) }
+    ensures count { length (members_of array.now).buffers ≡ count_of (layout_is (kind_of typed.now)) (length (members_of array.now).buffers) }
     ensures long { IsLongIfPresent (members_of array.now) }
     ensures children { length (children_of array.now) ≡ length (kids_of typed.now) }
     ensures dictionary { one_if (dictionary_of array.now) ≡ one_if (dict_in (out-Typed typed.now).dict) }

@@ -56,12 +56,10 @@ fn is_set(validity: &[u8], place: usize) -> bool
     bit_at(validity, place)
 }
 
-fn count_wrong(found: i64, nulls: u64) -> Option<Numbers>
+fn known_count_wrong(found: i64, nulls: u64) -> Option<Numbers>
+    requires { ¬ (found ≡ negsuc 0) }
     ensures { result ≡ fault_if (not (int_eq found (negsuc 0)) && not (int_eq found (pos nulls))) 0 found (pos nulls) }
 {
-    if found == -1 {
-        return None;
-    }
     if i128::from(found) == i128::from(nulls) {
         return None;
     }
@@ -72,7 +70,7 @@ fn count_wrong(found: i64, nulls: u64) -> Option<Numbers>
     })
 }
 
-/// A number of nulls that is known has to be right.
+/// A number of nulls that is known has to be right. Nothing is counted where it isn't known.
 fn null_count_wrong(array: &RawArray) -> Option<Numbers>
     requires live { IsLive array.now }
     requires length { pos 0 ≤ℤ (members_of array.now).length }
@@ -81,7 +79,11 @@ fn null_count_wrong(array: &RawArray) -> Option<Numbers>
     requires long { IsLongIfPresent (members_of array.now) }
     ensures { result ≡ count_fault (members_of array.now) }
 {
-    count_wrong(array.null_count(), null_total(array))
+    let found = array.null_count();
+    if found == -1 {
+        return None;
+    }
+    known_count_wrong(found, null_total(array))
 }
 
 /// The number of nulls, which is not tried where the layout has no buffer.
@@ -90,11 +92,11 @@ pub fn nulls_wrong(layout: Layout, array: &RawArray) -> Option<Numbers>
     requires live { IsLive array.now }
     requires length { pos 0 ≤ℤ (members_of array.now).length }
     requires offset { pos 0 ≤ℤ (members_of array.now).offset }
-    requires count { length (members_of array.now).buffers ≡ count_of layout (members_of array.now) }
-    requires enough { first_below (short_at layout (members_of array.now)) (count_of layout (members_of array.now)) ≡ None }
+    requires count { length (members_of array.now).buffers ≡ count_of layout (length (members_of array.now).buffers) }
+    requires enough { first_below (short_at layout (members_of array.now)) (count_of layout (length (members_of array.now).buffers)) ≡ None }
     ensures { result ≡ null_count_wrong_in layout (members_of array.now) }
 {
-    if buffer_count(layout, array) == 0 {
+    if buffer_count(layout, array.n_buffers() as usize) == 0 {
         None
     } else {
         null_count_wrong(array)

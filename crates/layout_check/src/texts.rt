@@ -214,9 +214,9 @@ pub fn texts_wrong(kind: &DataType, array: &RawArray) -> Option<Numbers>
     requires live { IsLive array.now }
     requires length { pos 0 ≤ℤ (members_of array.now).length }
     requires offset { pos 0 ≤ℤ (members_of array.now).offset }
-    requires count { length (members_of array.now).buffers ≡ count_of (layout_is kind.now) (members_of array.now) }
-    requires there { first_below (absent_at (layout_is kind.now) (members_of array.now)) (count_of (layout_is kind.now) (members_of array.now)) ≡ None }
-    requires enough { first_below (short_at (layout_is kind.now) (members_of array.now)) (count_of (layout_is kind.now) (members_of array.now)) ≡ None }
+    requires count { length (members_of array.now).buffers ≡ count_of (layout_is kind.now) (length (members_of array.now).buffers) }
+    requires there { first_below (absent_at (layout_is kind.now) (members_of array.now)) (count_of (layout_is kind.now) (length (members_of array.now).buffers)) ≡ None }
+    requires enough { first_below (short_at (layout_is kind.now) (members_of array.now)) (count_of (layout_is kind.now) (length (members_of array.now).buffers)) ≡ None }
     requires rise { offsets_fall_if (is_behind_offsets (layout_is kind.now)) (members_of array.now) ≡ None }
     requires placed { misplaced_views (layout_is kind.now) (members_of array.now) ≡ None }
     ensures { result ≡ text_faults kind.now (members_of array.now) }

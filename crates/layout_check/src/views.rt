@@ -472,9 +472,9 @@ pub fn views_misplaced(layout: Layout, array: &RawArray) -> Option<Numbers>
     requires live { IsLive array.now }
     requires length { pos 0 ≤ℤ (members_of array.now).length }
     requires offset { pos 0 ≤ℤ (members_of array.now).offset }
-    requires count { length (members_of array.now).buffers ≡ count_of layout (members_of array.now) }
-    requires there { first_below (absent_at layout (members_of array.now)) (count_of layout (members_of array.now)) ≡ None }
-    requires enough { first_below (short_at layout (members_of array.now)) (count_of layout (members_of array.now)) ≡ None }
+    requires count { length (members_of array.now).buffers ≡ count_of layout (length (members_of array.now).buffers) }
+    requires there { first_below (absent_at layout (members_of array.now)) (count_of layout (length (members_of array.now).buffers)) ≡ None }
+    requires enough { first_below (short_at layout (members_of array.now)) (count_of layout (length (members_of array.now).buffers)) ≡ None }
     ensures { result ≡ misplaced_views layout (members_of array.now) }
 {
     match layout {
@@ -489,9 +489,9 @@ pub fn prefixes_wrong(layout: Layout, array: &RawArray) -> Option<Numbers>
     requires live { IsLive array.now }
     requires length { pos 0 ≤ℤ (members_of array.now).length }
     requires offset { pos 0 ≤ℤ (members_of array.now).offset }
-    requires count { length (members_of array.now).buffers ≡ count_of layout (members_of array.now) }
-    requires there { first_below (absent_at layout (members_of array.now)) (count_of layout (members_of array.now)) ≡ None }
-    requires enough { first_below (short_at layout (members_of array.now)) (count_of layout (members_of array.now)) ≡ None }
+    requires count { length (members_of array.now).buffers ≡ count_of layout (length (members_of array.now).buffers) }
+    requires there { first_below (absent_at layout (members_of array.now)) (count_of layout (length (members_of array.now).buffers)) ≡ None }
+    requires enough { first_below (short_at layout (members_of array.now)) (count_of layout (length (members_of array.now).buffers)) ≡ None }
     requires placed { misplaced_views layout (members_of array.now) ≡ None }
     ensures { result ≡ wrong_prefixes layout (members_of array.now) }
 {

@@ -75,10 +75,10 @@ fn check_buffers(typed: &Typed, array: &RawArray, path: &Path) -> Result<(), Lay
     requires live { IsLive array.now }
     requires length { pos 0 ≤ℤ (members_of array.now).length }
     requires offset { pos 0 ≤ℤ (members_of array.now).offset }
-    requires buffers { length (members_of array.now).buffers ≡ count_of (layout_is (out-Typed typed.now).kind) (members_of array.now) }
+    requires buffers { length (members_of array.now).buffers ≡ count_of (layout_is (out-Typed typed.now).kind) (length (members_of array.now).buffers) }
     ensures fault { found result ≡ rules_fault buffer_rules (steps_of path.now) (live_node typed.now array.now) }
-    ensures there { OnOk result (first_below (absent_at (layout_is (out-Typed typed.now).kind) (members_of array.now)) (count_of (layout_is (out-Typed typed.now).kind) (members_of array.now)) ≡ None) }
-    ensures enough { OnOk result (first_below (short_at (layout_is (out-Typed typed.now).kind) (members_of array.now)) (count_of (layout_is (out-Typed typed.now).kind) (members_of array.now)) ≡ None) }
+    ensures there { OnOk result (first_below (absent_at (layout_is (out-Typed typed.now).kind) (members_of array.now)) (count_of (layout_is (out-Typed typed.now).kind) (length (members_of array.now).buffers)) ≡ None) }
+    ensures enough { OnOk result (first_below (short_at (layout_is (out-Typed typed.now).kind) (members_of array.now)) (count_of (layout_is (out-Typed typed.now).kind) (length (members_of array.now).buffers)) ≡ None) }
     ensures rise { OnOk result (offsets_fall_if (is_behind_offsets (layout_is (out-Typed typed.now).kind)) (members_of array.now) ≡ None) }
 {
     let layout = layout_of(&typed.kind);
@@ -97,9 +97,9 @@ fn check_items(typed: &Typed, array: &RawArray, path: &Path) -> Result<(), Layou
     requires type_ok { KindOk (out-Typed typed.now).kind }
     requires length { pos 0 ≤ℤ (members_of array.now).length }
     requires offset { pos 0 ≤ℤ (members_of array.now).offset }
-    requires buffers { length (members_of array.now).buffers ≡ count_of (layout_is (out-Typed typed.now).kind) (members_of array.now) }
-    requires there { first_below (absent_at (layout_is (out-Typed typed.now).kind) (members_of array.now)) (count_of (layout_is (out-Typed typed.now).kind) (members_of array.now)) ≡ None }
-    requires enough { first_below (short_at (layout_is (out-Typed typed.now).kind) (members_of array.now)) (count_of (layout_is (out-Typed typed.now).kind) (members_of array.now)) ≡ None }
+    requires buffers { length (members_of array.now).buffers ≡ count_of (layout_is (out-Typed typed.now).kind) (length (members_of array.now).buffers) }
+    requires there { first_below (absent_at (layout_is (out-Typed typed.now).kind) (members_of array.now)) (count_of (layout_is (out-Typed typed.now).kind) (length (members_of array.now).buffers)) ≡ None }
+    requires enough { first_below (short_at (layout_is (out-Typed typed.now).kind) (members_of array.now)) (count_of (layout_is (out-Typed typed.now).kind) (length (members_of array.now).buffers)) ≡ None }
     requires rise { offsets_fall_if (is_behind_offsets (layout_is (out-Typed typed.now).kind)) (members_of array.now) ≡ None }
     ensures { found result ≡ rules_fault item_rules (steps_of path.now) (live_node typed.now array.now) }
 {
@@ -124,7 +124,7 @@ fn check_form(typed: &Typed, array: &RawArray, path: &Path) -> Result<(), Layout
     ensures fault { found result ≡ rules_fault form_rules (steps_of path.now) (live_node typed.now array.now) }
     ensures length { OnOk result (pos 0 ≤ℤ (members_of array.now).length) }
     ensures offset { OnOk result (pos 0 ≤ℤ (members_of array.now).offset) }
-    ensures buffers { OnOk result (length (members_of array.now).buffers ≡ count_of (layout_is (out-Typed typed.now).kind) (members_of array.now)) }
+    ensures buffers { OnOk result (length (members_of array.now).buffers ≡ count_of (layout_is (out-Typed typed.now).kind) (length (members_of array.now).buffers)) }
     ensures children { OnOk result (length (children_of array.now) ≡ length (out-Typed typed.now).kids.items) }
     ensures few { OnOk result (length (out-Typed typed.now).kids.items < 2 ^ 32 - 1) }
 {

@@ -1,4 +1,4 @@
-use Rattle.std.proofs.Common.{rules, ◌≡◌, ◌<◌, None, Some, sym}
+use Rattle.std.proofs.Common.{length, rules, ◌≡◌, ◌<◌, None, Some, sym}
 use Rattle.raw_array.specs.Members.{members_of}
 use Rattle.layout_check.specs.Layout.{buffer_count}
 use Rattle.layout_check.specs.Rules.{buffer_short}
@@ -8,9 +8,9 @@ use Rattle.layout_check.proofs.buffers.buffers_short.Goals as goal
 pub returns-in-Some : goal.returns-in-Some
 returns-in-Some c =
     let own = members_of c.args.array.now in
-    let inside : c.loop-k.k < buffer_count c.args.layout own = search rules in
+    let inside : c.loop-k.k < buffer_count c.args.layout (length own.buffers) = search rules in
     let is : buffer_short c.args.layout own c.loop-k.k ≡ Some c.in-Some.numbers = search rules in
-    sym (first_below-some (buffer_short c.args.layout own) (buffer_count c.args.layout own) c.loop-k.k c.in-Some.numbers inside c.loop-k.invariant is)
+    sym (first_below-some (buffer_short c.args.layout own) (buffer_count c.args.layout (length own.buffers)) c.loop-k.k c.in-Some.numbers inside c.loop-k.invariant is)
 
 pub loop-k-preserved : goal.loop-k-preserved
 loop-k-preserved c =
