@@ -9,3 +9,4 @@ pub mod Value
 pub mod Table
 pub mod FieldText
 pub mod ColumnView
+pub mod Parts
