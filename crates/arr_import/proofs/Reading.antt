@@ -22,9 +22,9 @@ use Rattle.layout_check.specs.Kinds.{KindTree, levels, NodesOk, AllNodesOk, Dict
 use Rattle.layout_check.specs.TypedView.{typed_of, kind_of, kids_of, dict_in}
 use Rattle.layout_check.specs.Layout.{layout_of, time_width, bytes, first, is_valid}
 use Rattle.layout_check.specs.Values.{Reader, each, child_item, field_items, row_items, item, item_or_entry, value_at, readers, reader_of, tree_items}
-use Rattle.layout_check.specs.Within.{StoredWithin, ItemsWithin, IndexWithin}
+use Rattle.layout_check.specs.Within.{StoredWithin, ItemsWithin, IndexWithin, ViewWithin, DataWithin}
 use Rattle.arr_import.specs.declared.shape.Shape.{Shape}
-use Rattle.arr_import.specs.Shapes.{shape_of, shaped_item, IsThere, NumberThere, IsListShape, AreItemsThere, shape_index, IsIndexThere}
+use Rattle.arr_import.specs.Shapes.{shape_of, shaped_item, IsThere, NumberThere, IsListShape, IsViewShape, AreItemsThere, IsIndexThere}
 use Rattle.arr_import.specs.Window.{Window, Home, IsDictionary, IsStruct, IsStructValue, index_at, home_from, home_of}
 
 pub item-shaped : (kind : DataType) (kids : List Reader) (own : ArrayMembers) (children : List ArrayTree) (i : ℕ) → item kind kids own children i ≡ shaped_item (shape_of kind) kids own children i
@@ -49,6 +49,8 @@ item-shaped (kinds.List wide) kids own children i = refl
 item-shaped (kinds.FixedList size) kids own children i = refl
 item-shaped kinds.Struct kids own children i = refl
 item-shaped kinds.Map kids own children i = refl
+item-shaped kinds.BinaryView kids own children i = refl
+item-shaped kinds.Utf8View kids own children i = refl
 
 -- ---- the widths of numbers
 
@@ -110,6 +112,8 @@ there (kinds.List wide) own place ok h = record { there = h.there; from = h.from
 there (kinds.FixedList size) own place ok h = tt
 there kinds.Struct own place ok h = tt
 there kinds.Map own place ok h = record { there = h.there; from = h.from; rise = h.rise }
+there kinds.BinaryView own place ok h = h
+there kinds.Utf8View own place ok h = h
 
 pub item-there : (kind : DataType) (shape : Shape) (own : ArrayMembers) (stored text : List ℕ) (place : ℕ) → shape ≡ shape_of kind → stored ≡ bytes own 1 → text ≡ bytes own 2
     → ∥ KindOk kind ∥₁ → StoredWithin (layout_of kind) own place → IsThere shape stored text place
@@ -117,6 +121,19 @@ item-there kind shape own stored text place s b t ok h =
     subst (λ a. IsThere a stored text place) (sym s)
     (subst (λ a. IsThere (shape_of kind) a text place) (sym b)
     (subst (λ a. IsThere (shape_of kind) (bytes own 1) a place) (sym t) (there kind own place ok h)))
+
+-- ---- views
+
+view-named : (kind : DataType) (own : ArrayMembers) (i : ℕ) → IsViewShape (shape_of kind) → IsTrue (is_valid own i) → ViewWithin (layout_of kind) own i → DataWithin own i
+view-named kinds.BinaryView own i is valid h = h valid
+view-named kinds.Utf8View own i is valid h = h valid
+view-named (kinds.Decimal precision scale false) own i is valid h = absurd is
+view-named (kinds.Decimal precision scale true) own i is valid h = absurd is
+view-named kind own i is valid h = absurd is
+
+-- where the data of a valid view are
+pub view-there : (kind : DataType) (shape : Shape) (own : ArrayMembers) (i : ℕ) → shape ≡ shape_of kind → IsViewShape shape → is_valid own i ≡ true → ViewWithin (layout_of kind) own i → DataWithin own i
+view-there kind shape own i s is v h = view-named kind own i (subst IsViewShape s is) v h
 
 -- ---- a node of kinds that is in order
 
@@ -231,38 +248,29 @@ pub index-int : (t : Typed) → typed_of t ≡ Live (kind_of t) (trees (kids_of 
 index-int t e dict d ok =
     ∥∥₁_elim ok (hlevel props) (λ nodes. int-behind (kind_of t) dict (subst (λ o. DictOk (kind_of t) (maybe_tree o)) d (subst NodesOk e nodes).2))
 
-index-shaped : (kind : DataType) (own : ArrayMembers) (j : ℕ) → is_int kind ≡ true → index_at kind own j ≡ shape_index (shape_of kind) own j
-index-shaped (kinds.Int bits signed) own j h = refl
-index-shaped kind own j h = absurd (true≢false (sym h))
-
-entry-shaped : (kind : DataType) (dict : KindTree) (kids : List Reader) (own : ArrayMembers) (children : List ArrayTree) (dictionary : ArrayTree) (j : ℕ) → is_int kind ≡ true
-    → item_or_entry (Some (value_at dict)) kind kids own children (Some dictionary) j ≡ value_at dict dictionary (shape_index (shape_of kind) own j)
-entry-shaped (kinds.Int bits signed) dict kids own children dictionary j h = refl
-entry-shaped kind dict kids own children dictionary j h = absurd (true≢false (sym h))
+entry-at : (kind : DataType) (dict : KindTree) (kids : List Reader) (own : ArrayMembers) (children : List ArrayTree) (dictionary : ArrayTree) (j : ℕ) → is_int kind ≡ true
+    → item_or_entry (Some (value_at dict)) kind kids own children (Some dictionary) j ≡ value_at dict dictionary (index_at kind own j)
+entry-at (kinds.Int bits signed) dict kids own children dictionary j h = refl
+entry-at kind dict kids own children dictionary j h = absurd (true≢false (sym h))
 
 within-shaped : (kind : DataType) (own : ArrayMembers) (j : ℕ) (dictionary : ArrayTree) → is_int kind ≡ true → is_valid own j ≡ true → IndexWithin kind own j dictionary
-    → IsIndexThere (shape_of kind) own j (tree_items dictionary)
-within-shaped (kinds.Int bits signed) own j dictionary h v w = w v
+    → IsIndexThere (shape_of kind) own j (index_at kind own j) (tree_items dictionary)
+within-shaped (kinds.Int bits signed) own j dictionary h v w = ((w v).0, refl, (w v).1)
 within-shaped kind own j dictionary h v w = absurd (true≢false (sym h))
 
 pub index-there : (kind : DataType) (shape : Shape) (own : ArrayMembers) (j : ℕ) (dictionary : ArrayTree) → shape ≡ shape_of kind → is_int kind ≡ true → is_valid own j ≡ true → IndexWithin kind own j dictionary
-    → IsIndexThere shape own j (tree_items dictionary)
-index-there kind shape own j dictionary s h v w = subst (λ a. IsIndexThere a own j (tree_items dictionary)) (sym s) (within-shaped kind own j dictionary h v w)
-
-pub index-is : (kind : DataType) (shape : Shape) (own : ArrayMembers) (j : ℕ) → shape ≡ shape_of kind → is_int kind ≡ true → index_at kind own j ≡ shape_index shape own j
-index-is kind shape own j s h = index-shaped kind own j h ∙ ap (λ a. shape_index a own j) (sym s)
+    → IsIndexThere shape own j (index_at kind own j) (tree_items dictionary)
+index-there kind shape own j dictionary s h v w = subst (λ a. IsIndexThere a own j (index_at kind own j) (tree_items dictionary)) (sym s) (within-shaped kind own j dictionary h v w)
 
 -- the value of an item with an index is the dictionary's at the index
 pub value-entry : (t : Typed) → typed_of t ≡ Live (kind_of t) (trees (kids_of t)) (maybe_tree (dict_in (out-Typed t).dict)) → (array : ArrayTree) (j : ℕ) → IsLive array
     → is_valid (members_of array) j ≡ true → (dict : KindTree) (dictionary : ArrayTree) → dict_in (out-Typed t).dict ≡ Some dict → dictionary_of array ≡ Some dictionary
-    → (shape : Shape) → shape ≡ shape_of (kind_of t) → is_int (kind_of t) ≡ true
-    → value_at (typed_of t) array j ≡ value_at dict dictionary (shape_index shape (members_of array) j)
-value-entry t e array j live v dict dictionary d a shape s h =
+    → is_int (kind_of t) ≡ true → value_at (typed_of t) array j ≡ value_at dict dictionary (index_at (kind_of t) (members_of array) j)
+value-entry t e array j live v dict dictionary d a h =
     valid-node t e array j live v
     ∙ ap (λ o. item_or_entry (reader_of (maybe_tree o)) (kind_of t) (readers (trees (kids_of t))) (members_of array) (children_of array) (dictionary_of array) j) d
     ∙ ap (λ o. item_or_entry (Some (value_at dict)) (kind_of t) (readers (trees (kids_of t))) (members_of array) (children_of array) o j) a
-    ∙ entry-shaped (kind_of t) dict (readers (trees (kids_of t))) (members_of array) (children_of array) dictionary j h
-    ∙ ap (λ b. value_at dict dictionary (shape_index b (members_of array) j)) (sym s)
+    ∙ entry-at (kind_of t) dict (readers (trees (kids_of t))) (members_of array) (children_of array) dictionary j h
 
 behind-ok : (d : Option (Box Typed)) (box : Box Typed) → d ≡ Some box → DictNodesOk (maybe_tree (dict_in d)) → NodesOk (typed_of box.value)
 behind-ok d box e ok = subst (λ o. DictNodesOk (maybe_tree (dict_in o))) e ok

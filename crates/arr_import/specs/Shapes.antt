@@ -6,7 +6,8 @@ use Rattle.fmt_string.specs.Value.{Value, values}
 use Rattle.fmt_string.specs.Value.Value.{Null, Truth, Whole, Bits, Bytes, Items, Fields}
 use Rattle.bit_pack.specs.Packed.{IsWidth, bit, offset_width}
 use Rattle.raw_array.specs.Members.{ArrayMembers, ArrayTree}
-use Rattle.layout_check.specs.Layout.{time_width, first, bytes, natural, offset_in, stored_number, stored_bytes, data_of}
+use Rattle.layout_check.specs.Layout.{time_width, first, bytes, natural, offset_in, stored_number, stored_bytes, data_of, view_width}
+use Rattle.layout_check.specs.Views.{view_data}
 use Rattle.layout_check.specs.Values.{Reader, each, child_item, field_items, listed}
 use Rattle.arr_import.specs.declared.shape.Shape.{Shape}
 use Rattle.arr_import.specs.declared.shape.Shape.TheVariants as shapes
@@ -33,6 +34,8 @@ shape_of (kinds.List wide) = shapes.List wide
 shape_of (kinds.FixedList size) = shapes.FixedList size
 shape_of kinds.Struct = shapes.Struct
 shape_of kinds.Map = shapes.List false
+shape_of kinds.BinaryView = shapes.View
+shape_of kinds.Utf8View = shapes.View
 
 -- the item of an array whose items are stored so
 abbrev pub shaped_item : Shape → List Reader → ArrayMembers → List ArrayTree → ℕ → Value
@@ -42,6 +45,7 @@ shaped_item (shapes.Whole width signed) kids own children i = Whole (stored_numb
 shaped_item (shapes.Bits width) kids own children i = Bits (natural (stored_number width false own i))
 shaped_item (shapes.Fixed width) kids own children i = Bytes (stored_bytes width own i)
 shaped_item (shapes.Text wide) kids own children i = Bytes (data_of wide own i)
+shaped_item shapes.View kids own children i = Bytes (view_data own i)
 shaped_item (shapes.List wide) kids own children i = listed wide kids own children i
 shaped_item (shapes.FixedList size) kids own children i = Items (values (each (child_item kids children) ((first own + i) * size) size))
 shaped_item shapes.Struct kids own children i = Fields (values (field_items kids children (first own + i)))
@@ -67,6 +71,7 @@ IsThere (shapes.Whole width signed) stored text place = NumberThere width signed
 IsThere (shapes.Bits width) stored text place = NumberThere width false stored place
 IsThere (shapes.Fixed width) stored text place = (place + 1) * width ≤ length stored
 IsThere (shapes.Text wide) stored text place = OffsetsThere wide stored place × (offset_in wide stored (place + 1) ≤ℤ pos (length text))
+IsThere shapes.View stored text place = (place + 1) * view_width ≤ length stored
 IsThere (shapes.List wide) stored text place = OffsetsThere wide stored place
 IsThere (shapes.FixedList size) stored text place = Unit {0}
 IsThere shapes.Struct stored text place = Unit {0}
@@ -77,18 +82,18 @@ IsListShape (shapes.List wide) = Unit {0}
 IsListShape (shapes.FixedList size) = Unit {0}
 IsListShape _ = ⊥
 
+abbrev pub IsViewShape : Shape → Type 0
+IsViewShape shapes.View = Unit {0}
+IsViewShape _ = ⊥
+
 -- what a child of so many items has of the item at a place
 abbrev pub AreItemsThere : Shape → List ℕ → ℕ → ℕ → Type 0
 AreItemsThere (shapes.List wide) stored place total = natural (offset_in wide stored (place + 1)) ≤ total
 AreItemsThere (shapes.FixedList size) stored place total = (place + 1) * size ≤ total
 AreItemsThere _ stored place total = Unit {0}
 
--- the number that stands for an item of a dictionary
-abbrev pub shape_index : Shape → ArrayMembers → ℕ → ℕ
-shape_index (shapes.Whole width signed) own i = natural (stored_number width signed own i)
-shape_index _ own i = 0
-
--- it is a place of a dictionary of so many items
-abbrev pub IsIndexThere : Shape → ArrayMembers → ℕ → ℕ → Type 0
-IsIndexThere (shapes.Whole width signed) own i total = (pos 0 ≤ℤ stored_number width signed own i) × (natural (stored_number width signed own i) < total)
-IsIndexThere _ own i total = ⊥
+-- a whole number is an index, which is a place of a dictionary of so many items
+abbrev pub IsIndexThere : Shape → ArrayMembers → ℕ → ℕ → ℕ → Type 0
+IsIndexThere (shapes.Whole width signed) own i index total =
+    (pos 0 ≤ℤ stored_number width signed own i) × (natural (stored_number width signed own i) ≡ index) × (index < total)
+IsIndexThere _ own i index total = ⊥

@@ -1,4 +1,4 @@
-ghost use Rattle.std.specs.Prelude.{◌≡◌, IsTrue, is_none, ◌+◌, ◌<◌, ◌≤◌};
+ghost use Rattle.std.specs.Prelude.{◌≡◌, IsTrue, is_none, ◌+◌, ◌<◌, ◌≤◌, ◌^◌};
 ghost use Rattle.tree_model.specs.Tree.{IsLive};
 ghost use Rattle.raw_array.specs.Members.{members_of};
 ghost use Rattle.layout_check.specs.Kinds.{NodesOk};
@@ -51,9 +51,9 @@ fn validity_of(array: &RawArray) -> Option<&[u8]>
 }
 
 /// The bytes of a buffer, and none where it is absent or the layout has none.
-fn buffer_bytes(array: &RawArray, k: usize) -> &[u8]
+pub(crate) fn buffer_bytes(array: &RawArray, k: usize) -> &[u8]
     requires live { IsLive array.now }
-    requires small { k < 3 }
+    requires small { k < 2 ^ 63 }
     ensures { result.now ≡ bytes (members_of array.now) k }
 {
     if (k as i64) < array.n_buffers() {

@@ -33,7 +33,8 @@ impl<'a> Col<'a> {
     /// An item that isn't null, by how the type is stored.
     #[inline(always)]
     fn flat_item(&self, i: u64) -> Flat<'a>
-        requires { i < self.now.count }
+        requires inside { i < self.now.count }
+        requires valid { is_valid_at (members_of self.now.array.now) (self.now.start + i) ≡ true }
         ensures { IsFlat result (shaped_item self.now.shape (readers (trees (kids_of self.now.typed.now))) (members_of self.now.array.now) (children_of self.now.array.now) (self.now.start + i)) }
     {
         self.item_is_there(i);
@@ -47,6 +48,7 @@ impl<'a> Col<'a> {
             Shape::Bits { width } => Flat::Bits(bits_at(self.stored, place, width)),
             Shape::Fixed { width } => Flat::Bytes(bytes_at(self.stored, place, width)),
             Shape::Text { wide } => Flat::Bytes(text_at(wide, self.stored, self.text, place)),
+            Shape::View => Flat::Bytes(self.view(i)),
             Shape::List { .. } | Shape::FixedList { .. } | Shape::Struct => Flat::Nested,
         }
     }

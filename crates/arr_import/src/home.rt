@@ -7,7 +7,7 @@ ghost use Rattle.layout_check.specs.TypedView.{kind_of, dict_in};
 ghost use Rattle.layout_check.specs.Layout.{is_valid as is_valid_at, natural};
 ghost use Rattle.arr_import.specs.Window.{IsDictionary, home_of, index_at, item_at};
 ghost use Rattle.arr_import.specs.Cols.{window_of};
-ghost use Rattle.arr_import.specs.Shapes.{shape_index, IsIndexThere};
+ghost use Rattle.arr_import.specs.Shapes.{IsIndexThere};
 ghost use Rattle.arr_import.specs.Shown.{Shows};
 
 use crate::col::Col;
@@ -42,9 +42,8 @@ impl<'a> Col<'a> {
         requires inside { i < self.now.count }
         requires valid { is_valid_at (members_of self.now.array.now) (self.now.start + i) ≡ true }
         requires dictionary { IsDictionary (window_of dictionary.now) (dict_in (out-Typed self.now.typed.now).dict) (dictionary_of self.now.array.now) }
-        ensures there { IsIndexThere self.now.shape (members_of self.now.array.now) (self.now.start + i) dictionary.now.count }
-        ensures index { index_at (kind_of self.now.typed.now) (members_of self.now.array.now) (self.now.start + i) ≡ shape_index self.now.shape (members_of self.now.array.now) (self.now.start + i) }
-        ensures value { item_at (window_of dictionary.now) (shape_index self.now.shape (members_of self.now.array.now) (self.now.start + i)) ≡ item_at (window_of self.now) i }
+        ensures there { IsIndexThere self.now.shape (members_of self.now.array.now) (self.now.start + i) (index_at (kind_of self.now.typed.now) (members_of self.now.array.now) (self.now.start + i)) dictionary.now.count }
+        ensures value { item_at (window_of dictionary.now) (index_at (kind_of self.now.typed.now) (members_of self.now.array.now) (self.now.start + i)) ≡ item_at (window_of self.now) i }
     {
         kinds_of_typed(self.typed);
         lawful_has_no_fault(self.typed, self.array);

@@ -1,5 +1,5 @@
 //! The items of a column whose own values they are: no dictionary stands behind them.
-ghost use Rattle.std.specs.Prelude.{◌≡◌, ◌==◌, ◌+◌, ◌*◌, ◌<◌, ◌≤◌, ◌^◌, length, get_or};
+ghost use Rattle.std.specs.Prelude.{◌≡◌, true, ◌==◌, ◌+◌, ◌*◌, ◌<◌, ◌≤◌, ◌^◌, length, get_or};
 ghost use Rattle.bit_pack.specs.Packed.{bit};
 ghost use Rattle.raw_array.specs.Members.{members_of};
 ghost use Rattle.tree_model.specs.Tree.{Released, children_of, child_at, trees};
@@ -121,7 +121,8 @@ impl<'a> Col<'a> {
 
     /// An item that isn't null, by how the type is stored.
     pub(crate) fn item(&self, i: u64) -> ValueRef<'a>
-        requires { i < self.now.count }
+        requires inside { i < self.now.count }
+        requires valid { is_valid_at (members_of self.now.array.now) (self.now.start + i) ≡ true }
         ensures { Shows result (shaped_item self.now.shape (readers (trees (kids_of self.now.typed.now))) (members_of self.now.array.now) (children_of self.now.array.now) (self.now.start + i)) }
     {
         self.item_is_there(i);
@@ -135,6 +136,7 @@ impl<'a> Col<'a> {
             Shape::Bits { width } => ValueRef::Bits(bits_at(self.stored, place, width)),
             Shape::Fixed { width } => ValueRef::Bytes(bytes_at(self.stored, place, width)),
             Shape::Text { wide } => ValueRef::Bytes(text_at(wide, self.stored, self.text, place)),
+            Shape::View => ValueRef::Bytes(self.view(i)),
             Shape::List { wide } => ValueRef::Items(self.list(wide, i)),
             Shape::FixedList { size } => ValueRef::Items(self.fixed_list(size, i)),
             Shape::Struct => ValueRef::Struct,

@@ -30,6 +30,7 @@ mod tests;
 mod trees;
 mod value;
 mod value_ref;
+mod view;
 
 pub use col::Col;
 pub use imported::{ImportFault, Imported, import};

@@ -20,6 +20,8 @@ pub enum Shape {
     Fixed { width: u32 },
     /// The data between two offsets.
     Text { wide: bool },
+    /// A view each: the bytes in it, or where they stand in a data buffer.
+    View,
     /// The items of the one child between two offsets.
     List { wide: bool },
     /// So many items of the one child each.
@@ -40,6 +42,7 @@ pub fn shape_of(kind: &DataType) -> Shape
         },
         DataType::Float { bits } => Shape::Bits { width: *bits / 8 },
         DataType::Binary { wide } | DataType::Utf8 { wide } => Shape::Text { wide: *wide },
+        DataType::BinaryView | DataType::Utf8View => Shape::View,
         DataType::FixedBinary { size } => Shape::Fixed { width: *size },
         DataType::Decimal { wide, .. } => decimal_shape(*wide),
         DataType::DateDay | DataType::IntervalMonths => signed_shape(4),
