@@ -2,7 +2,8 @@
 use Rattle.std.proofs.Common.{◌≡◌, ◌≢◌, ℕ, ℤ, ◌<◌, [], ◌∷◌, length, refl, arith, suc, zero}
 use Rattle.tree_model.specs.Tree.{Tree, Released, Live, IsLive, children_of, child_at}
 use Rattle.raw_array.specs.Members.{ArrayTree}
-use Rattle.arr_move.specs.TreeActs.{Distinct, InRange, FitsWindow, FitWindow}
+use Rattle.raw_array.specs.Windows.{FitsWindow}
+use Rattle.arr_move.specs.TreeActs.{Distinct, InRange, FitWindow}
 
 pub live_unless_released : {M : Type 0} (t : Tree M) → (t ≡ Released → ⊥) → IsLive t
 live_unless_released Released n = absurd (n refl)

@@ -1,29 +1,10 @@
--- A window on an array, and the children that are moved out of a parent into a new one
--- (Apache Arrow, "The Arrow C Data Interface": "Moving an array" and "Moving child arrays").
-use Rattle.std.specs.Prelude.{◌≢◌, ℕ, get_or, ℤ, pos, ◌<◌, ◌^◌, ◌-◌, ◌+ℤ◌, ◌≤ℤ◌, Bool, ◌&&◌, List, [], ◌∷◌, map, length, None, if◌then◌else◌}
-use Rattle.std.specs.Ordering.{int_eq}
-use Rattle.tree_model.specs.Tree.{Tree, Live, Released, IsLive, trees, absent, child_at, children_of}
-use Rattle.raw_array.specs.Members.{ArrayMembers, ArrayTree, members_of, windowed}
+-- The children that are moved out of a parent into a new one ("The Arrow C Data Interface", "Moving child arrays").
+use Rattle.std.specs.Prelude.{◌≢◌, ℕ, get_or, ℤ, pos, ◌<◌, List, [], ◌∷◌, map, length, None}
+use Rattle.tree_model.specs.Tree.{Tree, Live, Released, trees, absent, child_at, children_of}
+use Rattle.raw_array.specs.Members.{ArrayMembers, ArrayTree, members_of}
+use Rattle.raw_array.specs.Windows.{Window, FitsWindow}
 use Rattle.raw_array.specs.declared.array.ReleaseKind.TheVariants.{Assembled}
 use Rattle.raw_schema.specs.Members.{SchemaTree}
-
--- ---- a window on an array
-
--- the window from 0 on, of the array's own length
-abbrev pub is_whole : ArrayTree → ℤ → ℤ → Bool
-is_whole t off len = int_eq off (pos 0) && int_eq len (members_of t).length
-
--- the `len` items from item `off` on: the array itself, where those are all, and else the array with its offset grown
--- by `off`, with the length `len`, and with the null count 0 where it was 0 and -1 (not known) otherwise
-abbrev pub Window : ArrayTree → ℤ → ℤ → ArrayTree
-Window t off len = if is_whole t off len then t else windowed t off len
-
--- a live array that has these items
-abbrev pub FitsWindow : ArrayTree → ℤ → ℤ → Type 0
-FitsWindow t off len =
-    IsLive t × (((off +ℤ len) ≤ℤ (members_of t).length) × ((((members_of t).offset +ℤ off) +ℤ len) ≤ℤ pos (2 ^ 63 - 1)))
-
--- ---- picked children
 
 -- no child is picked twice
 abbrev pub Distinct : List ℕ → Type 0

@@ -2,7 +2,7 @@
 ghost use Rattle.std.specs.Prelude.{◌≡◌, ◌+◌, ◌<◌, ◌≤◌, length, map, get_or, slice_set, if◌then◌else◌, is_ok, IfOk, OnOk, OnErr};
 ghost use Rattle.tree_model.specs.Tree.{Released, IsLive, trees, maybe_tree, map_trees, map_maybe};
 ghost use Rattle.raw_place.specs.Kept.{value_of, value_if, values_of};
-ghost use Rattle.raw_array.specs.Members.{Cost, cost_of_all, cost_of_maybe, holds_of, LeastAmount, least_of, least_of_all, least_of_maybe, shared_buffer, lowered_buffer, shared_members, lowered_members, ShareOf, Lowered, LikeBuffers, Like, AllLike, MaybeLike};
+ghost use Rattle.raw_array.specs.Members.{Cost, cost_of_all, cost_of_maybe, holds_of, LeastAmount, least_of, least_of_all, least_of_maybe, shared_buffer, lowered_buffer, shared_members, lowered_members, ShareOf, Lowered, Like, OneLowerBuffers, OneLower, AllOneLower, MaybeOneLower};
 ghost use Rattle.raw_array.specs.View.{buffers_of, tree_of_node};
 
 use crate::array::{Node, RawArray, ReleaseKind, State};
@@ -24,7 +24,8 @@ impl RawArray {
         requires units { Cost self.old ≤ pass.old.units }
         ensures tree { IfOk result (λ tree. tree ≡ ShareOf self.old) }
         ensures lowered { OnOk result (self.new ≡ Lowered self.old) }
-        ensures like { OnErr result (Like self.old self.new) }
+        ensures one_lower { OnErr result (OneLower self.old self.new) }
+        ensures like { Like self.old self.new }
         ensures cost { IfOk result (λ tree. Cost tree ≡ Cost self.old) }
         ensures cost_kept { Cost self.new ≡ Cost self.old }
         ensures units { pass.new.units + (if is_ok result then Cost self.old else 0) ≡ pass.old.units }
@@ -42,7 +43,7 @@ impl RawArray {
         requires units { Cost self.old ≤ pass.old.units }
         ensures tree { IfOk result (λ tree. tree ≡ ShareOf self.old) }
         ensures lowered { OnOk result (self.new ≡ Lowered self.old) }
-        ensures like { OnErr result (Like self.old self.new) }
+        ensures one_lower { OnErr result (OneLower self.old self.new) }
         ensures units { pass.new.units + (if is_ok result then Cost self.old else 0) ≡ pass.old.units }
         ensures blocks { pass.new.blocks ≡ pass.old.blocks }
         ensures nodes { pass.new.nodes ≡ pass.old.nodes }
@@ -67,7 +68,7 @@ fn shared_node(node: &mut Node, alloc: Global, pass: &mut Pass) -> Result<Node, 
     requires units { Cost (tree_of_node node.old) ≤ pass.old.units }
     ensures tree { IfOk result (λ copy. tree_of_node copy ≡ ShareOf (tree_of_node node.old)) }
     ensures lowered { OnOk result (tree_of_node node.new ≡ Lowered (tree_of_node node.old)) }
-    ensures like { OnErr result (Like (tree_of_node node.old) (tree_of_node node.new)) }
+    ensures one_lower { OnErr result (OneLower (tree_of_node node.old) (tree_of_node node.new)) }
     ensures units { pass.new.units + (if is_ok result then Cost (tree_of_node node.old) else 0) ≡ pass.old.units }
     ensures blocks { pass.new.blocks ≡ pass.old.blocks }
     ensures nodes { pass.new.nodes ≡ pass.old.nodes }
@@ -114,7 +115,7 @@ fn shared_behind(
     requires units { cost_of_maybe (maybe_tree (value_if tree.old)) ≤ pass.old.units }
     ensures tree { IfOk result (λ copy. maybe_tree (value_if copy) ≡ map_maybe shared_members (maybe_tree (value_if tree.old))) }
     ensures lowered { OnOk result (maybe_tree (value_if tree.new) ≡ map_maybe lowered_members (maybe_tree (value_if tree.old))) }
-    ensures like { OnErr result (MaybeLike (maybe_tree (value_if tree.old)) (maybe_tree (value_if tree.new))) }
+    ensures one_lower { OnErr result (MaybeOneLower (maybe_tree (value_if tree.old)) (maybe_tree (value_if tree.new))) }
     ensures units { pass.new.units + (if is_ok result then cost_of_maybe (maybe_tree (value_if tree.old)) else 0) ≡ pass.old.units }
     ensures blocks { pass.new.blocks ≡ pass.old.blocks }
     ensures nodes { pass.new.nodes ≡ pass.old.nodes }
@@ -146,7 +147,7 @@ fn shared_all(
     requires units { cost_of_all (trees (values_of children.old)) ≤ pass.old.units }
     ensures trees { IfOk result (λ copies. trees (values_of copies) ≡ map_trees shared_members (trees (values_of children.old))) }
     ensures lowered { OnOk result (trees (values_of children.new) ≡ map_trees lowered_members (trees (values_of children.old))) }
-    ensures like { OnErr result (AllLike (trees (values_of children.old)) (trees (values_of children.new))) }
+    ensures one_lower { OnErr result (AllOneLower (trees (values_of children.old)) (trees (values_of children.new))) }
     ensures units { pass.new.units + (if is_ok result then cost_of_all (trees (values_of children.old)) else 0) ≡ pass.old.units }
     ensures blocks { pass.new.blocks ≡ pass.old.blocks }
     ensures nodes { pass.new.nodes ≡ pass.old.nodes }
@@ -180,7 +181,7 @@ fn shared_child(
     requires units { Cost (get_or (values_of children.old) i Released) ≤ pass.old.units }
     ensures tree { IfOk result (λ copy. copy ≡ ShareOf (get_or (values_of children.old) i Released)) }
     ensures lowered { OnOk result (values_of children.new ≡ slice_set (values_of children.old) i (Lowered (get_or (values_of children.old) i Released))) }
-    ensures like { OnErr result (Like (get_or (values_of children.old) i Released) (get_or (values_of children.new) i Released)) }
+    ensures one_lower { OnErr result (OneLower (get_or (values_of children.old) i Released) (get_or (values_of children.new) i Released)) }
     ensures rest { values_of children.new ≡ slice_set (values_of children.old) i (get_or (values_of children.new) i Released) }
     ensures units { pass.new.units + (if is_ok result then Cost (get_or (values_of children.old) i Released) else 0) ≡ pass.old.units }
     ensures blocks { pass.new.blocks ≡ pass.old.blocks }
@@ -225,7 +226,7 @@ fn shared_private(
     requires units { 1 + holds_of (buffers_of (value_of private.old).buffers.items) ≤ pass.old.units }
     ensures shared { IfOk result (λ place. buffers_of (value_of place).buffers.items ≡ map shared_buffer (buffers_of (value_of private.old).buffers.items)) }
     ensures lowered { OnOk result (buffers_of (value_of private.new).buffers.items ≡ map lowered_buffer (buffers_of (value_of private.old).buffers.items)) }
-    ensures like { OnErr result (LikeBuffers (buffers_of (value_of private.old).buffers.items) (buffers_of (value_of private.new).buffers.items)) }
+    ensures one_lower { OnErr result (OneLowerBuffers (buffers_of (value_of private.old).buffers.items) (buffers_of (value_of private.new).buffers.items)) }
     ensures units { pass.new.units + (if is_ok result then 1 + holds_of (buffers_of (value_of private.old).buffers.items) else 0) ≡ pass.old.units }
     ensures blocks { pass.new.blocks ≡ pass.old.blocks }
     ensures nodes { pass.new.nodes ≡ pass.old.nodes }

@@ -1,6 +1,6 @@
 //! The views of a node's buffers, one after another: counted, let go, and shared.
 ghost use Rattle.std.specs.Prelude.{◌≡◌, ◌+◌, ◌<◌, ◌≤◌, [], ◌∷◌, ◌++◌, map, if◌then◌else◌, is_ok, IfOk, OnOk, OnErr, vec_len, vec_capacity};
-ghost use Rattle.raw_array.specs.Members.{holds_of, least_of, whole, shared_buffer, lowered_buffer, LikeBuffers};
+ghost use Rattle.raw_array.specs.Members.{holds_of, least_of, whole, shared_buffer, lowered_buffer, OneLowerBuffers};
 ghost use Rattle.raw_array.specs.View.{buffer_if, buffers_of};
 
 use buf_block::{AMOUNT, BufView};
@@ -92,7 +92,7 @@ pub(crate) fn shared_views(
     requires units { holds_of (buffers_of buffers.old.items) ≤ pass.old.units }
     ensures shared { IfOk result (λ views. buffers_of views.items ≡ map shared_buffer (buffers_of buffers.old.items)) }
     ensures lowered { OnOk result (buffers_of buffers.new.items ≡ map lowered_buffer (buffers_of buffers.old.items)) }
-    ensures like { OnErr result (LikeBuffers (buffers_of buffers.old.items) (buffers_of buffers.new.items)) }
+    ensures one_lower { OnErr result (OneLowerBuffers (buffers_of buffers.old.items) (buffers_of buffers.new.items)) }
     ensures units { pass.new.units + (if is_ok result then holds_of (buffers_of buffers.old.items) else 0) ≡ pass.old.units }
     ensures blocks { pass.new.blocks ≡ pass.old.blocks }
     ensures nodes { pass.new.nodes ≡ pass.old.nodes }

@@ -1,7 +1,7 @@
 //! A part of the items, in place.
 ghost use Rattle.std.specs.Prelude.{◌≡◌, ◌-◌, ◌^◌, pos, ◌≤ℤ◌, ◌+ℤ◌};
-ghost use Rattle.tree_model.specs.Tree.{IsLive};
-ghost use Rattle.raw_array.specs.Members.{members_of, windowed, nulls_in_part, Cost};
+ghost use Rattle.raw_array.specs.Members.{nulls_in_part};
+ghost use Rattle.raw_array.specs.Windows.{Window, FitsWindow};
 
 use crate::array::{RawArray, State};
 
@@ -9,14 +9,12 @@ impl RawArray {
     /// Narrows the structure to `len` of its items, from the item `off` on: the offset and the length say which they are
     /// ("The ArrowArray structure", offset). A null count other than 0 is not known then, and is -1. The buffers and the
     /// children stay as they are. Takes no memory.
+    #[tactic(auto, using(crate::proofs::Windows::windows))]
     pub fn window(&mut self, off: i64, len: i64)
-        requires live { IsLive self.old }
         requires off { pos 0 ≤ℤ off }
         requires len { pos 0 ≤ℤ len }
-        requires inside { (off +ℤ len) ≤ℤ (members_of self.old).length }
-        requires fits { (((members_of self.old).offset +ℤ off) +ℤ len) ≤ℤ pos (2 ^ 63 - 1) }
-        ensures whole { off ≡ pos 0 → len ≡ (members_of self.old).length → self.new ≡ self.old }
-        ensures part { ¬ ((off ≡ pos 0) × (len ≡ (members_of self.old).length)) → self.new ≡ windowed self.old off len }
+        requires fits { FitsWindow self.old off len }
+        ensures { self.new ≡ Window self.old off len }
     {
         match &mut self.state {
             State::Released => unreachable!(),

@@ -1,12 +1,12 @@
-use Rattle.std.proofs.Common.{rules, ◌≡◌, ◌+◌, ◌<◌, ◌≤◌, length, take, ap, sym, subst, ◌∙◌, arith}
+use Rattle.std.proofs.Common.{rules, ◌≡◌, ◌+◌, ◌<◌, length, take, ap, sym, subst, ◌∙◌, arith}
 use Rattle.std.proofs.Math.Seq.{take-length}
 use Rattle.raw_place.specs.Kept.{values_of}
 use Rattle.tree_model.specs.Tree.{Depth, trees}
 use Rattle.tree_model.proofs.Measures.{Depth-get_or, cost_of_all-before, cost_of_all-take, Least-get_or}
 use Rattle.raw_array.specs.Members.{Bounded, Cost, cost_of_all, LeastAmount, holds, whole, least}
 use Rattle.raw_array.specs.View.{tree_of, tree_of_node}
-use Rattle.raw_array.proofs.Bounds.{Bounded-shared, Bounded-lowered, Bounded-like}
-use Rattle.raw_array.proofs.Children.{same_length, same_child, all_like, child_lowered, child_shared, all_lowered, all_like_lowered, all_shared, cost_of_first}
+use Rattle.raw_array.proofs.Bounds.{Bounded-shared, Bounded-lowered, Bounded-one_lower}
+use Rattle.raw_array.proofs.Children.{same_length, same_child, all_one_lower, child_lowered, child_shared, all_lowered, all_one_lower_at_end, all_shared, cost_of_first}
 use Rattle.raw_array.proofs.+shared.Goals as goal
 use Rattle.raw_array.proofs.+shared.Goals.{array::RawArray::shared-in-Released, array::RawArray::shared-in-Live+in-Ok, array::RawArray::shared-in-Live+in-Err}
 
@@ -25,7 +25,7 @@ array::RawArray::shared-invariant_of-self t c =
           subst (λ s. Bounded (tree_of s.state)) (sym w.self-inside-is) low
       | array::RawArray::shared-in-Live+in-Err w ↦
           let was = subst Bounded (ap tree_of w.in-Live.is) c.self.invariant in
-          let like = Bounded-like (tree_of_node w.in-Live.node) (tree_of_node w.shared_node.new.node) w.in-Err.ensures.like was in
+          let like = Bounded-one_lower (tree_of_node w.in-Live.node) (tree_of_node w.shared_node.new.node) w.in-Err.ensures.one_lower was in
           subst (λ s. Bounded (tree_of s.state)) (sym w.self-inside-is) like
     ]
 
@@ -46,13 +46,13 @@ share::shared_all-shared_child-requires t c =
     let made = cost_of_first ts c.loop-i.copies.items i c.loop-i.invariant.1 in
     search rules
 
-pub share::shared_all-returns-in-Err-clause-like : goal.share::shared_all-returns-in-Err-clause-like
-share::shared_all-returns-in-Err-clause-like t c =
+pub share::shared_all-returns-in-Err-clause-one_lower : goal.share::shared_all-returns-in-Err-clause-one_lower
+share::shared_all-returns-in-Err-clause-one_lower t c =
     let ts = values_of c.args.children.now in
     let us = values_of c.loop-i.children in
     let i = c.loop-i.i in
     let inside : i < length ts = omega (arith, c.len-i-end.ensures.exact, c.loop-i-test.true) in
-    all_like ts us i c.loop-i.invariant.0 (values_of c.shared_child.new.children) inside c.in-Err.ensures.rest c.in-Err.ensures.like
+    all_one_lower ts us i c.loop-i.invariant.0 (values_of c.shared_child.new.children) inside c.in-Err.ensures.rest c.in-Err.ensures.one_lower
 
 pub share::shared_all-loop-i-preserved : goal.share::shared_all-loop-i-preserved
 share::shared_all-loop-i-preserved t c =
@@ -82,11 +82,11 @@ share::shared_all-returns-clause-lowered t c =
     let all = all_lowered ts (values_of c.loop-i.children) c.loop-i.i c.loop-i.invariant.0 end in
     search rules
 
-pub share::shared_all-returns-clause-like : goal.share::shared_all-returns-clause-like
-share::shared_all-returns-clause-like t c =
+pub share::shared_all-returns-clause-one_lower : goal.share::shared_all-returns-clause-one_lower
+share::shared_all-returns-clause-one_lower t c =
     let ts = values_of c.args.children.now in
     let end : c.loop-i.i ≡ length ts = omega (arith, c.len-i-end.ensures.exact, c.loop-i-test.false, c.loop-i.auto.i-end) in
-    let all = all_like_lowered ts (values_of c.loop-i.children) c.loop-i.i c.loop-i.invariant.0 end in
+    let all = all_one_lower_at_end ts (values_of c.loop-i.children) c.loop-i.i c.loop-i.invariant.0 end in
     search rules
 
 pub share::shared_all-returns-clause-units : goal.share::shared_all-returns-clause-units

@@ -1,4 +1,4 @@
-use Rattle.std.proofs.Common.{◌<◌, length, arith}
+use Rattle.std.proofs.Common.{arith}
 use Rattle.arr_move.proofs.Fewer.{picks_le-children}
 use Rattle.arr_move.proofs.fields.take_fields.Goals as goal
 

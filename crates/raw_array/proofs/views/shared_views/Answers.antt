@@ -4,7 +4,7 @@ use Rattle.raw_array.specs.View.{buffers_of}
 use Rattle.std.proofs.Math.Seq.{take-length}
 use Rattle.tree_model.proofs.SoFar.{so_far-end}
 use Rattle.raw_array.proofs.Buffers.{length-buffers_of, least_of-get_or, holds_of-before}
-use Rattle.raw_array.proofs.ViewLists.{view_at, one_lowered, still_like, one_shared, holds_of-first, holds_of-more}
+use Rattle.raw_array.proofs.ViewLists.{view_at, one_lowered, still_one_lower, one_shared, holds_of-first, holds_of-more}
 use Rattle.raw_array.proofs.views.shared_views.Goals as goal
 
 pub shared_view-requires-clause-amount : goal.shared_view-requires-clause-amount
@@ -28,14 +28,14 @@ shared_view-requires-clause-units c =
     let made = holds_of-first bs i (buffers_of c.loop-i.views.items) c.loop-i.invariant.1 in
     omega (arith, one, made, holds_of-before bs i inside, c.requires.units, c.loop-i.invariant.2)
 
-pub returns-in-Err-clause-like : goal.returns-in-Err-clause-like
-returns-in-Err-clause-like c =
+pub returns-in-Err-clause-one_lower : goal.returns-in-Err-clause-one_lower
+returns-in-Err-clause-one_lower c =
     let bs = buffers_of c.args.buffers.now.items in
     let i = c.loop-i.i in
     let long = length-buffers_of c.args.buffers.now.items in
     let inside : i < length bs = search rules in
     let at = view_at bs c.loop-i.buffers.items i c.loop-i.invariant.0 inside c.index_mut.result.now (search rules) in
-    still_like bs c.loop-i.buffers.items i c.loop-i.invariant.0 inside c.shared_view.new.buffer (c.in-Err.ensures.kept ∙ at)
+    still_one_lower bs c.loop-i.buffers.items i c.loop-i.invariant.0 inside c.shared_view.new.buffer (c.in-Err.ensures.kept ∙ at)
 
 pub loop-i-preserved : goal.loop-i-preserved
 loop-i-preserved c =
