@@ -1,3 +1,4 @@
+//! Fields moved out of a schema into a new one.
 ghost use Rattle.std.specs.Prelude.{◌≡◌, ℕ, ◌+◌, ◌-◌, ◌<◌, ◌≤◌, ◌^◌, length, map, replicate, None, is_ok, if◌then◌else◌, IfOk, IfErr};
 ghost use Rattle.tree_model.specs.Tree.{Released, Live, IsLive, Depth, absent, trees, children_of, child_at, with_child, dictionary_of};
 ghost use Rattle.raw_schema.specs.Members.{Nodes, members_of, nodes_of_all};
