@@ -1,3 +1,4 @@
+//! Fields moved out of a schema into a new one.
 ghost use Rattle.std.specs.Prelude.{◌≡◌, ℕ, ◌+◌, ◌-◌, ◌<◌, ◌≤◌, ◌^◌, length, map, replicate, None, is_ok, if◌then◌else◌, IfOk, IfErr};
 ghost use Rattle.tree_model.specs.Tree.{Released, Live, IsLive, Depth, absent, trees, children_of, child_at, with_child, dictionary_of};
 ghost use Rattle.raw_schema.specs.Members.{Nodes, members_of, nodes_of_all};
@@ -6,7 +7,6 @@ ghost use Rattle.raw_schema.specs.Parts.{tree_of_parts};
 ghost use Rattle.arr_move.specs.TreeActs.{InRange, Distinct, Fields, with_children};
 ghost use Rattle.unit_pass.specs.Tally.{risen};
 
-use crate::columns::put_back;
 use raw_schema::{Gone, PartlyMovedSchema, RawSchema, SchemaParts};
 use std::alloc::Global;
 use unit_pass::{NoMemory, Pass, SUPPLY};
@@ -28,6 +28,7 @@ pub fn take_fields(
     requires unit { 1 ≤ pass.old.units }
     requires room { pass.old.units + Nodes schema ≤ SUPPLY }
     ensures fields { IfOk result (λ fields. fields ≡ Fields schema picks.now) }
+    ensures cost { IfOk result (λ fields. Nodes fields ≤ Nodes schema) }
     ensures handed_back { IfErr result (λ refused. refused.0 ≡ schema) }
     ensures units { pass.new.units + (if is_ok result then Nodes (Fields schema picks.now) else Nodes schema) ≡ pass.old.units + Nodes schema }
     ensures nodes { pass.new.nodes ≡ (if is_ok result then risen pass.old.nodes 1 else pass.old.nodes) }
@@ -106,7 +107,7 @@ pub(crate) fn vacant_places(alloc: Global, places: usize) -> Result<Vec<RawSchem
 {
     let mut children = Vec::with_capacity(alloc, places)?;
     for _place in 0..places {
-        put_back(&mut children, RawSchema::released());
+        children.push_reserved(RawSchema::released());
     }
     Ok(children)
 }
@@ -155,12 +156,13 @@ fn fill_schema(schema: RawSchema, picks: &[usize], top: RawSchema, pass: &mut Pa
     requires vacant { (k : ℕ) → child_at top k ≡ Released }
     requires room { pass.old.units + (Nodes schema + Nodes top) ≤ SUPPLY }
     ensures top { result ≡ with_children top (map (child_at schema) picks.now) }
+    ensures cost { Nodes result + 1 ≤ Nodes schema + Nodes top }
     ensures units { pass.new.units + Nodes result ≡ pass.old.units + (Nodes schema + Nodes top) }
     ensures blocks { pass.new.blocks ≡ pass.old.blocks }
     ensures nodes { pass.new.nodes ≡ pass.old.nodes }
 {
     let mut top = top;
-    let _depth = schema.depth();
+    schema.levels_are_few();
     let mut moved = PartlyMovedSchema::begin(schema);
     move_fields(&mut moved, picks, &mut top);
     moved.finish(pass);

@@ -1,4 +1,4 @@
-use crate::columns::{self, put_back, slice, take_columns};
+use crate::columns::{self, slice, take_columns};
 use crate::fields::{self, take_fields};
 use buf_block::{BufView, make};
 use raw_array::{ArrayParts, RawArray, ReleaseKind};
@@ -71,9 +71,9 @@ fn column(
         None => None,
         Some(bytes) => Some(view(rt, alloc, bytes, pass)),
     };
-    put_back(&mut buffers, validity);
+    buffers.push_reserved(validity);
     let data = view(rt, alloc, data, pass);
-    put_back(&mut buffers, Some(data));
+    buffers.push_reserved(Some(data));
     array(rt, alloc, numbers, buffers, 0, pass)
 }
 

@@ -105,7 +105,6 @@ fn placed_parts(alloc: Global, owned: Owned, pass: &mut Pass) -> Result<Placed, 
     ensures nodes { pass.new.nodes ≡ pass.old.nodes }
     ensures blocks { pass.new.blocks ≡ pass.old.blocks }
 {
-    let _supply = pass.units();
     let (buffers, children, dictionary) = owned;
     let dictionary = match put_if(alloc, dictionary) {
         Ok(dictionary) => dictionary,

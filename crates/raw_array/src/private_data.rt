@@ -30,7 +30,6 @@ pub(crate) fn placed_private(
     ensures blocks { pass.new.blocks ≡ pass.old.blocks }
     ensures nodes { pass.new.nodes ≡ pass.old.nodes }
 {
-    let _supply = pass.units();
     let private = Private {
         buffers,
         unit: pass.draw(),

@@ -7,8 +7,8 @@ ghost use Rattle.raw_array.specs.View.{buffers_of, tree_of_node};
 
 use crate::array::{Node, RawArray, ReleaseKind, State};
 use crate::private_data::{Private, end_private, placed_private};
-use crate::release::{spend_all, spend_vec};
-use crate::views::{let_go_all, put_back, shared_views};
+use crate::release::{end_all, release_all};
+use crate::views::{let_go_all, shared_views};
 use raw_place::{Kids, Place};
 use std::alloc::Global;
 use unit_pass::{NoMemory, Pass, SUPPLY};
@@ -73,7 +73,6 @@ fn shared_node(node: &mut Node, alloc: Global, pass: &mut Pass) -> Result<Node, 
     ensures blocks { pass.new.blocks ≡ pass.old.blocks }
     ensures nodes { pass.new.nodes ≡ pass.old.nodes }
 {
-    let _supply = pass.units();
     let private = match shared_private(&mut node.private, alloc, pass) {
         Ok(private) => private,
         Err(NoMemory) => return Err(NoMemory),
@@ -88,7 +87,7 @@ fn shared_node(node: &mut Node, alloc: Global, pass: &mut Pass) -> Result<Node, 
     let dictionary = match shared_behind(&mut node.dictionary, alloc, pass) {
         Ok(dictionary) => dictionary,
         Err(NoMemory) => {
-            spend_all(children, pass);
+            end_all(children, pass);
             end_private(private, pass);
             return Err(NoMemory);
         }
@@ -120,14 +119,13 @@ fn shared_behind(
     ensures blocks { pass.new.blocks ≡ pass.old.blocks }
     ensures nodes { pass.new.nodes ≡ pass.old.nodes }
 {
-    let _supply = pass.units();
     match tree {
         None => Ok(None),
         Some(place) => match place.get_mut().shared(alloc, pass) {
             Ok(copy) => match Place::put(alloc, copy) {
                 Ok(place) => Ok(Some(place)),
                 Err((copy, NoMemory)) => {
-                    copy.spend(pass);
+                    copy.end(pass);
                     Err(NoMemory)
                 }
             },
@@ -152,15 +150,14 @@ fn shared_all(
     ensures blocks { pass.new.blocks ≡ pass.old.blocks }
     ensures nodes { pass.new.nodes ≡ pass.old.nodes }
 {
-    let _supply = pass.units();
     let Ok(mut copies) = Vec::with_capacity(alloc, children.len()) else {
         return Err(NoMemory);
     };
     for i in 0..children.len() {
         match shared_child(children, i, alloc, pass) {
-            Ok(copy) => put_back(&mut copies, copy),
+            Ok(copy) => copies.push_reserved(copy),
             Err(NoMemory) => {
-                spend_vec(copies, pass);
+                release_all(copies, pass);
                 return Err(NoMemory);
             }
         }
@@ -209,7 +206,7 @@ fn kept_all(
     match Kids::from_vec(alloc, copies) {
         Ok(kids) => Ok(kids),
         Err((copies, NoMemory)) => {
-            spend_vec(copies, pass);
+            release_all(copies, pass);
             Err(NoMemory)
         }
     }
@@ -231,7 +228,6 @@ fn shared_private(
     ensures blocks { pass.new.blocks ≡ pass.old.blocks }
     ensures nodes { pass.new.nodes ≡ pass.old.nodes }
 {
-    let _supply = pass.units();
     let record = private.get_mut();
     match shared_views(&mut record.buffers, alloc, pass) {
         Ok(views) => match placed_private(alloc, views, pass) {

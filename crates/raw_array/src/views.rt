@@ -1,5 +1,5 @@
 //! The views of a node's buffers, one after another: counted, let go, and shared.
-ghost use Rattle.std.specs.Prelude.{◌≡◌, ◌+◌, ◌<◌, ◌≤◌, [], ◌∷◌, ◌++◌, map, if◌then◌else◌, is_ok, IfOk, OnOk, OnErr, vec_len, vec_capacity};
+ghost use Rattle.std.specs.Prelude.{◌≡◌, ◌+◌, ◌≤◌, [], ◌∷◌, map, if◌then◌else◌, is_ok, IfOk, OnOk, OnErr};
 ghost use Rattle.raw_array.specs.Members.{holds_of, least_of, whole, shared_buffer, lowered_buffer, OneLowerBuffers};
 ghost use Rattle.raw_array.specs.View.{buffer_if, buffers_of};
 
@@ -97,13 +97,12 @@ pub(crate) fn shared_views(
     ensures blocks { pass.new.blocks ≡ pass.old.blocks }
     ensures nodes { pass.new.nodes ≡ pass.old.nodes }
 {
-    let _supply = pass.units();
     let Ok(mut views) = Vec::with_capacity(alloc, buffers.len()) else {
         return Err(NoMemory);
     };
     for i in 0..buffers.len() {
         match shared_view(&mut buffers[i], pass) {
-            Ok(view) => put_back(&mut views, view),
+            Ok(view) => views.push_reserved(view),
             Err(NoMemory) => {
                 let_go_all(views, pass);
                 return Err(NoMemory);
@@ -133,18 +132,5 @@ fn shared_view(buffer: &mut Option<BufView>, pass: &mut Pass) -> Result<Option<B
             })),
             Err(NoMemory) => Err(NoMemory),
         },
-    }
-}
-
-/// Appends where there is room.
-pub(crate) fn put_back<T>(items: &mut Vec<T>, item: T)
-    requires { vec_len items.old < vec_capacity items.old }
-    ensures items { items.new.items ≡ items.old.items ++ item ∷ [] }
-    ensures len { vec_len items.new ≡ vec_len items.old + 1 }
-    ensures capacity { vec_capacity items.old ≤ vec_capacity items.new }
-{
-    match items.push(item) {
-        Ok(()) => {}
-        Err(_failed) => unreachable!(),
     }
 }

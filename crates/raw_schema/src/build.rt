@@ -99,7 +99,6 @@ fn placed_parts(
     ensures nodes { pass.new.nodes ≡ pass.old.nodes }
     ensures blocks { pass.new.blocks ≡ pass.old.blocks }
 {
-    let _supply = pass.units();
     let dictionary = match put_if(alloc, dictionary) {
         Ok(dictionary) => dictionary,
         Err((dictionary, NoMemory)) => return Err((children, dictionary)),

@@ -17,7 +17,6 @@ pub(crate) fn placed_unit(alloc: Global, pass: &mut Pass) -> Result<Place<Privat
     ensures blocks { pass.new.blocks ≡ pass.old.blocks }
     ensures nodes { pass.new.nodes ≡ pass.old.nodes }
 {
-    let _supply = pass.units();
     match Place::put(alloc, Private { unit: pass.draw() }) {
         Ok(place) => Ok(place),
         Err((private, NoMemory)) => {

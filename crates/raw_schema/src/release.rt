@@ -25,14 +25,15 @@ impl RawSchema {
             State::Released => Acted::Was,
             State::Live(_) => Acted::Acted,
         };
-        self.move_out().spend(pass);
+        self.move_out().end(pass);
         acted
     }
 
-    /// Gives back the units of all live nodes.
-    #[cycle(spend)]
+    /// Releases the structure with all that it still owns, and gives it up: each live node gives its unit back,
+    /// once. A released structure has nothing to give. Takes no memory.
+    #[cycle(ending)]
     #[tactic(auto, using(tree_model::proofs::Measures::measures))]
-    pub(crate) fn spend(self, pass: &mut Pass)
+    pub fn end(self, pass: &mut Pass)
         requires { pass.old.units + Nodes self ≤ SUPPLY }
         ensures units { pass.new.units ≡ pass.old.units + Nodes self }
         ensures blocks { pass.new.blocks ≡ pass.old.blocks }
@@ -52,39 +53,39 @@ impl RawSchema {
                     private,
                 } = node;
                 give_back_placed(private, pass);
-                spend_all(children, pass);
+                end_all(children, pass);
                 if let Some(tree) = dictionary {
-                    tree.take().spend(pass);
+                    tree.take().end(pass);
                 }
             }
         }
     }
 }
 
-#[cycle(spend)]
+#[cycle(ending)]
 #[tactic(auto, using(tree_model::proofs::Measures::measures))]
-pub(crate) fn spend_all(mut children: Kids<RawSchema>, pass: &mut Pass)
+pub(crate) fn end_all(mut children: Kids<RawSchema>, pass: &mut Pass)
     requires { pass.old.units + nodes_of_all (trees (values_of children)) ≤ SUPPLY }
     ensures units { pass.new.units ≡ pass.old.units + nodes_of_all (trees (values_of children)) }
     ensures blocks { pass.new.blocks ≡ pass.old.blocks }
     ensures nodes { pass.new.nodes ≡ pass.old.nodes }
 {
     while let Some(child) = children.pop() {
-        child.spend(pass);
+        child.end(pass);
     }
     children.destroy_empty();
 }
 
-/// Gives back the units of trees that have no parent.
+/// Releases all structures of a list, which stand under no parent, and gives them up: [`RawSchema::end`] for each of them.
 #[tactic(auto, using(tree_model::proofs::Measures::measures))]
-pub(crate) fn spend_vec(mut children: Vec<RawSchema>, pass: &mut Pass)
+pub fn release_all(mut children: Vec<RawSchema>, pass: &mut Pass)
     requires { pass.old.units + nodes_of_all (trees children.items) ≤ SUPPLY }
     ensures units { pass.new.units ≡ pass.old.units + nodes_of_all (trees children.items) }
     ensures blocks { pass.new.blocks ≡ pass.old.blocks }
     ensures nodes { pass.new.nodes ≡ pass.old.nodes }
 {
     while let Some(child) = children.pop() {
-        child.spend(pass);
+        child.end(pass);
     }
     children.destroy_empty();
 }

@@ -6,7 +6,7 @@ ghost use Rattle.raw_schema.specs.Members.{Nodes, nodes_of_all, nodes_of_maybe};
 ghost use Rattle.raw_schema.specs.View.{bytes_of, tree_of_node};
 
 use crate::private_data::{give_back_placed, placed_unit};
-use crate::release::{spend_all, spend_vec};
+use crate::release::{end_all, release_all};
 use crate::schema::{Node, RawSchema, State};
 use raw_place::{Kids, Place};
 use std::alloc::Global;
@@ -78,7 +78,6 @@ fn copied_node(node: &Node, alloc: Global, pass: &mut Pass) -> Result<Node, NoMe
     let format = copied_bytes(&node.format)?;
     let name = copied_text(&node.name)?;
     let metadata = copied_text(&node.metadata)?;
-    let _supply = pass.units();
     let private = placed_unit(alloc, pass)?;
     let children = match copied_all(&node.children, alloc, pass) {
         Ok(children) => children,
@@ -90,7 +89,7 @@ fn copied_node(node: &Node, alloc: Global, pass: &mut Pass) -> Result<Node, NoMe
     let dictionary = match copied_behind(&node.dictionary, alloc, pass) {
         Ok(dictionary) => dictionary,
         Err(NoMemory) => {
-            spend_all(children, pass);
+            end_all(children, pass);
             give_back_placed(private, pass);
             return Err(NoMemory);
         }
@@ -122,12 +121,11 @@ fn copied_behind(
     let Some(tree) = tree else {
         return Ok(None);
     };
-    let _supply = pass.units();
     let copy = tree.get().copied(alloc, pass)?;
     match Place::put(alloc, copy) {
         Ok(place) => Ok(Some(place)),
         Err((copy, NoMemory)) => {
-            copy.spend(pass);
+            copy.end(pass);
             Err(NoMemory)
         }
     }
@@ -146,16 +144,15 @@ fn copied_all(
     ensures blocks { pass.new.blocks ≡ pass.old.blocks }
     ensures nodes { pass.new.nodes ≡ pass.old.nodes }
 {
-    let _supply = pass.units();
     let mut copies = Vec::new(alloc);
     for i in 0..children.len() {
         let Ok(copy) = children.get(i).copied(alloc, pass) else {
-            spend_vec(copies, pass);
+            release_all(copies, pass);
             return Err(NoMemory);
         };
         if let Err(failed) = copies.push(copy) {
-            failed.value.spend(pass);
-            spend_vec(copies, pass);
+            failed.value.end(pass);
+            release_all(copies, pass);
             return Err(NoMemory);
         }
     }
@@ -176,7 +173,7 @@ fn kept_all(
     match Kids::from_vec(alloc, copies) {
         Ok(kids) => Ok(kids),
         Err((copies, NoMemory)) => {
-            spend_vec(copies, pass);
+            release_all(copies, pass);
             Err(NoMemory)
         }
     }

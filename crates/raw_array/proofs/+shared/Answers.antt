@@ -61,10 +61,10 @@ share::shared_all-loop-i-preserved t c =
     let i = c.loop-i.i in
     let inside : i < length ts = omega (arith, c.len-i-end.ensures.exact, c.loop-i-test.true) in
     let lowered = child_lowered ts us i c.loop-i.invariant.0 (values_of c.shared_child.new.children) inside c.in-Ok-shared_child.ensures.lowered in
-    let shared = c.put_back.ensures.items ∙ child_shared ts us i c.loop-i.invariant.0 c.loop-i.copies.items c.in-Ok-shared_child.copy inside c.loop-i.invariant.1 c.in-Ok-shared_child.ensures.tree in
+    let shared = c.push_reserved.ensures.items ∙ child_shared ts us i c.loop-i.invariant.0 c.loop-i.copies.items c.in-Ok-shared_child.copy inside c.loop-i.invariant.1 c.in-Ok-shared_child.ensures.tree in
     let cost = ap Cost (same_child ts us i c.loop-i.invariant.0) in
     let before = cost_of_first ts c.loop-i.copies.items i c.loop-i.invariant.1 in
-    let after = cost_of_first ts c.put_back.new.items.items (i + 1) shared in
+    let after = cost_of_first ts c.push_reserved.new.self.items (i + 1) shared in
     let more = cost_of_all-take holds ts i inside in
     (lowered, shared, omega (arith, cost, before, after, more, c.in-Ok-shared_child.ensures.units, c.loop-i.invariant.2), search rules, search rules, search rules, search rules)
 

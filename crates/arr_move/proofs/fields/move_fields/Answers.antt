@@ -2,7 +2,8 @@ use Rattle.std.proofs.Common.{◌≡◌, ◌<◌, length, get_or, refl, ap, sym,
 use Rattle.std.proofs.lemmas.List.{length-set}
 use Rattle.tree_model.specs.Tree.{Released, Depth, children_of, child_at}
 use Rattle.raw_schema.specs.Members.{Nodes, no_holds}
-use Rattle.arr_move.proofs.Filled.{children_of-with_child, Cost-with_child, Depth-child_at}
+use Rattle.tree_model.proofs.Parted.{Cost-child}
+use Rattle.arr_move.proofs.Filled.{children_of-with_child, Depth-child_at}
 use Rattle.arr_move.proofs.Moving.{with_own_children, place_inside, place_vacant, one_more, all_moved, other_child}
 use Rattle.arr_move.proofs.fields.move_fields.Goals as goal
 
@@ -50,8 +51,8 @@ loop-place-preserved c =
         arith,
         ap Nodes c.move_field.ensures.moved,
         ap Nodes c.move_field.ensures.top,
-        Cost-with_child no_holds c.loop-place.moved pick Released there,
-        Cost-with_child no_holds c.loop-place.top place field room,
+        Cost-child no_holds c.loop-place.moved pick Released there,
+        Cost-child no_holds c.loop-place.top place field room,
         ap Nodes vacant,
         c.loop-place.invariant.3,
       ),
