@@ -1,6 +1,6 @@
 -- The rules that fail at a live node of a schema, and the words of the code's tests.
 use Rattle.std.proofs.Common.{rules, ◌≡◌, ℕ, ◌≤◌, List, [], ◌∷◌, length, get_or, Option, None, Some, refl, sym, ap, subst, ◌∙◌, arith}
-use Rattle.std.specs.Prelude.{◌≢◌, codes, Bool, true, false, IsTrue}
+use Rattle.std.specs.Prelude.{codes, Bool, true, false, IsTrue}
 use Rattle.fmt_string.specs.declared.kind.DataType.{DataType}
 use Rattle.fmt_string.specs.declared.fault.FormatRule.{FormatRule}
 use Rattle.fmt_string.specs.declared.fault.FormatFault.TheVariants as format
@@ -39,14 +39,9 @@ pub fails-format : (level : ℕ) (t : SchemaTree) (rule : FormatRule) (place : �
 fails-format level Released rule place live low h = absurd live
 fails-format level (Live s kids dict) rule place live low h = (low, h)
 
-refused : (m : Option (List ℕ)) (fault : MetaFault) → fault ≢ meta.NoMemory → MetaRefused m fault → (bytes : List ℕ) × (m ≡ Some bytes) × MetaFaultIs bytes fault
-refused m meta.NoMemory other h = absurd (other refl)
-refused None (meta.Short p) other h = absurd h
-refused None (meta.Negative p) other h = absurd h
-refused None (meta.Trailing p) other h = absurd h
-refused (Some bytes) (meta.Short p) other h = (bytes, refl, h)
-refused (Some bytes) (meta.Negative p) other h = (bytes, refl, h)
-refused (Some bytes) (meta.Trailing p) other h = (bytes, refl, h)
+refused : (m : Option (List ℕ)) (fault : MetaFault) → MetaRefused m fault → (bytes : List ℕ) × (m ≡ Some bytes) × MetaFaultIs bytes fault
+refused None fault h = absurd h
+refused (Some bytes) fault h = (bytes, refl, h)
 
 fails-meta_live : (level : ℕ) (s : SchemaMembers) (kids : Trees SchemaMembers) (dict : MaybeTree SchemaMembers) (kind : DataType) (fault : MetaFault) → level ≤ 64
     → FormatIs s.format kind → ((bytes : List ℕ) × (s.metadata ≡ Some bytes) × MetaFaultIs bytes fault) → FailsHere level (Live s kids dict) (rules.Meta fault)
@@ -56,9 +51,9 @@ fails-meta_live level s kids dict kind (meta.Negative p) low is b = (low, kind, 
 fails-meta_live level s kids dict kind (meta.Trailing p) low is b = (low, kind, is, b.0, b.1, b.2)
 
 pub fails-meta : (level : ℕ) (t : SchemaTree) (kind : DataType) (fault : MetaFault) → IsLive t → level ≤ 64
-    → FormatIs (members_of t).format kind → fault ≢ meta.NoMemory → MetaRefused (members_of t).metadata fault → FailsHere level t (rules.Meta fault)
-fails-meta level Released kind fault live low is other h = absurd live
-fails-meta level (Live s kids dict) kind fault live low is other h = fails-meta_live level s kids dict kind fault low is (refused s.metadata fault other h)
+    → FormatIs (members_of t).format kind → MetaRefused (members_of t).metadata fault → FailsHere level t (rules.Meta fault)
+fails-meta level Released kind fault live low is h = absurd live
+fails-meta level (Live s kids dict) kind fault live low is h = fails-meta_live level s kids dict kind fault low is (refused s.metadata fault h)
 
 pub fails-children : (level : ℕ) (t : SchemaTree) (kind : DataType) → IsLive t → level ≤ 64 → FormatIs (members_of t).format kind → MetaFits (members_of t).metadata
     → (ChildrenFit kind (trees (children_of t)) → ⊥) → FailsHere level t rules.ChildCount

@@ -2,7 +2,6 @@
 use Rattle.std.specs.Prelude.{◌≡◌, ℕ, List, ◌∷◌, ◌++◌, Option, None, Some, Result, Ok, Err}
 use Rattle.fmt_string.specs.declared.kind.DataType.{DataType}
 use Rattle.schema_meta.specs.declared.fault.MetaFault.{MetaFault}
-use Rattle.schema_meta.specs.declared.fault.MetaFault.TheVariants as meta
 use Rattle.schema_meta.specs.Meta.{MetaFaultIs}
 use Rattle.tree_model.specs.Tree.{trees, maybe_tree, children_of, dictionary_of}
 use Rattle.raw_schema.specs.Members.{SchemaTree, members_of}
@@ -47,7 +46,6 @@ NodeOf level schema kind = NodeIs level (members_of schema) (trees (children_of 
 
 -- metadata that is there is refused so
 abbrev pub MetaRefused : Option (List ℕ) → MetaFault → Type 0
-MetaRefused metadata meta.NoMemory = Unit {0}
 MetaRefused None fault = ⊥
 MetaRefused (Some bytes) fault = MetaFaultIs bytes fault
 

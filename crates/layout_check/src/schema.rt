@@ -14,7 +14,7 @@ use crate::rule::{DICTIONARY_STEP, Path, SchemaRule};
 use crate::typed::Typed;
 use fmt_string::{DataType, FormatFault, read_format};
 use raw_schema::RawSchema;
-use schema_meta::{MetaFault, read_meta};
+use schema_meta::{MetaFault, check_meta};
 use std::alloc::{AllocError, AllocFailed, Global};
 
 /// Why a schema has no tree of kinds.
@@ -63,7 +63,8 @@ pub fn kinds_are_valid()
 /// The kinds of a schema, or the first rule that fails at the first node at which one does ("The Arrow C Data
 /// Interface", "The ArrowSchema structure", "Data type description: format strings"). Names, flags and nullability
 /// aren't looked at. A schema of more than 64 levels is walked to the node at level 65 and no deeper. What was made is
-/// given back where the answer is a fault.
+/// given back where the answer is a fault. Memory is taken for the tree of kinds alone, a node of it for each node of the
+/// schema, and for the texts of its formats: metadata takes none, so its bytes never make the answer `NoMemory`.
 pub fn check_schema(alloc: Global, schema: &RawSchema) -> Result<Typed, SchemaFault>
     // What is answered are the schema's kinds, and no rule fails.
     ensures found { IfOk result (λ typed. TypedOf schema.now (typed_of typed)) }
@@ -147,10 +148,8 @@ fn node_kind(alloc: Global, schema: &RawSchema, path: &Path) -> Result<DataType,
         return Err(at(path, SchemaRule::Released));
     }
     let kind = format_kind(alloc, schema, path)?;
-    match read_metadata(alloc, schema) {
-        Ok(()) => {}
-        Err(MetaFault::NoMemory) => return Err(SchemaFault::NoMemory),
-        Err(fault) => return Err(at(path, SchemaRule::Meta(fault))),
+    if let Err(fault) = check_metadata(schema) {
+        return Err(at(path, SchemaRule::Meta(fault)));
     }
     check_parts(&kind, schema, path)?;
     Ok(kind)
@@ -175,17 +174,14 @@ fn format_kind(alloc: Global, schema: &RawSchema, path: &Path) -> Result<DataTyp
 }
 
 /// Whether a live node's metadata, if it has any, spells pairs.
-fn read_metadata(alloc: Global, schema: &RawSchema) -> Result<(), MetaFault>
+fn check_metadata(schema: &RawSchema) -> Result<(), MetaFault>
     requires live { IsLive schema.now }
     ensures found { OnOk result (MetaFits (members_of schema.now).metadata) }
     ensures fault { IfErr result (MetaRefused (members_of schema.now).metadata) }
 {
-    let Some(bytes) = schema.metadata() else {
-        return Ok(());
-    };
-    match read_meta(alloc, bytes) {
-        Ok(_pairs) => Ok(()),
-        Err(fault) => Err(fault),
+    match schema.metadata() {
+        None => Ok(()),
+        Some(bytes) => check_meta(bytes),
     }
 }
 
