@@ -1,5 +1,5 @@
 -- A block shows a state of the machine of holders, and its steps are the machine's.
-use Rattle.std.proofs.Common.{◌≡◌, ◌≢◌, ℕ, zero, suc, ◌+◌, ◌-◌, ◌%◌, ◌^◌, ◌<◌, ◌≤◌, ◌==◌, Bool, true, false, true≢false, Some, None, List, [], ◌∷◌, ◌++◌, set, get_or, length, sum, inl, refl, sym, ap, ◌∙◌, subst, arith, rules, eq-eqb, ne_eqb}
+use Rattle.std.proofs.Common.{◌≡◌, ◌≢◌, ℕ, zero, suc, ◌+◌, ◌-◌, ◌<◌, ◌≤◌, ◌==◌, Bool, true, false, true≢false, Some, None, List, [], ◌∷◌, ◌++◌, set, get_or, length, sum, inl, refl, sym, ap, ◌∙◌, subst, arith, rules, eq-eqb, ne_eqb}
 use Rattle.std.specs.Prelude.{nat_lt, MatchBool, if◌then◌else◌, slice_index}
 use Rattle.std.proofs.lemmas.Grind.{common_steps}
 use mathlib.Core.Logic.{dite}
@@ -8,15 +8,14 @@ use Rattle.std.proofs.lemmas.List.{map-set, set-append_left}
 use mathlib.Core.Option.{some, some-injective, some-ne-none}
 use native.Mathlib.Decide.{ℕ_discrete}
 use lib.ListN.{get_elem?}
-use Rattle.atomic_table.specs.Table.{State, Act, Valid, stepped, carried_after}
-use Rattle.holder_core.specs.HolderMachine.{Holders, HolderOk, Step, amount_of, is_due, after_split, after_let_go, with_deed}
+use Rattle.atomic_table.specs.Table.{State, stepped, carried_after}
+use Rattle.holder_core.specs.HolderMachine.{Holders, amount_of, is_due, after_split}
 use Rattle.holder_core.specs.declared.Deed.{Deed}
 use Rattle.holder_core.specs.declared.Deed.TheVariants.{Home, Due, Gone}
-use Rattle.holder_core.specs.declared.Event.TheVariants.{Split, LetGo, TakeDeed, Read}
 use Rattle.holder_core.specs.declared.Reply.TheVariants.{NewHolder, Kept, Last, Bytes}
 use Rattle.holder_core.specs.declared.Reply.TheVariants as reply
 use Rattle.buf_block.specs.declared.rule.Grip.{Grip}
-use Rattle.buf_block.specs.Block.{holding, done, whole, SlotState, slot_at, slot_with_deed, slot_without_deed, IsBlock, Back, GivesBack}
+use Rattle.buf_block.specs.Block.{holding, done, whole, SlotState, slot_at, slot_with_deed, slot_without_deed, IsBlock, Back}
 use Rattle.buf_block.specs.BlockView.{Hands, empty_hands, hands_with, amounts_of, WasLast, Shows, HoldsAt, first_state, split_at, less_by, ShowsOk, ShowsOne, MadeWhole, SplitIsTheTables, SplitIsStep, LetGoIsStep, ExchangeIsStep, ReadIsStep}
 use Rattle.buf_block.proofs.Keeps.{begins, splits}
 
