@@ -3,10 +3,10 @@ use Rattle.std.proofs.Common.{◌≡◌, ◌∙◌, ◌+◌, ℕ, Bool, true, fa
 use Rattle.std.specs.Prelude.{Option, None, Some, map, pos}
 use Rattle.std.specs.List.{concat}
 use Rattle.fmt_string.specs.FieldText.{Form, Truths, Wholes, FloatBits, Text, HexBytes, SizedHex, Decimals, form_of}
-use Rattle.fmt_string.specs.Value.{Value}
+use Rattle.fmt_string.specs.Value.{Value, bytes_of}
 use Rattle.fmt_string.specs.declared.kind.DataType.{DataType}
 use Rattle.col_build.specs.Blocks.{AreSame, AreSameBut, IsBuilt, count_if}
-use Rattle.col_build.specs.Encoding.{HasForm, buffers_if, bytes_of, encoded, if_some, is_wide, offset_bytes, validity_of}
+use Rattle.col_build.specs.Encoding.{HasForm, buffers_if, encoded, if_some, is_wide, offset_bytes, validity_of}
 use Rattle.col_build.specs.Finished.{AreMade, IsEncoded, blocks_of, present_count}
 use Rattle.col_build.specs.Holding.{HasBytes, HasOffsets, Holds}
 use Rattle.col_build.specs.Shapes.{shape_if}

@@ -7,9 +7,9 @@ use Rattle.std.specs.Prelude.{not, nat_lt, ◌&&◌, if◌then◌else◌, map, O
 use Rattle.std.specs.List.{concat, flat_map}
 use Rattle.fmt_string.specs.FieldText.{Form, Truths, Wholes, FloatBits, Text, HexBytes, SizedHex, Decimals, form_of}
 use Rattle.fmt_string.specs.Kinds.{KindOk}
-use Rattle.fmt_string.specs.Value.{Value, Null, Truth, Whole, Bits, Bytes, Items, Fields}
+use Rattle.fmt_string.specs.Value.{Value, Null, Truth, Whole, Bits, Bytes, Items, Fields, byte_total, bytes_of}
 use Rattle.fmt_string.specs.declared.kind.DataType.{DataType}
-use Rattle.col_build.specs.Encoding.{Fits, HasForm, are_within, byte_total, bytes_of, fault_if, is_form, is_storable, is_text, is_wide, is_within, push_fault, stored_item}
+use Rattle.col_build.specs.Encoding.{Fits, HasForm, are_within, fault_if, is_form, is_storable, is_text, is_wide, is_within, push_fault, stored_item}
 use Rattle.col_build.specs.Holding.{HasBytes}
 use Rattle.col_build.specs.Shapes.{between_fault, shape_fault, shape_if, text_fault}
 use Rattle.col_build.specs.declared.item.PushFault.TheVariants.{WrongKind, OutOfRange, NotText}

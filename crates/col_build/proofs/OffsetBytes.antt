@@ -5,8 +5,8 @@ use Rattle.std.proofs.lemmas.List.{map-append}
 use Rattle.std.specs.Prelude.{map}
 use Rattle.std.specs.List.{concat, flat_map}
 use Rattle.bit_pack.specs.Packed.{le_bytes, offset_width}
-use Rattle.fmt_string.specs.Value.{Value}
-use Rattle.col_build.specs.Encoding.{bytes_of, ends, offset_bytes}
+use Rattle.fmt_string.specs.Value.{Value, bytes_of}
+use Rattle.col_build.specs.Encoding.{ends, offset_bytes}
 use Rattle.col_build.specs.Holding.{HasOffsets}
 
 ends-push : (at : ℕ) (items : List (List ℕ)) (item : List ℕ) → ends at (items ++ item ∷ []) ≡ ends at items ++ (at + length (concat items) + length item) ∷ []

@@ -1,8 +1,8 @@
 -- A builder with one more value.
 use Rattle.std.proofs.Common.{◌≡◌, ◌∙◌, ℕ, List, length, refl, sym, ap}
-use Rattle.fmt_string.specs.Value.{Value, Null, Truth, Whole, Bits, Bytes, Items, Fields}
+use Rattle.fmt_string.specs.Value.{Value, Null, Truth, Whole, Bits, Bytes, Items, Fields, byte_total}
 use Rattle.fmt_string.specs.declared.kind.DataType.{DataType}
-use Rattle.col_build.specs.Encoding.{byte_total, push_fault}
+use Rattle.col_build.specs.Encoding.{push_fault}
 use Rattle.col_build.specs.Holding.{HasBytes, HasValidity, Holds, ShapeOk}
 use Rattle.col_build.specs.Shapes.{shape_fault}
 use Rattle.col_build.specs.declared.builder.Builder.{Builder}

@@ -4,12 +4,12 @@ use Rattle.std.specs.Prelude.{not, nat_lt, ◌==◌, ◌&&◌, if◌then◌else�
 use Rattle.std.specs.Str.{is_utf8}
 use Rattle.fmt_string.specs.FieldText.{Form, Truths, Wholes, FloatBits, Text, HexBytes, SizedHex, Decimals, form_of, in_range}
 use Rattle.fmt_string.specs.Kinds.{KindOk}
-use Rattle.fmt_string.specs.Value.{Value, Null, Truth, Whole, Bits, Bytes, Items, Fields}
+use Rattle.fmt_string.specs.Value.{Value, Null, Truth, Whole, Bits, Bytes, Items, Fields, byte_total}
 use Rattle.fmt_string.specs.declared.kind.DataType.{DataType}
 use Rattle.fmt_string.specs.declared.kind.DataType.TheVariants as kinds
 use Rattle.fmt_string.specs.declared.kind.Tick.TheVariants as ticks
 use Rattle.bit_pack.specs.Packed.{IsWidth}
-use Rattle.col_build.specs.Encoding.{HasForm, byte_total, fault_if, is_wide, push_fault}
+use Rattle.col_build.specs.Encoding.{HasForm, fault_if, is_wide, push_fault}
 use Rattle.col_build.specs.Holding.{ShapeOk}
 use Rattle.col_build.specs.Shapes.{range_fault, shape_fault, shape_if, shape_of}
 use Rattle.col_build.specs.declared.item.PushFault.TheVariants.{OutOfRange, NotText}

@@ -7,6 +7,8 @@ use Rattle.bit_pack.specs.Packed.{le_bytes, stored, offset_width}
 use Rattle.fmt_string.specs.FieldText.{Form, Truths, Wholes, FloatBits, Text, HexBytes, SizedHex, Decimals, form_of, in_range}
 use Rattle.fmt_string.specs.Kinds.{KindOk}
 use Rattle.fmt_string.specs.Value.{Value, Null, Truth, Whole, Bits, Bytes}
+-- the bytes that stand between two offsets, and how many there are of a column's values
+pub use Rattle.fmt_string.specs.Value.{bytes_of, byte_total}
 use Rattle.fmt_string.specs.declared.kind.DataType.{DataType}
 use Rattle.fmt_string.specs.declared.kind.DataType.TheVariants as kinds
 use Rattle.col_build.specs.declared.item.PushFault.{PushFault}
@@ -48,11 +50,6 @@ stored_item width _ = replicate width 0
 abbrev pub is_set : Value → Bool
 is_set (Truth truth) = truth
 is_set _ = false
-
--- the bytes of an item that stands between two offsets: a null has none
-abbrev pub bytes_of : Value → List ℕ
-bytes_of (Bytes bytes) = bytes
-bytes_of _ = []
 
 -- where items that stand one behind the other begin, from a place on, and where the last one ends
 abbrev pub ends : ℕ → List (List ℕ) → List ℕ
@@ -136,10 +133,6 @@ abbrev pub is_by_offsets : Form → Bool
 is_by_offsets Text = true
 is_by_offsets HexBytes = true
 is_by_offsets _ = false
-
--- how many bytes stand between the offsets of the values
-abbrev pub byte_total : List Value → ℕ
-byte_total values = length (concat (map bytes_of values))
 
 -- offsets of 32 bits reach so many bytes
 abbrev pub is_within : Bool → Form → ℕ → Bool

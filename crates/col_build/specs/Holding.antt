@@ -3,9 +3,9 @@ use Rattle.std.specs.Prelude.{◌≡◌, ◌≢◌, ◌⊎◌, ℕ, ◌^◌, ◌
 use Rattle.std.specs.List.{concat, flat_map}
 use Rattle.bit_pack.specs.Packed.{IsWidth}
 use Rattle.fmt_string.specs.FieldText.{form_of}
-use Rattle.fmt_string.specs.Value.{Value}
+use Rattle.fmt_string.specs.Value.{Value, bytes_of}
 use Rattle.fmt_string.specs.declared.kind.DataType.{DataType}
-use Rattle.col_build.specs.Encoding.{Fits, bit_bytes, bytes_of, if_some, is_set, is_wide, null_total, offset_bytes, push_fault, stored_item, validity_of}
+use Rattle.col_build.specs.Encoding.{Fits, bit_bytes, if_some, is_set, is_wide, null_total, offset_bytes, push_fault, stored_item, validity_of}
 use Rattle.col_build.specs.Shapes.{IsAnswer, shape_if}
 use Rattle.col_build.specs.declared.builder.Builder.{Builder}
 use Rattle.col_build.specs.declared.item.PushFault.{PushFault}

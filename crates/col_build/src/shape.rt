@@ -1,6 +1,7 @@
 // How the items of a type are laid out ("Arrow Columnar Format", "Physical memory layout").
 ghost use Rattle.std.specs.Prelude.{◌≡◌, ◌*◌, true};
-ghost use Rattle.fmt_string.specs.FieldText.{form_of, time_bits};
+ghost use Rattle.fmt_string.specs.FieldText.{form_of};
+ghost use Rattle.fmt_string.specs.Storage.{time_bits};
 ghost use Rattle.fmt_string.specs.Kinds.{KindOk};
 ghost use Rattle.col_build.specs.Encoding.{HasForm, is_wide};
 ghost use Rattle.col_build.specs.Shapes.{shape_if};

@@ -2,8 +2,8 @@
 ghost use Rattle.std.specs.Prelude.{◌≡◌, ◌≢◌, ◌==◌, ◌⊎◌, ◌+◌, ◌^◌, ◌<◌, ◌++◌, ◌∷◌, [], ℕ, Bool, List, None, Some, length, map, replicate, true, IsTrue, OnOk, OnErr, IfErr};
 ghost use Rattle.std.specs.List.{concat};
 ghost use Rattle.bit_pack.specs.Packed.{IsWidth, le_bytes, offset_width};
-ghost use Rattle.fmt_string.specs.Value.{Value};
-ghost use Rattle.col_build.specs.Encoding.{bit_bytes, bytes_of, is_set, offset_bytes, stored_item};
+ghost use Rattle.fmt_string.specs.Value.{Value, bytes_of};
+ghost use Rattle.col_build.specs.Encoding.{bit_bytes, is_set, offset_bytes, stored_item};
 ghost use Rattle.col_build.specs.Items.{value_of};
 ghost use Rattle.col_build.specs.Holding.{HasBytes, HasOffsets, ShapeOk};
 ghost use Rattle.col_build.specs.Shapes.{IsAnswer, Stored, between_fault, range_fault, reaches, shape_fault};

@@ -3,13 +3,13 @@ use Rattle.std.proofs.Common.{◌≡◌, ◌≤◌, ◌<◌, ◌+◌, ◌^◌, �
 use Rattle.std.proofs.lemmas.List.{map-append}
 use Rattle.std.proofs.lemmas.List.Folds.{concat-append}
 use Rattle.std.specs.List.{concat}
-use Rattle.col_build.specs.Encoding.{byte_total, bytes_of}
+
 use Rattle.col_build.specs.declared.builder.Builder.{Builder}
 use Rattle.csv.specs.declared.reader.Reader.{Reader}
 use Rattle.fmt_string.specs.Table.{Column, Kind, Row}
-use Rattle.fmt_string.specs.Value.{Value, Null}
+use Rattle.fmt_string.specs.Value.{Value, Null, byte_total, bytes_of}
 use Rattle.csv_model.specs.Reading.{Record, body, body_from, row_of, with_row}
-use Rattle.csv_model.specs.declared.RowFault.{RowFault}
+use Rattle.fmt_string.specs.declared.row_fault.RowFault.{RowFault}
 use Rattle.csv_edge.specs.Body.{HoldEach, HoldsBody, HoldsKind, column_values}
 use Rattle.csv_edge.specs.BodyRows.{AddsRow, BodySoFar, HasBody, HasRoomFor, HasRows, IsBodyFaultOf, IsColumnOf, RefusesRow, with_rows}
 use Rattle.csv_edge.specs.RecordReader.{Takes, records_left, text_left}

@@ -6,7 +6,7 @@ use Rattle.std.proofs.lemmas.Bool.Decides.{nat_tests}
 use Rattle.std.proofs.lemmas.List.{drop_all, get_or-map, get_or-set_other, get_or-set_same, get_or_append_left, length-map, map-append}
 use Rattle.std.proofs.lemmas.List.Elements.{All-get_or}
 use Rattle.std.specs.Prelude.{◌==◌, All}
-use Rattle.col_build.specs.Encoding.{bytes_of}
+
 use Rattle.col_build.specs.Holding.{Holds}
 use Rattle.col_build.specs.declared.builder.Builder.{Builder}
 use Rattle.fmt_string.specs.declared.kind.DataType.{DataType}
@@ -14,10 +14,10 @@ use Rattle.fmt_string.specs.declared.kind.ColumnType.{ColumnType}
 use Rattle.fmt_string.specs.ColumnView.{column_of}
 use Rattle.fmt_string.specs.FieldText.{form_of, read_field}
 use Rattle.fmt_string.specs.Table.{Column, Columns, Flat, Kind, Row, no_members}
-use Rattle.fmt_string.specs.Value.{Value, Null}
+use Rattle.fmt_string.specs.Value.{Value, Null, bytes_of}
 use Rattle.csv_model.specs.Reading.{Record, field_in, row_of, values_from, values_step, with_value}
-use Rattle.csv_model.specs.declared.RowFault.{RowFault}
-use Rattle.csv_model.specs.declared.RowFault.TheVariants as row
+use Rattle.fmt_string.specs.declared.row_fault.RowFault.{RowFault}
+use Rattle.fmt_string.specs.declared.row_fault.RowFault.TheVariants as row
 use Rattle.csv_edge.specs.Body.{column_values}
 use Rattle.csv_edge.specs.BodyRows.{AddsField, AddsFields, AddsRow, HasField, HasFields, HasRoom, HasRoomFor, HasRows, HoldNone, HoldRows, IsColumnOf, IsRowFault, RefusesFields, RefusesRow, SpellsNone, with_values}
 use Rattle.csv_edge.specs.FieldForms.{IsProper, form_in}

@@ -1,16 +1,16 @@
 -- The columns of a body in the making, and one more row for them.
 use Rattle.std.specs.Prelude.{◌≡◌, ◌≤◌, ◌<◌, ◌+◌, ◌^◌, ◌++◌, ℕ, List, [], ◌∷◌, length, get_or, drop, Option, None, Some, Result, Ok, Err}
 use Rattle.std.specs.Borrow.{Bor}
-use Rattle.col_build.specs.Encoding.{byte_total, bytes_of, push_fault}
+use Rattle.col_build.specs.Encoding.{push_fault}
 use Rattle.col_build.specs.Holding.{Adds, Holds}
 use Rattle.col_build.specs.declared.builder.Builder.{Builder}
 use Rattle.csv.specs.declared.reader.Reader.{Reader}
 use Rattle.fmt_string.specs.declared.kind.DataType.{DataType}
 use Rattle.fmt_string.specs.FieldText.{form_of, read_field}
 use Rattle.fmt_string.specs.Table.{Column, Flat, Row}
-use Rattle.fmt_string.specs.Value.{Value, Null}
+use Rattle.fmt_string.specs.Value.{Value, Null, byte_total, bytes_of}
 use Rattle.csv_model.specs.Reading.{Record, body, body_from, row_of, values_from}
-use Rattle.csv_model.specs.declared.RowFault.{RowFault}
+use Rattle.fmt_string.specs.declared.row_fault.RowFault.{RowFault}
 use Rattle.csv_edge.specs.Body.{column_values}
 use Rattle.csv_edge.specs.FieldForms.{IsProper, form_in}
 use Rattle.csv_edge.specs.RecordReader.{records_left, text_left}

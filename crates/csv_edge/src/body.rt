@@ -13,8 +13,7 @@ use crate::body_columns::BodyColumns;
 use crate::records::{next_record, start_reading};
 use col_build::Builder;
 use csv::{ByteRecord, Reader};
-use csv_model::RowFault;
-use fmt_string::ColumnType;
+use fmt_string::{ColumnType, RowFault};
 use std::alloc::Global;
 use unit_pass::NoMemory;
 

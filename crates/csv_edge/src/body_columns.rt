@@ -24,8 +24,7 @@ use crate::truth::truth;
 use crate::whole::whole;
 use col_build::{Builder, Item, PushFault, is_text};
 use csv::ByteRecord;
-use csv_model::RowFault;
-use fmt_string::{ColKind, ColumnType, DataType, clone_kind};
+use fmt_string::{ColKind, ColumnType, DataType, RowFault, clone_kind};
 use std::alloc::Global;
 use unit_pass::NoMemory;
 

@@ -4,9 +4,9 @@ ghost use Rattle.fmt_string.specs.Table.{Column, Row};
 ghost use Rattle.csv_edge.specs.Body.{HoldEach};
 ghost use Rattle.csv_edge.specs.TextColumns.{AreAllowed, AreProper};
 
-use super::{BodyFault, RowFault, read_body, read_header};
+use super::{BodyFault, read_body, read_header};
 use col_build::Builder;
-use fmt_string::ColumnType;
+use fmt_string::{ColumnType, RowFault};
 use stage_plan::read_types;
 use std::alloc::Global;
 use std::process::Abort;

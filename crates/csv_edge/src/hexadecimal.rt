@@ -1,12 +1,12 @@
 //! Hexadecimal digits: the bits of floats, and bytes.
 ghost use Rattle.std.specs.Prelude.{◌≡◌, ◌*◌, ◌/◌, ◌<◌, ◌≤◌, true, false, length, option_map, None, Some, IfOk, IfSome, IfNone};
-ghost use Rattle.std.specs.Bool.{OnTrue, OnFalse};
 ghost use Rattle.std.specs.Fmt.{digit_glyph};
 ghost use Rattle.std.specs.Char.{is_ascii_hexdigit, digit_value};
 ghost use Rattle.fmt_string.specs.FieldText.{hex_bytes, hex_text, last_digits, read_bits};
 ghost use Rattle.fmt_string.specs.Value.{Bits};
 
-use hex::{decode_to_slice, encode_to_slice};
+use fmt_string::decode_hex;
+use hex::encode_to_slice;
 use unit_pass::NoMemory;
 
 /// The number that exactly as many digits as so many bits have write, most significant first.
@@ -78,22 +78,10 @@ pub fn read_bytes<'a>(text: &[u8], room: &'a mut Vec<u8>) -> Result<Option<&'a [
     ensures { IfOk result (λ bytes. option_map (λ b. b.now) bytes ≡ hex_bytes text.now) }
 {
     room.resize(text.len() / 2, 0)?;
-    if !decode(text, room.as_mut_slice()) {
+    if !decode_hex(text, room.as_mut_slice()) {
         return Ok(None);
     }
     Ok(Some(room.as_slice()))
-}
-
-// Whether a text is one of pairs of digits, whose bytes are then written.
-fn decode(text: &[u8], bytes: &mut [u8]) -> bool
-    requires { length bytes.old ≡ length text.now / 2 }
-    ensures found { OnTrue result (hex_bytes text.now ≡ Some bytes.new) }
-    ensures none { OnFalse result (hex_bytes text.now ≡ None) }
-{
-    match decode_to_slice(text, bytes) {
-        Ok(()) => true,
-        Err(_) => false,
-    }
 }
 
 /// The pairs of digits of bytes, in lower case.

@@ -48,7 +48,7 @@ mod writing;
 
 pub use body::{BodyFault, read_body};
 pub use chunk::{chunks_have_their_rows, export_rows};
-pub use csv_model::{HeaderFault, RowFault};
+pub use csv_model::HeaderFault;
 pub use csv_text::CsvText;
 pub use form::{FieldForm, form_of};
 pub use header::read_header;

@@ -10,19 +10,10 @@ mod header;
 
 ghost use Rattle.std.specs.Prelude.{◌≡◌, ◌∷◌, ◌++◌, [], codes};
 ghost use Rattle.csv_model.specs.Examples.{echo, NoHeader, Refused, Text};
-ghost use Rattle.csv_model.specs.declared.RowFault.TheVariants as row;
+ghost use Rattle.fmt_string.specs.declared.row_fault.RowFault.TheVariants as row;
 
 pub use fault::HeaderFault;
 pub use header::worked_headers;
-
-/// Why a record spells no row. Records are numbered from 1 after the header, columns from 1.
-#[derive(Clone, Copy, PartialEq, Eq, Debug)]
-pub enum RowFault {
-    /// The record has another number of fields than the header.
-    Ragged { row: u64, found: u64 },
-    /// The field in this column is no text of the column's type.
-    Field { row: u64, column: u32 },
-}
 
 /// Texts that the definitions read and write as they stand here.
 pub fn worked_texts()

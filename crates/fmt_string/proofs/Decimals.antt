@@ -13,13 +13,13 @@ use Rattle.fmt_string.specs.FormatString.NumberPlace.{AtScale, AtWidth}
 use Rattle.fmt_string.specs.Decimal.{signed_value, parts}
 
 -- digits of which the first isn't 0 write a number above 0
-above_zero : (digits : List ℕ) (n : ℕ) → IsNumber digits n → get_or digits 0 0 ≢ 48 → 0 < n
+pub above_zero : (digits : List ℕ) (n : ℕ) → IsNumber digits n → get_or digits 0 0 ≢ 48 → 0 < n
 above_zero [] n is first = absurd (omega (arith, is.some))
 above_zero (c ∷ cs) n is first =
     let d = digit_from_value c is.digits.0 in
     omega (arith, is.value, digits_value_is 10 (c ∷ cs), number_after_ge 10 (0 * 10 + digit_value c) (map digit_value cs) (omega arith), digit_value_digit c d, d, first)
 
-minus_is : (digits : List ℕ) (n : ℕ) → IsNumber digits n → 0 < n → IsSigned (45 ∷ digits) (neg_ℤ (pos n))
+pub minus_is : (digits : List ℕ) (n : ℕ) → IsNumber digits n → 0 < n → IsSigned (45 ∷ digits) (neg_ℤ (pos n))
 minus_is digits zero is some = absurd (omega (arith, some))
 minus_is digits (suc n) is some = let e : suc n ≡ n + 1 = omega arith in (digits, refl, subst (λ (k : ℕ). IsNumber digits k) e is)
 

@@ -105,10 +105,10 @@ in_table : List Keyword → List ℕ → Answer → Answer
 in_table [] text other = other
 in_table (k ∷ ks) text other = cond (starts_with nat_eq text k.word) (behind k.behind (length k.word) (drop (length k.word) text)) (in_table ks text other)
 
-begins : (text word rest : List ℕ) → text ≡ word ++ rest → starts_with nat_eq text word ≡ true
+pub begins : (text word rest : List ℕ) → text ≡ word ++ rest → starts_with nat_eq text word ≡ true
 begins text word rest split = (starts_is Decides-eqb text word (starts_with nat_eq text word) refl).1 rest split
 
-front : (text word : List ℕ) → starts_with nat_eq text word ≡ true → text ≡ word ++ drop (length word) text
+pub front : (text word : List ℕ) → starts_with nat_eq text word ≡ true → text ≡ word ++ drop (length word) text
 front text word starts = (starts_is Decides-eqb text word (starts_with nat_eq text word) refl).0 starts
 
 -- of two fronts of a text one is a front of the other

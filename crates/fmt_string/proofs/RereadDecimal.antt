@@ -81,7 +81,7 @@ scale_again start p text s more z is split ends = rw (signed_again text s more z
 both_again : (start : ℕ) (text p s more : List ℕ) (n : ℕ) (z : ℤ) → IsNumber p n → IsSigned s z → text ≡ p ++ (44 ∷ (s ++ more)) → (StartsWithDigit more → ⊥) → numbers_of start text ≡ with_more start p s more
 both_again start text p s more n z p_is s_is split ends = precision_again start text p (s ++ more) n p_is split ∙ scale_again start p (s ++ more) s more z s_is refl ends
 
-regroup : (p s w more : List ℕ) → (((p ++ comma) ++ s) ++ w) ++ more ≡ p ++ (44 ∷ (s ++ (w ++ more)))
+pub regroup : (p s w more : List ℕ) → (((p ++ comma) ++ s) ++ w) ++ more ≡ p ++ (44 ∷ (s ++ (w ++ more)))
 regroup p s w more = simp append_assoc
 
 -- the numbers are all there: what is behind them decides

@@ -1,5 +1,5 @@
 -- The text of a field: which value a field of a CSV record spells in a column of a type, and how a value is written.
--- This is the table of the flat column kinds: each type has a form, and a form is read and written one way.
+-- This is the table of the flat column kinds: each has a form, by how it is stored, and a form is read and written one way.
 use Rattle.std.specs.Prelude.{◌≡◌, ◌⊎◌, ℕ, zero, suc, ◌-◌, ◌*◌, ◌/◌, ◌%◌, ◌^◌, ◌<◌, ◌≤◌, ℤ, pos, negsuc, neg_ℤ, nat_abs, Bool, true, false, nat_lt, nat_le, ◌==◌, ◌&&◌, if◌then◌else◌, IsTrue, List, [], ◌∷◌, ◌++◌, length, take, drop, replicate, codes, Option, None, Some}
 use Rattle.std.specs.List.{list_any, list_all, flat_map, prefix_len, AllByRecursion}
 use Rattle.std.specs.Option.{option_map, option_and_then}
@@ -9,8 +9,9 @@ use Rattle.std.specs.Str.Parse.{digits_value, signed_digits_value, starts_with_m
 use Rattle.std.specs.Fmt.{decimal, signed_decimal, digit_glyph}
 use Rattle.fmt_string.specs.declared.kind.DataType.{DataType}
 use Rattle.fmt_string.specs.declared.kind.DataType.TheVariants as kinds
-use Rattle.fmt_string.specs.declared.kind.Tick.{Tick}
-use Rattle.fmt_string.specs.declared.kind.Tick.TheVariants as ticks
+use Rattle.fmt_string.specs.declared.storage.Storage.{Storage}
+use Rattle.fmt_string.specs.declared.storage.Storage.TheVariants as stored
+use Rattle.fmt_string.specs.Storage.{storage_of}
 use Rattle.fmt_string.specs.Table.{Kind, Flat, Dict}
 use Rattle.fmt_string.specs.Value.{Value, Null, Truth, Whole, Bits, Bytes}
 
@@ -36,28 +37,24 @@ abbrev pub places : ℤ → ℕ
 places (pos scale) = scale
 places (negsuc _) = 0
 
-abbrev pub time_bits : Tick → ℕ
-time_bits ticks.Second = 32
-time_bits ticks.Milli = 32
-time_bits ticks.Micro = 64
-time_bits ticks.Nano = 64
+-- the form of what is stored so; lists, structs and views have none
+abbrev pub stored_form : Storage → Option Form
+stored_form stored.Truths = Some Truths
+stored_form (stored.Wholes bits signed) = Some (Wholes bits signed)
+stored_form (stored.Floats bits) = Some (FloatBits bits)
+stored_form (stored.Sized size) = Some (SizedHex size)
+stored_form (stored.Between wide false) = Some HexBytes
+stored_form (stored.Between wide true) = Some Text
+stored_form _ = None
 
--- the form of a flat column kind; any other type has none
+-- the form of a flat column kind; any other type has none. Decimals have a form of their own, and those of 256 bits none,
+-- nor have intervals of several numbers
 abbrev pub form_of : DataType → Option Form
-form_of kinds.Bool = Some Truths
-form_of (kinds.Int bits signed) = Some (Wholes bits signed)
-form_of (kinds.Float bits) = Some (FloatBits bits)
-form_of (kinds.Binary wide) = Some HexBytes
-form_of (kinds.Utf8 wide) = Some Text
-form_of (kinds.FixedBinary size) = Some (SizedHex size)
 form_of (kinds.Decimal precision scale false) = Some (Decimals precision (places scale))
-form_of kinds.DateDay = Some (Wholes 32 true)
-form_of kinds.DateMilli = Some (Wholes 64 true)
-form_of (kinds.TimeOfDay tick) = Some (Wholes (time_bits tick) true)
-form_of (kinds.Timestamp tick zone) = Some (Wholes 64 true)
-form_of (kinds.Duration tick) = Some (Wholes 64 true)
-form_of kinds.IntervalMonths = Some (Wholes 32 true)
-form_of _ = None
+form_of (kinds.Decimal precision scale true) = None
+form_of kinds.IntervalDayTime = None
+form_of kinds.IntervalMonthDayNano = None
+form_of type = stored_form (storage_of type)
 
 -- ---- reading
 

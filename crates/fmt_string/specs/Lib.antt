@@ -7,6 +7,7 @@ pub mod Meaning
 pub mod Answer
 pub mod Value
 pub mod Table
+pub mod Storage
 pub mod FieldText
 pub mod ColumnView
 pub mod Parts

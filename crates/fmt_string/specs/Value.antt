@@ -1,5 +1,6 @@
 -- Values of the columnar format (Arrow Columnar Format, "Physical memory layout").
-use Rattle.std.specs.Prelude.{ℕ, ℤ, Bool, List, [], ◌∷◌}
+use Rattle.std.specs.Prelude.{ℕ, ℤ, Bool, List, [], ◌∷◌, length, map}
+use Rattle.std.specs.List.{concat}
 
 mutual
   -- null, a truth value, a whole number, the bits of a float, bytes, a list of values, a struct of values
@@ -20,3 +21,12 @@ mutual
 abbrev pub values : List Value → Values
 values [] = no_values
 values (v ∷ vs) = more_values v (values vs)
+
+-- the bytes of a value; any other has none
+abbrev pub bytes_of : Value → List ℕ
+bytes_of (Bytes bytes) = bytes
+bytes_of _ = []
+
+-- how many bytes values have
+abbrev pub byte_total : List Value → ℕ
+byte_total values = length (concat (map bytes_of values))

@@ -1,7 +1,8 @@
-ghost use Rattle.std.specs.Prelude.{◌≡◌, IfOk, IfErr};
+ghost use Rattle.std.specs.Prelude.{◌≡◌, IfOk, IfErr, is_some};
+ghost use Rattle.fmt_string.specs.FieldText.{stored_form};
 ghost use Rattle.fmt_string.specs.Kinds.{KindOk, HasZone, is_flat, is_within, is_column_type};
 
-use crate::DataType;
+use crate::{DataType, Storage, storage_of};
 use std::alloc::Global;
 use unit_pass::{Name, NoMemory};
 
@@ -53,23 +54,33 @@ pub fn clone_kind(alloc: Global, kind: &DataType) -> Result<DataType, NoMemory>
 }
 
 /// Whether a field of text spells the type's values: no null type, no list, struct or map, no interval of several
-/// numbers and no decimal of 256 bits.
+/// numbers, no decimal of 256 bits and no view.
 pub fn is_flat(kind: &DataType) -> bool
     ensures { result ≡ is_flat kind.now }
 {
-    !matches!(
-        kind,
-        DataType::Null
-            | DataType::Decimal { wide: true, .. }
-            | DataType::IntervalDayTime
-            | DataType::IntervalMonthDayNano
-            | DataType::List { .. }
-            | DataType::FixedList { .. }
-            | DataType::Struct
-            | DataType::Map
-            | DataType::BinaryView
-            | DataType::Utf8View
-    )
+    match kind {
+        DataType::Decimal { wide, .. } => !*wide,
+        DataType::IntervalDayTime | DataType::IntervalMonthDayNano => false,
+        other => is_flat_storage(storage_of(other)),
+    }
+}
+
+/// Whether an item stands alone, in its place or between offsets.
+fn is_flat_storage(storage: Storage) -> bool
+    ensures { result ≡ is_some (stored_form storage) }
+{
+    match storage {
+        Storage::Truths
+        | Storage::Wholes { .. }
+        | Storage::Floats { .. }
+        | Storage::Sized { .. }
+        | Storage::Between { .. } => true,
+        Storage::Nothing
+        | Storage::Lists { .. }
+        | Storage::FixedLists { .. }
+        | Storage::Children
+        | Storage::Views { .. } => false,
+    }
 }
 
 /// Whether a scale is from 0 to the precision.

@@ -6,9 +6,10 @@ ghost use Rattle.fmt_string.specs.Kinds.{KindOk};
 ghost use Rattle.fmt_string.specs.Spelling.{spelling_of};
 ghost use Rattle.fmt_string.specs.Answer.{Reads};
 
-/// A law: a text spells one type or has one first fault.
+/// A law: each text spells a type or has a first fault, and only one.
 pub fn one_reading()
-    ensures { (text : List ℕ) (first second : Result DataType FormatFault) → Reads text first → Reads text second → first ≡ second }
+    ensures some { (text : List ℕ) → (read : Result DataType FormatFault) × Reads text read }
+    ensures alone { (text : List ℕ) (first second : Result DataType FormatFault) → Reads text first → Reads text second → first ≡ second }
 {}
 
 /// A law: the canonical spelling of a type spells it, and no other type has that spelling.

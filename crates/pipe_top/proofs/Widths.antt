@@ -5,8 +5,8 @@ use Rattle.std.specs.Prelude.{◌==◌}
 use Rattle.fmt_string.specs.Table.{Column, Row}
 use Rattle.fmt_string.specs.Value.{Value}
 use Rattle.csv_model.specs.Reading.{Record, body, body_from, field_in, row_of, values_from, values_step, with_row, with_value}
-use Rattle.csv_model.specs.declared.RowFault.{RowFault}
-use Rattle.csv_model.specs.declared.RowFault.TheVariants as row
+use Rattle.fmt_string.specs.declared.row_fault.RowFault.{RowFault}
+use Rattle.fmt_string.specs.declared.row_fault.RowFault.TheVariants as row
 
 ok-cons : (value : Value) (spelled : Result Row RowFault) (values : Row) → with_value value spelled ≡ Ok values → (rest : Row) × (spelled ≡ Ok rest) × (length values ≡ suc (length rest))
 ok-cons value (Ok rest) values is = let same : ◌≡◌ {A = Result Row RowFault} (Ok (value ∷ rest)) (Ok values) = is in let one : value ∷ rest ≡ values = cc in (rest, refl, ap length (sym one))

@@ -6,8 +6,8 @@ use Rattle.csv_edge.specs.Entries.{entries_of}
 use Rattle.csv_model.specs.Header.{Entry, header_of}
 use Rattle.csv_model.specs.Reading.{Record, body, records_of}
 use Rattle.csv_model.specs.Text.{table_text}
-use Rattle.csv_model.specs.declared.RowFault.{RowFault}
-use Rattle.csv_model.specs.declared.RowFault.TheVariants as row
+use Rattle.fmt_string.specs.declared.row_fault.RowFault.{RowFault}
+use Rattle.fmt_string.specs.declared.row_fault.RowFault.TheVariants as row
 use Rattle.csv_model.specs.declared.fault.HeaderFault.{HeaderFault}
 use Rattle.csv_model.specs.declared.fault.HeaderFault.TheVariants as header
 use Rattle.stage_plan.specs.Types.{Reads}

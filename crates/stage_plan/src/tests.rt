@@ -2,7 +2,7 @@ use super::{TypesFault, TypesRule, read_types};
 use std::test::Fail;
 
 // A text, and its first entry at fault.
-static FAULTS: [(&str, u64, TypesRule); 22] = [
+static FAULTS: [(&str, u64, TypesRule); 23] = [
     ("a:u;a:u", 2, TypesRule::Twice),
     ("a", 1, TypesRule::BadEntry),
     ("a:q", 1, TypesRule::BadEntry),
@@ -25,6 +25,7 @@ static FAULTS: [(&str, u64, TypesRule); 22] = [
     ("a:+l", 1, TypesRule::BadEntry),
     ("a:u ", 1, TypesRule::BadEntry),
     ("a:vu", 1, TypesRule::BadEntry),
+    ("a:vz", 1, TypesRule::BadEntry),
 ];
 
 #[test]

@@ -1,7 +1,8 @@
 use Rattle.std.proofs.Common.{◌≡◌, ◌+◌, ℕ, [], ◌∷◌, refl, subst, arith}
 use Rattle.std.proofs.lemmas.Result.{IfOk-weaker, MatchResult-weaker, on_ok_weaker}
 use Rattle.std.specs.Prelude.{if◌then◌else◌, is_ok, map}
-use Rattle.col_build.specs.Encoding.{bytes_of, if_some, offset_bytes}
+use Rattle.fmt_string.specs.Value.{bytes_of}
+use Rattle.col_build.specs.Encoding.{if_some, offset_bytes}
 use Rattle.col_build.proofs.FinishFacts.{IsBetween, blocks-between, blocks-in-place, encoded-built, held-between, held-in-place, offsets-held, same-but-holds, same-holds}
 use Rattle.col_build.proofs.ValidityFacts.{nulls-few}
 use Rattle.col_build.proofs.builder.Builder.finish.Goals as goal
