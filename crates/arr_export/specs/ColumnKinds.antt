@@ -1,12 +1,9 @@
 -- The types of columns, as the schema of a table names them.
 use Rattle.std.specs.Prelude.{true, List, map}
-use Rattle.fmt_string.specs.FieldText.{form_of}
-use Rattle.fmt_string.specs.Kinds.{KindOk}
 use Rattle.fmt_string.specs.Table.{Column, Kind, Flat, Dict, Columns, Members, no_members, more_members}
 use Rattle.fmt_string.specs.declared.kind.DataType.{DataType}
 use Rattle.fmt_string.specs.declared.kind.DataType.TheVariants as kinds
 use Rattle.tree_model.specs.Tree.{Live, Trees, no_trees, more_trees, absent, present}
-use Rattle.col_build.specs.Encoding.{HasForm}
 use Rattle.layout_check.specs.Kinds.{KindTree}
 use Rattle.arr_export.specs.ArrayTrees.{table_type}
 
@@ -30,17 +27,3 @@ types_of_columns columns = map type_of_column columns
 -- the type of a table of these columns
 abbrev pub type_of_columns : List Column → KindTree
 type_of_columns columns = table_type (types_of_columns columns)
-
--- a flat column kind, whose numbers are in their ranges
-abbrev pub IsColumnKind : DataType → Type 0
-IsColumnKind kind = KindOk kind × HasForm (form_of kind)
-
-abbrev mutual
-  pub AreColumnKinds : Kind → Type 0
-  AreColumnKinds (Flat kind) = IsColumnKind kind
-  AreColumnKinds (Dict kind) = IsColumnKind kind
-  AreColumnKinds (Columns members) = MembersAreColumns members
-
-  pub MembersAreColumns : Members → Type 0
-  MembersAreColumns no_members = Unit {0}
-  MembersAreColumns (more_members name kind rest) = AreColumnKinds kind × MembersAreColumns rest

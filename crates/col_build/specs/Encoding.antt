@@ -9,6 +9,7 @@ use Rattle.fmt_string.specs.Kinds.{KindOk}
 use Rattle.fmt_string.specs.Value.{Value, Null, Truth, Whole, Bits, Bytes}
 -- the bytes that stand between two offsets, and how many there are of a column's values
 pub use Rattle.fmt_string.specs.Value.{bytes_of, byte_total}
+pub use Rattle.fmt_string.specs.ColumnForms.{HasForm}
 use Rattle.fmt_string.specs.declared.kind.DataType.{DataType}
 use Rattle.fmt_string.specs.declared.kind.DataType.TheVariants as kinds
 use Rattle.col_build.specs.declared.item.PushFault.{PushFault}
@@ -156,10 +157,6 @@ abbrev pub push_fault : DataType → List Value → Value → Option PushFault
 push_fault kind values value = fault_if (is_wide kind) (form_of kind) values value
 
 -- ---- the columns that have an encoding
-
-abbrev pub HasForm : Option Form → Type 0
-HasForm None = ⊥
-HasForm (Some form) = Unit {0}
 
 -- the offsets, if there are any, reach so many bytes
 abbrev pub are_within : Bool → Option Form → ℕ → Bool

@@ -4,7 +4,7 @@ use Rattle.std.specs.List.{AllPairs}
 use Rattle.fmt_string.specs.declared.kind.DataType.{DataType}
 use Rattle.fmt_string.specs.Kinds.{KindOk, is_column_type}
 use Rattle.fmt_string.specs.Table.{Column, Kind, Flat, Dict, Columns}
-use Rattle.arr_export.specs.ColumnKinds.{IsColumnKind}
+use Rattle.fmt_string.specs.ColumnForms.{IsColumnKind}
 
 -- a column of plain values, whose type has the property
 abbrev pub IsFlatOf : (DataType → Type 0) → Column → Type 0

@@ -3,7 +3,7 @@ ghost use Rattle.std.specs.Prelude.{◌≡◌, ◌++◌, ℕ, List, Some, map, I
 ghost use Rattle.fmt_string.specs.ColumnView.{column_of, kind_of};
 ghost use Rattle.fmt_string.specs.FieldText.{form_of};
 ghost use Rattle.csv_model.specs.Text.{header_text};
-ghost use Rattle.arr_export.specs.ColumnKinds.{IsColumnKind};
+ghost use Rattle.fmt_string.specs.ColumnForms.{IsColumnKind};
 ghost use Rattle.csv_edge.specs.CsvTexts.{AreFormsOf, IsFormOf};
 ghost use Rattle.csv_edge.specs.FieldForms.{IsProper, form_in};
 ghost use Rattle.csv_edge.specs.Lines.{HasLines};

@@ -5,7 +5,8 @@ ghost use Rattle.tree_model.specs.Tree.{Depth, trees, maybe_tree, depth_of_all, 
 ghost use Rattle.unit_pass.specs.declared.pass.TheConstants.{CHUNK};
 ghost use Rattle.layout_check.specs.Kinds.{TypedOk};
 ghost use Rattle.layout_check.specs.TypedView.{typed_of};
-ghost use Rattle.arr_export.specs.ColumnKinds.{AreColumnKinds, type_of_columns};
+ghost use Rattle.fmt_string.specs.ColumnForms.{AreColumnKinds};
+ghost use Rattle.arr_export.specs.ColumnKinds.{type_of_columns};
 ghost use Rattle.arr_export.specs.ColumnSchema.{KindsOk, SchemaOf};
 ghost use Rattle.csv_edge.specs.TextColumns.{HaveTexts};
 

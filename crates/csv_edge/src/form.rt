@@ -3,7 +3,7 @@ ghost use Rattle.std.specs.Prelude.{◌≡◌, option_map, IfSome, Some, true};
 ghost use Rattle.fmt_string.specs.FieldText.{form_of, places};
 ghost use Rattle.fmt_string.specs.Storage.{time_bits};
 ghost use Rattle.fmt_string.specs.Kinds.{KindOk};
-ghost use Rattle.arr_export.specs.ColumnKinds.{IsColumnKind};
+ghost use Rattle.fmt_string.specs.ColumnForms.{IsColumnKind};
 ghost use Rattle.csv_edge.specs.FieldForms.{IsProper, form_in};
 
 use fmt_string::{DataType, Tick};

@@ -1,4 +1,5 @@
 pub mod Reading
 pub mod Text
+pub mod Batches
 pub mod Header
 pub mod Examples

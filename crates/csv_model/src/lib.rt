@@ -1,8 +1,8 @@
 //! What CSV text means: the records of a text, the columns of its header, the rows that its records spell under them, and
 //! the text of a table.
 //!
-//! The definitions stand in `specs/`: `Reading` (records, rows, faults), `Header` (columns, faults), `Text` (the text of a
-//! table).
+//! The definitions stand in `specs/`: `Reading` (records, rows, faults), `Batches` (rows in tables of a size), `Header`
+//! (columns, faults), `Text` (the text of a table).
 #![tactic(auto)]
 
 mod fault;
@@ -17,11 +17,13 @@ pub use header::worked_headers;
 
 /// Texts that the definitions read and write as they stand here.
 pub fn worked_texts()
-    ensures null_field { echo (codes "a,b\n1,\n") ≡ Text (codes "a,b\n1,\n") }
-    ensures null_alone { echo (codes "x\n\"\"\n") ≡ Text (codes "x\n\"\"\n") }
-    ensures header_alone { echo (codes "a,b\n") ≡ Text (codes "a,b\n") }
-    ensures no_header { echo [] ≡ NoHeader }
-    ensures not_text { echo (codes "a\ncaf" ++ 0xff ∷ 10 ∷ []) ≡ Refused (row.Field 1 1) }
-    ensures ragged { echo (codes "a,b\n1\n") ≡ Refused (row.Ragged 1 1) }
-    ensures mark_and_quotes { echo (0xef ∷ 0xbb ∷ 0xbf ∷ codes "a\r\n\"x,y\"\r\n") ≡ Text (codes "a\n\"x,y\"\n") }
+    ensures null_field { echo [] (codes "a,b\n1,\n") ≡ Text (codes "a,b\n1,\n") }
+    ensures null_alone { echo [] (codes "x\n\"\"\n") ≡ Text (codes "x\n\"\"\n") }
+    ensures header_alone { echo [] (codes "a,b\n") ≡ Text (codes "a,b\n") }
+    ensures no_header { echo [] [] ≡ NoHeader }
+    ensures not_text { echo [] (codes "a\ncaf" ++ 0xff ∷ 10 ∷ []) ≡ Refused (row.Field 1 1) }
+    ensures ragged { echo [] (codes "a,b\n1\n") ≡ Refused (row.Ragged 1 1) }
+    ensures marked { echo (codes "NA") (codes "a,b\nNA,\n") ≡ Text (codes "a,b\nNA,\n") }
+    ensures unmarked_alone { echo (codes "NA") (codes "x\n\"\"\nNA\n") ≡ Text (codes "x\n\"\"\nNA\n") }
+    ensures mark_and_quotes { echo [] (0xef ∷ 0xbb ∷ 0xbf ∷ codes "a\r\n\"x,y\"\r\n") ≡ Text (codes "a\n\"x,y\"\n") }
 {}

@@ -1,9 +1,9 @@
 -- The text of a value reads back as the value, form by form.
 use Rattle.std.proofs.Common.{◌≡◌, ◌≢◌, ℕ, zero, suc, ◌+◌, ◌-◌, ◌*◌, ◌/◌, ◌%◌, ◌^◌, ◌<◌, ◌≤◌, true, false, List, [], ◌∷◌, ◌++◌, length, replicate, Option, Some, None, refl, sym, ap, ◌∙◌, subst, append_assoc, arith, rules, length-append, inl, inr, lt-ltb, eq-eqb}
-use Rattle.std.specs.Prelude.{ℤ, pos, negsuc, nat_abs, Bool, nat_lt, nat_le, ◌==◌, ◌&&◌, IsTrue}
+use Rattle.std.specs.Prelude.{ℤ, pos, negsuc, nat_abs, Bool, nat_lt, nat_le, ◌==◌, ◌&&◌, ◌⊎◌, if◌then◌else◌, IsTrue}
 use Rattle.std.specs.List.{list_all, prefix_len, AllByRecursion}
 use Rattle.std.specs.Char.{is_ascii_digit, is_ascii_hexdigit, digit_value}
-use Rattle.std.specs.Str.{all_ascii_digits}
+use Rattle.std.specs.Str.{all_ascii_digits, bytes_eq}
 use Rattle.std.specs.Str.Parse.{digits_value, starts_with_minus, without_leading_sign}
 use Rattle.std.specs.Fmt.{decimal, signed_decimal, digit_glyph}
 use Rattle.std.proofs.lemmas.Bool.{and_parts, and_from, false≢true, leb-true, le-leb, ltb-true, ne_eqb}
@@ -12,6 +12,7 @@ use Rattle.std.proofs.lemmas.Fmt.{decimal_is_IsNumeral_wide}
 use Rattle.std.proofs.lemmas.List.{append-nil, take_at, drop_at}
 use Rattle.std.proofs.lemmas.List.Folds.{list_all-append}
 use Rattle.std.proofs.lemmas.Nat.{div-add-mod', mod_below, div_below}
+use Rattle.std.proofs.lemmas.Slice.Eq.{bytes_eq-Decides}
 use Rattle.std.proofs.lemmas.Str.Parse.{IsNumeralModel, numerals_by_value}
 use Rattle.std.proofs.Math.Nat.{div-div-eq-div-mul, div-le_self, pow-succ', pow-zero, pow-le-pow_right}
 use Rattle.fmt_string.specs.declared.kind.DataType.{DataType}
@@ -250,43 +251,47 @@ written_some _ _ flat of some = absurd of
 
 -- ---- all kinds
 
-field_of_text : (type : DataType) (text : List ℕ) → 0 < length text → read_field type text ≡ read_text type text
-field_of_text type [] some = absurd (omega (arith, some))
-field_of_text type (byte ∷ rest) some = refl
+-- a text that is the mark is null, and so is the value that it is the text of; any other is read by its type
+read_if : (is : Bool) (text mark : List ℕ) (value : Value) (read : Option Value) → (is ≡ true → text ≡ mark) → (text ≡ mark → value ≡ Null) → read ≡ Some value
+    → ◌≡◌ {A = Option Value} (if is then Some Null else read) (Some value)
+read_if true text mark value read same null reads = ap Some (sym (null (same refl)))
+read_if false text mark value read same null reads = reads
 
-pub null_text : (form : Option Form) → written_if form Null ≡ []
-null_text None = refl
-null_text (Some Truths) = refl
-null_text (Some (Wholes bits signed)) = refl
-null_text (Some (FloatBits digits)) = refl
-null_text (Some Text) = refl
-null_text (Some HexBytes) = refl
-null_text (Some (SizedHex size)) = refl
-null_text (Some (Decimals precision places)) = refl
+with_form : (mark : List ℕ) (type : DataType) (form : Option Form) (value : Value) → form_of type ≡ form → IsSomeFlat form → IsOfSome form value
+    → (written_if form value ≡ mark → value ≡ Null) → read_field mark type (written_if form value) ≡ Some value
+with_form mark type None value is flat of null = absurd of
+with_form mark type (Some form) value is flat of null =
+    read_if (bytes_eq (written_form form value) mark) (written_form form value) mark value _ (bytes_eq-Decides (written_form form value) mark).0 null
+    (rw is (form_back form value flat of))
 
-empty_text : (form : Option Form) → written_if form (Bytes []) ≡ []
-empty_text None = refl
-empty_text (Some Truths) = refl
-empty_text (Some (Wholes bits signed)) = refl
-empty_text (Some (FloatBits digits)) = refl
-empty_text (Some Text) = refl
-empty_text (Some HexBytes) = refl
-empty_text (Some (SizedHex size)) = refl
-empty_text (Some (Decimals precision places)) = refl
+pub mark_is_null : (mark : List ℕ) (type : DataType) → read_field mark type mark ≡ Some Null
+mark_is_null mark type = rw ((bytes_eq-Decides mark mark).1 refl) refl
 
-with_form : (type : DataType) (form : Option Form) (value : Value) → form_of type ≡ form → IsSomeFlat form → IsOfSome form value → value ≢ Bytes [] → read_field type (written_if form value) ≡ Some value
-with_form type None value is flat of some = absurd of
-with_form type (Some form) value is flat of some =
-    field_of_text type (written_form form value) (written_some form value flat of some) ∙ rw is (form_back form value flat of)
+pub reads_back : (type : DataType) (mark : List ℕ) (value : Value) → IsFlatKind type → IsValueOf type value → (written_text mark type value ≡ mark → value ≡ Null)
+    → read_field mark type (written_text mark type value) ≡ Some value
+reads_back type mark Null flat of null = mark_is_null mark type
+reads_back type mark (Truth truth) flat of null = with_form mark type (form_of type) (Truth truth) refl flat of null
+reads_back type mark (Whole z) flat of null = with_form mark type (form_of type) (Whole z) refl flat of null
+reads_back type mark (Bits n) flat of null = with_form mark type (form_of type) (Bits n) refl flat of null
+reads_back type mark (Bytes bytes) flat of null = with_form mark type (form_of type) (Bytes bytes) refl flat of null
+reads_back type mark (Items items) flat of null = with_form mark type (form_of type) (Items items) refl flat of null
+reads_back type mark (Fields fields) flat of null = with_form mark type (form_of type) (Fields fields) refl flat of null
 
-pub reads_back : (type : DataType) (value : Value) → IsFlatKind type → IsValueOf type value → value ≢ Bytes [] → read_field type (written_text type value) ≡ Some value
-reads_back type Null flat of some = ap (read_field type) (null_text (form_of type))
-reads_back type (Truth truth) flat of some = with_form type (form_of type) (Truth truth) refl flat of some
-reads_back type (Whole z) flat of some = with_form type (form_of type) (Whole z) refl flat of some
-reads_back type (Bits n) flat of some = with_form type (form_of type) (Bits n) refl flat of some
-reads_back type (Bytes bytes) flat of some = with_form type (form_of type) (Bytes bytes) refl flat of some
-reads_back type (Items items) flat of some = with_form type (form_of type) (Items items) refl flat of some
-reads_back type (Fields fields) flat of some = with_form type (form_of type) (Fields fields) refl flat of some
+-- ---- empty texts
 
-pub empty_bytes : (type : DataType) → read_field type (written_text type (Bytes [])) ≡ Some Null
-empty_bytes type = ap (read_field type) (empty_text (form_of type))
+some_form : (form : Option Form) (value : Value) → IsSomeFlat form → IsOfSome form value → value ≢ Bytes [] → 0 < length (written_if form value)
+some_form None value flat of some = absurd of
+some_form (Some form) value flat of some = written_some form value flat of some
+
+not_empty : (text : List ℕ) → 0 < length text → text ≡ [] → ⊥
+not_empty text some is = let none : length text ≡ 0 = ap length is in omega (arith, some, none)
+
+pub empty_texts : (type : DataType) (value : Value) → IsFlatKind type → IsValueOf type value → written_text [] type value ≡ [] → (value ≡ Null) ⊎ (value ≡ Bytes [])
+empty_texts type Null flat of is = inl refl
+empty_texts type (Bytes []) flat of is = inr refl
+empty_texts type (Bytes (b ∷ bs)) flat of is = absurd (not_empty _ (some_form (form_of type) (Bytes (b ∷ bs)) flat of (λ e. cc)) is)
+empty_texts type (Truth truth) flat of is = absurd (not_empty _ (some_form (form_of type) (Truth truth) flat of (λ e. cc)) is)
+empty_texts type (Whole z) flat of is = absurd (not_empty _ (some_form (form_of type) (Whole z) flat of (λ e. cc)) is)
+empty_texts type (Bits n) flat of is = absurd (not_empty _ (some_form (form_of type) (Bits n) flat of (λ e. cc)) is)
+empty_texts type (Items items) flat of is = absurd (not_empty _ (some_form (form_of type) (Items items) flat of (λ e. cc)) is)
+empty_texts type (Fields fields) flat of is = absurd (not_empty _ (some_form (form_of type) (Fields fields) flat of (λ e. cc)) is)

@@ -4,14 +4,14 @@ use Rattle.std.specs.Prelude.{pos, neg_ℤ, nat_abs, Bool, nat_lt, nat_le, ◌==
 use Rattle.std.specs.List.{list_all, AllByRecursion}
 use Rattle.std.specs.Option.{option_map, option_and_then}
 use Rattle.std.specs.Char.{is_ascii_hexdigit, digit_value}
-use Rattle.std.specs.Str.{is_utf8}
+use Rattle.std.specs.Str.{bytes_eq, is_utf8}
 use Rattle.std.specs.Str.Parse.{AllDigits, digits_value, signed_digits_value, starts_with_minus, without_leading_sign}
 use Rattle.std.proofs.lemmas.Bool.{and_parts, or_cases, leb-true, ltb-true, eqb-true, lt-ltb, le-ltb}
 use Rattle.std.specs.Int.{is_in_range}
 use Rattle.std.proofs.lemmas.Int.Digits.{digits_value-lt}
 use Rattle.fmt_string.specs.declared.kind.DataType.{DataType}
 use Rattle.fmt_string.specs.Value.{Value, Null, Truth, Whole, Bits, Bytes, Items, Fields}
-use Rattle.fmt_string.specs.FieldText.{Form, is_numeral, in_range, hex_bytes, read_unscaled, read_form, read_field, IsFlatForm, IsSomeFlat, IsFlatKind, IsOfForm, IsOfSome, IsValueOf, form_of}
+use Rattle.fmt_string.specs.FieldText.{Form, is_numeral, in_range, hex_bytes, read_unscaled, read_form, read_field, read_text, IsFlatForm, IsSomeFlat, IsFlatKind, IsOfForm, IsOfSome, IsValueOf, form_of}
 use Rattle.fmt_string.specs.FieldText.Form.{Truths, Wholes, FloatBits, Text, HexBytes, SizedHex, Decimals}
 use Rattle.fmt_string.proofs.FieldLaws.{float_width}
 
@@ -132,9 +132,12 @@ value_of type (Bytes bytes) of = of
 value_of type (Items items) of = of
 value_of type (Fields fields) of = of
 
-pub read_is_value : (type : DataType) (text : List ℕ) (v : Value) → IsFlatKind type → read_field type text ≡ Some v → IsValueOf type v
-read_is_value type [] v flat e = subst (λ (x : Value). IsValueOf type x) (same_some Null v e) tt
-read_is_value type (c ∷ cs) v flat e =
-    let taken = then_some (λ (form : Form). read_form form (c ∷ cs)) (form_of type) v e in
-    let is = form_read taken.0 (c ∷ cs) v (subst (λ (o : Option Form). IsSomeFlat o) taken.1 flat) taken.2 in
+read_value : (is : Bool) (type : DataType) (text : List ℕ) (v : Value) → IsFlatKind type → ◌≡◌ {A = Option Value} (if is then Some Null else read_text type text) (Some v) → IsValueOf type v
+read_value true type text v flat e = subst (λ (x : Value). IsValueOf type x) (same_some Null v e) tt
+read_value false type text v flat e =
+    let taken = then_some (λ (form : Form). read_form form text) (form_of type) v e in
+    let is = form_read taken.0 text v (subst (λ (o : Option Form). IsSomeFlat o) taken.1 flat) taken.2 in
     value_of type v (subst (λ (o : Option Form). IsOfSome o v) (sym taken.1) is)
+
+pub read_is_value : (type : DataType) (mark text : List ℕ) (v : Value) → IsFlatKind type → read_field mark type text ≡ Some v → IsValueOf type v
+read_is_value type mark text v flat e = read_value (bytes_eq text mark) type text v flat e

@@ -1,4 +1,5 @@
--- The text of a field: which value a field of a CSV record spells in a column of a type, and how a value is written.
+-- The text of a field: which value a field of a CSV record spells in a column of a type, and how a value is written. The
+-- mark is the text that stands for a null, by default the empty one.
 -- This is the table of the flat column kinds: each has a form, by how it is stored, and a form is read and written one way.
 use Rattle.std.specs.Prelude.{◌≡◌, ◌⊎◌, ℕ, zero, suc, ◌-◌, ◌*◌, ◌/◌, ◌%◌, ◌^◌, ◌<◌, ◌≤◌, ℤ, pos, negsuc, neg_ℤ, nat_abs, Bool, true, false, nat_lt, nat_le, ◌==◌, ◌&&◌, if◌then◌else◌, IsTrue, List, [], ◌∷◌, ◌++◌, length, take, drop, replicate, codes, Option, None, Some}
 use Rattle.std.specs.List.{list_any, list_all, flat_map, prefix_len, AllByRecursion}
@@ -129,10 +130,9 @@ read_form (Decimals precision places) text = read_decimal precision places text
 abbrev pub read_text : DataType → List ℕ → Option Value
 read_text type text = option_and_then (λ form. read_form form text) (form_of type)
 
--- the value of a field: an empty field is null
-abbrev pub read_field : DataType → List ℕ → Option Value
-read_field type [] = Some Null
-read_field type (byte ∷ rest) = read_text type (byte ∷ rest)
+-- the value of a field: one that equals the mark is null, and any other, the empty one too, is read by its type
+abbrev pub read_field : List ℕ → DataType → List ℕ → Option Value
+read_field mark type text = if bytes_eq text mark then Some Null else read_text type text
 
 -- ---- writing
 
@@ -168,15 +168,16 @@ abbrev pub written_if : Option Form → Value → List ℕ
 written_if None value = []
 written_if (Some form) value = written_form form value
 
--- the text of a value of a type: a null is an empty field
-abbrev pub written_text : DataType → Value → List ℕ
-written_text type value = written_if (form_of type) value
+-- the text of a value of a type: a null is the mark
+abbrev pub written_text : List ℕ → DataType → Value → List ℕ
+written_text mark type Null = mark
+written_text mark type value = written_if (form_of type) value
 
 -- the text of a value in a column: a column with a dictionary is written by its values
-abbrev pub written_field : Kind → Value → List ℕ
-written_field (Flat type) value = written_text type value
-written_field (Dict type) value = written_text type value
-written_field _ value = []
+abbrev pub written_field : List ℕ → Kind → Value → List ℕ
+written_field mark (Flat type) value = written_text mark type value
+written_field mark (Dict type) value = written_text mark type value
+written_field mark _ value = []
 
 -- ---- values of a type
 

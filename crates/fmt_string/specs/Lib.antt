@@ -10,4 +10,5 @@ pub mod Table
 pub mod Storage
 pub mod FieldText
 pub mod ColumnView
+pub mod ColumnForms
 pub mod Parts

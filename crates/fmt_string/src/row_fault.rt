@@ -1,3 +1,4 @@
+//! Why a record spells no row.
 /// Why a record spells no row of a table. Records are numbered from 1 after the header, columns from 1.
 #[derive(Clone, Copy, PartialEq, Eq, Debug)]
 pub enum RowFault {

@@ -1,3 +1,4 @@
+//! How the values of each type are stored.
 ghost use Rattle.std.specs.Prelude.{◌≡◌, true};
 ghost use Rattle.fmt_string.specs.Storage.{storage_of, time_bits};
 ghost use Rattle.fmt_string.specs.declared.storage.Storage.TheVariants.{Wholes};

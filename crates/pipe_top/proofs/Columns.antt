@@ -11,7 +11,7 @@ use Rattle.fmt_string.specs.declared.kind.DataType.TheVariants as kinds
 use Rattle.col_build.specs.Encoding.{HasForm}
 use Rattle.col_build.specs.Holding.{Holds}
 use Rattle.col_build.specs.declared.builder.Builder.{Builder}
-use Rattle.arr_export.specs.ColumnKinds.{AreColumnKinds, IsColumnKind}
+use Rattle.fmt_string.specs.ColumnForms.{AreColumnKinds, IsColumnKind}
 use Rattle.csv_edge.specs.Body.{HoldsKind}
 use Rattle.csv_edge.specs.Chunks.{chunk_blocks}
 use Rattle.csv_edge.specs.TextColumns.{AreAllowed, AreProper, HasTexts}

@@ -4,7 +4,7 @@ use Rattle.fmt_string.specs.Table.{Column, Row}
 use Rattle.raw_array.specs.Members.{ArrayTree}
 use Rattle.raw_schema.specs.Members.{SchemaTree}
 use Rattle.tree_model.specs.Tree.{Depth}
-use Rattle.arr_export.specs.ColumnKinds.{AreColumnKinds}
+use Rattle.fmt_string.specs.ColumnForms.{AreColumnKinds}
 use Rattle.arr_export.specs.ColumnSchema.{SchemaOf}
 use Rattle.csv_edge.specs.Chunks.{FitFrom, chunk_of}
 

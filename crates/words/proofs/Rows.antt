@@ -13,5 +13,5 @@ given_text f id o given = given ∙ first_value-rows f id
 
 -- options whose fields are those of the rows
 pub options_are : (rows : List Row) (o : Options) → o.schema ≡ first_of (codes "schema") rows → o.audit ≡ flag_in (codes "audit") rows
-    → o ≡ options_in rows
-options_are rows o schema audit = λ i. record { schema = schema i; audit = audit i }
+    → o.null ≡ first_of (codes "null") rows → o ≡ options_in rows
+options_are rows o schema audit null = λ i. record { schema = schema i; audit = audit i; null = null i }

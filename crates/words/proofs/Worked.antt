@@ -5,7 +5,7 @@ use Rattle.words.specs.Words.{Options, words_of}
 use Rattle.words.specs.declared.WordsFault.TheVariants.{Refused}
 
 abbrev plain : Options
-plain = record { schema = None; audit = false }
+plain = record { schema = None; audit = false; null = None }
 
 none_is : words_of [] ≡ Ok plain
 unfolding words_of clap_on_literals
@@ -24,7 +24,7 @@ attached_is : words_of (codes "--schema=a:u;a:u" ∷ []) ≡ Ok (record plain { 
 unfolding words_of clap_on_literals
 attached_is = refl
 
-both_is : words_of (codes "--audit" ∷ codes "--schema" ∷ codes "a:l" ∷ []) ≡ Ok (record { schema = Some (codes "a:l"); audit = true })
+both_is : words_of (codes "--audit" ∷ codes "--schema" ∷ codes "a:l" ∷ []) ≡ Ok (record plain { schema = Some (codes "a:l"); audit = true })
 unfolding words_of clap_on_literals
 both_is = refl
 
@@ -68,7 +68,27 @@ after_dashes_is : words_of (codes "--" ∷ codes "--audit" ∷ []) ≡ Err Refus
 unfolding words_of clap_on_literals
 after_dashes_is = refl
 
--- the command has no stages, and no option but these two
+null_is : words_of (codes "--null" ∷ codes "NA" ∷ []) ≡ Ok (record plain { null = Some (codes "NA") })
+unfolding words_of clap_on_literals
+null_is = refl
+
+empty_null_is : words_of (codes "--null=" ∷ []) ≡ Ok (record plain { null = Some [] })
+unfolding words_of clap_on_literals
+empty_null_is = refl
+
+hyphen_null_is : words_of (codes "--null" ∷ codes "-x" ∷ []) ≡ Err Refused
+unfolding words_of clap_on_literals
+hyphen_null_is = refl
+
+attached_hyphen_null_is : words_of (codes "--null=-x" ∷ []) ≡ Ok (record plain { null = Some (codes "-x") })
+unfolding words_of clap_on_literals
+attached_hyphen_null_is = refl
+
+repeated_null_is : words_of (codes "--null" ∷ codes "a" ∷ codes "--null" ∷ codes "a" ∷ []) ≡ Err Refused
+unfolding words_of clap_on_literals
+repeated_null_is = refl
+
+-- the command has no stages, and no option but these three
 stage_is : words_of (codes "select=a" ∷ []) ≡ Err Refused
 unfolding words_of clap_on_literals
 stage_is = refl

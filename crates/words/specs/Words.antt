@@ -1,6 +1,6 @@
 -- What the words of the command line mean: the matches that `clap` promises for a simple command, or a refusal.
-use Rattle.std.specs.Prelude.{◌≡◌, ◌≢◌, ⊤, Bool, true, false, List, map, Option, Some, option_map, Result, Ok, Err, if◌then◌else◌, codes, String, string_bytes}
-use Rattle.std.specs.Option.{option_map_or}
+use Rattle.std.specs.Prelude.{◌≡◌, ◌≢◌, ⊤, Bool, true, false, List, [], map, Option, Some, option_map, Result, Ok, Err, if◌then◌else◌, codes, String, string_bytes}
+use Rattle.std.specs.Option.{option_map_or, unwrap_or}
 use Rattle.std.specs.Str.{bytes_eq}
 use Rattle.std.specs.declared.alloc.Global.{Global}
 use Rattle.clap.specs.Words.{App, Row, Rule, Text, first_of, matches_of, new_app, new_rule, takes, with_rule}
@@ -29,7 +29,7 @@ abbrev pub bare_command : App
 bare_command = on_top (λ s. record s { no_binary_name = true; disable_help_flag = true }) (new_app (codes "arrowpipe"))
 
 abbrev pub arrowpipe : App
-arrowpipe = with_rule (with_rule bare_command (text_rule (codes "schema"))) (flag_rule (codes "audit"))
+arrowpipe = with_rule (with_rule (with_rule bare_command (text_rule (codes "schema"))) (flag_rule (codes "audit"))) (text_rule (codes "null"))
 
 -- ---- what its matches mean
 
@@ -37,12 +37,18 @@ pub record Options : Type 0 where
   -- the text of `--schema`
   pub schema : Option Text
   pub audit : Bool
+  -- the text of `--null`
+  pub null : Option Text
+
+-- the mark for null: the text of `--null`, and the empty text without it
+abbrev pub mark_of : Options → Text
+mark_of options = unwrap_or options.null []
 
 abbrev pub flag_in : Text → List Row → Bool
 flag_in id rows = option_map_or (λ text. bytes_eq text (codes "true")) (first_of id rows) false
 
 abbrev pub options_in : List Row → Options
-options_in rows = record { schema = first_of (codes "schema") rows; audit = flag_in (codes "audit") rows }
+options_in rows = record { schema = first_of (codes "schema") rows; audit = flag_in (codes "audit") rows; null = first_of (codes "null") rows }
 
 -- ---- the words
 
@@ -53,7 +59,7 @@ words_of words = if takes arrowpipe words then Ok (options_in (matches_of arrowp
 -- ---- the program's values
 
 abbrev pub options_of : Words → Options
-options_of w = record { schema = option_map (λ s. s.now) w.schema; audit = w.audit }
+options_of w = record { schema = option_map (λ s. s.now) w.schema; audit = w.audit; null = option_map (λ s. s.now) w.null }
 
 -- the error is the fault, or memory ran out
 abbrev pub Explains : Result Options WordsFault → WordsError → Type 0

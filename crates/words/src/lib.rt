@@ -1,4 +1,4 @@
-//! The words of the command line: `arrowpipe [--schema TEXT] [--audit]`.
+//! The words of the command line: `arrowpipe [--schema TEXT] [--audit] [--null MARK]`.
 //!
 //! The command is a simple one of `clap`, without help and version flags, and its words are those after the program's
 //! name. This crate owns what the words mean: the options that `clap` promises for them, or a refusal where `clap`
@@ -21,6 +21,8 @@ pub struct Words<'a> {
     pub schema: Option<&'a str>,
     /// Whether `--audit` was given.
     pub audit: bool,
+    /// The text of `--null`, which may be empty.
+    pub null: Option<&'a str>,
 }
 
 /// Why the words are no command.
@@ -38,7 +40,7 @@ pub enum WordsError {
 }
 
 /// Reads the words after the program's name. `--schema -a:u` is refused and `--schema=-a:u` taken, since a text
-/// that stands as a word of its own may not begin with `-`.
+/// that stands as a word of its own may not begin with `-`; so it is with `--null`.
 pub fn read_words<'a>(alloc: Global, words: &'a [String]) -> Result<Words<'a>, WordsError>
     ensures taken { IfOk result (λ w. words_of (texts_of words.now) ≡ Ok (options_of w)) }
     ensures refused { IfErr result (Explains (words_of (texts_of words.now))) }
@@ -60,7 +62,8 @@ fn command<'a>(alloc: Global) -> Result<Command<'a>, AllocError>
     let bare = bare_command(alloc);
     let schema = text_option(alloc, "schema");
     let audit = flag_option(alloc, "audit");
-    let command = bare.arg(schema)?.arg(audit)?;
+    let null = text_option(alloc, "null");
+    let command = bare.arg(schema)?.arg(audit)?.arg(null)?;
     Ok(command)
 }
 
@@ -106,6 +109,7 @@ fn options<'a>(matches: &ArgMatches<'a>) -> Words<'a>
     Words {
         schema: matches.get_str("schema"),
         audit: flag(matches, "audit"),
+        null: matches.get_str("null"),
     }
 }
 

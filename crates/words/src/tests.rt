@@ -2,20 +2,25 @@ use crate::read_words;
 use std::test::Fail;
 
 // The words, apart by blanks, and what they are read as.
-static CASES: [(&str, &str); 8] = [
+static CASES: [(&str, &str); 10] = [
     (
         "--schema a:l --audit",
-        "Ok(Words { schema: Some(\"a:l\"), audit: true })",
+        "Ok(Words { schema: Some(\"a:l\"), audit: true, null: None })",
     ),
-    ("--", "Ok(Words { schema: None, audit: false })"),
+    ("--", "Ok(Words { schema: None, audit: false, null: None })"),
     (
         "--schema=-a:u",
-        "Ok(Words { schema: Some(\"-a:u\"), audit: false })",
+        "Ok(Words { schema: Some(\"-a:u\"), audit: false, null: None })",
     ),
     (
         "--schema=",
-        "Ok(Words { schema: Some(\"\"), audit: false })",
+        "Ok(Words { schema: Some(\"\"), audit: false, null: None })",
     ),
+    (
+        "--null NA --audit",
+        "Ok(Words { schema: None, audit: true, null: Some(\"NA\") })",
+    ),
+    ("--null a --null b", "Err(Words(Refused))"),
     ("--schema -a:u", "Err(Words(Refused))"),
     ("--schema a:u --schema a:u", "Err(Words(Refused))"),
     ("--help", "Err(Words(Refused))"),

@@ -23,3 +23,15 @@ returns-clause-text c = refl
 pub returns-clause-not_text : goal.returns-clause-not_text
 unfolding is_utf8 chars encode
 returns-clause-not_text c = refl
+
+pub returns-clause-empty_unmarked : goal.returns-clause-empty_unmarked
+unfolding is_utf8 chars encode
+returns-clause-empty_unmarked c = refl
+
+pub returns-clause-longer_than_the_mark : goal.returns-clause-longer_than_the_mark
+unfolding is_utf8 chars encode
+returns-clause-longer_than_the_mark c = refl
+
+pub returns-clause-spelled_like_the_mark : goal.returns-clause-spelled_like_the_mark
+unfolding digits
+returns-clause-spelled_like_the_mark c = refl

@@ -1,12 +1,11 @@
-use Rattle.fmt_string.proofs.FieldLaws.{reads_back, empty_bytes, null_text}
-use Rattle.fmt_string.specs.FieldText.{form_of}
+use Rattle.fmt_string.proofs.FieldLaws.{reads_back, mark_is_null, empty_texts}
 use Rattle.fmt_string.proofs.field_text.written_texts_read_back.Goals as goal
 
 pub returns-clause-back : goal.returns-clause-back
 returns-clause-back c = reads_back c.args.kind.now
 
-pub returns-clause-empty_bytes_are_null : goal.returns-clause-empty_bytes_are_null
-returns-clause-empty_bytes_are_null c = empty_bytes c.args.kind.now
+pub returns-clause-the_mark_is_null : goal.returns-clause-the_mark_is_null
+returns-clause-the_mark_is_null c = λ mark. mark_is_null mark c.args.kind.now
 
-pub returns-clause-null_is_empty : goal.returns-clause-null_is_empty
-returns-clause-null_is_empty c = null_text (form_of c.args.kind.now)
+pub returns-clause-empty_texts : goal.returns-clause-empty_texts
+returns-clause-empty_texts c = empty_texts c.args.kind.now

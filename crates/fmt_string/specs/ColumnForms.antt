@@ -1,0 +1,25 @@
+-- Which types the columns of a table have.
+use Rattle.std.specs.Prelude.{Option, None, Some}
+use Rattle.fmt_string.specs.FieldText.{Form, form_of}
+use Rattle.fmt_string.specs.Kinds.{KindOk}
+use Rattle.fmt_string.specs.Table.{Kind, Flat, Dict, Columns, Members, no_members, more_members}
+use Rattle.fmt_string.specs.declared.kind.DataType.{DataType}
+
+abbrev pub HasForm : Option Form → Type 0
+HasForm None = ⊥
+HasForm (Some form) = Unit {0}
+
+-- a flat column kind, whose numbers are in their ranges
+abbrev pub IsColumnKind : DataType → Type 0
+IsColumnKind kind = KindOk kind × HasForm (form_of kind)
+
+-- the types of a column, at all depths
+abbrev mutual
+  pub AreColumnKinds : Kind → Type 0
+  AreColumnKinds (Flat kind) = IsColumnKind kind
+  AreColumnKinds (Dict kind) = IsColumnKind kind
+  AreColumnKinds (Columns members) = MembersAreColumns members
+
+  pub MembersAreColumns : Members → Type 0
+  MembersAreColumns no_members = Unit {0}
+  MembersAreColumns (more_members name kind rest) = AreColumnKinds kind × MembersAreColumns rest
