@@ -44,7 +44,7 @@ pub use laws::{
     kinds_of_typed, lawful_has_no_fault, lawful_items_lie_within, lawful_parts, lawful_root,
 };
 pub use layout::Layout;
-pub use rule::{LayoutFault, LayoutRule, Path, SchemaRule};
+pub use rule::{DICTIONARY_STEP, LayoutFault, LayoutRule, Path, SchemaRule};
 pub use schema::{SchemaFault, check_schema, kinds_are_valid, one_schema_answer};
 pub use typed::Typed;
 pub use walk::check_array;

@@ -1,4 +1,7 @@
-ghost use Rattle.std.specs.Prelude.{◌≡◌, ◌+◌, ◌<◌, [], ◌∷◌, ◌++◌, None, OnOk};
+//! The rules of arrays and schemas, and where one fails.
+ghost use Rattle.std.specs.Prelude.{◌≡◌, ◌↔◌, ◌+◌, ◌<◌, [], ◌∷◌, ◌++◌, None, OnOk, IsTrue, nat_eq};
+ghost use Rattle.std.specs.Cmp.{on_equiv, on_per, partial_equiv_from_equiv};
+ghost use Rattle.std.specs.Cmp.Lexicographic.{nat_list_eq_equiv, pointwise};
 ghost use Rattle.layout_check.specs.Found.{steps_of, found};
 ghost use Rattle.layout_check.specs.Walk.{fault_at};
 
@@ -72,14 +75,15 @@ pub enum SchemaRule {
     Deep,
 }
 
-/// Where a node stands: the numbers of the children on the way to it, or `DICTIONARY_STEP`.
-#[derive(Clone, Copy, Debug, PartialEq, Eq)]
+/// Where a node stands: the numbers of the children on the way to it, or [`DICTIONARY_STEP`]. The first `depth` of the
+/// steps lead there; what stands behind them means nothing, and two paths are equal where their steps are.
+#[derive(Clone, Copy, Debug)]
 pub struct Path {
     pub depth: u8,
     pub steps: [u32; 64],
 }
 
-/// The step to a dictionary.
+/// The step to a node's dictionary.
 pub const DICTIONARY_STEP: u32 = u32::MAX;
 
 impl Path {
@@ -107,6 +111,31 @@ impl Path {
             steps,
         }
     }
+
+    /// The steps from the root to the node.
+    pub fn way(&self) -> &[u32]
+        ensures { result.now ≡ steps_of self.now }
+    {
+        let depth = (self.depth as usize).min(64);
+        &self.steps[..depth]
+    }
+}
+
+impl PartialEq for Path {
+    ghost eq = { λ a b. pointwise nat_eq (steps_of a) (steps_of b) };
+
+    ghost laws = { on_per steps_of (partial_equiv_from_equiv nat_list_eq_equiv) };
+
+    fn eq(&self, other: &Path) -> bool
+        ensures decided { result ≡ pointwise nat_eq (steps_of self.now) (steps_of other.now) }
+        ensures exact { IsTrue result ↔ (steps_of self.now ≡ steps_of other.now) }
+    {
+        self.way() == other.way()
+    }
+}
+
+impl Eq for Path {
+    ghost laws = { on_equiv steps_of nat_list_eq_equiv };
 }
 
 /// The place of a fault, and its two numbers.
