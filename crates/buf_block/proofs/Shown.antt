@@ -47,7 +47,7 @@ there (x ∷ xs) (suc seat) g w e = there xs seat g w e
 
 -- ---- where the deed is
 
-away : slot_at true ≡ slot_at false → ⊥
+pub away : slot_at true ≡ slot_at false → ⊥
 away e = absurd (cc)
 
 home_is_not_due : (d : Deed) (seat : ℕ) → d ≡ Home → d ≡ Due seat → ⊥
@@ -135,7 +135,7 @@ module _ (s : State SlotState Grip) (hands : Hands) (h : Holders) (seat amount :
       let one = k.some_amount in
       omega arith
 
-  home_here : h.deed ≡ Home
+  pub home_here : h.deed ≡ Home
   home_here = k.shown.home.1 (at_home s k.rule has)
 
   amount_here : amount_of h seat ≡ amount

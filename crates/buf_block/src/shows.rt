@@ -1,5 +1,7 @@
 //! What a block shows of the machine of holders, as laws: the functions have no body, and their contracts are the laws.
 ghost use Rattle.buf_block.specs.BlockView.{MadeWhole, ShowsOk, ShowsOne, SplitIsTheTables, SplitIsStep, LetGoIsStep, ExchangeIsStep, ReadIsStep};
+ghost use Rattle.buf_block.specs.BlockLog.{RunsTheMachine, KeepsTheInvariant, DeedTakenAtMostOnce, DeedTakenWhereEmptied};
+ghost use Rattle.buf_block.specs.BlockLog.{EmptiedAtTheEnd, NoReadBehindTheDeed, DeedTakenOrDue, HoldersCanLetGo};
 
 /// A block that was just made shows the state of one holder with the whole amount and the deed at home. Between any two
 /// steps, whatever the threads do, a block shows at most one state, and the invariant of the machine holds there.
@@ -17,4 +19,19 @@ pub fn steps_are_the_machines()
     ensures let_go { LetGoIsStep }
     ensures exchange { ExchangeIsStep }
     ensures read { ReadIsStep }
+{}
+
+/// From the block as it is made, whatever the threads do through its seats and however their steps interleave: the machine
+/// that is sent the same events runs to the state that the block shows, the invariant holds there, the deed is taken at
+/// most once, and just once exactly where the last seat has the emptied slot. No seat has an amount then, and none reads.
+/// Where no seat has an amount, the deed was taken or the last seat can take it, and each seat with an amount can let go.
+pub fn any_interleaving_keeps_a_block()
+    ensures machine { RunsTheMachine }
+    ensures ok { KeepsTheInvariant }
+    ensures at_most_once { DeedTakenAtMostOnce }
+    ensures exactly_once { DeedTakenWhereEmptied }
+    ensures all_gave_back { EmptiedAtTheEnd }
+    ensures read { NoReadBehindTheDeed }
+    ensures taken_or_due { DeedTakenOrDue }
+    ensures can_let_go { HoldersCanLetGo }
 {}
