@@ -5,8 +5,7 @@ ghost use Rattle.raw_place.specs.Kept.{value_of};
 ghost use Rattle.raw_array.specs.Members.{holds_of};
 ghost use Rattle.raw_array.specs.View.{buffers_of};
 
-use crate::views::let_go_all;
-use buf_block::BufView;
+use buf_block::{BufView, let_go_all};
 use raw_place::Place;
 use std::alloc::Global;
 use unit_pass::{NoMemory, Pass, SUPPLY, Unit};
@@ -58,6 +57,7 @@ pub(crate) fn taken_private(private: Place<Private>, pass: &mut Pass) -> Vec<Opt
 }
 
 /// Ends a node's record with its holds, whose units go back.
+#[tactic(auto, using(crate::proofs::Buffers::buffer_lists))]
 pub(crate) fn end_private(private: Place<Private>, pass: &mut Pass)
     requires { pass.old.units + 1 + holds_of (buffers_of (value_of private).buffers.items) ≤ SUPPLY }
     ensures units { pass.new.units ≡ pass.old.units + 1 + holds_of (buffers_of (value_of private).buffers.items) }

@@ -3,9 +3,9 @@ ghost use Rattle.std.specs.Prelude.{◌≡◌, ◌+◌, ◌≤◌, [], ◌∷◌
 ghost use Rattle.raw_array.specs.Members.{holds_of, least_of, whole, shared_buffer, lowered_buffer, OneLowerBuffers};
 ghost use Rattle.raw_array.specs.View.{buffer_if, buffers_of};
 
-use buf_block::{AMOUNT, BufView};
+use buf_block::{AMOUNT, BufView, let_go_all};
 use std::alloc::Global;
-use unit_pass::{NoMemory, Pass, SUPPLY};
+use unit_pass::{NoMemory, Pass};
 
 #[tactic(auto, using(crate::proofs::Buffers::buffer_lists))]
 pub(crate) fn count_holds(buffers: &[Option<BufView>]) -> u64
@@ -48,36 +48,6 @@ fn amount_in(buffer: &Option<BufView>) -> u64
     match buffer {
         None => AMOUNT,
         Some(view) => view.hold.amount(),
-    }
-}
-
-/// Lets all holds go. Their units go back.
-#[tactic(auto, using(crate::proofs::Buffers::buffer_lists))]
-pub(crate) fn let_go_all(mut buffers: Vec<Option<BufView>>, pass: &mut Pass)
-    requires { pass.old.units + holds_of (buffers_of buffers.items) ≤ SUPPLY }
-    ensures units { pass.new.units ≡ pass.old.units + holds_of (buffers_of buffers.items) }
-    ensures blocks { pass.new.blocks ≡ pass.old.blocks }
-    ensures nodes { pass.new.nodes ≡ pass.old.nodes }
-{
-    while let Some(buffer) = buffers.pop() {
-        let_go_if(buffer, pass);
-    }
-    buffers.destroy_empty();
-}
-
-fn let_go_if(buffer: Option<BufView>, pass: &mut Pass)
-    requires { pass.old.units + holds_of (buffer_if buffer ∷ []) ≤ SUPPLY }
-    ensures units { pass.new.units ≡ pass.old.units + holds_of (buffer_if buffer ∷ []) }
-    ensures blocks { pass.new.blocks ≡ pass.old.blocks }
-    ensures nodes { pass.new.nodes ≡ pass.old.nodes }
-{
-    if let Some(view) = buffer {
-        let BufView {
-            hold,
-            start: _,
-            len: _,
-        } = view;
-        let _left = hold.let_go(pass);
     }
 }
 
