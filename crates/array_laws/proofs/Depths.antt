@@ -1,0 +1,57 @@
+-- A lawful array is no deeper than its type.
+use Rattle.std.proofs.Common.{◌≡◌, ℕ, suc, ◌≤◌, [], ◌∷◌, ◌++◌, length, None, Some, arith}
+use Rattle.fmt_string.specs.declared.kind.DataType.{DataType}
+use Rattle.tree_model.specs.Tree.{Released, Live, Trees, no_trees, more_trees, MaybeTree, absent, present, tree_list, option_tree, Depth, depth_of_all, depth_of_maybe}
+use Rattle.raw_array.specs.Members.{ArrayMembers, ArrayTree}
+use Rattle.layout_check.specs.Kinds.{AllNodesOk, DictNodesOk, KindTree, NodesOk, dictionary_levels, levels, most_levels}
+use Rattle.layout_check.specs.Rules.{one_if}
+use Rattle.layout_check.specs.Walk.{LayoutOk, Steps, dictionary_step, fault_from, first_some, node_fault, visit_fault, visits, walk_below, walk_children, walk_dictionary, walk_of, walks_of}
+use Rattle.layout_check.proofs.Lawful.{lawful-first_fault, left-none, right-none}
+use Rattle.array_laws.proofs.ChunkParts.{append-left, append-right, counted}
+use Rattle.array_laws.proofs.NodeParts.{node-ok}
+use Rattle.array_laws.proofs.LawfulNodes.{node}
+
+mutual
+  depth-at : (typed : KindTree) → NodesOk typed → (path : Steps) (t : ArrayTree) → fault_from typed path t ≡ None → Depth t ≤ levels typed
+  depth-at Released ok path t e = absurd ok
+  depth-at (Live kind kids dict) ok path Released e = omega arith
+  depth-at (Live kind kids dict) ok path (Live m ts d) e =
+      let here =
+      left-none (node_fault path (Some (node kind kids dict m ts d)))
+      (first_some visit_fault (walk_below (walks_of kids) (walk_of dict) path (Live m ts d))) e in
+      let below =
+      right-none (node_fault path (Some (node kind kids dict m ts d)))
+      (first_some visit_fault (walk_below (walks_of kids) (walk_of dict) path (Live m ts d))) here e in
+      let n = node-ok path (node kind kids dict m ts d) here in
+      let a =
+      all-depth kids ok.3 0 path ts (counted (length (tree_list ts)) (length (tree_list kids)) n.children)
+      (append-left visit_fault (walk_children (walks_of kids) 0 path (tree_list ts)) (walk_dictionary (walk_of dict) path (option_tree d)) below) in
+      let b =
+      dict-depth dict ok.4 path d (counted (one_if (option_tree d)) (one_if (option_tree dict)) n.dictionary)
+      (append-right visit_fault (walk_children (walks_of kids) 0 path (tree_list ts)) (walk_dictionary (walk_of dict) path (option_tree d)) below) in
+      omega (arith, a, b)
+
+  all-depth : (kids : Trees DataType) → AllNodesOk kids → (k : ℕ) (path : Steps) (ts : Trees ArrayMembers) → length (tree_list ts) ≡ length (tree_list kids)
+      → first_some visit_fault (walk_children (walks_of kids) k path (tree_list ts)) ≡ None → depth_of_all ts ≤ most_levels kids
+  all-depth no_trees ok k path no_trees same e = omega arith
+  all-depth no_trees ok k path (more_trees t ts) same e = absurd (omega (arith, same))
+  all-depth (more_trees kid kids) ok k path no_trees same e = omega arith
+  all-depth (more_trees kid kids) ok k path (more_trees t ts) same e =
+      let a =
+      depth-at kid ok.0 (path ++ k ∷ []) t
+      (append-left visit_fault (visits kid (path ++ k ∷ []) t) (walk_children (walks_of kids) (suc k) path (tree_list ts)) e) in
+      let b =
+      all-depth kids ok.1 (suc k) path ts (omega (arith, same))
+      (append-right visit_fault (visits kid (path ++ k ∷ []) t) (walk_children (walks_of kids) (suc k) path (tree_list ts)) e) in
+      omega (arith, a, b)
+
+  dict-depth : (dict : MaybeTree DataType) → DictNodesOk dict → (path : Steps) (d : MaybeTree ArrayMembers)
+      → one_if (option_tree d) ≡ one_if (option_tree dict)
+      → first_some visit_fault (walk_dictionary (walk_of dict) path (option_tree d)) ≡ None → depth_of_maybe d ≤ dictionary_levels dict
+  dict-depth absent ok path absent same e = omega arith
+  dict-depth absent ok path (present t) same e = absurd (omega (arith, same))
+  dict-depth (present kinds) ok path absent same e = omega arith
+  dict-depth (present kinds) ok path (present t) same e = depth-at kinds ok (path ++ dictionary_step ∷ []) t e
+
+pub depth-lawful : (typed : KindTree) (t : ArrayTree) → NodesOk typed → LayoutOk typed t → Depth t ≤ levels typed
+depth-lawful typed t ok lawful = depth-at typed ok [] t (lawful-first_fault typed t lawful)

@@ -1,0 +1,8 @@
+use Rattle.column_laws.proofs.ColumnForm.{chunk-of, rows-picked}
+use Rattle.column_laws.proofs.laws.picked_columns_make_a_chunk.Goals as goal
+
+pub returns-clause-chunk : goal.returns-clause-chunk
+returns-clause-chunk c = chunk-of
+
+pub returns-clause-rows : goal.returns-clause-rows
+returns-clause-rows c = rows-picked

@@ -1,0 +1,3 @@
+pub mod ColumnKinds
+pub mod Examples
+pub mod Picking
