@@ -18,7 +18,8 @@ use Rattle.layout_check.specs.Walk.{ChunkOk, LayoutOk, Steps, fault_at, first_so
 use Rattle.layout_check.specs.declared.rule.LayoutRule.TheVariants as rules
 use Rattle.layout_check.specs.declared.rule.Numbers.{Numbers}
 use Rattle.layout_check.proofs.Lawful.{first_fault-lawful, lawful-first_fault, left-none}
-use Rattle.arr_export.specs.ArrayTrees.{AreLawful, HaveValues, rows_of_columns, rows_of_values, table_members, table_tree, table_type}
+use Rattle.layout_check.specs.ColumnKinds.{table_type}
+use Rattle.arr_export.specs.ArrayTrees.{AreLawful, HaveValues, rows_of_columns, rows_of_values, table_members, table_tree}
 use Rattle.arr_export.proofs.Each.{each-same, length-each, value-there}
 use Rattle.arr_export.proofs.NodeRules.{both-none, no-fault, passes}
 use Rattle.arr_export.proofs.Steady.{first_some-append, steady}
