@@ -84,7 +84,7 @@ module _ (types : List KindTree) (columns : List ArrayTree) (rows : ℕ) (are : 
       let nulls : null_count_wrong (table_members rows) ≡ None = null-count (null_total (table_members rows) rows) (no-nulls rows rows) in
       let window : fault_if (nat_lt (2 ^ 40) (0 + rows)) 0 (pos (0 + rows)) (pos (2 ^ 40)) ≡ None = no-fault (nat_lt (2 ^ 40) (0 + rows)) 0 (pos (0 + rows)) (pos (2 ^ 40)) (le-ltb (2 ^ 40) (0 + rows) (omega arith)) in
       passes path (record { kind = kinds.Struct; kids = tree_list (trees types); dict = None; own = table_members rows; children = tree_list (trees columns); dictionary = None }) in_order
-      (refl, (refl, (refl, (count, (refl, (refl, (refl, (refl, (short, (nulls, (refl, (refl, (window, tt)))))))))))))
+      (refl, (refl, (refl, (count, (refl, (refl, (refl, (refl, (short, (nulls, (refl, (refl, (refl, (refl, (window, tt)))))))))))))))
 
 children-pass : (types : List KindTree) (columns : List ArrayTree) → AreLawful types columns → (k : ℕ) (path : Steps) → first_some visit_fault (walk_children (walks_of (trees types)) k path (tree_list (trees columns))) ≡ None
 children-pass [] [] are k path = refl
