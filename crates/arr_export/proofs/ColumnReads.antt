@@ -123,9 +123,9 @@ truth-reads values fits = record {
 
 -- ---- bytes and texts between offsets
 
-within : (wide : Bool) (form : Form) (total : ℕ) → is_by_offsets form ≡ true → is_within wide form total ≡ true → total < 2 ^ 63 → total < limit wide
+within : (wide : Bool) (form : Form) (total : ℕ) → is_by_offsets form ≡ true → is_within wide form total ≡ true → (if is_by_offsets form then nat_lt total (2 ^ 63) else true) ≡ true → total < limit wide
 within false form total is small bounded = ltb-true total (2 ^ 31) (subst (λ b. (if b then nat_lt total (2 ^ 31) else true) ≡ true) is small)
-within true form total is small bounded = bounded
+within true form total is small bounded = ltb-true total (2 ^ 63) (subst (λ b. (if b then nat_lt total (2 ^ 63) else true) ≡ true) is bounded)
 
 binary-reads : (wide : Bool) (values : List Value) → Fits (kinds.Binary wide) values → Reads (kinds.Binary wide) values
 binary-reads wide values fits =
@@ -204,3 +204,5 @@ reads (kinds.List wide) values fits = absurd fits.flat
 reads (kinds.FixedList size) values fits = absurd fits.flat
 reads kinds.Struct values fits = absurd fits.flat
 reads kinds.Map values fits = absurd fits.flat
+reads kinds.BinaryView values fits = absurd fits.flat
+reads kinds.Utf8View values fits = absurd fits.flat

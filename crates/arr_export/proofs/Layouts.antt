@@ -38,6 +38,8 @@ module _ (width : ℕ) (values : List Value) (sized : All (λ value. length (sto
             (short-none (FixedWidth width) members 1 (long-data _ (flat_map (stored_item width) values) ((0 + length values) * width) size));
         rise = refl;
         nulls = nulls-fit values (in_place width values);
+        views = refl;
+        prefixes = refl;
       }
 
   pub stored-there : (i : ℕ) → i < length values → stored_bytes width (own values (in_place width values)) i ≡ stored_item width (get_or values i Null)
@@ -66,6 +68,8 @@ bits-ok values =
           (short-none TruthBits members 1 (long-data _ (bit_bytes (map is_set values)) ((0 + length values + 7) / 8) size));
       rise = refl;
       nulls = nulls-fit values (as_bits values);
+      views = refl;
+      prefixes = refl;
     }
 
 pub bit-there : (values : List Value) (i : ℕ) → i < length values → bit (bytes (own values (as_bits values)) 1) (0 + i) ≡ bit_value (is_set (get_or values i Null))
@@ -133,6 +137,8 @@ module _ (wide : Bool) (values : List Value) (small : length (concat (map bytes_
             (short-none (ByOffsets wide) members 2 (long-data _ all _ most));
         rise = rise-all;
         nulls = nulls-fit values (by_offsets wide values);
+        views = refl;
+        prefixes = refl;
       }
 
   pub data-there : (i : ℕ) → i < length values → data_of wide (own values (by_offsets wide values)) i ≡ bytes_of (get_or values i Null)

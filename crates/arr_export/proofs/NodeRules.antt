@@ -11,7 +11,7 @@ use Rattle.fmt_string.specs.declared.kind.DataType.{DataType}
 use Rattle.col_build.specs.Encoding.{if_some, null_total, validity_of}
 use Rattle.layout_check.specs.Kinds.{KindTree}
 use Rattle.layout_check.specs.Layout.{bits_need, buffer, buffer_count, bytes, bytes_or_none, end, layout_of, need}
-use Rattle.layout_check.specs.Rules.{Node, buffer_absent, buffer_short, count_wrong, fails, fault_if, first_below, in_order, indices_wrong, is_behind_offsets, length_if, null_count_wrong, null_count_wrong_in, offsets_fall_if, one_if, texts_wrong}
+use Rattle.layout_check.specs.Rules.{Node, buffer_absent, buffer_short, count_wrong, fails, fault_if, first_below, in_order, indices_wrong, is_behind_offsets, length_if, null_count_wrong, null_count_wrong_in, offsets_fall_if, one_if, prefixes_wrong, texts_wrong, views_misplaced}
 use Rattle.layout_check.specs.Rules.{null_total as null_items}
 use Rattle.layout_check.specs.Walk.{Steps, fault_at, fault_by, first_some, node_fault}
 use Rattle.layout_check.specs.declared.layout.Layout.{Layout}
@@ -73,11 +73,13 @@ nulls-fit values rest =
 
 -- the rules of buffers hold
 pub record BuffersOk (layout : Layout) (members : ArrayMembers) : Type 0 where
-  pub count : count_wrong (length members.buffers) (buffer_count layout) ≡ None
-  pub there : first_below (buffer_absent layout members) (buffer_count layout) ≡ None
-  pub long : first_below (buffer_short layout members) (buffer_count layout) ≡ None
+  pub count : count_wrong (length members.buffers) (buffer_count layout (length members.buffers)) ≡ None
+  pub there : first_below (buffer_absent layout members) (buffer_count layout (length members.buffers)) ≡ None
+  pub long : first_below (buffer_short layout members) (buffer_count layout (length members.buffers)) ≡ None
   pub rise : offsets_fall_if (is_behind_offsets layout) members ≡ None
   pub nulls : null_count_wrong_in layout members ≡ None
+  pub views : views_misplaced layout members ≡ None
+  pub prefixes : prefixes_wrong layout members ≡ None
 
 -- a node without children that is made of values
 abbrev pub node : DataType → Option KindTree → List Value → List (Option Buffer) → Option ArrayTree → Node
@@ -99,7 +101,7 @@ node-ok kind dict values rest dictionary few ok texts same indices path =
     let short : nat_lt (2 ^ 40) (end (own values rest)) ≡ false = le-ltb (2 ^ 40) (end (own values rest)) (omega arith) in
     let window : fails rules.WindowTooLong (node kind dict values rest dictionary) ≡ None = no-fault (nat_lt (2 ^ 40) (end (own values rest))) 0 (pos (end (own values rest))) (pos (2 ^ 40)) short in
     passes path (node kind dict values rest dictionary) in_order
-    (refl, (refl, (ok.count, (refl, (same, (ok.there, (ok.long, (ok.rise, (refl, (ok.nulls, (texts, (indices, (window, tt)))))))))))))
+    (refl, (refl, (ok.count, (refl, (same, (ok.there, (ok.long, (ok.rise, (refl, (ok.nulls, (ok.views, (ok.prefixes, (texts, (indices, (window, tt)))))))))))))))
 
 -- ---- the rules of one buffer
 

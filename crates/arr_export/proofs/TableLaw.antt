@@ -18,7 +18,8 @@ use Rattle.layout_check.specs.Walk.{ChunkOk, LayoutOk, Steps, fault_at, first_so
 use Rattle.layout_check.specs.declared.rule.LayoutRule.TheVariants as rules
 use Rattle.layout_check.specs.declared.rule.Numbers.{Numbers}
 use Rattle.layout_check.proofs.Lawful.{first_fault-lawful, lawful-first_fault, left-none}
-use Rattle.arr_export.specs.ArrayTrees.{AreLawful, HaveValues, rows_of_columns, rows_of_values, table_members, table_tree, table_type}
+use Rattle.layout_check.specs.ColumnKinds.{table_type}
+use Rattle.arr_export.specs.ArrayTrees.{AreLawful, HaveValues, rows_of_columns, rows_of_values, table_members, table_tree}
 use Rattle.arr_export.proofs.Each.{each-same, length-each, value-there}
 use Rattle.arr_export.proofs.NodeRules.{both-none, no-fault, passes}
 use Rattle.arr_export.proofs.Steady.{first_some-append, steady}
@@ -83,7 +84,7 @@ module _ (types : List KindTree) (columns : List ArrayTree) (rows : ℕ) (are : 
       let nulls : null_count_wrong (table_members rows) ≡ None = null-count (null_total (table_members rows) rows) (no-nulls rows rows) in
       let window : fault_if (nat_lt (2 ^ 40) (0 + rows)) 0 (pos (0 + rows)) (pos (2 ^ 40)) ≡ None = no-fault (nat_lt (2 ^ 40) (0 + rows)) 0 (pos (0 + rows)) (pos (2 ^ 40)) (le-ltb (2 ^ 40) (0 + rows) (omega arith)) in
       passes path (record { kind = kinds.Struct; kids = tree_list (trees types); dict = None; own = table_members rows; children = tree_list (trees columns); dictionary = None }) in_order
-      (refl, (refl, (refl, (count, (refl, (refl, (refl, (refl, (short, (nulls, (refl, (refl, (window, tt)))))))))))))
+      (refl, (refl, (refl, (count, (refl, (refl, (refl, (refl, (short, (nulls, (refl, (refl, (refl, (refl, (window, tt)))))))))))))))
 
 children-pass : (types : List KindTree) (columns : List ArrayTree) → AreLawful types columns → (k : ℕ) (path : Steps) → first_some visit_fault (walk_children (walks_of (trees types)) k path (tree_list (trees columns))) ≡ None
 children-pass [] [] are k path = refl

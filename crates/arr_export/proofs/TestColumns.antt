@@ -13,7 +13,7 @@ use Rattle.fmt_string.specs.FieldText.{Form, form_of}
 use Rattle.fmt_string.specs.Kinds.{KindOk}
 use Rattle.fmt_string.specs.Value.{Value}
 use Rattle.fmt_string.specs.declared.kind.DataType.{DataType}
-use Rattle.col_build.specs.Encoding.{Fits, HasForm, are_within, byte_total, is_by_offsets, is_wide, push_fault}
+use Rattle.col_build.specs.Encoding.{Fits, HasForm, are_bounded, are_within, byte_total, is_by_offsets, is_wide, push_fault}
 
 within-by : (by_offsets : Bool) (total : ℕ) → total < 2 ^ 31 → (if by_offsets then nat_lt total (2 ^ 31) else true) ≡ true
 within-by true total small = lt-ltb total (2 ^ 31) small
@@ -25,6 +25,14 @@ reached wide None total small = refl
 reached true (Some form) total small = refl
 reached false (Some form) total small = within-by (is_by_offsets form) total small
 
+bounded-if : (by_offsets : Bool) (total : ℕ) → total < 2 ^ 63 → (if by_offsets then nat_lt total (2 ^ 63) else true) ≡ true
+bounded-if true total small = lt-ltb total (2 ^ 63) small
+bounded-if false total small = refl
+
+bounded-by : (form : Option Form) (total : ℕ) → total < 2 ^ 63 → are_bounded form total ≡ true
+bounded-by None total small = refl
+bounded-by (Some form) total small = bounded-if (is_by_offsets form) total small
+
 pub fitting : (kind : DataType) (values : List Value) → KindOk kind → HasForm (form_of kind) → length values ≤ 2 ^ 40 → AllByRecursion (λ value. push_fault kind [] value ≡ None) values → byte_total values < 2 ^ 31 → Fits kind values
 fitting kind values ok form few each small = record {
   kind_ok = ok;
@@ -32,7 +40,7 @@ fitting kind values ok form few each small = record {
   few = few;
   each = All-from_recursion (λ value. push_fault kind [] value ≡ None) values each;
   small = reached (is_wide kind) (form_of kind) (byte_total values) small;
-  bounded = omega (arith, small);
+  bounded = bounded-by (form_of kind) (byte_total values) (omega (arith, small));
 }
 
 -- a live array of some length has so many items

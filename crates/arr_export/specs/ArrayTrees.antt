@@ -89,9 +89,6 @@ table_members rows = record { length = pos rows; null_count = pos 0; offset = po
 abbrev pub table_tree : ℕ → List ArrayTree → ArrayTree
 table_tree rows columns = Live (table_members rows) (trees columns) absent
 
-abbrev pub table_type : List KindTree → KindTree
-table_type types = Live kinds.Struct (trees types) absent
-
 -- a column that a table of so many rows may have
 pub record IsColumn (rows : ℕ) (column : ArrayTree) : Type 0 where
   pub live : IsLive column

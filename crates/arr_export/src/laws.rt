@@ -7,7 +7,8 @@ ghost use Rattle.col_build.specs.Encoding.{Fits};
 ghost use Rattle.layout_check.specs.Kinds.{KindTree};
 ghost use Rattle.layout_check.specs.Values.{rows_of, tree_items, values_of};
 ghost use Rattle.layout_check.specs.Walk.{ChunkOk, LayoutOk};
-ghost use Rattle.arr_export.specs.ArrayTrees.{AreIndices, AreLawful, HaveValues, column_tree, flat_type, looked_up, rows_of_columns, rows_of_values, table_tree, table_type};
+ghost use Rattle.layout_check.specs.ColumnKinds.{table_type};
+ghost use Rattle.arr_export.specs.ArrayTrees.{AreIndices, AreLawful, HaveValues, column_tree, flat_type, looked_up, rows_of_columns, rows_of_values, table_tree};
 ghost use Rattle.arr_export.specs.ValueColumns.{IsValueColumn, ValueColumn, items_of, tree_of, type_of};
 
 /// A law: a column's tree meets the layout rules, and its items are the values that it was made of ("Arrow Columnar

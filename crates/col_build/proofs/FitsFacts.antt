@@ -1,5 +1,6 @@
 -- Columns with one more value still fit their offsets.
 use Rattle.std.proofs.Common.{◌≡◌, ◌∙◌, ◌+◌, ◌^◌, ◌<◌, ◌≤◌, ◌++◌, ℕ, Bool, true, false, List, [], ◌∷◌, length, refl, sym, ap, arith, add-zero, length-append}
+use Rattle.std.proofs.lemmas.Bool.{lt-ltb}
 use Rattle.std.proofs.lemmas.Bool.Decides.{nat_tests}
 use Rattle.std.proofs.lemmas.List.{map-append}
 use Rattle.std.proofs.lemmas.List.Elements.{All-append, All-cons, All-nil}
@@ -9,7 +10,7 @@ use Rattle.fmt_string.specs.FieldText.{Form, Truths, Wholes, FloatBits, Text, He
 use Rattle.fmt_string.specs.Kinds.{KindOk}
 use Rattle.fmt_string.specs.Value.{Value, Null, Truth, Whole, Bits, Bytes, Items, Fields, byte_total, bytes_of}
 use Rattle.fmt_string.specs.declared.kind.DataType.{DataType}
-use Rattle.col_build.specs.Encoding.{Fits, HasForm, are_within, fault_if, is_form, is_storable, is_text, is_wide, is_within, push_fault, stored_item}
+use Rattle.col_build.specs.Encoding.{Fits, HasForm, are_bounded, are_within, fault_if, is_by_offsets, is_form, is_storable, is_text, is_wide, is_within, push_fault, stored_item}
 use Rattle.col_build.specs.Holding.{HasBytes}
 use Rattle.col_build.specs.Shapes.{between_fault, shape_fault, shape_if, text_fault}
 use Rattle.col_build.specs.declared.item.PushFault.TheVariants.{WrongKind, OutOfRange, NotText}
@@ -25,34 +26,17 @@ total-push values value =
     ap (λ (items : List (List ℕ)). length (concat items)) (map-append bytes_of values (value ∷ []))
     ∙ ap length (concat-push (map bytes_of values) (bytes_of value)) ∙ length-append (concat (map bytes_of values)) (bytes_of value)
 
-item-le : (width : ℕ) (value : Value) → length (bytes_of value) ≤ length (stored_item width value)
-item-le width (Bytes bytes) = omega arith
-item-le width Null = omega arith
-item-le width (Truth truth) = omega arith
-item-le width (Whole number) = omega arith
-item-le width (Bits number) = omega arith
-item-le width (Items items) = omega arith
-item-le width (Fields fields) = omega arith
-
-total-le : (width : ℕ) (values : List Value) → byte_total values ≤ length (flat_map (stored_item width) values)
-total-le width [] = omega arith
-total-le width (value ∷ values) =
-    omega (arith, item-le width value, total-le width values, length-append (bytes_of value) (concat (map bytes_of values)), length-append (stored_item width value) (flat_map (stored_item width) values))
-
--- no more bytes than there are in the buffer
-pub total-bounded : (shape : Shape) (values : List Value) (value : Value) (offsets bytes : List ℕ) (total : ℕ) → shape_fault shape total value ≡ None → byte_total values < 2 ^ 63
-    → HasBytes shape (values ++ value ∷ []) offsets bytes → length bytes < 2 ^ 63 → byte_total (values ++ value ∷ []) < 2 ^ 63
-total-bounded shapes.Truths values Null offsets bytes total taken few has small = omega (arith, total-push values Null)
-total-bounded shapes.Truths values (Truth truth) offsets bytes total taken few has small = omega (arith, total-push values (Truth truth))
-total-bounded shapes.Truths values (Whole number) offsets bytes total taken few has small = cc
-total-bounded shapes.Truths values (Bits number) offsets bytes total taken few has small = cc
-total-bounded shapes.Truths values (Bytes item) offsets bytes total taken few has small = cc
-total-bounded shapes.Truths values (Items items) offsets bytes total taken few has small = cc
-total-bounded shapes.Truths values (Fields fields) offsets bytes total taken few has small = cc
-total-bounded (shapes.Wholes width signed) values value offsets bytes total taken few has small = omega (arith, total-le width (values ++ value ∷ []), ap length has)
-total-bounded (shapes.Floats width) values value offsets bytes total taken few has small = omega (arith, total-le width (values ++ value ∷ []), ap length has)
-total-bounded (shapes.Sized size) values value offsets bytes total taken few has small = omega (arith, total-le size (values ++ value ∷ []), ap length has)
-total-bounded (shapes.Between wide text) values value offsets bytes total taken few has small = omega (arith, ap length has.1)
+-- what stands between offsets is in memory
+pub total-bounded : (wide : Bool) (form : Option Form) (values : List Value) (offsets bytes : List ℕ) → HasBytes (shape_if wide form) values offsets bytes → length bytes < 2 ^ 63
+    → are_bounded form (byte_total values) ≡ true
+total-bounded wide None values offsets bytes has small = refl
+total-bounded wide (Some Truths) values offsets bytes has small = refl
+total-bounded wide (Some (Wholes bits signed)) values offsets bytes has small = refl
+total-bounded wide (Some (FloatBits bits)) values offsets bytes has small = refl
+total-bounded wide (Some Text) values offsets bytes has small = lt-ltb (byte_total values) (2 ^ 63) (omega (arith, ap length has.1))
+total-bounded wide (Some HexBytes) values offsets bytes has small = lt-ltb (byte_total values) (2 ^ 63) (omega (arith, ap length has.1))
+total-bounded wide (Some (SizedHex size)) values offsets bytes has small = refl
+total-bounded wide (Some (Decimals precision places)) values offsets bytes has small = refl
 
 -- ---- what is taken behind others is taken alone
 
@@ -147,6 +131,16 @@ within-none false (Some (Decimals precision places)) = refl
 
 -- ---- columns that fit
 
+bounded-none : (form : Option Form) → are_bounded form 0 ≡ true
+bounded-none None = refl
+bounded-none (Some Truths) = refl
+bounded-none (Some (Wholes bits signed)) = refl
+bounded-none (Some (FloatBits bits)) = refl
+bounded-none (Some Text) = refl
+bounded-none (Some HexBytes) = refl
+bounded-none (Some (SizedHex size)) = refl
+bounded-none (Some (Decimals precision places)) = refl
+
 pub fits-none : (kind : DataType) → KindOk kind → HasForm (form_of kind) → Fits kind []
 fits-none kind ok flat = record {
   kind_ok = ok;
@@ -154,10 +148,10 @@ fits-none kind ok flat = record {
   few = omega arith;
   each = All-nil (λ value. push_fault kind [] value ≡ None);
   small = within-none (is_wide kind) (form_of kind);
-  bounded = omega arith;
+  bounded = bounded-none (form_of kind);
 }
 
-pub fits-more : (kind : DataType) (values : List Value) (value : Value) → Fits kind values → push_fault kind values value ≡ None → length values < 2 ^ 40 → byte_total (values ++ value ∷ []) < 2 ^ 63
+pub fits-more : (kind : DataType) (values : List Value) (value : Value) → Fits kind values → push_fault kind values value ≡ None → length values < 2 ^ 40 → are_bounded (form_of kind) (byte_total (values ++ value ∷ [])) ≡ true
     → Fits kind (values ++ value ∷ [])
 fits-more kind values value fits taken few bounded = record {
   kind_ok = fits.kind_ok;

@@ -163,6 +163,11 @@ abbrev pub are_within : Bool → Option Form → ℕ → Bool
 are_within wide None total = true
 are_within wide (Some form) total = is_within wide form total
 
+-- the offsets, if there are any, are signed numbers of 64 bits
+abbrev pub are_bounded : Option Form → ℕ → Bool
+are_bounded None total = true
+are_bounded (Some form) total = if is_by_offsets form then nat_lt total (2 ^ 63) else true
+
 -- each value is one that the column takes, and the offsets reach all bytes
 pub record Fits (kind : DataType) (values : List Value) : Type 0 where
   pub kind_ok : KindOk kind
@@ -170,4 +175,4 @@ pub record Fits (kind : DataType) (values : List Value) : Type 0 where
   pub few : length values ≤ 2 ^ 40
   pub each : All (λ value. push_fault kind [] value ≡ None) values
   pub small : are_within (is_wide kind) (form_of kind) (byte_total values) ≡ true
-  pub bounded : byte_total values < 2 ^ 63
+  pub bounded : are_bounded (form_of kind) (byte_total values) ≡ true

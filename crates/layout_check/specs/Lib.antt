@@ -11,3 +11,5 @@ pub mod SchemaAnswers
 pub mod WorkedArrays
 pub mod Scans
 pub mod Within
+pub mod ColumnKinds
+pub mod ColumnSchema

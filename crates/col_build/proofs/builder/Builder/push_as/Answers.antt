@@ -1,8 +1,9 @@
 use Rattle.std.proofs.Common.{◌≡◌, ◌∙◌, ◌∷◌, [], ◌++◌, ◌<◌, ◌^◌, ◌⊎◌, ℕ, List, length, subst, sym, arith, length-append}
 use Rattle.std.proofs.lemmas.Result.{err_from_is_err_and}
 use Rattle.std.specs.Prelude.{Option, None, Some}
-use Rattle.col_build.specs.Encoding.{push_fault}
-use Rattle.col_build.specs.Holding.{HasValidity}
+use Rattle.fmt_string.specs.FieldText.{form_of}
+use Rattle.col_build.specs.Encoding.{is_wide, push_fault}
+use Rattle.col_build.specs.Holding.{HasBytes, HasValidity}
 use Rattle.col_build.specs.Items.{value_of}
 use Rattle.col_build.specs.declared.item.PushFault.{PushFault}
 use Rattle.col_build.specs.declared.item.PushFault.TheVariants.{NoMemory}
@@ -40,7 +41,8 @@ returns-clause-added c kind values holds =
     let few : length values < 2 ^ 40 = omega (arith, holds.count, c.requires.holds.2.count, c.requires.holds.3) in
     let HasBits : List ℕ → Type 0 = λ bits. HasValidity bits c.args.self.now.count c.args.self.now.nulls values in
     let validity : HasValidity c.make_room.new.validity.items c.args.self.now.count c.args.self.now.nulls values = subst HasBits (sym c.make_room.ensures.items) (validity-held c.args.self.now kind values holds) in
-    let bounded = total-bounded own values value c.store.new.offsets.items c.store.new.bytes.items (length c.args.self.now.bytes.items) (sym c.requires.same ∙ c.in_ok-store.ensures.answer) holds.fits.bounded bytes short in
+    let shaped = subst (λ s. HasBytes s (values ++ value ∷ []) c.store.new.offsets.items c.store.new.bytes.items) holds.shape bytes in
+    let bounded = total-bounded (is_wide kind) (form_of kind) (values ++ value ∷ []) c.store.new.offsets.items c.store.new.bytes.items shaped short in
     record {
       is_kind = holds.is_kind;
       shape = holds.shape;

@@ -1,11 +1,14 @@
--- The types of columns, as the schema of a table names them.
+-- The types of columns, and of a table of them, as the schema of a table names them.
 use Rattle.std.specs.Prelude.{true, List, map}
 use Rattle.fmt_string.specs.Table.{Column, Kind, Flat, Dict, Columns, Members, no_members, more_members}
 use Rattle.fmt_string.specs.declared.kind.DataType.{DataType}
 use Rattle.fmt_string.specs.declared.kind.DataType.TheVariants as kinds
-use Rattle.tree_model.specs.Tree.{Live, Trees, no_trees, more_trees, absent, present}
+use Rattle.tree_model.specs.Tree.{Live, Trees, no_trees, more_trees, trees, absent, present}
 use Rattle.layout_check.specs.Kinds.{KindTree}
-use Rattle.arr_export.specs.ArrayTrees.{table_type}
+
+-- a struct of columns of these types
+abbrev pub table_type : List KindTree → KindTree
+table_type types = Live kinds.Struct (trees types) absent
 
 abbrev mutual
   -- values of a type; indices of 32 bits into a dictionary of values; or a struct of columns
