@@ -3,7 +3,7 @@ use Rattle.std.specs.Prelude.{ℕ, ◌+◌, ◌-◌, ◌==◌, List, [], ◌∷�
 use Rattle.std.specs.List.{filter, onto_first}
 use Rattle.fmt_string.specs.Table.{Column, Row, Table}
 use Rattle.csv_model.specs.Reading.{Record, behind_header, body, records_of, row_of}
-use Rattle.csv_model.specs.declared.RowFault.{RowFault}
+use Rattle.fmt_string.specs.declared.row_fault.RowFault.{RowFault}
 
 -- behind the last record, or at the first one that spells no row
 pub data Ending : Type 0 where
