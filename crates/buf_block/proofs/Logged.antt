@@ -7,7 +7,7 @@ use Rattle.holder_core.specs.declared.Deed.{Deed}
 use Rattle.holder_core.specs.declared.Deed.TheVariants.{Home, Due, Gone}
 use Rattle.holder_core.specs.declared.Reply.{Reply}
 use Rattle.std.specs.Prelude.{sum}
-use Rattle.buf_block.specs.Block.{whole, slot_at, IsBlock}
+use Rattle.buf_block.specs.Block.{total, slot_at, IsBlock}
 use Rattle.buf_block.specs.BlockView.{Shows, HoldsAt}
 use Rattle.buf_block.specs.BlockLog.{Scene, made, BlockStep, splits_off, lets_go, takes_deed, reads, HasAmount, Does, Log, taken_by, taken, IsEmptied, event_of, first_holders, after_giving}
 use Rattle.buf_block.specs.BlockLog.{RunsTheMachine, KeepsTheInvariant, DeedTakenAtMostOnce, DeedTakenWhereEmptied, EmptiedAtTheEnd, NoReadBehindTheDeed, DeedTakenOrDue, HoldersCanLetGo}
@@ -148,8 +148,8 @@ one_slot false = refl
 pub can_let_go : HoldersCanLetGo
 can_let_go log s seat amount run has =
     let rule = (all log s run).rule in
-    let found : slice_index s.table.words 0 ≡ whole s.table.views = ap (λ (l : List ℕ). get_or l 0 0) rule.word in
+    let found : slice_index s.table.words 0 ≡ total s.table.views = ap (λ (l : List ℕ). get_or l 0 0) rule.word in
     let bound = rule.bound in
     let fits : slice_index s.table.words 0 < 18446744073709551616 = omega arith in
-    let r = gives_back seat amount has.1 1 s.table rule (ap length rule.slot ∙ one_slot (whole s.table.views == 0)) has.0 fits in
+    let r = gives_back seat amount has.1 1 s.table rule (ap length rule.slot ∙ one_slot (total s.table.views == 0)) has.0 fits in
     (after_giving s seat amount r.0 r.1, (amount, r.0, r.1, has, r.2, r.3, r.4, refl))

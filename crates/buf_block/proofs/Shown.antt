@@ -1,7 +1,6 @@
 -- A block shows a state of the machine of holders, and its steps are the machine's.
-use Rattle.std.proofs.Common.{◌≡◌, ◌≢◌, ℕ, zero, suc, ◌+◌, ◌-◌, ◌<◌, ◌≤◌, ◌==◌, Bool, true, false, true≢false, Some, None, List, [], ◌∷◌, ◌++◌, set, get_or, length, sum, inl, refl, sym, ap, ◌∙◌, subst, arith, rules, eq-eqb, ne_eqb}
+use Rattle.std.proofs.Common.{◌≡◌, ◌≢◌, ℕ, zero, suc, ◌-◌, ◌<◌, ◌≤◌, ◌==◌, Bool, true, false, true≢false, Some, None, List, [], ◌∷◌, ◌++◌, set, get_or, length, sum, inl, refl, sym, ap, ◌∙◌, subst, arith, rules, eq-eqb, ne_eqb}
 use Rattle.std.specs.Prelude.{nat_lt, MatchBool, if◌then◌else◌, slice_index}
-use Rattle.std.proofs.lemmas.Grind.{common_steps}
 use mathlib.Core.Logic.{dite}
 use mathlib.Core.List.{map-append}
 use Rattle.std.proofs.lemmas.List.{map-set, set-append_left}
@@ -15,30 +14,16 @@ use Rattle.holder_core.specs.declared.Deed.TheVariants.{Home, Due, Gone}
 use Rattle.holder_core.specs.declared.Reply.TheVariants.{NewHolder, Kept, Last, Bytes}
 use Rattle.holder_core.specs.declared.Reply.TheVariants as reply
 use Rattle.buf_block.specs.declared.rule.Grip.{Grip}
-use Rattle.buf_block.specs.Block.{holding, done, whole, SlotState, slot_at, slot_with_deed, slot_without_deed, IsBlock, Back}
-use Rattle.buf_block.specs.BlockView.{Hands, empty_hands, hands_with, amounts_of, WasLast, Shows, HoldsAt, first_state, split_at, less_by, ShowsOk, ShowsOne, MadeWhole, SplitIsTheTables, SplitIsStep, LetGoIsStep, ExchangeIsStep, ReadIsStep}
-use Rattle.buf_block.proofs.Keeps.{begins, splits}
+use Rattle.buf_block.specs.Block.{holding, done, amounts_of, total, SlotState, slot_at, slot_with_deed, slot_without_deed, IsBlock, Back}
+use Rattle.buf_block.specs.BlockView.{Hands, empty_hands, hands_with, WasLast, Shows, HoldsAt, first_state, split_at, less_by, ShowsOk, ShowsOne, MadeWhole, SplitIsTheTables, SplitIsStep, LetGoIsStep, ExchangeIsStep, ReadIsStep}
+use Rattle.buf_block.proofs.Keeps.{begins, splits, total-set, amount_within}
 
 -- ---- amounts
-
-total : (views : List Grip) → sum (amounts_of views) ≡ whole views
-total [] = refl
-total (g ∷ gs) = let r = total gs in grind (arith, common_steps)
 
 amount_at : (views : List Grip) (seat : ℕ) (g : Grip) → get_elem? views seat ≡ some g → (get_or (amounts_of views) seat 0 ≡ g.amount) × (seat < length (amounts_of views))
 amount_at [] seat g e = absurd (some-ne-none g (sym e))
 amount_at (x ∷ xs) zero g e = (ap (λ (v : Grip). v.amount) (some-injective x g e), omega arith)
 amount_at (x ∷ xs) (suc seat) g e = let r = amount_at xs seat g e in (r.0, let l = r.1 in omega arith)
-
-within : (views : List Grip) (seat : ℕ) (g : Grip) → get_elem? views seat ≡ some g → g.amount ≤ whole views
-within [] seat g e = absurd (some-ne-none g (sym e))
-within (x ∷ xs) zero g e = let is : x.amount ≡ g.amount = ap (λ (v : Grip). v.amount) (some-injective x g e) in omega arith
-within (x ∷ xs) (suc seat) g e = let r = within xs seat g e in omega arith
-
-whole-set : (views : List Grip) (seat : ℕ) (g w : Grip) → get_elem? views seat ≡ some g → whole (set views seat w) + g.amount ≡ whole views + w.amount
-whole-set [] seat g w e = absurd (some-ne-none g (sym e))
-whole-set (x ∷ xs) zero g w e = let is : x.amount ≡ g.amount = ap (λ (v : Grip). v.amount) (some-injective x g e) in omega arith
-whole-set (x ∷ xs) (suc seat) g w e = let r = whole-set xs seat g w e in omega arith
 
 there : (views : List Grip) (seat : ℕ) (g w : Grip) → get_elem? views seat ≡ some g → get_elem? (set views seat w) seat ≡ some w
 there [] seat g w e = absurd (some-ne-none g (sym e))
@@ -73,10 +58,10 @@ IsFirstFull (slot ∷ slots) = IsFull slot.1
 taken_out : slot_with_deed ≡ slot_without_deed → ⊥
 taken_out e = subst IsFirstFull e tt
 
-at_home : (s : State SlotState Grip) → IsBlock s → 1 ≤ whole s.views → s.homes ≡ slot_at false
-at_home s r more = r.slot ∙ ap slot_at (ne_eqb (whole s.views) 0 (λ e. omega arith))
+at_home : (s : State SlotState Grip) → IsBlock s → 1 ≤ total s.views → s.homes ≡ slot_at false
+at_home s r more = r.slot ∙ ap slot_at (ne_eqb (total s.views) 0 (λ e. omega arith))
 
-none_was_last : (s : State SlotState Grip) → IsBlock s → 1 ≤ whole s.views → (seat : ℕ) → WasLast s.views seat → ⊥
+none_was_last : (s : State SlotState Grip) → IsBlock s → 1 ≤ total s.views → (seat : ℕ) → WasLast s.views seat → ⊥
 none_was_last s r more seat l = let none_left = r.last seat l.0 l.1 l.2 in omega arith
 
 one_was_last : (s : State SlotState Grip) → IsBlock s → (seat other : ℕ) → WasLast s.views seat → WasLast s.views other → other ≡ seat
@@ -86,7 +71,7 @@ hands_here : (hands : Hands) (seat : ℕ) (slots : List (ℕ × SlotState)) → 
 hands_here hands seat slots = ap (λ (b : Bool). if b then slots else hands seat) (eq-eqb seat seat refl)
 
 -- a block that has some amount shows a state whose deed is at home
-shows_home : (s : State SlotState Grip) (hands : Hands) (h : Holders) → IsBlock s → 1 ≤ whole s.views → h.amounts ≡ amounts_of s.views → h.deed ≡ Home → Shows s hands h
+shows_home : (s : State SlotState Grip) (hands : Hands) (h : Holders) → IsBlock s → 1 ≤ total s.views → h.amounts ≡ amounts_of s.views → h.deed ≡ Home → Shows s hands h
 shows_home s hands h r more same home = record {
   amounts = same;
   home = ((λ _. at_home s r more), (λ _. home));
@@ -98,11 +83,11 @@ shows_home s hands h r more same home = record {
 
 pub shows_ok : ShowsOk
 shows_ok s hands h r sh =
-    let sum_is : sum h.amounts ≡ whole s.views = ap sum sh.amounts ∙ total s.views in
+    let sum_is : sum h.amounts ≡ total s.views = ap sum sh.amounts in
     let most = r.bound in
     record {
       home = (
-        (λ home. dite (ℕ_discrete (whole s.views) 0) (λ e. absurd (away (ap slot_at (sym (eq-eqb (whole s.views) 0 e)) ∙ sym r.slot ∙ sh.home.0 home))) (λ (ne : whole s.views ≢ 0). let more : whole s.views ≢ 0 = ne in omega arith)),
+        (λ home. dite (ℕ_discrete (total s.views) 0) (λ e. absurd (away (ap slot_at (sym (eq-eqb (total s.views) 0 e)) ∙ sym r.slot ∙ sh.home.0 home))) (λ (ne : total s.views ≢ 0). let more : total s.views ≢ 0 = ne in omega arith)),
         (λ more. sh.home.1 (at_home s r (omega arith))),
       );
       due = λ last is. let d = ((sh.due last).0 is).0 in subst (λ (l : List ℕ). last < length l) (sym sh.amounts) (amount_at s.views last d.0 d.1).1;
@@ -129,9 +114,9 @@ is_true : (b : Bool) (P Q : Type 0) → b ≡ true → P → MatchBool b P Q
 is_true b P Q e p = subst (λ (c : Bool). MatchBool c P Q) (sym e) p
 
 module _ (s : State SlotState Grip) (hands : Hands) (h : Holders) (seat amount : ℕ) (k : HoldsAt s hands h seat amount) where
-  has : 1 ≤ whole s.views
+  has : 1 ≤ total s.views
   has =
-      let less = within s.views seat (holding amount) k.view in
+      let less = amount_within s.views seat (holding amount) k.view in
       let one = k.some_amount in
       omega arith
 
@@ -156,7 +141,7 @@ module _ (s : State SlotState Grip) (hands : Hands) (h : Holders) (seat amount :
       ap (λ (l : List ℕ). set l seat 0) k.shown.amounts ∙ ap (λ (a : ℕ). set (amounts_of s.views) seat a) (sym none) ∙ sym (map-set (λ (g : Grip). g.amount) s.views seat w)
 
   -- the last seat has the slot, and the deed is due to it; where it wasn't the last, the deed stays at home
-  shows_given : (b : Bool) (t : State SlotState Grip) (w : Grip) (slots : List (ℕ × SlotState)) → IsBlock t → t.views ≡ set s.views seat w → (whole t.views == 0) ≡ b → Back amount b (w, slots)
+  shows_given : (b : Bool) (t : State SlotState Grip) (w : Grip) (slots : List (ℕ × SlotState)) → IsBlock t → t.views ≡ set s.views seat w → (total t.views == 0) ≡ b → Back amount b (w, slots)
       → Shows t (hands_with hands seat slots) (record { amounts = set h.amounts seat 0; deed = if b then Due seat else h.deed })
   shows_given true t w slots r views none back =
       let w_is : w ≡ done amount true = ap (λ (m : Grip × List (ℕ × SlotState)). m.0) back in
@@ -180,7 +165,7 @@ module _ (s : State SlotState Grip) (hands : Hands) (h : Holders) (seat amount :
       }
   shows_given false t w slots r views some_left back =
       let w_is : w ≡ done amount false = ap (λ (m : Grip × List (ℕ × SlotState)). m.0) back in
-      let left : whole t.views ≢ 0 = λ e. true≢false (sym (eq-eqb (whole t.views) 0 e) ∙ some_left) in
+      let left : total t.views ≢ 0 = λ e. true≢false (sym (eq-eqb (total t.views) 0 e) ∙ some_left) in
       shows_home t (hands_with hands seat slots) (record { amounts = set h.amounts seat 0; deed = h.deed }) r (omega arith) (rest_amounts w (ap (λ (v : Grip). v.amount) w_is) ∙ ap amounts_of (sym views)) home_here
 
 pub split_is_the_tables : SplitIsTheTables
@@ -192,8 +177,8 @@ split_is_step s hands h seat amount k more =
     let t = split_at s seat amount in
     let kept : IsBlock t = splits seat amount more s k.rule k.view in
     let some_amount = has s hands h seat amount k in
-    let same : s.words ≡ whole t.views ∷ [] = kept.word in
-    let whole_is : whole t.views ≡ whole s.views = ap (λ (l : List ℕ). get_or l 0 0) (sym same ∙ k.rule.word) in
+    let same : s.words ≡ total t.views ∷ [] = kept.word in
+    let whole_is : total t.views ≡ total s.views = ap (λ (l : List ℕ). get_or l 0 0) (sym same ∙ k.rule.word) in
     let enough : nat_lt 1 (amount_of h seat) ≡ true = search rules in (
       is_true _ _ _ enough (inl (refl, refl)),
       shows_home t (hands_with hands (length s.views) []) (after_split h seat 1) kept (omega arith) (split_amounts s hands h seat amount k) (home_here s hands h seat amount k),
@@ -206,19 +191,20 @@ pub let_go_is_step : LetGoIsStep
 let_go_is_step s hands h seat amount k view act valid kept told =
     let found = slice_index s.words 0 in
     let t = stepped s 0 (less_by amount found) seat [] view act in
-    let found_is : found ≡ whole s.views = ap (λ (l : List ℕ). get_or l 0 0) k.rule.word in
-    let less = within s.views seat (holding amount) k.view in
+    let found_is : found ≡ total s.views = ap (λ (l : List ℕ). get_or l 0 0) k.rule.word in
+    let less = amount_within s.views seat (holding amount) k.view in
     let here = amount_here s hands h seat amount k in
     let one = k.some_amount in
     let enough : nat_lt 0 (amount_of h seat) ≡ true = search rules in
     let w0 = done amount true in
-    let left = whole-set s.views seat (holding amount) w0 k.view in
-    let sum_is : sum (set h.amounts seat 0) ≡ whole s.views - amount = ap sum (rest_amounts s hands h seat amount k w0 refl) ∙ total (set s.views seat w0) ∙ omega arith in
+    let left = total-set s.views seat (holding amount) w0 k.view in
+    let less_left : total (set s.views seat w0) ≡ total s.views - amount = omega arith in
+    let sum_is : sum (set h.amounts seat 0) ≡ total s.views - amount = ap sum (rest_amounts s hands h seat amount k w0 refl) ∙ less_left in
     let spent : view.amount ≡ 0 = back_amount (found == amount) amount view (carried_after [] act) told.2 in
-    let left' = whole-set s.views seat (holding amount) view k.view in
-    let whole_is : whole t.views ≡ whole s.views - amount = omega arith in
+    let left' = total-set s.views seat (holding amount) view k.view in
+    let whole_is : total t.views ≡ total s.views - amount = omega arith in
     let same : (found == amount) ≡ (sum (set h.amounts seat 0) == 0) = same_test found amount (sum (set h.amounts seat 0)) 0 (λ e. omega arith) (λ e. omega arith) in
-    let none : (whole t.views == 0) ≡ (found == amount) = same_test (whole t.views) 0 found amount (λ e. omega arith) (λ e. omega arith) in (
+    let none : (total t.views == 0) ≡ (found == amount) = same_test (total t.views) 0 found amount (λ e. omega arith) (λ e. omega arith) in (
       is_true _ _ _ enough (ap (λ (b : Bool). if b then Last else Kept) same, refl),
       subst (λ (b : Bool). Shows t (hands_with hands seat (carried_after [] act)) (record { amounts = set h.amounts seat 0; deed = if b then Due seat else h.deed })) same
           (shows_given s hands h seat amount k (found == amount) t view (carried_after [] act) kept refl none told.2),

@@ -9,7 +9,7 @@ use Rattle.holder_core.specs.declared.Deed.TheVariants.{Home}
 use Rattle.holder_core.specs.declared.Event.{Event}
 use Rattle.holder_core.specs.declared.Event.TheVariants.{Split, LetGo, TakeDeed, Read}
 use Rattle.buf_block.specs.declared.rule.Grip.{Grip}
-use Rattle.buf_block.specs.Block.{holding, whole, SlotState, slot_with_deed, slot_without_deed, IsBlock, GivesBack}
+use Rattle.buf_block.specs.Block.{holding, total, SlotState, slot_with_deed, slot_without_deed, IsBlock, GivesBack}
 use Rattle.buf_block.specs.BlockView.{Hands, empty_hands, hands_with, WasLast, Shows, first_state, split_at, less_by}
 
 -- a block between two steps: its table's state, and the slots in the hands of its seats
@@ -110,14 +110,14 @@ abbrev pub DeedTakenWhereEmptied : Type 0
 DeedTakenWhereEmptied = (log : List BlockStep) (t : Scene) → Log made log t → (taken log ≡ 1) ↔ IsEmptied t
 
 abbrev pub EmptiedAtTheEnd : Type 0
-EmptiedAtTheEnd = (log : List BlockStep) (t : Scene) → Log made log t → taken log ≡ 1 → whole t.table.views ≡ 0
+EmptiedAtTheEnd = (log : List BlockStep) (t : Scene) → Log made log t → taken log ≡ 1 → total t.table.views ≡ 0
 
 abbrev pub NoReadBehindTheDeed : Type 0
 NoReadBehindTheDeed = (log : List BlockStep) (s t : Scene) (seat : ℕ) → Log made log s → Does s (reads seat) t → taken log ≡ 0
 
 -- where no seat has an amount, the deed was taken, or the last seat can take it
 abbrev pub DeedTakenOrDue : Type 0
-DeedTakenOrDue = (log : List BlockStep) (s : Scene) → Log made log s → whole s.table.views ≡ 0
+DeedTakenOrDue = (log : List BlockStep) (s : Scene) → Log made log s → total s.table.views ≡ 0
     → (taken log ≡ 1) ⊎ ((seat : ℕ) × (t : Scene) × Does s (takes_deed seat) t)
 
 abbrev pub HoldersCanLetGo : Type 0

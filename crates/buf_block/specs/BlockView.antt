@@ -2,7 +2,7 @@
 --
 -- The table's state has the amounts, and whether the deed's slot is at home. That a deed which is due has gone is known to the one seat
 -- that made the exchange, by the slot in its own hands. So a block is seen as its table's state beside the hands of its seats.
-use Rattle.std.specs.Prelude.{◌≡◌, ℕ, ◌+◌, ◌-◌, ◌%◌, ◌^◌, ◌≤◌, ◌==◌, ◌↔◌, true, false, Some, List, [], ◌∷◌, ◌++◌, map, length, slice_index, slice_set, if◌then◌else◌}
+use Rattle.std.specs.Prelude.{◌≡◌, ℕ, ◌+◌, ◌-◌, ◌%◌, ◌^◌, ◌≤◌, ◌==◌, ◌↔◌, true, false, Some, List, [], ◌∷◌, ◌++◌, length, slice_index, slice_set, if◌then◌else◌}
 use mathlib.Core.Option.{some, none}
 use lib.ListN.{get_elem?}
 use Rattle.atomic_table.specs.Table.{State, Act, Splits, Valid, step, stepped, opening, carried_after}
@@ -12,7 +12,7 @@ use Rattle.holder_core.specs.declared.Event.TheVariants.{Split, LetGo, TakeDeed,
 use Rattle.holder_core.specs.declared.Reply.TheVariants.{NewHolder, Kept, Last, Bytes}
 use Rattle.holder_core.specs.declared.Reply.TheVariants as reply
 use Rattle.buf_block.specs.declared.rule.Grip.{Grip}
-use Rattle.buf_block.specs.Block.{holding, SlotState, slot_at, slot_with_deed, slot_without_deed, IsBlock, GivesBack}
+use Rattle.buf_block.specs.Block.{holding, amounts_of, SlotState, slot_at, slot_with_deed, slot_without_deed, IsBlock, GivesBack}
 
 -- the slots in the hands of each seat, by its number, with the values that they hold
 abbrev pub Hands : Type 0
@@ -24,9 +24,6 @@ empty_hands seat = []
 -- the hands, once one seat has these slots
 abbrev pub hands_with : Hands → ℕ → List (ℕ × SlotState) → Hands
 hands_with hands seat slots other = if other == seat then slots else hands other
-
-abbrev pub amounts_of : List Grip → List ℕ
-amounts_of views = map (λ g. g.amount) views
 
 -- the seat's view says that it was the last
 abbrev pub WasLast : List Grip → ℕ → Type 0

@@ -1,8 +1,13 @@
 // Whole texts over sources and sinks that give and take little, and fail.
 ghost use Rattle.std.specs.Prelude.{◌≤◌, ◌^◌, ◌-◌};
 
-use crate::{CountSource, MemSink, MemSource, ReadFault, WriteFault, read_all, write_all};
+use crate::{
+    CountSource, Got, MemSink, MemSource, ReadFault, Sink, Source, StdSink, StdSource, Took,
+    WriteFault, read_all, write_all,
+};
 use std::alloc::Global;
+use std::io;
+use std::io::{ErrorKind, Read, Write};
 use std::process::Abort;
 use std::test::Fail;
 
@@ -94,6 +99,165 @@ fn a_sink_keeps_a_prefix_where_a_write_fails(rt: HostRuntime) -> Result<(), Fail
             Err(WriteFault::Failed { taken: count }) => assert_eq!(rt; taken, Some(count)),
         }
         assert_eq!(rt; sink.taken(), expected);
+    }
+    Ok(())
+}
+
+// A reader that gives so many letters in turn, and fails where the count is missing.
+#[derive(Drop)]
+struct Letters {
+    counts: [Option<usize>; 4],
+    calls: usize,
+}
+
+impl Read for Letters {
+    fn read(&mut self, buf: &mut [u8]) -> io::Result<usize> {
+        let count = self.counts.get(self.calls).copied().flatten();
+        self.calls = self.calls.saturating_add(1);
+        match count {
+            Some(count) => {
+                let count = count.min(buf.len());
+                buf[..count].fill(b'x');
+                Ok(count)
+            }
+            None => Err(io::Error::from(ErrorKind::TimedOut)),
+        }
+    }
+}
+
+#[test]
+fn a_failed_read_of_the_system_is_no_end(rt: HostRuntime) -> Result<(), Fail> {
+    let mut source = StdSource::new(Letters {
+        counts: [Some(3), None, Some(2), Some(0)],
+        calls: 0,
+    });
+    for expected in [Got::Bytes(3), Got::Failed, Got::Bytes(2), Got::End] {
+        let mut room = [0u8; 4];
+        let got = source.read(&mut room);
+        assert_eq!(rt; got, expected);
+        match got {
+            Got::Bytes(3) => assert_eq!(rt; room, *b"xxx\0"),
+            Got::Bytes(_) => assert_eq!(rt; room, *b"xx\0\0"),
+            _ => assert_eq!(rt; room, [0u8; 4]),
+        }
+    }
+    Ok(())
+}
+
+#[test]
+fn texts_of_the_system_are_read_whole_or_failed(rt: HostRuntime) -> Result<(), Fail> {
+    let alloc = rt.alloc();
+    let cases: [([Option<usize>; 4], Result<usize, ReadFault>); 4] = [
+        ([Some(3), Some(2), Some(0), None], Ok(5)),
+        ([Some(0), None, None, None], Ok(0)),
+        ([Some(3), None, Some(2), Some(0)], Err(ReadFault::Failed)),
+        ([Some(3), Some(4), Some(0), None], Err(ReadFault::TooLong)),
+    ];
+    for (counts, expected) in cases {
+        let mut source = StdSource::new(Letters { counts, calls: 0 });
+        let read = read_all(alloc, &mut source, 6);
+        match (read, expected) {
+            (Ok(text), Ok(count)) => assert_eq!(rt; text.len(), count),
+            (Err(fault), Err(expected)) => assert_eq!(rt; fault, expected),
+            _ => return Err(Fail::from("another answer")),
+        }
+    }
+    Ok(())
+}
+
+// A writer that takes so many bytes in turn and is flushed, and fails where the count is missing or the flush is to fail.
+#[derive(Drop)]
+struct Takes {
+    counts: [(Option<usize>, bool); 5],
+    calls: usize,
+}
+
+impl Write for Takes {
+    fn write(&mut self, buf: &[u8]) -> io::Result<usize> {
+        match self.counts.get(self.calls) {
+            Some((Some(count), _)) => Ok((*count).min(buf.len())),
+            _ => Err(io::Error::from(ErrorKind::TimedOut)),
+        }
+    }
+
+    fn flush(&mut self) -> io::Result<()> {
+        let flushes = self
+            .counts
+            .get(self.calls)
+            .is_some_and(|(_, flushes)| *flushes);
+        self.calls = self.calls.saturating_add(1);
+        if flushes {
+            Ok(())
+        } else {
+            Err(io::Error::from(ErrorKind::TimedOut))
+        }
+    }
+}
+
+#[test]
+fn a_write_that_takes_nothing_or_is_not_flushed_fails(rt: HostRuntime) -> Result<(), Fail> {
+    let mut sink = StdSink::new(Takes {
+        counts: [
+            (Some(3), true),
+            (Some(0), true),
+            (None, true),
+            (Some(3), false),
+            (Some(2), true),
+        ],
+        calls: 0,
+    });
+    for expected in [
+        Took::Bytes(3),
+        Took::Failed,
+        Took::Failed,
+        Took::Failed,
+        Took::Bytes(2),
+    ] {
+        assert_eq!(rt; sink.write(b"abcd"), expected);
+    }
+    Ok(())
+}
+
+#[test]
+fn a_text_to_the_system_tells_what_was_taken(rt: HostRuntime) -> Result<(), Fail> {
+    let cases: [([(Option<usize>, bool); 5], Option<u64>); 3] = [
+        (
+            [
+                (Some(3), true),
+                (Some(3), true),
+                (None, true),
+                (None, true),
+                (None, true),
+            ],
+            None,
+        ),
+        (
+            [
+                (Some(4), true),
+                (Some(2), false),
+                (Some(2), true),
+                (None, true),
+                (None, true),
+            ],
+            Some(4),
+        ),
+        (
+            [
+                (Some(0), true),
+                (Some(6), true),
+                (None, true),
+                (None, true),
+                (None, true),
+            ],
+            Some(0),
+        ),
+    ];
+    for (counts, taken) in cases {
+        let mut sink = StdSink::new(Takes { counts, calls: 0 });
+        match write_all(&mut sink, b"abcdef") {
+            Ok(()) => assert_eq!(rt; taken, None),
+            Err(WriteFault::Failed { taken: count }) => assert_eq!(rt; taken, Some(count)),
+        }
     }
     Ok(())
 }
