@@ -1,9 +1,10 @@
-ghost use Rattle.std.specs.Prelude.{◌≡◌, ◌+◌, ◌<◌, ◌≤◌, length};
+ghost use Rattle.std.specs.Prelude.{◌≡◌, ◌+◌, ◌<◌, ◌≤◌, ◌∷◌, ◌++◌, [], length};
 ghost use Rattle.tree_model.specs.Tree.{IsLive, trees, maybe_tree, depth_of_all, depth_of_maybe, children_of};
-ghost use Rattle.raw_array.specs.Members.{Cost, members_of};
+ghost use Rattle.raw_array.specs.Members.{Cost, cost_of_all, members_of};
 
 use crate::array::{Acted, ArrayParts, Gone, RawArray, ReleaseKind};
 use crate::partly_moved::PartlyMoved;
+use crate::release::release_all;
 use buf_block::{BufView, make};
 use std::alloc::Global;
 use std::process::Abort;
@@ -26,7 +27,9 @@ fn few_levels_behind(rt: &impl Abort, dictionary: &Option<RawArray>)
     }
 }
 
-fn listed<T>(rt: &impl Abort, items: &mut Vec<T>, item: T) {
+fn listed<T>(rt: &impl Abort, items: &mut Vec<T>, item: T)
+    ensures { items.new.items ≡ items.old.items ++ item ∷ [] }
+{
     match items.push(item) {
         Ok(()) => {}
         Err(_failed) => panic!(rt; "no memory"),
@@ -166,7 +169,9 @@ fn gone(rt: &impl Abort, answer: Result<RawArray, Gone>) {
     }
 }
 
-fn two(rt: &impl Abort, alloc: Global, first: RawArray, second: RawArray) -> Vec<RawArray> {
+fn two(rt: &impl Abort, alloc: Global, first: RawArray, second: RawArray) -> Vec<RawArray>
+    ensures { cost_of_all (trees result.items) ≡ Cost first + Cost second }
+{
     let mut children = Vec::new(alloc);
     listed(rt, &mut children, first);
     listed(rt, &mut children, second);
@@ -194,6 +199,10 @@ fn a_taken_column_keeps_its_units(rt: HostRuntime) {
     assert_eq!(&rt; top.cost(), 7);
     assert_eq!(&rt; pass.units(), SUPPLY - 7);
     let mut moved = begun(&rt, top, &pass);
+    assert_eq!(&rt;
+        (moved.length(), moved.null_count(), moved.offset()),
+        (1, 1, 0)
+    );
     let child = taken(&rt, &mut moved, 1);
     gone(&rt, moved.take_child(1));
     gone(&rt, moved.take_dictionary());
@@ -342,4 +351,23 @@ fn a_window_of_a_window_adds_the_offsets(rt: HostRuntime) {
     }
     let audit = closed(&rt, desk, pass);
     assert_eq!(&rt; audit.blocks, 2);
+}
+
+#[test]
+fn ended_trees_give_all_units_back(rt: HostRuntime) {
+    let alloc = rt.alloc();
+    let (desk, mut pass) = open_desk();
+    let first = column(&rt, alloc, &[1, 0, 0, 0], &mut pass);
+    let second = column(&rt, alloc, &[2, 0, 0, 0], &mut pass);
+    let mut place = RawArray::released();
+    place.put(column(&rt, alloc, &[3, 0, 0, 0], &mut pass));
+    assert!(&rt; !place.is_released());
+    assert_eq!(&rt; pass.units(), SUPPLY - 6);
+    assert_eq!(&rt; (first.cost(), second.cost(), place.cost()), (2, 2, 2));
+    let trees = two(&rt, alloc, first, second);
+    release_all(trees, &mut pass);
+    assert_eq!(&rt; pass.units(), SUPPLY - 2);
+    place.end(&mut pass);
+    let audit = closed(&rt, desk, pass);
+    assert_eq!(&rt; (audit.blocks, audit.nodes), (3, 3));
 }
