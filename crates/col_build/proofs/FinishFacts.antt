@@ -9,12 +9,12 @@ use Rattle.col_build.specs.Blocks.{AreSame, AreSameBut, IsBuilt, count_if}
 use Rattle.col_build.specs.Encoding.{HasForm, buffers_if, encoded, if_some, is_wide, offset_bytes, validity_of}
 use Rattle.col_build.specs.Finished.{AreMade, IsEncoded, blocks_of, present_count}
 use Rattle.col_build.specs.Holding.{HasBytes, HasOffsets, Holds}
-use Rattle.col_build.specs.Shapes.{shape_if}
 use Rattle.col_build.specs.declared.builder.Builder.{Builder}
 use Rattle.col_build.specs.declared.built.Built.{Built}
 use Rattle.col_build.specs.declared.shape.Shape.{Shape}
 use Rattle.col_build.specs.declared.shape.Shape.TheVariants as shapes
 use Rattle.col_build.proofs.OffsetBytes.{offsets-some}
+use Rattle.col_build.proofs.ShapeFacts.{shape_if, shape-same}
 use Rattle.col_build.proofs.ValidityFacts.{shown-some}
 
 -- items between offsets
@@ -51,12 +51,16 @@ between wide (Some HexBytes) values offsets bytes w t flat is begun are = let sa
 between wide (Some (SizedHex size)) values offsets bytes w t flat is begun are = cc
 between wide (Some (Decimals precision places)) values offsets bytes w t flat is begun are = cc
 
+shaped : (builder : Builder) (kind : DataType) (values : List Value) → Holds builder kind values → builder.shape ≡ shape_if (is_wide kind) (form_of kind)
+shaped builder kind values holds = holds.shape ∙ shape-same kind holds.fits.flat
+
 pub held-in-place : (builder : Builder) (kind : DataType) (values : List Value) → Holds builder kind values → (IsBetween builder.shape → ⊥)
     → (encoded kind values).buffers ≡ if_some builder.validity.items ∷ if_some builder.bytes.items ∷ []
 held-in-place builder kind values holds other =
     let Has : Shape → Type 0 = λ shape. HasBytes shape values builder.offsets.items builder.bytes.items in
     let Other : Shape → Type 0 = λ shape. IsBetween shape → ⊥ in
-    in-place (is_wide kind) (form_of kind) values builder.offsets.items builder.bytes.items holds.fits.flat (subst Other holds.shape other) (subst Has holds.shape holds.bytes)
+    let is = shaped builder kind values holds in
+    in-place (is_wide kind) (form_of kind) values builder.offsets.items builder.bytes.items holds.fits.flat (subst Other is other) (subst Has is holds.bytes)
     ∙ ap (λ v. v ∷ if_some builder.bytes.items ∷ []) (sym holds.validity)
 
 pub held-between : (builder : Builder) (offsets : List ℕ) (kind : DataType) (values : List Value) (wide text : Bool) → Holds builder kind values → builder.shape ≡ shapes.Between wide text
@@ -64,7 +68,7 @@ pub held-between : (builder : Builder) (offsets : List ℕ) (kind : DataType) (v
 held-between builder offsets kind values wide text holds is begun =
     let Has : Shape → Type 0 = λ shape. HasBytes shape values builder.offsets.items builder.bytes.items in
     let bytes = subst Has is holds.bytes in
-    between (is_wide kind) (form_of kind) values offsets builder.bytes.items wide text holds.fits.flat (sym holds.shape ∙ is) begun bytes.1
+    between (is_wide kind) (form_of kind) values offsets builder.bytes.items wide text holds.fits.flat (sym (shaped builder kind values holds) ∙ is) begun bytes.1
     ∙ ap (λ v. v ∷ if_some offsets ∷ if_some builder.bytes.items ∷ []) (sym holds.validity)
 
 -- the offsets of a builder that holds values

@@ -1,23 +1,24 @@
 -- Columns with one more value still fit their offsets.
-use Rattle.std.proofs.Common.{◌≡◌, ◌∙◌, ◌+◌, ◌^◌, ◌<◌, ◌≤◌, ◌++◌, ℕ, Bool, true, false, List, [], ◌∷◌, length, refl, sym, ap, arith, add-zero, length-append}
+use Rattle.std.proofs.Common.{◌≡◌, ◌∙◌, ◌+◌, ◌^◌, ◌<◌, ◌++◌, ℕ, Bool, true, false, List, [], ◌∷◌, length, refl, sym, ap, arith, add-zero, length-append}
 use Rattle.std.proofs.lemmas.Bool.{lt-ltb}
 use Rattle.std.proofs.lemmas.Bool.Decides.{nat_tests}
 use Rattle.std.proofs.lemmas.List.{map-append}
 use Rattle.std.proofs.lemmas.List.Elements.{All-append, All-cons, All-nil}
 use Rattle.std.specs.Prelude.{not, nat_lt, ◌&&◌, if◌then◌else◌, map, Option, None, Some}
-use Rattle.std.specs.List.{concat, flat_map}
+use Rattle.std.specs.List.{concat}
 use Rattle.fmt_string.specs.FieldText.{Form, Truths, Wholes, FloatBits, Text, HexBytes, SizedHex, Decimals, form_of}
 use Rattle.fmt_string.specs.Kinds.{KindOk}
+use Rattle.fmt_string.specs.Storage.{storage_of}
 use Rattle.fmt_string.specs.Value.{Value, Null, Truth, Whole, Bits, Bytes, Items, Fields, byte_total, bytes_of}
 use Rattle.fmt_string.specs.declared.kind.DataType.{DataType}
-use Rattle.col_build.specs.Encoding.{Fits, HasForm, are_bounded, are_within, fault_if, is_by_offsets, is_form, is_storable, is_text, is_wide, is_within, push_fault, stored_item}
+use Rattle.col_build.specs.Encoding.{Fits, HasForm, are_bounded, are_within, fault_if, is_form, is_storable, is_text, is_wide, is_within, push_fault}
 use Rattle.col_build.specs.Holding.{HasBytes}
-use Rattle.col_build.specs.Shapes.{between_fault, shape_fault, shape_if, text_fault}
+use Rattle.col_build.specs.Shapes.{between_fault, shape_fault, shape_in, text_fault}
 use Rattle.col_build.specs.declared.item.PushFault.TheVariants.{WrongKind, OutOfRange, NotText}
 use Rattle.col_build.specs.declared.shape.Shape.{Shape}
 use Rattle.col_build.specs.declared.shape.Shape.TheVariants as shapes
 use Rattle.col_build.proofs.OffsetBytes.{concat-push}
-use Rattle.col_build.proofs.ShapeFacts.{fault-is}
+use Rattle.col_build.proofs.ShapeFacts.{fault-is, shape_if}
 
 -- ---- the bytes of all items
 
@@ -93,7 +94,7 @@ alone (shapes.Between false text) total (Fields vs) taken = taken
 
 taken-alone : (kind : DataType) (values : List Value) (value : Value) → KindOk kind → HasForm (form_of kind) → push_fault kind values value ≡ None → push_fault kind [] value ≡ None
 taken-alone kind values value ok flat taken =
-    fault-is kind [] value ok flat ∙ alone (shape_if (is_wide kind) (form_of kind)) (byte_total values) value (sym (fault-is kind values value ok flat) ∙ taken)
+    fault-is kind [] value ok flat ∙ alone (shape_in (storage_of kind)) (byte_total values) value (sym (fault-is kind values value ok flat) ∙ taken)
 
 -- ---- the offsets reach
 

@@ -51,7 +51,7 @@ fault-held builder kind values value holds =
     )
 
 pub shape-held : (builder : Builder) (kind : DataType) (values : List Value) → Holds builder kind values → ShapeOk builder.shape
-shape-held builder kind values holds = rw holds.shape (shape-is kind holds.fits.kind_ok)
+shape-held builder kind values holds = rw holds.shape (shape-is kind holds.fits.kind_ok holds.fits.flat)
 
 pub validity-held : (builder : Builder) (kind : DataType) (values : List Value) → Holds builder kind values → HasValidity builder.validity.items builder.count builder.nulls values
 validity-held builder kind values holds = record { counted = holds.count; nulls_counted = holds.nulls; shown = holds.validity }

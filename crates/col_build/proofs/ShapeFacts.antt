@@ -1,5 +1,5 @@
 -- The faults and the layout of a form, by its shape.
-use Rattle.std.proofs.Common.{◌≡◌, ◌≢◌, ◌+◌, ◌*◌, ◌/◌, ◌^◌, ◌<◌, ◌⊎◌, ℕ, Bool, true, false, List, length, refl, arith, inl, inr}
+use Rattle.std.proofs.Common.{◌≡◌, ◌≢◌, ◌+◌, ◌*◌, ◌/◌, ◌^◌, ◌<◌, ◌⊎◌, ℕ, Bool, true, false, List, length, refl, sym, ap, ◌∙◌, arith, inl, inr}
 use Rattle.std.specs.Prelude.{not, nat_lt, ◌==◌, ◌&&◌, if◌then◌else◌, Option, None, Some}
 use Rattle.std.specs.Str.{is_utf8}
 use Rattle.fmt_string.specs.FieldText.{Form, Truths, Wholes, FloatBits, Text, HexBytes, SizedHex, Decimals, form_of, in_range}
@@ -11,8 +11,33 @@ use Rattle.fmt_string.specs.declared.kind.Tick.TheVariants as ticks
 use Rattle.bit_pack.specs.Packed.{IsWidth}
 use Rattle.col_build.specs.Encoding.{HasForm, fault_if, is_wide, push_fault}
 use Rattle.col_build.specs.Holding.{ShapeOk}
-use Rattle.col_build.specs.Shapes.{range_fault, shape_fault, shape_if, shape_of}
+use Rattle.col_build.specs.Shapes.{range_fault, shape_fault, shape_in}
+use Rattle.col_build.specs.declared.shape.Shape.{Shape}
+use Rattle.col_build.specs.declared.shape.Shape.TheVariants as shapes
+use Rattle.fmt_string.specs.Storage.{storage_of}
 use Rattle.col_build.specs.declared.item.PushFault.TheVariants.{OutOfRange, NotText}
+
+-- the shape of a form, whose offsets may be wide
+abbrev pub shape_of : Bool → Form → Shape
+shape_of wide Truths = shapes.Truths
+shape_of wide (Wholes bits signed) = shapes.Wholes (bits / 8) signed
+shape_of wide (FloatBits bits) = shapes.Floats (bits / 8)
+shape_of wide Text = shapes.Between wide true
+shape_of wide HexBytes = shapes.Between wide false
+shape_of wide (SizedHex size) = shapes.Sized size
+shape_of wide (Decimals precision places) = shapes.Wholes 16 true
+
+abbrev pub shape_if : Bool → Option Form → Shape
+shape_if wide None = shapes.Truths
+shape_if wide (Some form) = shape_of wide form
+
+-- a flat type is laid out by its form as it is stored
+pub shape-same : (kind : DataType) → HasForm (form_of kind) → shape_in (storage_of kind) ≡ shape_if (is_wide kind) (form_of kind)
+shape-same (kinds.Decimal precision scale false) flat = refl
+shape-same (kinds.Decimal precision scale true) flat = absurd flat
+shape-same kinds.IntervalDayTime flat = absurd flat
+shape-same kinds.IntervalMonthDayNano flat = absurd flat
+shape-same _ flat = refl
 
 -- the numbers of a form's bits are whole bytes
 abbrev FormOk : Option Form → Type 0
@@ -129,8 +154,11 @@ of-kind wide None values value flat ok = absurd flat
 of-kind wide (Some form) values value flat ok = fault-of-form wide form values value ok
 
 -- the fault of a type's item is that of its shape
-pub fault-is : (kind : DataType) (values : List Value) (value : Value) → KindOk kind → HasForm (form_of kind) → push_fault kind values value ≡ shape_fault (shape_if (is_wide kind) (form_of kind)) (byte_total values) value
-fault-is kind values value ok flat = of-kind (is_wide kind) (form_of kind) values value flat (form-ok kind ok)
+pub fault-is : (kind : DataType) (values : List Value) (value : Value) → KindOk kind → HasForm (form_of kind)
+    → push_fault kind values value ≡ shape_fault (shape_in (storage_of kind)) (byte_total values) value
+fault-is kind values value ok flat =
+    of-kind (is_wide kind) (form_of kind) values value flat (form-ok kind ok)
+    ∙ ap (λ (shape : Shape). shape_fault shape (byte_total values) value) (sym (shape-same kind flat))
 
 shape-of-form : (wide : Bool) (form : Option Form) → FormOk form → ShapeOk (shape_if wide form)
 shape-of-form wide None ok = tt
@@ -143,5 +171,5 @@ shape-of-form wide (Some (SizedHex size)) ok = ok
 shape-of-form wide (Some (Decimals precision places)) ok = (inr (inr (inr (inr refl))), λ widest. refl)
 
 -- the numbers of a type's shape are in their ranges
-pub shape-is : (kind : DataType) → KindOk kind → ShapeOk (shape_if (is_wide kind) (form_of kind))
-shape-is kind ok = shape-of-form (is_wide kind) (form_of kind) (form-ok kind ok)
+pub shape-is : (kind : DataType) → KindOk kind → HasForm (form_of kind) → ShapeOk (shape_in (storage_of kind))
+shape-is kind ok flat = rw (shape-same kind flat) (shape-of-form (is_wide kind) (form_of kind) (form-ok kind ok))

@@ -1,6 +1,5 @@
 -- The blocks that a builder's buffers are moved into.
-use Rattle.std.specs.Prelude.{◌≡◌, ℕ, Bool, ◌≤◌, ◌+◌, pos, List, [], ◌∷◌, length, Option, None, Some, vec_capacity}
-use Rattle.buf_block.specs.declared.hold.BufView.{BufView}
+use Rattle.std.specs.Prelude.{◌≡◌, ℕ, Bool, ◌≤◌, pos, List, [], ◌∷◌, length, Option, vec_capacity}
 use Rattle.col_build.specs.Encoding.{if_some}
 use Rattle.col_build.specs.Finished.{AreMade, IsMade}
 use Rattle.col_build.specs.Holding.{HasOffsets}
@@ -45,9 +44,3 @@ pub record AreSameBut (wide : Bool) (items : List (List ℕ)) (old new : Builder
   pub validity : new.validity.items ≡ old.validity.items
   pub offsets : HasOffsets wide items new.offsets.items
   pub bytes : new.bytes.items ≡ old.bytes.items
-
--- how many of the views are there
-abbrev pub view_count : List (Option BufView) → ℕ
-view_count [] = 0
-view_count (None ∷ views) = view_count views
-view_count (Some view ∷ views) = 1 + view_count views

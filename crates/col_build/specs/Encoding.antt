@@ -1,6 +1,6 @@
 -- The encoding of a flat column: the buffers that its values make ("Arrow Columnar Format", "Validity bitmaps",
 -- "Fixed-Size Primitive Layout", "Variable-size Binary Layout").
-use Rattle.std.specs.Prelude.{◌≡◌, ℕ, ◌+◌, ◌*◌, ◌/◌, ◌^◌, ◌<◌, ◌≤◌, Bool, true, false, not, nat_lt, ◌==◌, ◌&&◌, if◌then◌else◌, List, [], ◌∷◌, length, map, replicate, Option, None, Some, All}
+use Rattle.std.specs.Prelude.{◌≡◌, ℕ, ◌+◌, ◌*◌, ◌/◌, ◌^◌, ◌≤◌, Bool, true, false, not, nat_lt, ◌==◌, ◌&&◌, if◌then◌else◌, List, [], ◌∷◌, length, map, replicate, Option, None, Some, All}
 use Rattle.std.specs.List.{concat, flat_map}
 use Rattle.std.specs.Str.{is_utf8}
 use Rattle.bit_pack.specs.Packed.{le_bytes, stored, offset_width}

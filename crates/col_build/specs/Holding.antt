@@ -2,11 +2,11 @@
 use Rattle.std.specs.Prelude.{◌≡◌, ◌≢◌, ◌⊎◌, ℕ, ◌^◌, ◌<◌, Bool, IsTrue, List, [], ◌∷◌, ◌++◌, length, map, Result}
 use Rattle.std.specs.List.{concat, flat_map}
 use Rattle.bit_pack.specs.Packed.{IsWidth}
-use Rattle.fmt_string.specs.FieldText.{form_of}
+use Rattle.fmt_string.specs.Storage.{storage_of}
 use Rattle.fmt_string.specs.Value.{Value, bytes_of}
 use Rattle.fmt_string.specs.declared.kind.DataType.{DataType}
-use Rattle.col_build.specs.Encoding.{Fits, bit_bytes, if_some, is_set, is_wide, null_total, offset_bytes, push_fault, stored_item, validity_of}
-use Rattle.col_build.specs.Shapes.{IsAnswer, shape_if}
+use Rattle.col_build.specs.Encoding.{Fits, bit_bytes, if_some, is_set, null_total, offset_bytes, push_fault, stored_item, validity_of}
+use Rattle.col_build.specs.Shapes.{IsAnswer, shape_in}
 use Rattle.col_build.specs.declared.builder.Builder.{Builder}
 use Rattle.col_build.specs.declared.item.PushFault.{PushFault}
 use Rattle.col_build.specs.declared.shape.Shape.{Shape}
@@ -45,7 +45,7 @@ pub record HasValidity (bits : List ℕ) (count nulls : ℕ) (values : List Valu
 -- the builder of a type holds these values
 pub record Holds (builder : Builder) (kind : DataType) (values : List Value) : Type 0 where
   pub is_kind : builder.kind ≡ kind
-  pub shape : builder.shape ≡ shape_if (is_wide kind) (form_of kind)
+  pub shape : builder.shape ≡ shape_in (storage_of kind)
   pub count : builder.count ≡ length values
   pub nulls : builder.nulls ≡ null_total values
   pub validity : if_some builder.validity.items ≡ validity_of values

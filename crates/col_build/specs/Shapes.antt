@@ -1,27 +1,24 @@
--- How the items of a form are laid out, and why a column of that layout doesn't take an item ("Arrow Columnar Format",
+-- How items that are stored in one way are laid out, and why a column of that layout doesn't take an item ("Arrow Columnar Format",
 -- "Physical memory layout").
 use Rattle.std.specs.Prelude.{◌≡◌, ◌⊎◌, ℕ, ◌+◌, ◌-◌, ◌*◌, ◌/◌, ◌^◌, Bool, true, false, nat_lt, ◌==◌, if◌then◌else◌, List, ◌++◌, length, Option, None, Some, Result, Ok, Err}
 use Rattle.std.specs.Str.{is_utf8}
-use Rattle.fmt_string.specs.FieldText.{Form, Truths, Wholes, FloatBits, Text, HexBytes, SizedHex, Decimals, in_range}
+use Rattle.fmt_string.specs.FieldText.{in_range}
+use Rattle.fmt_string.specs.declared.storage.Storage.{Storage}
+use Rattle.fmt_string.specs.declared.storage.Storage.TheVariants as stored
 use Rattle.fmt_string.specs.Value.{Value, Null, Truth, Whole, Bits, Bytes}
 use Rattle.col_build.specs.declared.item.PushFault.{PushFault}
 use Rattle.col_build.specs.declared.item.PushFault.TheVariants.{WrongKind, OutOfRange, NotText, NoMemory}
 use Rattle.col_build.specs.declared.shape.Shape.{Shape}
 use Rattle.col_build.specs.declared.shape.Shape.TheVariants as shapes
 
--- the shape of a form, whose offsets may be wide
-abbrev pub shape_of : Bool → Form → Shape
-shape_of wide Truths = shapes.Truths
-shape_of wide (Wholes bits signed) = shapes.Wholes (bits / 8) signed
-shape_of wide (FloatBits bits) = shapes.Floats (bits / 8)
-shape_of wide Text = shapes.Between wide true
-shape_of wide HexBytes = shapes.Between wide false
-shape_of wide (SizedHex size) = shapes.Sized size
-shape_of wide (Decimals precision places) = shapes.Wholes 16 true
-
-abbrev pub shape_if : Bool → Option Form → Shape
-shape_if wide None = shapes.Truths
-shape_if wide (Some form) = shape_of wide form
+-- the shape of what is stored so; only what stands in its place or between offsets has one
+abbrev pub shape_in : Storage → Shape
+shape_in stored.Truths = shapes.Truths
+shape_in (stored.Wholes bits signed) = shapes.Wholes (bits / 8) signed
+shape_in (stored.Floats bits) = shapes.Floats (bits / 8)
+shape_in (stored.Sized size) = shapes.Sized size
+shape_in (stored.Between wide text) = shapes.Between wide text
+shape_in _ = shapes.Truths
 
 -- ---- why an item isn't stored
 

@@ -128,7 +128,7 @@ impl Builder {
         self.count as i64
     }
 
-    /// The column of the items, whose buffers are moved into blocks; no byte is copied. Draws a unit and counts a block for
+    /// The column of the items, whose buffers are moved into blocks. Draws a unit and counts a block for
     /// each buffer that is there. `NoMemory` comes for want of memory alone, and the builder comes back with it.
     pub fn finish(self, alloc: Global, pass: &mut Pass) -> Result<Built, (Builder, NoMemory)>
         requires holds { HoldsSome self }

@@ -1,5 +1,5 @@
 // The buffers of a builder, moved into blocks, and taken out again where memory runs out.
-ghost use Rattle.std.specs.Prelude.{◌≡◌, ◌+◌, ◌<◌, ◌≤◌, ◌^◌, ◌++◌, ◌∷◌, [], ℕ, List, length, pos, if◌then◌else◌, is_ok, IfOk, IfErr, OnOk, vec_len, vec_capacity};
+ghost use Rattle.std.specs.Prelude.{◌≡◌, ◌+◌, ◌<◌, ◌≤◌, ◌^◌, ◌∷◌, [], ℕ, List, length, pos, if◌then◌else◌, is_ok, IfOk, IfErr, OnOk};
 ghost use Rattle.unit_pass.specs.Tally.{risen};
 ghost use Rattle.unit_pass.specs.declared.pass.TheConstants.{SUPPLY};
 ghost use Rattle.col_build.specs.Blocks.{AreSame, AreSameBut, IsBuilt, Keeping, count_if};
@@ -29,17 +29,11 @@ fn whole_block(alloc: Global, bytes: Vec<u8>, pass: &mut Pass) -> Result<Option<
     ensures blocks { pass.new.blocks ≡ (if is_ok result then risen pass.old.blocks (count_if bytes.items) else pass.old.blocks) }
     ensures nodes { pass.new.nodes ≡ pass.old.nodes }
 {
-    let _counted = pass.blocks();
-    let len = bytes.len();
-    if len == 0 {
+    if bytes.is_empty() {
         return Ok(None);
     }
     match make(alloc, bytes, pass) {
-        Ok(hold) => Ok(Some(BufView {
-            hold,
-            start: 0,
-            len,
-        })),
+        Ok(hold) => Ok(Some(BufView::whole(hold))),
         Err((bytes, NoMemory)) => Err(bytes),
     }
 }
@@ -72,31 +66,13 @@ fn take_out(kept: Kept, pass: &mut Pass) -> Vec<u8>
 {
     let Kept { view, mut spare } = kept;
     if let Some(view) = view {
-        let BufView {
-            hold,
-            start: _,
-            len: _,
-        } = view;
-        match spare.extend_from_slice(hold.bytes()) {
+        match spare.extend_from_slice(view.hold.bytes()) {
             Ok(()) => {}
             Err(_) => unreachable!(),
         }
-        let _left = hold.let_go(pass);
+        let _left = view.let_go(pass);
     }
     spare
-}
-
-// Appends where there is room.
-fn put(views: &mut Vec<Option<BufView>>, view: Option<BufView>)
-    requires { vec_len views.old < vec_capacity views.old }
-    ensures items { views.new.items ≡ views.old.items ++ view ∷ [] }
-    ensures len { vec_len views.new ≡ vec_len views.old + 1 }
-    ensures capacity { vec_capacity views.old ≤ vec_capacity views.new }
-{
-    match views.push(view) {
-        Ok(()) => {}
-        Err(_failed) => unreachable!(),
-    }
 }
 
 // The validity bits and the bytes in blocks.
@@ -114,7 +90,6 @@ fn two_blocks(
     ensures blocks { OnOk result (pass.new.blocks ≡ risen pass.old.blocks (count_if validity.items + count_if bytes.items)) }
     ensures nodes { pass.new.nodes ≡ pass.old.nodes }
 {
-    let _supply = pass.units();
     let validity = match kept_block(alloc, validity, pass) {
         Ok(validity) => validity,
         Err(validity) => return Err((validity, bytes)),
@@ -145,7 +120,6 @@ fn three_blocks(
     ensures blocks { OnOk result (pass.new.blocks ≡ risen pass.old.blocks (count_if validity.items + count_if offsets.items + count_if bytes.items)) }
     ensures nodes { pass.new.nodes ≡ pass.old.nodes }
 {
-    let _supply = pass.units();
     let validity = match kept_block(alloc, validity, pass) {
         Ok(validity) => validity,
         Err(validity) => return Err((validity, offsets, bytes)),
@@ -205,8 +179,8 @@ pub(crate) fn finish_in_place(
     } = builder;
     match two_blocks(alloc, validity, bytes, pass) {
         Ok((validity, bytes)) => {
-            put(&mut buffers, validity);
-            put(&mut buffers, bytes);
+            buffers.push_reserved(validity);
+            buffers.push_reserved(bytes);
             Ok(built(kind, count, nulls, buffers))
         }
         Err((validity, bytes)) => {
@@ -254,9 +228,9 @@ fn finish_between(
     } = builder;
     match three_blocks(alloc, validity, offsets, bytes, pass) {
         Ok((validity, offsets, bytes)) => {
-            put(&mut buffers, validity);
-            put(&mut buffers, offsets);
-            put(&mut buffers, bytes);
+            buffers.push_reserved(validity);
+            buffers.push_reserved(offsets);
+            buffers.push_reserved(bytes);
             Ok(built(kind, count, nulls, buffers))
         }
         Err((validity, offsets, bytes)) => {

@@ -13,7 +13,8 @@
 //!   builder and no values, each push adds its value or keeps them, and the finished column is the encoding of just these
 //!   values (`IsEncoded`).
 //! - A push allocates only to let a buffer grow, by amortised growth. Validity bits are made with the first null, for all
-//!   items before it. No byte is copied to finish, but where memory runs out.
+//!   items before it. The code copies no byte to finish, but where memory runs out;
+//!   no clause says so.
 //! - The holds of a finished column are the caller's to let go, and its way into an array is left to the crates above.
 #![tactic(auto)]
 

@@ -5,7 +5,6 @@ ghost use Rattle.fmt_string.specs.FieldText.{form_of};
 ghost use Rattle.fmt_string.specs.Kinds.{KindOk};
 ghost use Rattle.fmt_string.specs.Value.{Value};
 ghost use Rattle.fmt_string.specs.declared.kind.DataType.{DataType};
-ghost use Rattle.col_build.specs.Blocks.{view_count};
 ghost use Rattle.col_build.specs.Encoding.{HasForm};
 ghost use Rattle.col_build.specs.Finished.{IsEncoded, blocks_of};
 ghost use Rattle.col_build.specs.Holding.{Adds, Holds, HoldsFew, HoldsSome, Keeps};
@@ -15,38 +14,12 @@ ghost use Rattle.fmt_string.specs.declared.kind.DataType.TheVariants.{Decimal, I
 use crate::Item::{Bits, Bytes, Null, Truth, Whole};
 use crate::PushFault::{NotText, OutOfRange, WrongKind};
 use crate::{Builder, Built, Item, PushFault};
-use buf_block::BufView;
+use buf_block::{BufView, let_go_all};
 use fmt_string::{DataType, Tick};
 use std::alloc::Global;
 use std::process::Abort;
 use std::test::Fail;
 use unit_pass::{Name, Pass, SUPPLY, open_desk};
-
-// Lets the hold of a view go.
-fn let_go(view: Option<BufView>, pass: &mut Pass)
-    requires { pass.old.units + view_count (view ∷ []) ≤ SUPPLY }
-    ensures { pass.new.units ≡ pass.old.units + view_count (view ∷ []) }
-{
-    if let Some(view) = view {
-        let BufView {
-            hold,
-            start: _,
-            len: _,
-        } = view;
-        let _left = hold.let_go(pass);
-    }
-}
-
-// Lets the holds of all views go.
-fn let_go_all(mut views: Vec<Option<BufView>>, pass: &mut Pass)
-    requires { pass.old.units + view_count views.items ≤ SUPPLY }
-    ensures { pass.new.units ≡ pass.old.units + view_count views.items }
-{
-    while let Some(view) = views.pop() {
-        let_go(view, pass);
-    }
-    views.destroy_empty();
-}
 
 // Expects these bytes in a buffer, or none.
 fn expect_buffer(rt: &impl Abort, view: &Option<BufView>, bytes: Option<&[u8]>) {

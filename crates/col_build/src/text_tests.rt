@@ -145,3 +145,29 @@ fn text_is_utf8(rt: HostRuntime) {
         assert!(rt; !is_text(*other));
     }
 }
+
+// Texts about as long as a block of 64 bytes, or with a character across its end.
+static LONG_TEXTS: [&[u8]; 4] = [
+    b"\xc3\xa9abcdefghijabcdefghijabcdefghijabcdefghijabcdefghijabcdefghija",
+    b"abcdefghijabcdefghijabcdefghijabcdefghijabcdefghijabcdefghijab\xc3\xa9",
+    b"abcdefghijabcdefghijabcdefghijabcdefghijabcdefghijabcdefghijab\xf0\x9f\x98\x80",
+    b"\xe2\x82\xacabcdefghijabcdefghijabcdefghijabcdefghijabcdefghijabcdefghijabcdefghijabcdefghijabcdefghijabcdefghijabcdefghijabcdefghijabcdefg",
+];
+
+static LONG_OTHERS: [&[u8]; 5] = [
+    b"abcdefghijabcdefghijabcdefghijabcdefghijabcdefghijabcdefghijab\xc3",
+    b"abcdefghijabcdefghijabcdefghijabcdefghijabcdefghijabcdefghijabc\xc3",
+    b"abcdefghijabcdefghijabcdefghijabcdefghijabcdefghijabcdefghijab\xed\xa0\x80a",
+    b"abcdefghijabcdefghijabcdefghijabcdefghijabcdefghijabcdefghijabcdefghijabcdefghijabcdefghijabcdefghijabcdefghijabcdefghijabcdefghi\x80",
+    b"\xc3\xa9abcdefghijabcdefghijabcdefghijabcdefghijabcdefghijabcdefghijab\xffabcdefghij",
+];
+
+#[test]
+fn text_is_utf8_in_blocks_too(rt: HostRuntime) {
+    for text in &LONG_TEXTS {
+        assert!(rt; is_text(*text), "a text of {} bytes", text.len());
+    }
+    for other in &LONG_OTHERS {
+        assert!(rt; !is_text(*other), "no text, of {} bytes", other.len());
+    }
+}

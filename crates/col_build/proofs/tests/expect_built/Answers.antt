@@ -6,4 +6,4 @@ pub let_go_all-requires : goal.let_go_all-requires
 let_go_all-requires g c = omega (arith, made-count c.args.built.buffers.items _ c.requires.2.buffers, c.requires.3)
 
 pub returns : goal.returns
-returns g c = omega (arith, made-count c.args.built.buffers.items _ c.requires.2.buffers, c.requires.3, c.let_go_all.ensures)
+returns g c = omega (arith, made-count c.args.built.buffers.items _ c.requires.2.buffers, c.requires.3, c.let_go_all.ensures.units)

@@ -6,10 +6,12 @@ use Rattle.col_build.specs.Encoding.{is_wide, push_fault}
 use Rattle.col_build.specs.Holding.{HasBytes, HasValidity}
 use Rattle.col_build.specs.Items.{value_of}
 use Rattle.col_build.specs.declared.item.PushFault.{PushFault}
+use Rattle.col_build.specs.declared.shape.Shape.{Shape}
 use Rattle.col_build.specs.declared.item.PushFault.TheVariants.{NoMemory}
 use Rattle.col_build.proofs.FitsFacts.{fits-more, total-bounded}
 use Rattle.col_build.proofs.Laid.{laid-back, laid-has}
 use Rattle.col_build.proofs.Pushes.{fault-held, validity-held}
+use Rattle.col_build.proofs.ShapeFacts.{shape-same}
 use Rattle.col_build.proofs.ValidityFacts.{null-counted, nulls-few, nulls-push}
 use Rattle.col_build.proofs.builder.Builder.push_as.Goals as goal
 
@@ -41,7 +43,8 @@ returns-clause-added c kind values holds =
     let few : length values < 2 ^ 40 = omega (arith, holds.count, c.requires.holds.2.count, c.requires.holds.3) in
     let HasBits : List ℕ → Type 0 = λ bits. HasValidity bits c.args.self.now.count c.args.self.now.nulls values in
     let validity : HasValidity c.make_room.new.validity.items c.args.self.now.count c.args.self.now.nulls values = subst HasBits (sym c.make_room.ensures.items) (validity-held c.args.self.now kind values holds) in
-    let shaped = subst (λ s. HasBytes s (values ++ value ∷ []) c.store.new.offsets.items c.store.new.bytes.items) holds.shape bytes in
+    let HasShape : Shape → Type 0 = λ s. HasBytes s (values ++ value ∷ []) c.store.new.offsets.items c.store.new.bytes.items in
+    let shaped = subst HasShape (holds.shape ∙ shape-same kind holds.fits.flat) bytes in
     let bounded = total-bounded (is_wide kind) (form_of kind) (values ++ value ∷ []) c.store.new.offsets.items c.store.new.bytes.items shaped short in
     record {
       is_kind = holds.is_kind;
