@@ -5,9 +5,9 @@ use Rattle.std.proofs.lemmas.List.{take_all}
 use Rattle.std.proofs.lemmas.List.Elements.{All-head, All-tail}
 use Rattle.std.specs.List.{All}
 use Rattle.buf_block.specs.declared.hold.BufView.{BufView}
-use Rattle.tree_model.specs.Tree.{Live, depth_of_all, depth_of_maybe, maybe_tree, no_trees, trees}
+use Rattle.tree_model.specs.Tree.{Live, cost_of_maybe, depth_of_all, depth_of_maybe, maybe_tree, no_trees, trees}
 use Rattle.raw_array.specs.declared.array.ReleaseKind.TheVariants.{Exported}
-use Rattle.raw_array.specs.Members.{ArrayTree, Buffer}
+use Rattle.raw_array.specs.Members.{ArrayTree, Buffer, Cost, holds, holds_of}
 use Rattle.raw_array.specs.View.{buffer_of, buffer_if, buffers_of}
 use Rattle.fmt_string.specs.FieldText.{Form, Truths, Wholes, form_of}
 use Rattle.fmt_string.specs.Value.{Value}
@@ -60,6 +60,16 @@ three wide (Some form) values = three-by wide form values
 -- a column has three buffers at most
 pub few-buffers : (views : List (Option BufView)) (kind : DataType) (values : List Value) → AreMade views (encoded kind values).buffers → length views ≤ 3
 few-buffers views kind values are = omega (arith, same-count views (encoded kind values).buffers are, three (is_wide kind) (form_of kind) values)
+
+-- buffers have no more holds than there are buffers
+made-holds : (contents : List (Option (List ℕ))) → holds_of (made_buffers contents) ≤ length contents
+made-holds [] = omega arith
+made-holds (None ∷ contents) = omega (arith, made-holds contents)
+made-holds (Some content ∷ contents) = omega (arith, made-holds contents)
+
+-- a column costs its node, its holds and its dictionary
+pub column-cost : (kind : DataType) (values : List Value) (dictionary : Option ArrayTree) → Cost (column_tree kind values dictionary) ≤ 4 + cost_of_maybe holds (maybe_tree dictionary)
+column-cost kind values dictionary = omega (arith, made-holds (encoded kind values).buffers, three (is_wide kind) (form_of kind) values)
 
 pub dictionary-depth : (kind : DataType) (values : List Value) (dictionary : Option ArrayTree) → AreIndicesIf kind values dictionary → depth_of_maybe (maybe_tree dictionary) ≤ 127
 dictionary-depth kind values None are = omega arith

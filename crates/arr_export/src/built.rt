@@ -6,37 +6,11 @@ ghost use Rattle.tree_model.specs.Tree.{Depth, trees};
 ghost use Rattle.raw_schema.specs.Members.{Nodes, nodes_of_all};
 ghost use Rattle.raw_schema.specs.Parts.{tree_of_parts};
 
-use raw_schema::{RawSchema, SchemaParts};
+use raw_schema::{RawSchema, SchemaParts, release_all};
 use std::alloc::Global;
 use unit_pass::{NoMemory, Pass, SUPPLY};
 
-// Releases a structure, and all below it.
-fn release(tree: RawSchema, pass: &mut Pass)
-    requires { pass.old.units + Nodes tree ≤ SUPPLY }
-    ensures units { pass.new.units ≡ pass.old.units + Nodes tree }
-    ensures blocks { pass.new.blocks ≡ pass.old.blocks }
-    ensures nodes { pass.new.nodes ≡ pass.old.nodes }
-{
-    let mut tree = tree;
-    tree.release(pass);
-    tree.discard();
-}
-
-// Releases all structures.
-#[tactic(auto, using(tree_model::proofs::Measures::measures))]
-pub(crate) fn release_all(mut children: Vec<RawSchema>, pass: &mut Pass)
-    requires { pass.old.units + nodes_of_all (trees children.items) ≤ SUPPLY }
-    ensures units { pass.new.units ≡ pass.old.units + nodes_of_all (trees children.items) }
-    ensures blocks { pass.new.blocks ≡ pass.old.blocks }
-    ensures nodes { pass.new.nodes ≡ pass.old.nodes }
-{
-    while let Some(child) = children.pop() {
-        release(child, pass);
-    }
-    children.destroy_empty();
-}
-
-// Releases what a structure was to be made of.
+/// Releases what a structure was to be made of.
 fn release_parts(parts: SchemaParts, pass: &mut Pass)
     requires { pass.old.units + Nodes (tree_of_parts parts) ≤ SUPPLY + 1 }
     ensures units { pass.new.units + 1 ≡ pass.old.units + Nodes (tree_of_parts parts) }
@@ -54,11 +28,11 @@ fn release_parts(parts: SchemaParts, pass: &mut Pass)
     release_all(children, pass);
     match dictionary {
         None => {}
-        Some(tree) => release(tree, pass),
+        Some(tree) => tree.end(pass),
     }
 }
 
-// A live structure of these parts, or nothing that is left of them.
+/// A live structure of these parts, or nothing that is left of them.
 pub(crate) fn built(
     alloc: Global,
     parts: SchemaParts,
@@ -79,18 +53,5 @@ pub(crate) fn built(
             release_parts(parts, pass);
             Err(NoMemory)
         }
-    }
-}
-
-// Puts a structure behind those for which there is room.
-pub(crate) fn put(children: &mut Vec<RawSchema>, child: RawSchema)
-    requires { vec_len children.old < vec_capacity children.old }
-    ensures items { children.new.items ≡ children.old.items ++ child ∷ [] }
-    ensures count { vec_len children.new ≡ vec_len children.old + 1 }
-    ensures room { vec_capacity children.old ≤ vec_capacity children.new }
-{
-    match children.push(child) {
-        Ok(()) => {}
-        Err(_) => unreachable!(),
     }
 }

@@ -3,6 +3,8 @@ ghost use Rattle.std.specs.Prelude.{◌≡◌, ◌+◌, ◌-◌, ◌^◌, ◌<�
 ghost use Rattle.unit_pass.specs.Tally.{risen};
 ghost use Rattle.fmt_string.specs.Value.{Value};
 ghost use Rattle.fmt_string.specs.declared.kind.DataType.{DataType};
+ghost use Rattle.tree_model.specs.Tree.{cost_of_maybe, maybe_tree};
+ghost use Rattle.raw_array.specs.Members.{Cost, holds};
 ghost use Rattle.col_build.specs.Finished.{IsEncoded};
 ghost use Rattle.arr_export.specs.ArrayTrees.{HasValues, column_tree};
 
@@ -23,6 +25,7 @@ pub fn export_column(
     requires units { 1 ≤ pass.old.units }
     requires holds { (kind : DataType) × (values : List Value) × HasValues built dictionary kind values }
     ensures tree { IfOk result (λ tree. (kind : DataType) (values : List Value) → IsEncoded built kind values → tree ≡ column_tree kind values dictionary) }
+    ensures cost { IfOk result (λ tree. Cost tree ≤ 4 + cost_of_maybe holds (maybe_tree dictionary)) }
     ensures kind_back { IfErr result (λ back. back.0.kind ≡ built.kind) }
     ensures length_back { IfErr result (λ back. back.0.length ≡ built.length) }
     ensures null_count_back { IfErr result (λ back. back.0.null_count ≡ built.null_count) }

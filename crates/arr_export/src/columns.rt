@@ -11,16 +11,16 @@ ghost use Rattle.raw_schema.specs.View.{bytes_of};
 ghost use Rattle.layout_check.specs.ColumnSchema.{KindsOk, column_schema, node, struct_format, values_schema};
 ghost use Rattle.arr_export.specs.CodeSchema.{ColumnsOk, code_schema, code_schemas};
 
-use crate::built::{built, put, release_all};
+use crate::built::built;
 use fmt_string::{ColKind, ColumnType, DataType, write_format};
-use raw_schema::{RawSchema, SchemaParts};
+use raw_schema::{RawSchema, SchemaParts, release_all};
 use std::alloc::Global;
 use unit_pass::{CHUNK, NoMemory, Pass};
 
-// The flag of columns that may have nulls.
+/// The flag of columns that may have nulls.
 const NULLABLE: i64 = 2;
 
-// Values of a type.
+/// Values of a type.
 fn values_schema(
     alloc: Global,
     name: Option<Vec<u8>>,
@@ -34,7 +34,6 @@ fn values_schema(
     ensures blocks { pass.new.blocks ≡ pass.old.blocks }
     ensures nodes { OnOk result (pass.new.nodes ≡ risen pass.old.nodes 1) }
 {
-    let _supply = pass.units();
     let parts = SchemaParts {
         format: write_format(alloc, kind)?,
         name,
@@ -46,7 +45,7 @@ fn values_schema(
     built(alloc, parts, pass)
 }
 
-// Indices of 32 bits into a dictionary of values of a type.
+/// Indices of 32 bits into a dictionary of values of a type.
 fn dictionary_schema(
     alloc: Global,
     name: &[u8],
@@ -60,8 +59,6 @@ fn dictionary_schema(
     ensures blocks { pass.new.blocks ≡ pass.old.blocks }
     ensures nodes { OnOk result (pass.new.nodes ≡ risen pass.old.nodes 2) }
 {
-    let _supply = pass.units();
-    let _nodes = pass.nodes();
     let format = Vec::from_slice(alloc, b"i")?;
     let name = Vec::from_slice(alloc, name)?;
     let values = values_schema(alloc, None, kind, pass)?;
@@ -76,7 +73,7 @@ fn dictionary_schema(
     built(alloc, parts, pass)
 }
 
-// The schema of a column.
+/// The schema of a column.
 #[cycle(schema)]
 fn column_schema(
     alloc: Global,
@@ -106,7 +103,7 @@ fn column_schema(
     }
 }
 
-// A struct of columns.
+/// A struct of columns.
 #[cycle(schema)]
 pub(crate) fn struct_schema(
     alloc: Global,
@@ -124,8 +121,6 @@ pub(crate) fn struct_schema(
     ensures blocks { pass.new.blocks ≡ pass.old.blocks }
     ensures nodes { OnOk result (pass.new.nodes ≡ risen pass.old.nodes (1 + nodes_of_all (code_schemas columns.now))) }
 {
-    let _supply = pass.units();
-    let _nodes = pass.nodes();
     let format = Vec::from_slice(alloc, b"+s")?;
     let children = column_schemas(alloc, columns, pass)?;
     let parts = SchemaParts {
@@ -139,7 +134,7 @@ pub(crate) fn struct_schema(
     built(alloc, parts, pass)
 }
 
-// The schemas of columns, one after the other.
+/// The schemas of columns, one after the other.
 #[cycle(schema)]
 fn column_schemas(
     alloc: Global,
@@ -155,14 +150,12 @@ fn column_schemas(
     ensures blocks { pass.new.blocks ≡ pass.old.blocks }
     ensures nodes { OnOk result (pass.new.nodes ≡ risen pass.old.nodes (nodes_of_all (code_schemas columns.now))) }
 {
-    let _supply = pass.units();
-    let _nodes = pass.nodes();
     let Ok(mut children) = Vec::with_capacity(alloc, columns.len()) else {
         return Err(NoMemory);
     };
     for column in columns {
         match column_schema(alloc, column.name.as_slice(), &column.kind, pass) {
-            Ok(child) => put(&mut children, child),
+            Ok(child) => children.push_reserved(child),
             Err(NoMemory) => {
                 release_all(children, pass);
                 return Err(NoMemory);

@@ -1,6 +1,8 @@
 //! The array of a table.
 ghost use Rattle.std.specs.Prelude.{◌≡◌, ◌+◌, ◌-◌, ◌^◌, ◌<◌, ◌≤◌, ◌≤ℤ◌, pos, [], ◌∷◌, length, None, All, if◌then◌else◌, is_ok, IfOk, IfErr};
 ghost use Rattle.unit_pass.specs.Tally.{risen};
+ghost use Rattle.tree_model.specs.Tree.{trees};
+ghost use Rattle.raw_array.specs.Members.{Cost, cost_of_all};
 ghost use Rattle.layout_check.specs.Layout.{natural};
 ghost use Rattle.arr_export.specs.ArrayTrees.{IsColumn, table_tree};
 
@@ -9,20 +11,18 @@ use raw_array::{ArrayParts, RawArray, ReleaseKind};
 use std::alloc::Global;
 use unit_pass::{NoMemory, Pass};
 
-// The buffers of a struct of which no item is null: an absent validity bitmap.
+/// The buffers of a struct of which no item is null: an absent validity bitmap.
 fn no_validity(alloc: Global) -> Result<Vec<Option<BufView>>, NoMemory>
     ensures { IfOk result (λ buffers. buffers.items ≡ None ∷ []) }
 {
     let Ok(mut buffers) = Vec::with_capacity(alloc, 1) else {
         return Err(NoMemory);
     };
-    match buffers.push(None) {
-        Ok(()) => Ok(buffers),
-        Err(_) => unreachable!(),
-    }
+    buffers.push_reserved(None);
+    Ok(buffers)
 }
 
-// Such buffers have no hold to be let go.
+/// Such buffers have no hold to be let go.
 fn end_no_validity(mut buffers: Vec<Option<BufView>>)
     requires { buffers.items ≡ None ∷ [] }
 {
@@ -48,6 +48,7 @@ pub fn export_table(
     requires few_columns { length columns.items < 2 ^ 32 - 1 }
     requires columns { All (IsColumn (natural rows)) columns.items }
     ensures tree { IfOk result (λ tree. tree ≡ table_tree (natural rows) columns.items) }
+    ensures cost { IfOk result (λ tree. Cost tree ≡ 1 + cost_of_all (trees columns.items)) }
     ensures columns_back { IfErr result (λ back. back.0.items ≡ columns.items) }
     ensures units { pass.new.units + (if is_ok result then 1 else 0) ≡ pass.old.units }
     ensures nodes { pass.new.nodes ≡ (if is_ok result then risen pass.old.nodes 1 else pass.old.nodes) }

@@ -1,11 +1,21 @@
-use Rattle.std.proofs.Common.{arith, rules}
-use Rattle.arr_export.proofs.Parts.{column-made, few-buffers}
+use Rattle.std.proofs.Common.{◌≡◌, ◌∙◌, ap, arith, rules}
+use Rattle.raw_array.specs.Members.{Cost}
+use Rattle.arr_export.specs.ArrayTrees.{column_tree}
+use Rattle.arr_export.proofs.Parts.{column-cost, column-made, few-buffers}
 use Rattle.arr_export.proofs.column_array.export_column.Goals as goal
 
 pub build-requires-clause-few_buffers : goal.build-requires-clause-few_buffers
 build-requires-clause-few_buffers c =
     let is = c.requires.holds.2.is_encoded in
     omega (arith, few-buffers c.args.built.buffers.items c.requires.holds.0 c.requires.holds.1 is.buffers)
+
+pub returns-in-Ok-clause-cost : goal.returns-in-Ok-clause-cost
+returns-in-Ok-clause-cost c =
+    let kind = c.requires.holds.0 in
+    let values = c.requires.holds.1 in
+    let made = column-made c.args.built kind values c.new.result.items c.args.dictionary c.new.ensures.items c.requires.holds.2.is_encoded in
+    let same : Cost c.in-Ok.tree ≡ Cost (column_tree kind values c.args.dictionary) = ap Cost c.in-Ok.ensures.tree ∙ ap Cost made in
+    omega (arith, same, column-cost kind values c.args.dictionary)
 
 pub returns-in-Ok-clause-tree : goal.returns-in-Ok-clause-tree
 returns-in-Ok-clause-tree c kind values is =

@@ -80,15 +80,15 @@ column_schemas-loop-column-preserved t c =
     ap (λ (n : List ℕ). column_schema n (kind_of item.kind)) c.as_slice.ensures ∙ ap code_schema c.column-item.is in
     let tree = c.in-Ok-column_schema.ensures.tree in
     let cost = ap Nodes tree in
-    let pushed : nodes_of_all (trees c.put.new.children.items) ≡ nodes_of_all (trees c.loop-column.children.items) + Nodes child =
-    omega (arith, ap (λ (ts : List SchemaTree). nodes_of_all (trees ts)) c.put.ensures.items, cost_of_all-append no_holds c.loop-column.children.items (child ∷ [])) in
+    let pushed : nodes_of_all (trees c.push_reserved.new.self.items) ≡ nodes_of_all (trees c.loop-column.children.items) + Nodes child =
+    omega (arith, ap (λ (ts : List SchemaTree). nodes_of_all (trees ts)) c.push_reserved.ensures.items, cost_of_all-append no_holds c.loop-column.children.items (child ∷ [])) in
     record {
-      children = c.put.ensures.items
+      children = c.push_reserved.ensures.items
           ∙ ap (λ (ts : List SchemaTree). ts ++ child ∷ []) c.loop-column.invariant.children
           ∙ ap (λ (x : SchemaTree). map code_schema (take i columns) ++ x ∷ []) (tree ∙ is)
           ∙ sym (map-more code_schema columns i item within);
-      count = omega (arith, c.put.ensures.count, c.loop-column.invariant.count);
-      room = omega (arith, c.put.ensures.room, c.loop-column.invariant.room);
+      count = omega (arith, c.push_reserved.ensures.len, c.loop-column.invariant.count);
+      room = omega (arith, c.push_reserved.ensures.capacity, c.loop-column.invariant.room);
       units = omega (arith, pushed, cost, c.in-Ok-column_schema.ensures.units, c.loop-column.invariant.units);
       blocks = c.in-Ok-column_schema.ensures.blocks ∙ c.loop-column.invariant.blocks;
       nodes = omega (arith, pushed, cost, c.in-Ok-column_schema.ensures.nodes, c.loop-column.invariant.nodes);
