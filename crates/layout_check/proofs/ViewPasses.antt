@@ -44,15 +44,15 @@ PassOne-none own k = record { at = λ i l. absurd (omega (arith, l)) }
 pub PassOne-more : (own : ArrayMembers) (k n : ℕ) → PassOne own k n → PassesIn own k n → PassOne own k (n + 1)
 PassOne-more own k n h p = record { at = λ i l. last_or_before (PassesIn own k) n i l h.at p }
 
-not_large : (size : ℕ) → size ≤ 65536 → nat_lt 65536 size ≡ false
+not_large : (size : ℕ) → size ≤ 4096 → nat_lt 4096 size ≡ false
 not_large size h = grind (arith, h)
 
-pub PassOne-small : (own : ArrayMembers) (k n : ℕ) → data_length own k ≤ 65536 → PassOne own k n
+pub PassOne-small : (own : ArrayMembers) (k n : ℕ) → data_length own k ≤ 4096 → PassOne own k n
 PassOne-small own k n h =
     record { at = λ i l large names.
-        let more : nat_lt 65536 (data_length own (natural (view_buffer own i))) ≡ true =
-        both_second (is_long (view_length own i)) (nat_lt 65536 (data_length own (natural (view_buffer own i)))) large in
-        absurd (true≢false (sym more ∙ ap (λ j. nat_lt 65536 (data_length own j)) names ∙ not_large (data_length own k) h)) }
+        let more : nat_lt 4096 (data_length own (natural (view_buffer own i))) ≡ true =
+        both_second (is_long (view_length own i)) (nat_lt 4096 (data_length own (natural (view_buffer own i)))) large in
+        absurd (true≢false (sym more ∙ ap (λ j. nat_lt 4096 (data_length own j)) names ∙ not_large (data_length own k) h)) }
 
 pub ruleset one = (PassOne-none, PassOne-more, PassOne-small)
 
@@ -66,7 +66,7 @@ other-passes own k i within other large names = by (is_valid own i) refl
   where
     by : (b : Bool) → is_valid own i ≡ b → view_not_text own i ≡ None
     by true v =
-        let long = both_first (is_long (view_length own i)) (nat_lt 65536 (data_length own (natural (view_buffer own i)))) large in
+        let long = both_first (is_long (view_length own i)) (nat_lt 4096 (data_length own (natural (view_buffer own i)))) large in
         absurd (other (at_least (view_buffer own i) k ((within v).named long).buffer_from names))
     by false v = passes-null own i v
 
@@ -76,7 +76,7 @@ null-passes own k i v large names = passes-null own i v
 
 pub short-passes : (own : ArrayMembers) (k i : ℕ) → is_long (view_length own i) ≡ false → PassesIn own k i
 short-passes own k i short large names =
-    absurd (true≢false (sym (both_first (is_long (view_length own i)) (nat_lt 65536 (data_length own (natural (view_buffer own i)))) large) ∙ short))
+    absurd (true≢false (sym (both_first (is_long (view_length own i)) (nat_lt 4096 (data_length own (natural (view_buffer own i)))) large) ∙ short))
 
 -- a view whose part of the buffer is text
 pub part-passes : (own : ArrayMembers) (k i : ℕ) → natural (view_buffer own i) ≡ k → IsTrue (is_long (view_length own i)) → NamedWithin own i
@@ -107,7 +107,7 @@ passes-all own m a h within = first_below-all (view_not_text own) m (λ i l. by 
     by i l false e v is = a.at i l e
     by i l true e false is = passes-null own i is
     by i l true e true is =
-        let long = both_first (is_long (view_length own i)) (nat_lt 65536 (data_length own (natural (view_buffer own i)))) e in
+        let long = both_first (is_long (view_length own i)) (nat_lt 4096 (data_length own (natural (view_buffer own i)))) e in
         h.at i l e ((within i l is).named long).buffer
 
 pub ruleset all = (PassAlone-fewer, PassBefore-none, PassBefore-more)

@@ -47,7 +47,7 @@ pub record AreRuns (bytes : List ℕ) (runs : List Run) : Type 0 where
 
 -- a long item's data buffer is large
 abbrev pub names_large : ArrayMembers → ℕ → Bool
-names_large own i = is_long (view_length own i) && nat_lt 65536 (data_length own (natural (view_buffer own i)))
+names_large own i = is_long (view_length own i) && nat_lt 4096 (data_length own (natural (view_buffer own i)))
 
 -- those of the first n items pass that name no large data buffer
 pub record PassAlone (own : ArrayMembers) (n : ℕ) : Type 0 where

@@ -19,7 +19,7 @@ use crate::views::{
 use raw_array::RawArray;
 
 /// The size of a data buffer above which its views are tested by a table.
-const LARGE: u64 = 65_536;
+const LARGE: u64 = 4096;
 
 fn view_not_text(array: &RawArray, i: u64) -> Option<Numbers>
     requires live { IsLive array.now }
