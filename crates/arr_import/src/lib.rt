@@ -31,6 +31,8 @@ mod trees;
 mod value;
 mod value_ref;
 mod view;
+#[cfg(test)]
+mod view_tests;
 
 pub use col::Col;
 pub use imported::{ImportFault, Imported, import};

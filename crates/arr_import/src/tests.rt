@@ -16,7 +16,7 @@ use unit_pass::{Desk, Pass, SUPPLY, open_desk};
 
 /// What is to be read.
 #[derive(Clone, Copy)]
-enum Want<'w> {
+pub(crate) enum Want<'w> {
     Null,
     Truth(bool),
     Whole(i128),
@@ -93,7 +93,7 @@ fn show_fields(rt: &impl Abort, levels: u8, home: &Col<'_>, i: i64, want: &[Want
 }
 
 /// The two structures are taken, show these items, and come back whole.
-fn reads(
+pub(crate) fn reads(
     rt: &impl Abort,
     alloc: Global,
     schema: RawSchema,
@@ -111,7 +111,7 @@ fn reads(
     }
 }
 
-fn closed(rt: &impl Abort, desk: Desk, pass: Pass) {
+pub(crate) fn closed(rt: &impl Abort, desk: Desk, pass: Pass) {
     assert_eq!(rt; pass.units(), SUPPLY);
     desk.close(pass);
 }
@@ -526,7 +526,7 @@ fn home_follows_two_dictionaries(rt: HostRuntime) {
 
 // ---- faults
 
-fn refused(
+pub(crate) fn refused(
     rt: &impl Abort,
     alloc: Global,
     schema: RawSchema,

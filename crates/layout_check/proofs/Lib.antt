@@ -17,3 +17,5 @@ pub mod MadeTypes
 pub mod Named
 pub mod Placed
 pub mod ViewsScanned
+pub mod TextRuns
+pub mod ViewPasses

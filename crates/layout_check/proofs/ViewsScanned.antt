@@ -48,6 +48,19 @@ text-passes false text i h = refl
 pub passes-text : (own : ArrayMembers) (i : ℕ) → IsUtf8 (view_data own i) → view_not_text own i ≡ None
 passes-text own i h = text-passes (is_valid own i) (view_data own i) i h
 
+-- of a part of the data buffer that is text
+pub passes-part : (own : ArrayMembers) (i : ℕ) → IsTrue (is_long (view_length own i)) → NamedWithin own i
+    → IsUtf8 (take (natural (view_length own i)) (drop (natural (view_offset own i)) (sized_data own (natural (view_buffer own i)))))
+    → view_not_text own i ≡ None
+passes-part own i long named text =
+    let k = natural (view_buffer own i) in
+    let start = natural (view_offset own i) in
+    let len = natural (view_length own i) in
+    let some : (start + len) - start ≡ len = omega arith in
+    let same = ap (λ n. take n (drop start (sized_data own k))) (sym some) ∙ part (bytes own (data_place k)) (data_length own k) start len named.sized in
+    let is : view_data own i ≡ data_named own i = long_data (is_long (view_length own i)) (data_named own i) (data_in_view own i) long in
+    passes-text own i (subst IsUtf8 (sym is) (subst IsUtf8 same text))
+
 pub passes-cut : (own : ArrayMembers) (i : ℕ) → AreTexts own (data_buffers own) → IsTrue (is_long (view_length own i)) → NamedWithin own i
     → IsCharBoundary (sized_data own (natural (view_buffer own i))) (natural (view_offset own i))
     → IsCharBoundary (sized_data own (natural (view_buffer own i))) (natural (view_offset own i) + natural (view_length own i))

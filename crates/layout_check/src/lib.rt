@@ -27,6 +27,7 @@ mod laws;
 mod layout;
 mod nulls;
 mod rule;
+mod runs;
 mod scans;
 mod schema;
 #[cfg(test)]
@@ -35,6 +36,9 @@ mod schema_tests;
 mod tests;
 mod texts;
 mod typed;
+#[cfg(test)]
+mod view_tests;
+mod view_texts;
 mod views;
 mod walk;
 mod worked_arrays;

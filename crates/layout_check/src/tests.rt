@@ -34,7 +34,7 @@ fn node(kind: DataType, kids: Vec<Typed>, dict: Option<Box<Typed>>) -> Typed
     Typed { kind, dict, kids }
 }
 
-fn flat(alloc: Global, kind: DataType) -> Typed
+pub(crate) fn flat(alloc: Global, kind: DataType) -> Typed
     requires type_ok { KindOk kind }
     requires leaf { KidsOk kind no_trees }
     ensures ok { NodesOk (typed_of result) }
@@ -197,7 +197,7 @@ fn array(
 }
 
 /// An array without children and dictionary.
-fn leaf(
+pub(crate) fn leaf(
     rt: &impl Abort,
     alloc: Global,
     window: Window,
@@ -233,7 +233,7 @@ fn before(rt: &impl Abort, alloc: Global, dictionary: RawArray, pass: &mut Pass)
     )
 }
 
-fn ended(rt: &impl Abort, array: RawArray, pass: &mut Pass) {
+pub(crate) fn ended(rt: &impl Abort, array: RawArray, pass: &mut Pass) {
     let mut array = array;
     let before = pass.units();
     assert!(rt; array.cost() <= SUPPLY - before);
@@ -243,9 +243,9 @@ fn ended(rt: &impl Abort, array: RawArray, pass: &mut Pass) {
 
 // ---- what is found
 
-type Want = (LayoutRule, u64, i128, i128);
+pub(crate) type Want = (LayoutRule, u64, i128, i128);
 
-fn found(rt: &impl Abort, answer: Result<(), LayoutFault>, want: Want, path: &[u32]) {
+pub(crate) fn found(rt: &impl Abort, answer: Result<(), LayoutFault>, want: Want, path: &[u32]) {
     match answer {
         Ok(()) => panic!(rt; "taken in place of {:?}", want.0),
         Err(fault) => {
@@ -288,7 +288,7 @@ fn found_at_each_place(
     ended(rt, array, pass);
 }
 
-fn taken(rt: &impl Abort, typed: Typed, array: RawArray, pass: &mut Pass)
+pub(crate) fn taken(rt: &impl Abort, typed: Typed, array: RawArray, pass: &mut Pass)
     requires ok { NodesOk (typed_of typed) }
     requires few { levels (typed_of typed) ≤ 9 }
 {
@@ -296,13 +296,13 @@ fn taken(rt: &impl Abort, typed: Typed, array: RawArray, pass: &mut Pass)
     ended(rt, array, pass);
 }
 
-fn closed(rt: &impl Abort, desk: Desk, pass: Pass) {
+pub(crate) fn closed(rt: &impl Abort, desk: Desk, pass: Pass) {
     assert_eq!(rt; pass.units(), SUPPLY);
     desk.close(pass);
 }
 
 /// The fault of an array without children and dictionary.
-fn leaf_found(
+pub(crate) fn leaf_found(
     rt: &impl Abort,
     alloc: Global,
     typed: Typed,

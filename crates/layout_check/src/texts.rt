@@ -1,4 +1,4 @@
-ghost use Rattle.std.specs.Prelude.{◌≡◌, None, IsTrue, not, ◌+◌, ◌*◌, ◌^◌, ◌<◌, ◌≤◌, ◌≤ℤ◌, pos, length, Option};
+ghost use Rattle.std.specs.Prelude.{◌≡◌, ◌↔◌, None, IsTrue, IsUtf8, MatchResult, not, ◌+◌, ◌*◌, ◌^◌, ◌<◌, ◌≤◌, ◌≤ℤ◌, pos, length, Option};
 ghost use Rattle.std.specs.Str.{is_utf8};
 ghost use Rattle.std.specs.Str.Lossy.{utf8_valid_len};
 ghost use Rattle.bit_pack.specs.Packed.{offset_width};
@@ -12,7 +12,7 @@ use crate::buffers::{bytes, offset_of, window_end, window_len, window_start};
 use crate::nulls::is_valid;
 use crate::rule::Numbers;
 use crate::scans::cut_between_characters;
-use crate::views::view_text_wrong;
+use crate::view_texts::view_text_wrong;
 use fmt_string::DataType;
 use raw_array::RawArray;
 
@@ -62,16 +62,38 @@ fn item_data(wide: bool, array: &RawArray, i: u64) -> &[u8]
     data_between(wide, array, place, place + 1)
 }
 
+/// Bytes as a text, or how many of them, from the first on, are one.
+pub fn as_text(bytes: &[u8]) -> Result<&str, usize>
+    ensures { MatchResult result (λ text. (text.now ≡ bytes.now) × IsUtf8 bytes.now) (λ valid. ¬ (IsUtf8 bytes.now) × (valid ≡ utf8_valid_len bytes.now)) }
+{
+    if bytes.len() < 64 {
+        return match str::from_utf8(bytes) {
+            Ok(text) => Ok(text),
+            Err(error) => Err(error.valid_up_to()),
+        };
+    }
+    match simdutf8::compat::from_utf8(bytes) {
+        Ok(text) => Ok(text),
+        Err(error) => Err(error.valid_up_to()),
+    }
+}
+
+pub fn is_text(bytes: &[u8]) -> bool
+    ensures { IsTrue result ↔ IsUtf8 bytes.now }
+{
+    as_text(bytes).is_ok()
+}
+
 /// A text that isn't UTF-8.
 #[tactic(auto, using(crate::proofs::TextData::utf8))]
 pub fn not_utf8(i: u64, text: &[u8]) -> Option<Numbers>
     ensures { result ≡ fault_if (not (is_utf8 text.now)) i (pos (utf8_valid_len text.now)) (pos (length text.now)) }
 {
-    match str::from_utf8(text) {
+    match as_text(text) {
         Ok(_) => None,
-        Err(error) => Some(Numbers {
+        Err(valid) => Some(Numbers {
             place: i,
-            left: error.valid_up_to() as i128,
+            left: valid as i128,
             right: text.len() as i128,
         }),
     }
@@ -154,7 +176,7 @@ fn is_text_in_items(wide: bool, array: &RawArray, used: &[u8]) -> bool
     let start = window_start(array);
     let end = window_end(array);
     let base = data_place(wide, array, start);
-    match str::from_utf8(used) {
+    match as_text(used) {
         Ok(text) => cut_between_characters(
             wide,
             bytes(array, 1),

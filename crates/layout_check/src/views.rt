@@ -1,25 +1,22 @@
-//! The rules on views, item by item.
+//! The rules on the places and the prefixes of views, item by item.
 ghost use Rattle.std.specs.Prelude.{◌≡◌, ◌==◌, not, nat_lt, None, IsTrue, true, ◌+◌, ◌*◌, ◌^◌, ◌<◌, ◌≤◌, ◌≤ℤ◌, pos, length, Option};
 ghost use Rattle.bit_pack.specs.Packed.{meant};
 ghost use Rattle.tree_model.specs.Tree.{IsLive};
 ghost use Rattle.raw_array.specs.Members.{ArrayTree, members_of};
 ghost use Rattle.layout_check.specs.Layout.{buffer_count as count_of, layout_of as layout_is, items, end, bytes as bytes_at, is_valid as is_valid_at, IsLongIfPresent, view_width, data_buffers as data_count, data_lengths as lengths_bytes, lengths_need as lengths_needed, data_length as data_size};
 ghost use Rattle.layout_check.specs.Views.{view_number, view_length as length_is, view_prefix as prefix_is, view_buffer as buffer_is, view_offset as offset_is, view_data as data_is, is_long};
-ghost use Rattle.layout_check.specs.Rules.{fault as fault_is, fault_if, is_outside as outside_is, first_below, named_outside as outside_at, view_outside as view_fault, misplaced as misplaced_at, prefix_wrong as prefix_fault, view_not_text as text_fault, texts_wrong as text_faults, views_misplaced as misplaced_views, prefixes_wrong as wrong_prefixes, buffer_absent as absent_at, buffer_short as short_at};
+ghost use Rattle.layout_check.specs.Rules.{fault as fault_is, fault_if, is_outside as outside_is, first_below, named_outside as outside_at, view_outside as view_fault, misplaced as misplaced_at, prefix_wrong as prefix_fault, views_misplaced as misplaced_views, prefixes_wrong as wrong_prefixes, buffer_absent as absent_at, buffer_short as short_at};
 ghost use Rattle.layout_check.specs.Within.{DataWithin, AreThere};
-ghost use Rattle.layout_check.specs.Scans.{sized_data as sized_bytes, AreTexts};
-ghost use Rattle.std.specs.Str.{IsCharBoundary};
 
 use crate::buffers::{bytes, window_end, window_start};
 use crate::layout::Layout;
 use crate::nulls::is_valid;
 use crate::rule::Numbers;
-use crate::texts::not_utf8;
 use bit_pack::{offset_at, unsigned_at};
 use raw_array::RawArray;
 
 /// The longest item that stands in its view.
-const MOST_IN_VIEW: i64 = 12;
+pub const MOST_IN_VIEW: i64 = 12;
 
 /// How many data buffers there are.
 pub fn data_buffers(array: &RawArray) -> usize
@@ -60,7 +57,7 @@ fn view_word(array: &RawArray, i: u64, word: usize) -> i64
     offset_at(bytes(array, 1), place * 4 + word, false)
 }
 
-fn view_length(array: &RawArray, i: u64) -> i64
+pub fn view_length(array: &RawArray, i: u64) -> i64
     requires live { IsLive array.now }
     requires length { pos 0 ≤ℤ (members_of array.now).length }
     requires offset { pos 0 ≤ℤ (members_of array.now).offset }
@@ -73,7 +70,7 @@ fn view_length(array: &RawArray, i: u64) -> i64
     view_word(array, i, 0)
 }
 
-fn view_buffer(array: &RawArray, i: u64) -> i64
+pub fn view_buffer(array: &RawArray, i: u64) -> i64
     requires live { IsLive array.now }
     requires length { pos 0 ≤ℤ (members_of array.now).length }
     requires offset { pos 0 ≤ℤ (members_of array.now).offset }
@@ -86,7 +83,7 @@ fn view_buffer(array: &RawArray, i: u64) -> i64
     view_word(array, i, 2)
 }
 
-fn view_offset(array: &RawArray, i: u64) -> i64
+pub fn view_offset(array: &RawArray, i: u64) -> i64
     requires live { IsLive array.now }
     requires length { pos 0 ≤ℤ (members_of array.now).length }
     requires offset { pos 0 ≤ℤ (members_of array.now).offset }
@@ -218,7 +215,7 @@ pub fn first_misplaced(array: &RawArray) -> Option<Numbers>
 }
 
 /// The bytes of an item.
-fn view_data(array: &RawArray, i: u64) -> &[u8]
+pub fn view_data(array: &RawArray, i: u64) -> &[u8]
     requires live { IsLive array.now }
     requires length { pos 0 ≤ℤ (members_of array.now).length }
     requires offset { pos 0 ≤ℤ (members_of array.now).offset }
@@ -308,162 +305,6 @@ pub fn first_wrong_prefix(array: &RawArray) -> Option<Numbers>
         }
     }
     None
-}
-
-fn view_not_text(array: &RawArray, i: u64) -> Option<Numbers>
-    requires live { IsLive array.now }
-    requires length { pos 0 ≤ℤ (members_of array.now).length }
-    requires offset { pos 0 ≤ℤ (members_of array.now).offset }
-    requires buffers { 3 ≤ length (members_of array.now).buffers }
-    requires bound { end (members_of array.now) < 2 ^ 64 }
-    requires inside { i < items (members_of array.now) }
-    requires long { end (members_of array.now) * view_width ≤ length (bytes_at (members_of array.now) 1) }
-    requires validity { IsLongIfPresent (members_of array.now) }
-    requires within { IsTrue (is_valid_at (members_of array.now) i) → DataWithin (members_of array.now) i }
-    ensures { result ≡ text_fault (members_of array.now) i }
-{
-    if is_valid(array, i) {
-        not_utf8(i, view_data(array, i))
-    } else {
-        None
-    }
-}
-
-/// The first valid view whose bytes aren't UTF-8, once each valid view names some.
-#[tactic(auto, using(crate::proofs::Placed::placed))]
-pub fn first_bad_text(array: &RawArray) -> Option<Numbers>
-    requires live { IsLive array.now }
-    requires length { pos 0 ≤ℤ (members_of array.now).length }
-    requires offset { pos 0 ≤ℤ (members_of array.now).offset }
-    requires buffers { 3 ≤ length (members_of array.now).buffers }
-    requires validity { IsLongIfPresent (members_of array.now) }
-    requires long { end (members_of array.now) * view_width ≤ length (bytes_at (members_of array.now) 1) }
-    requires named { AreThere (members_of array.now) }
-    requires placed { first_below (misplaced_at (members_of array.now)) (items (members_of array.now)) ≡ None }
-    ensures { result ≡ first_below (text_fault (members_of array.now)) (items (members_of array.now)) }
-{
-    let start = window_start(array);
-    let end = window_end(array);
-    for i in 0..end - start {
-        if let Some(numbers) = view_not_text(array, i) {
-            return Some(numbers);
-        }
-    }
-    None
-}
-
-/// A data buffer as far as its length goes.
-fn sized_data(array: &RawArray, k: usize) -> &[u8]
-    requires live { IsLive array.now }
-    requires buffers { 3 ≤ length (members_of array.now).buffers }
-    requires inside { k < data_count (members_of array.now) }
-    requires few { k < 2 ^ 63 }
-    requires lengths { lengths_needed (members_of array.now) ≤ length (lengths_bytes (members_of array.now)) }
-    requires named { AreThere (members_of array.now) }
-    ensures { result.now ≡ sized_bytes (members_of array.now) k }
-{
-    &bytes(array, k + 2)[..data_length(array, k) as usize]
-}
-
-/// Each data buffer is UTF-8, as far as its length goes.
-#[tactic(auto, using(crate::proofs::ViewsScanned::buffers))]
-fn are_texts(array: &RawArray) -> bool
-    requires live { IsLive array.now }
-    requires buffers { 3 ≤ length (members_of array.now).buffers }
-    requires lengths { lengths_needed (members_of array.now) ≤ length (lengths_bytes (members_of array.now)) }
-    requires named { AreThere (members_of array.now) }
-    ensures { IsTrue result → AreTexts (members_of array.now) (data_count (members_of array.now)) }
-{
-    for k in 0..data_buffers(array) {
-        if str::from_utf8(sized_data(array, k)).is_err() {
-            return false;
-        }
-    }
-    true
-}
-
-/// A place at which a text may be cut.
-fn is_border(text: &[u8], place: usize) -> bool
-    ensures { IsTrue result → IsCharBoundary text.now place }
-{
-    if place >= text.len() {
-        return place == text.len();
-    }
-    text[place] < 128 || text[place] >= 192
-}
-
-/// A view of a text is a text: it is short and UTF-8, or cut from a data buffer that is.
-#[tactic(auto, using(crate::proofs::ViewsScanned::views))]
-fn is_cut_well(array: &RawArray, i: u64) -> bool
-    requires live { IsLive array.now }
-    requires length { pos 0 ≤ℤ (members_of array.now).length }
-    requires offset { pos 0 ≤ℤ (members_of array.now).offset }
-    requires buffers { 3 ≤ length (members_of array.now).buffers }
-    requires bound { end (members_of array.now) < 2 ^ 64 }
-    requires inside { i < items (members_of array.now) }
-    requires validity { IsLongIfPresent (members_of array.now) }
-    requires long { end (members_of array.now) * view_width ≤ length (bytes_at (members_of array.now) 1) }
-    requires lengths { lengths_needed (members_of array.now) ≤ length (lengths_bytes (members_of array.now)) }
-    requires named { AreThere (members_of array.now) }
-    requires texts { AreTexts (members_of array.now) (data_count (members_of array.now)) }
-    requires within { IsTrue (is_valid_at (members_of array.now) i) → DataWithin (members_of array.now) i }
-    ensures { IsTrue result → text_fault (members_of array.now) i ≡ None }
-{
-    if !is_valid(array, i) {
-        return true;
-    }
-    let size = view_length(array, i);
-    if size <= MOST_IN_VIEW {
-        return str::from_utf8(view_data(array, i)).is_ok();
-    }
-    let from = view_offset(array, i) as usize;
-    let text = sized_data(array, view_buffer(array, i) as usize);
-    is_border(text, from) && is_border(text, from + size as usize)
-}
-
-/// Each view of a text is a text.
-#[tactic(auto, using(crate::proofs::Placed::placed, crate::proofs::Firsts::one_more))]
-fn are_cut_well(array: &RawArray) -> bool
-    requires live { IsLive array.now }
-    requires length { pos 0 ≤ℤ (members_of array.now).length }
-    requires offset { pos 0 ≤ℤ (members_of array.now).offset }
-    requires buffers { 3 ≤ length (members_of array.now).buffers }
-    requires validity { IsLongIfPresent (members_of array.now) }
-    requires long { end (members_of array.now) * view_width ≤ length (bytes_at (members_of array.now) 1) }
-    requires lengths { lengths_needed (members_of array.now) ≤ length (lengths_bytes (members_of array.now)) }
-    requires named { AreThere (members_of array.now) }
-    requires placed { first_below (misplaced_at (members_of array.now)) (items (members_of array.now)) ≡ None }
-    requires texts { AreTexts (members_of array.now) (data_count (members_of array.now)) }
-    ensures { IsTrue result → first_below (text_fault (members_of array.now)) (items (members_of array.now)) ≡ None }
-{
-    let start = window_start(array);
-    let end = window_end(array);
-    for i in 0..end - start {
-        if !is_cut_well(array, i) {
-            return false;
-        }
-    }
-    true
-}
-
-/// The first valid view whose bytes aren't UTF-8: none where the data buffers as a whole pass, else item by item.
-pub fn view_text_wrong(array: &RawArray) -> Option<Numbers>
-    requires live { IsLive array.now }
-    requires length { pos 0 ≤ℤ (members_of array.now).length }
-    requires offset { pos 0 ≤ℤ (members_of array.now).offset }
-    requires buffers { 3 ≤ length (members_of array.now).buffers }
-    requires validity { IsLongIfPresent (members_of array.now) }
-    requires long { end (members_of array.now) * view_width ≤ length (bytes_at (members_of array.now) 1) }
-    requires lengths { lengths_needed (members_of array.now) ≤ length (lengths_bytes (members_of array.now)) }
-    requires named { AreThere (members_of array.now) }
-    requires placed { first_below (misplaced_at (members_of array.now)) (items (members_of array.now)) ≡ None }
-    ensures { result ≡ first_below (text_fault (members_of array.now)) (items (members_of array.now)) }
-{
-    if are_texts(array) && are_cut_well(array) {
-        None
-    } else {
-        first_bad_text(array)
-    }
 }
 
 /// The rule on the places of views, once the buffers are long enough.

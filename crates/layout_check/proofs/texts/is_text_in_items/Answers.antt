@@ -11,7 +11,7 @@ returns-in-Ok c passed =
     let own = members_of c.args.array.now in
     let wide = c.args.wide in
     let found = c.cut_between_characters.ensures passed in
-    let text : c.in-Ok.text.now ≡ used_data wide own = c.in-Ok.ensures.cases.0 ∙ c.requires.used in
-    let utf8 : IsUtf8 (used_data wide own) = subst IsUtf8 c.requires.used c.in-Ok.ensures.cases.1 in
+    let text : c.in-Ok.text.now ≡ used_data wide own = c.in-Ok.ensures.0 ∙ c.requires.used in
+    let utf8 : IsUtf8 (used_data wide own) = subst IsUtf8 c.requires.used c.in-Ok.ensures.1 in
     let borders : AreBorders wide (bytes own 1) (first own) (natural (offset wide own (first own))) (used_data wide own) (items own + 1) = grind (arith, found) in
     borders-pass wide own c.requires.rise utf8 borders

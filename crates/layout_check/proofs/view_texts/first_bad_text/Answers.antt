@@ -3,7 +3,7 @@ use Rattle.raw_array.specs.Members.{members_of}
 use Rattle.layout_check.specs.Layout.{items}
 use Rattle.layout_check.specs.Rules.{view_not_text}
 use Rattle.layout_check.proofs.Firsts.{first_below-some}
-use Rattle.layout_check.proofs.views.first_bad_text.Goals as goal
+use Rattle.layout_check.proofs.view_texts.first_bad_text.Goals as goal
 
 pub returns-in-Some : goal.returns-in-Some
 returns-in-Some c =

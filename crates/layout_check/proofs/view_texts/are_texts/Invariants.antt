@@ -1,6 +1,6 @@
 use Rattle.raw_array.specs.Members.{members_of}
 use Rattle.layout_check.specs.Scans.{AreTexts}
-use Rattle.layout_check.proofs.views.are_texts.Given as goal
+use Rattle.layout_check.proofs.view_texts.are_texts.Given as goal
 
 abbrev pub invariant-loop-k : goal.invariant-loop-k
 invariant-loop-k l = AreTexts (members_of l.array) l.k

@@ -6,7 +6,7 @@ use Rattle.layout_check.specs.Layout.{natural, is_valid}
 use Rattle.layout_check.specs.Views.{view_length, view_buffer, view_offset, is_long}
 use Rattle.layout_check.specs.Scans.{sized_data}
 use Rattle.layout_check.proofs.ViewsScanned.{passes-cut}
-use Rattle.layout_check.proofs.views.is_cut_well.Goals as goal
+use Rattle.layout_check.proofs.view_texts.is_cut_well.Goals as goal
 
 pub returns-then-is_border : goal.returns-then-is_border
 returns-then-is_border c = λ h.
