@@ -1,7 +1,7 @@
 -- The answer to the records of a text, and the blocks and nodes of its table, from what its parts read.
 use Rattle.std.proofs.Common.{◌≡◌, ◌∙◌, ◌⊎◌, ◌+◌, List, Ok, ap, inl, inr}
 use Rattle.fmt_string.specs.Table.{Column, Row}
-use Rattle.csv_edge.specs.Body.{behind_header}
+use Rattle.csv_read.specs.Body.{behind_header}
 use Rattle.csv_model.specs.Header.{Entry, header_of}
 use Rattle.csv_model.specs.Reading.{Record, body}
 use Rattle.csv_model.specs.Text.{table_text}

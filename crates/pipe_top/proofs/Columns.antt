@@ -12,9 +12,9 @@ use Rattle.col_build.specs.Encoding.{HasForm}
 use Rattle.col_build.specs.Holding.{Holds}
 use Rattle.col_build.specs.declared.builder.Builder.{Builder}
 use Rattle.fmt_string.specs.ColumnForms.{AreColumnKinds, IsColumnKind}
-use Rattle.csv_edge.specs.Body.{HoldsKind}
-use Rattle.csv_edge.specs.Chunks.{chunk_blocks}
-use Rattle.csv_edge.specs.TextColumns.{AreAllowed, AreProper, HasTexts}
+use Rattle.csv_read.specs.Body.{HoldsKind}
+use Rattle.csv_read.specs.Chunks.{chunk_blocks}
+use Rattle.field_codec.specs.TextColumns.{AreAllowed, AreProper, HasTexts}
 use Rattle.pipe_top.specs.Traffic.{chunk_blocks_of}
 
 some-form : (form : Option Form) → is_some form ≡ true → HasForm form

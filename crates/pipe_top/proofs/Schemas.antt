@@ -6,7 +6,7 @@ use Rattle.fmt_string.specs.ColumnView.{column_of}
 use Rattle.fmt_string.specs.Table.{Column}
 use Rattle.arr_export.specs.ColumnSchema.{KindsOk}
 use Rattle.arr_export.specs.SchemaSize.{AreFlat}
-use Rattle.csv_edge.specs.TextColumns.{AreProper}
+use Rattle.field_codec.specs.TextColumns.{AreProper}
 
 pub proper-flat : (columns : List Column) → AreProper columns → AreFlat columns
 proper-flat columns proper k d small = ((proper k d small).0, (proper k d small).1)

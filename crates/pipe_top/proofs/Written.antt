@@ -3,7 +3,7 @@ use Rattle.std.proofs.Common.{◌≡◌, ◌≤◌, ◌∙◌, ℕ, false, List,
 use Rattle.std.proofs.lemmas.Bool.Decides.{nat_tests}
 use Rattle.std.specs.Io.KnownBytes.{Appends}
 use Rattle.std.specs.Prelude.{if◌then◌else◌}
-use Rattle.csv_edge.specs.Entries.{entries_of}
+use Rattle.csv_read.specs.Entries.{entries_of}
 use Rattle.csv_model.specs.Reading.{records_of}
 use Rattle.stage_plan.specs.declared.types.TypeEntry.{TypeEntry}
 use Rattle.pipe_top.specs.Answer.{Fault, IsAnswerTo, Text, answer_of_records, answer_to, input_limit}

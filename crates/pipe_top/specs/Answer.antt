@@ -1,8 +1,8 @@
 -- What a run answers: the text of the table that was read, or the first fault, and the status of each fault.
 use Rattle.std.specs.Prelude.{◌≡◌, ℕ, nat_lt, List, [], length, Option, None, Some, Result, Ok, Err, if◌then◌else◌}
 use Rattle.fmt_string.specs.Table.{Column, Row}
-use Rattle.csv_edge.specs.Body.{behind_header}
-use Rattle.csv_edge.specs.Entries.{entries_of}
+use Rattle.csv_read.specs.Body.{behind_header}
+use Rattle.csv_read.specs.Entries.{entries_of}
 use Rattle.csv_model.specs.Header.{Entry, header_of}
 use Rattle.csv_model.specs.Reading.{Record, body, records_of}
 use Rattle.csv_model.specs.Text.{table_text}

@@ -6,7 +6,7 @@ use Rattle.raw_schema.specs.Members.{SchemaTree}
 use Rattle.tree_model.specs.Tree.{Depth}
 use Rattle.fmt_string.specs.ColumnForms.{AreColumnKinds}
 use Rattle.arr_export.specs.ColumnSchema.{SchemaOf}
-use Rattle.csv_edge.specs.Chunks.{FitFrom, chunk_of}
+use Rattle.csv_read.specs.Chunks.{FitFrom, chunk_of}
 
 -- the schema of columns of flat types
 pub record IsSchemaOf (schema : SchemaTree) (columns : List Column) : Type 0 where

@@ -1,8 +1,8 @@
 -- The blocks and the nodes that a run makes.
 use Rattle.std.specs.Prelude.{ℕ, ◌+◌, List, [], ◌∷◌, length, Result, Ok, Err}
 use Rattle.fmt_string.specs.Table.{Column, Row}
-use Rattle.csv_edge.specs.Body.{behind_header}
-use Rattle.csv_edge.specs.Chunks.{chunk_blocks}
+use Rattle.csv_read.specs.Body.{behind_header}
+use Rattle.csv_read.specs.Chunks.{chunk_blocks}
 use Rattle.csv_model.specs.Header.{Entry, header_of}
 use Rattle.csv_model.specs.Reading.{Record, body}
 

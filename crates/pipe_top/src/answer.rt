@@ -1,8 +1,8 @@
 // The answer to the bytes of an input.
 ghost use Rattle.std.specs.Prelude.{◌≡◌, ◌⊎◌, ◌≤◌, vec_len, length, IfErr, IfOk, OnOk, All, Ok, map};
-ghost use Rattle.csv_edge.specs.Body.{HoldsBody, behind_header};
-ghost use Rattle.csv_edge.specs.Entries.{entries_of};
-ghost use Rattle.csv_edge.specs.TextColumns.{AreAllowed, AreProper, IsAllowed};
+ghost use Rattle.csv_read.specs.Body.{HoldsBody, behind_header};
+ghost use Rattle.csv_read.specs.Entries.{entries_of};
+ghost use Rattle.field_codec.specs.TextColumns.{AreAllowed, AreProper, IsAllowed};
 ghost use Rattle.csv_model.specs.Header.{header_of, most_columns};
 ghost use Rattle.csv_model.specs.Reading.{records_of};
 ghost use Rattle.fmt_string.specs.ColumnView.{column_of};

@@ -1,6 +1,6 @@
 // What the words ask for.
 ghost use Rattle.std.specs.Prelude.{◌≡◌, ◌⊎◌, true, false, List, Result, All, Err, IfErr, IfOk, option_map};
-ghost use Rattle.csv_edge.specs.TextColumns.{IsAllowed};
+ghost use Rattle.field_codec.specs.TextColumns.{IsAllowed};
 ghost use Rattle.fmt_string.specs.Kinds.{KindOk};
 ghost use Rattle.stage_plan.specs.declared.types.TypeEntry.{TypeEntry as AnEntry};
 ghost use Rattle.words.specs.Words.{texts_of, words_of};

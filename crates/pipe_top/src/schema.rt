@@ -1,7 +1,7 @@
 // The schema of the columns.
 ghost use Rattle.std.specs.Prelude.{◌≡◌, ◌+◌, ◌≤◌, length, map, IfOk, OnOk, OnErr};
 ghost use Rattle.arr_export.specs.ColumnSchema.{SchemaOf};
-ghost use Rattle.csv_edge.specs.TextColumns.{AreProper};
+ghost use Rattle.field_codec.specs.TextColumns.{AreProper};
 ghost use Rattle.csv_model.specs.Header.{most_columns};
 ghost use Rattle.fmt_string.specs.ColumnView.{column_of};
 ghost use Rattle.raw_schema.specs.Members.{Nodes};

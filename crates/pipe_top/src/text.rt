@@ -1,8 +1,8 @@
 // The text of a table, by way of a live chunk under its schema.
 ghost use Rattle.std.specs.Prelude.{◌≡◌, ◌+◌, ◌*◌, ◌≤◌, ◌<◌, ◌^◌, ◌++◌, ℕ, List, pos, map, length, vec_len, if◌then◌else◌, is_ok, IfOk, OnOk, All};
-ghost use Rattle.csv_edge.specs.Chunks.{HoldRows};
-ghost use Rattle.csv_edge.specs.CsvTexts.{HasText};
-ghost use Rattle.csv_edge.specs.TextColumns.{AreAllowed, AreProper};
+ghost use Rattle.csv_read.specs.Chunks.{HoldRows};
+ghost use Rattle.csv_write.specs.CsvTexts.{HasText};
+ghost use Rattle.field_codec.specs.TextColumns.{AreAllowed, AreProper};
 ghost use Rattle.csv_model.specs.Header.{most_columns};
 ghost use Rattle.csv_model.specs.Text.{rows_text, table_text};
 ghost use Rattle.fmt_string.specs.ColumnView.{column_of};

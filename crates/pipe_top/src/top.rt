@@ -1,8 +1,8 @@
 // The top call.
 ghost use Rattle.std.specs.Prelude.{◌≡◌, ◌<◌, ◌≤◌, ◌⊎◌, ◌++◌, true, false, All, Some, None, Ok, Err, IfOk, IfErr, IfSome, OnOk, OnErr, length, ℕ, List};
 ghost use Rattle.std.specs.Io.KnownBytes.{IsAtEnd, Keeps};
-ghost use Rattle.csv_edge.specs.Entries.{entries_of};
-ghost use Rattle.csv_edge.specs.TextColumns.{IsAllowed};
+ghost use Rattle.csv_read.specs.Entries.{entries_of};
+ghost use Rattle.field_codec.specs.TextColumns.{IsAllowed};
 ghost use Rattle.csv_model.specs.Reading.{records_of};
 ghost use Rattle.fmt_string.specs.Kinds.{KindOk};
 ghost use Rattle.edge_io.specs.Edge.{LosesPrefix, Rose};

@@ -1,10 +1,10 @@
 use Rattle.std.proofs.Common.{◌∙◌, ◌+◌, ap, map, subst, sym}
 use Rattle.csv_model.specs.Text.{table_text}
 use Rattle.pipe_top.specs.Traffic.{chunk_blocks_of, chunk_nodes_of, schema_nodes}
-use Rattle.csv_edge.specs.Body.{HoldsBody}
-use Rattle.csv_edge.specs.Chunks.{HoldRows}
-use Rattle.csv_edge.specs.Entries.{entries_of}
-use Rattle.csv_edge.specs.TextColumns.{AreAllowed, AreProper}
+use Rattle.csv_read.specs.Body.{HoldsBody}
+use Rattle.csv_read.specs.Chunks.{HoldRows}
+use Rattle.csv_read.specs.Entries.{entries_of}
+use Rattle.field_codec.specs.TextColumns.{AreAllowed, AreProper}
 use Rattle.csv_model.specs.Reading.{records_of}
 use Rattle.fmt_string.specs.ColumnView.{column_of}
 use Rattle.unit_pass.specs.Tally.{risen}

@@ -5,8 +5,8 @@ use Rattle.col_build.specs.Holding.{HoldsSome}
 use Rattle.fmt_string.specs.Table.{Column, Flat}
 use Rattle.fmt_string.specs.Value.{Null}
 use Rattle.fmt_string.specs.declared.kind.DataType.TheVariants as kinds
-use Rattle.csv_edge.specs.Body.{HoldsKind, column_values}
-use Rattle.csv_edge.proofs.HeldRows.{from-each, held-some}
+use Rattle.csv_read.specs.Body.{HoldsKind, column_values}
+use Rattle.csv_read.proofs.HeldRows.{from-each, held-some}
 use Rattle.pipe_top.proofs.Columns.{kind-count}
 use Rattle.pipe_top.proofs.text.count_rows.Goals as goal
 

@@ -1,7 +1,7 @@
 use Rattle.std.proofs.Common.{◌++◌, ◌∙◌, ap, subst}
 use Rattle.arr_export.specs.ColumnKinds.{type_of_columns}
 use Rattle.arr_import.specs.Window.{whole}
-use Rattle.csv_edge.specs.CsvTexts.{HasText, rows_in}
+use Rattle.csv_write.specs.CsvTexts.{HasText, rows_in}
 use Rattle.csv_model.specs.Text.{rows_text}
 use Rattle.pipe_top.proofs.text.write_chunk.Goals as goal
 

@@ -1,8 +1,8 @@
 use Rattle.std.proofs.Common.{◌≡◌, ◌<◌, ◌∙◌, length, ap, arith, sym, subst, w64, to_z, of_z}
 use Rattle.std.proofs.lemmas.Int.{ints}
 use Rattle.unit_pass.specs.Tally.{risen}
-use Rattle.csv_edge.specs.Chunks.{HoldRows}
-use Rattle.csv_edge.proofs.HeldRows.{from-each, held-fit}
+use Rattle.csv_read.specs.Chunks.{HoldRows}
+use Rattle.csv_read.proofs.HeldRows.{from-each, held-fit}
 use Rattle.pipe_top.specs.Rows.{IsChunkOf}
 use Rattle.pipe_top.proofs.Columns.{some-blocks}
 use Rattle.pipe_top.proofs.text.write_rows.Goals as goal

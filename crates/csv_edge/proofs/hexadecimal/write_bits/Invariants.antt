@@ -1,6 +1,0 @@
-use Rattle.std.proofs.Common.{◌≡◌, ◌-◌, ◌/◌, ◌^◌, take}
-use Rattle.fmt_string.specs.FieldText.{last_digits}
-use Rattle.csv_edge.proofs.hexadecimal.write_bits.Given as goal
-
-abbrev pub invariant-loop-place : goal.invariant-loop-place
-invariant-loop-place l = take l.place l.text ≡ last_digits 16 l.place (l.number / 16 ^ (l.count - l.place))

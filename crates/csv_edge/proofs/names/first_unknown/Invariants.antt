@@ -1,7 +1,0 @@
-use Rattle.std.proofs.Common.{not}
-use Rattle.csv_edge.specs.Entries.{has_text}
-use Rattle.csv_edge.proofs.Remaining.{PositionFrom}
-use Rattle.csv_edge.proofs.names.first_unknown.Given as goal
-
-abbrev pub invariant-loop-place : goal.invariant-loop-place
-invariant-loop-place l = PositionFrom (λ e. not (has_text l.known.keys e.name)) l.entries l.place

@@ -1,6 +1,0 @@
-use Rattle.std.proofs.Common.{◌^◌, ◌<◌}
-use Rattle.csv_edge.proofs.Numbers.{Front}
-use Rattle.csv_edge.proofs.number.short_front.Given as goal
-
-abbrev pub invariant-loop-place : goal.invariant-loop-place
-invariant-loop-place l = record { front : Front l.text l.place l.value; small : l.value < 10 ^ l.place }

@@ -1,7 +1,0 @@
-use Rattle.std.proofs.Common.{◌≡◌, take}
-use Rattle.csv.specs.Records.{fields_of}
-use Rattle.csv_edge.specs.Entries.{texts}
-use Rattle.csv_edge.proofs.row.fields.Given as goal
-
-abbrev pub invariant-loop-place : goal.invariant-loop-place
-invariant-loop-place l = texts l.fields.items ≡ take l.place (fields_of l.row)

@@ -1,0 +1,14 @@
+pub mod Remaining
+pub mod Twice
+pub mod RecordReading
+pub mod Fields
+pub mod Entries
+pub mod HeaderColumns
+pub mod ChunkLaw
+pub mod Views
+pub mod ChunkCosts
+pub mod HeldRows
+pub mod Taken
+pub mod FieldPush
+pub mod BodyRows
+pub mod BodyRead

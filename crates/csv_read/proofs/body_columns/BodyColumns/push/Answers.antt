@@ -1,0 +1,25 @@
+use Rattle.std.proofs.Common.{◌≡◌, ◌+◌, List, length, refl, rules, subst}
+use Rattle.csv.specs.Records.{fields_of}
+use Rattle.csv_read.specs.BodyRows.{AddsFields, RefusesFields}
+use Rattle.field_codec.specs.declared.form.FieldForm.{FieldForm}
+use Rattle.csv_read.proofs.BodyRows.{fields-refused, row-added}
+use Rattle.csv_read.proofs.body_columns.BodyColumns.push.Goals as goal
+
+pub returns-in_err-push_fields-clause-fault : goal.returns-in_err-push_fields-clause-fault
+returns-in_err-push_fields-clause-fault c =
+    let made = c.args.self.now in
+    let fields = fields_of c.args.row.now in
+    let width : length fields ≡ length made.forms.items = search rules in
+    let refused : RefusesFields c.in_err-push_fields.field-0.0 made.mark made.forms.items fields (made.rows + 1) made.builders.items =
+    subst (λ (forms : List FieldForm). RefusesFields c.in_err-push_fields.field-0.0 made.mark forms fields (made.rows + 1) made.builders.items) c.as_slice.ensures.value c.in_err-push_fields.ensures.fault in
+    let told = fields-refused made fields c.in_err-push_fields.field-0.0 width refused in
+    search (rules, told)
+
+pub returns-clause-added : goal.returns-clause-added
+returns-clause-added c =
+    let made = c.args.self.now in
+    let fields = fields_of c.args.row.now in
+    let width : length fields ≡ length made.forms.items = search rules in
+    let count : length c.push_fields.new.builders.items ≡ length made.builders.items = search rules in
+    let added : AddsFields made.mark made.forms.items fields (made.rows + 1) (length made.forms.items) made.builders.items c.push_fields.new.builders.items = search rules in
+    row-added made _ fields width refl count refl refl added

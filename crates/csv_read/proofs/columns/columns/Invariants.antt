@@ -1,0 +1,8 @@
+use Rattle.std.proofs.Common.{◌≡◌, map, take}
+use Rattle.fmt_string.specs.ColumnView.{column_of}
+use Rattle.csv_model.specs.Header.{header_columns}
+use Rattle.csv_read.specs.Entries.{entries_of, texts}
+use Rattle.csv_read.proofs.columns.columns.Given as goal
+
+abbrev pub invariant-loop-name : goal.invariant-loop-name
+invariant-loop-name l = map column_of l.columns.items ≡ header_columns (entries_of l.entries) (texts (take l.name-index l.names))

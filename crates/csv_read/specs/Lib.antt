@@ -1,0 +1,5 @@
+pub mod Body
+pub mod BodyRows
+pub mod Entries
+pub mod RecordReader
+pub mod Chunks

@@ -1,0 +1,31 @@
+//! CSV read: the columns that the header of a text names, and the rows that the records behind the header spell.
+//!
+//! The rules of records are those of `csv_model`: a text is one of records, its first record is the header, and each of its
+//! fields is the name of a column. This crate owns the reading of them. [`read_header`] answers exactly the columns or
+//! exactly the first fault, and [`read_body`] a builder a column, which holds exactly the column's values, or exactly the
+//! fault of the first record that spells no row; only want of memory is free. Which types are asked for is read by
+//! `stage_plan`, and how a column is stored and finished is `col_build`'s.
+//!
+//! Which value a field spells in a column is `fmt_string`'s table of the flat types, read by `field_codec`; a field that equals
+//! the mark is null. [`export_rows`] makes the chunk of the rows that builders hold.
+#![tactic(auto)]
+
+mod body;
+mod body_columns;
+#[cfg(test)]
+mod body_tests;
+mod chunk;
+mod columns;
+mod header;
+mod items;
+mod names;
+mod records;
+mod release;
+mod row;
+#[cfg(test)]
+mod tests;
+
+pub use body::{BodyFault, read_body};
+pub use chunk::{chunks_have_their_rows, export_rows};
+pub use csv_model::HeaderFault;
+pub use header::read_header;

@@ -1,0 +1,43 @@
+use Rattle.std.proofs.Common.{◌++◌, ◌∙◌, map, length, ap, sym, subst, arith}
+use Rattle.std.specs.List.{concat}
+use Rattle.csv.specs.Writing.{default_writer, row_text}
+use Rattle.tree_model.specs.Tree.{children_of}
+use Rattle.arr_import.specs.Cols.{window_of}
+use Rattle.csv_write.specs.ChunkTexts.{HasRow, rows_at}
+use Rattle.csv_write.specs.CsvTexts.{AreFormsOf, IsFormOf}
+use Rattle.csv_write.specs.Lines.{HasLines}
+use Rattle.csv_write.proofs.ChunkTexts.{kids-long, lines-are, rows-there, zip-long}
+use Rattle.csv_write.proofs.csv_text.CsvText.add.Goals as goal
+
+pub chunk_columns-requires-clause-count : goal.chunk_columns-requires-clause-count
+chunk_columns-requires-clause-count c =
+    let (mark, columns, written, h, is) = c.requires in
+    ap length c.deref.ensures.value
+    ∙ zip-long (λ form column. IsFormOf form column.kind) c.args.self.now.forms.items columns h.forms
+    ∙ sym (kids-long columns)
+    ∙ ap (λ t. length (children_of t)) (sym is)
+
+pub write_rows-requires : goal.write_rows-requires
+write_rows-requires c i lt =
+    let (mark, columns, written, h, is) = c.requires in
+    let forms = subst (λ fs. AreFormsOf fs columns) (sym c.deref.ensures.value) h.forms in
+    subst (λ ts. HasRow ts i) (sym c.deref-2.ensures.value)
+    (rows-there mark c.in_ok-columns.columns.items c.deref.result.now columns (window_of c.args.chunk) c.in_ok-columns.ensures forms
+    (omega (arith, c.count_rows-rows.ensures.small, c.count_rows-rows.ensures.count)) i (omega (arith, lt, c.count_rows-rows.ensures.count)))
+
+pub returns : goal.returns
+returns c mark columns written h is =
+    let forms = subst (λ fs. AreFormsOf fs columns) (sym c.deref.ensures.value) h.forms in
+    let ts = c.in_ok-columns.columns.items in
+    let w = window_of c.args.chunk in
+    let marked = c.as_slice.ensures ∙ h.marked in
+    let same =
+    ap (λ m. concat (map (row_text default_writer) (rows_at m c.deref-2.result.now c.count_rows-rows.result))) marked
+    ∙ ap (λ cs. concat (map (row_text default_writer) (rows_at mark cs c.count_rows-rows.result))) c.deref-2.ensures.value
+    ∙ ap (λ n. concat (map (row_text default_writer) (rows_at mark ts n))) c.count_rows-rows.ensures.count
+    ∙ lines-are mark ts c.deref.result.now columns w c.in_ok-columns.ensures forms in
+    record {
+      lines = subst (λ text. HasLines c.write_rows.new.writer (written ++ text)) same (c.in_ok-write_rows.ensures written h.lines);
+      forms = h.forms;
+      marked = h.marked;
+    }

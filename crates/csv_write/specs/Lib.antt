@@ -1,0 +1,3 @@
+pub mod Lines
+pub mod CsvTexts
+pub mod ChunkTexts

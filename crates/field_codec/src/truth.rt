@@ -1,0 +1,22 @@
+//! Truth values.
+ghost use Rattle.std.specs.Prelude.{◌≡◌, codes, if◌then◌else◌, option_map};
+ghost use Rattle.fmt_string.specs.FieldText.{read_truth};
+ghost use Rattle.fmt_string.specs.Value.{Truth};
+
+/// The truth value that a text names: in lower case, in upper case, or with one capital letter in front.
+pub fn read_truth(text: &[u8]) -> Option<bool>
+    ensures { option_map Truth result ≡ read_truth text.now }
+{
+    match text {
+        b"true" | b"True" | b"TRUE" => Some(true),
+        b"false" | b"False" | b"FALSE" => Some(false),
+        _ => None,
+    }
+}
+
+/// The text of a truth value.
+pub fn truth_text(truth: bool) -> &'static [u8]
+    ensures { result.now ≡ (if truth then codes "true" else codes "false") }
+{
+    if truth { b"true" } else { b"false" }
+}
