@@ -1,11 +1,11 @@
 -- What a run comes to, from what its parts come to.
-use Rattle.std.proofs.Common.{ℕ, ◌≡◌, ◌⊎◌, ◌++◌, ◌∙◌, Bool, false, List, Option, None, Some, IfSome, Result, Ok, Err, IfErr, IfOk, Vec, ap, sym, subst, append-nil, inl, inr}
-use Rattle.std.specs.Global.{Global}
+use Rattle.std.proofs.Common.{ℕ, ◌≡◌, ◌⊎◌, ◌++◌, ◌∙◌, Bool, false, List, Option, None, Some, IfSome, Result, Ok, Err, IfErr, IfOk, ap, sym, subst, append-nil, inl, inr}
 use Rattle.edge_io.specs.declared.WriteFault.{WriteFault}
-use Rattle.stage_plan.specs.declared.types.TypeEntry.{TypeEntry}
 use Rattle.unit_pass.specs.declared.pass.Audit.{Audit}
-use Rattle.pipe_top.specs.Answer.{Asks, IsAnswer, IsAnswerTo}
-use Rattle.pipe_top.specs.Outcomes.{AtWriteFault, GotFirst, asked_of, fault_in}
+use Rattle.pipe_top.specs.Answer.{Answer, Asks, IsAnswer, IsAnswerTo, IsInput, Request, Text, Fault, answer_to, cause_of, Cause, Writing}
+use Rattle.pipe_top.specs.Outcomes.{AtWriteFault, AtWriting, GotFirst, GotText, asked_of, fault_in, request_of}
+use Rattle.pipe_top.specs.Traffic.{IsTraffic, RequestTraffic}
+use Rattle.pipe_top.specs.declared.asked.Request.{Request as AsksFor}
 use Rattle.pipe_top.specs.Told.{Says, Told, Took, audit_if, fault_line}
 use Rattle.pipe_top.specs.declared.fault.RunFault.{RunFault}
 use Rattle.pipe_top.specs.declared.fault.RunFault.TheVariants as run
@@ -28,63 +28,51 @@ told-all r old new before now fault audit wanted asked (inr same) says =
     inl (took r old new before now _ (subst (λ w. Says r old new before now (fault_line fault ++ audit_if w audit)) same says))
 
 -- want of memory while the words are read is the run's
-pub no-memory : (entries : Result (Vec TypeEntry Global) RunFault) (carried : Result (Unit {0}) RunFault) (fault : Option RunFault)
-    → entries ≡ Err run.NoMemory → IfErr entries (λ f. carried ≡ Err f) → fault ≡ fault_in carried → fault ≡ Some run.NoMemory
-no-memory entries carried fault is early told = told ∙ ap fault_in (subst (λ e. IfErr e (λ f. carried ≡ Err f)) is early)
+pub no-memory : (request : Result AsksFor RunFault) (carried : Result (Unit {0}) RunFault) (fault : Option RunFault)
+    → request ≡ Err run.NoMemory → IfErr request (λ f. carried ≡ Err f) → fault ≡ fault_in carried → fault ≡ Some run.NoMemory
+no-memory request carried fault is early told = told ∙ ap fault_in (subst (λ e. IfErr e (λ f. carried ≡ Err f)) is early)
 
-pub silent-audit : (entries : Result (Vec TypeEntry Global) RunFault) (carried : Result (Unit {0}) RunFault) (fault : Option RunFault) (wanted asked : Bool)
-    → IfErr entries (λ f. carried ≡ Err f) → fault ≡ fault_in carried
-    → ((entries ≡ Err run.NoMemory) × (wanted ≡ false)) ⊎ (wanted ≡ asked) → ((fault ≡ Some run.NoMemory) × (wanted ≡ false)) ⊎ (wanted ≡ asked)
-silent-audit entries carried fault wanted asked early told (inl none) = inl (no-memory entries carried fault none.0 early told, none.1)
-silent-audit entries carried fault wanted asked early told (inr same) = inr same
+pub silent-audit : (request : Result AsksFor RunFault) (carried : Result (Unit {0}) RunFault) (fault : Option RunFault) (wanted asked : Bool)
+    → IfErr request (λ f. carried ≡ Err f) → fault ≡ fault_in carried
+    → ((request ≡ Err run.NoMemory) × (wanted ≡ false)) ⊎ (wanted ≡ asked) → ((fault ≡ Some run.NoMemory) × (wanted ≡ false)) ⊎ (wanted ≡ asked)
+silent-audit request carried fault wanted asked early told (inl none) = inl (no-memory request carried fault none.0 early told, none.1)
+silent-audit request carried fault wanted asked early told (inr same) = inr same
 
--- ---- a failed write
+-- ---- what is asked for, and what the words ask for
 
-abbrev Prefix : (List ℕ → ℕ → Type 0) → Option (List ℕ) → RunFault → Type 0
-Prefix Got left fault = AtWriteFault fault (λ taken. IfSome left (λ bytes. Got bytes taken))
+-- what holds of the bytes that the source tells, holds of its input
+at-input : (words : List (List ℕ)) (left : Option (List ℕ)) (bytes : List ℕ) (P : List ℕ → Type 0) → IsInput words left bytes → IfSome left P → P bytes
+at-input words left bytes P is holds = subst (λ l. IfSome l P) is holds
 
-got-first : (words : List (List ℕ)) (left old new : Option (List ℕ)) (entries : Result (Vec TypeEntry Global) RunFault) (taken : ℕ) → Asks words (asked_of entries)
-    → IfSome left (λ bytes. GotFirst (IsAnswerTo (asked_of entries) bytes) old new taken) → IfSome left (λ bytes. GotFirst (IsAnswer words bytes) old new taken)
-got-first words None old new entries taken asks got = tt
-got-first words (Some bytes) old new entries taken asks got =
-    (got.0, record { asked = asked_of entries; asks = asks; is = got.1 }, got.2, got.3)
+module _ (words : List (List ℕ)) (left : Option (List ℕ)) (request : Result AsksFor RunFault) (carried : Result (Unit {0}) RunFault) (fault : Option RunFault)
+    (early : IfErr request (λ f. carried ≡ Err f)) (told : fault ≡ fault_in carried) (asks : (request ≡ Err run.NoMemory) ⊎ Asks words (asked_of request)) where
 
-at-fault : (words : List (List ℕ)) (left old new : Option (List ℕ)) (entries : Result (Vec TypeEntry Global) RunFault) (fault : RunFault) → Asks words (asked_of entries)
-    → Prefix (λ bytes taken. GotFirst (IsAnswerTo (asked_of entries) bytes) old new taken) left fault
-    → Prefix (λ bytes taken. GotFirst (IsAnswer words bytes) old new taken) left fault
-at-fault words left old new entries (run.WriteFault taken) asks got = got-first words left old new entries taken asks got
-at-fault words left old new entries fault asks got = tt
+  answer-is : (bytes : List ℕ) (answer : Answer) → Asks words (asked_of request) → IsAnswerTo (asked_of request) bytes answer → IsAnswer words bytes answer
+  answer-is bytes answer asked is = record { asked = asked_of request; asks = asked; is = is }
 
-by-result : (words : List (List ℕ)) (left old new : Option (List ℕ)) (entries : Result (Vec TypeEntry Global) RunFault) (carried : Result (Unit {0}) RunFault)
-    → Asks words (asked_of entries)
-    → IfErr carried (λ fault. Prefix (λ bytes taken. GotFirst (IsAnswerTo (asked_of entries) bytes) old new taken) left fault)
-    → IfSome (fault_in carried) (λ fault. Prefix (λ bytes taken. GotFirst (IsAnswer words bytes) old new taken) left fault)
-by-result words left old new entries (Ok done) asks got = tt
-by-result words left old new entries (Err fault) asks got = at-fault words left old new entries fault asks got
+  -- where the run has no fault, the words ask for what was read
+  asked-alone : fault ≡ None → Asks words (asked_of request)
+  asked-alone none = go asks
+    where
+      go : (request ≡ Err run.NoMemory) ⊎ Asks words (asked_of request) → Asks words (asked_of request)
+      go (inl memory) = let never : ◌≡◌ {A = Option RunFault} None (Some run.NoMemory) = sym none ∙ no-memory request carried fault memory early told in cc
+      go (inr asked) = asked
 
--- what the sink got of the answer to what is asked for, it got of the answer to the words
-pub prefix-of-answer : (words : List (List ℕ)) (left old new : Option (List ℕ)) (entries : Result (Vec TypeEntry Global) RunFault)
-    (carried : Result (Unit {0}) RunFault) (fault : Option RunFault) → IfErr entries (λ f. carried ≡ Err f) → fault ≡ fault_in carried
-    → (entries ≡ Err run.NoMemory) ⊎ Asks words (asked_of entries)
-    → IfErr carried (λ fault. AtWriteFault fault (λ taken. IfSome left (λ bytes. GotFirst (IsAnswerTo (asked_of entries) bytes) old new taken)))
-    → IfSome fault (λ fault. AtWriteFault fault (λ taken. IfSome left (λ bytes. GotFirst (IsAnswer words bytes) old new taken)))
-prefix-of-answer words left old new entries carried fault early told (inl none) got =
-    subst (λ f. IfSome f (Prefix (λ bytes taken. GotFirst (IsAnswer words bytes) old new taken) left)) (sym (no-memory entries carried fault none early told)) tt
-prefix-of-answer words left old new entries carried fault early told (inr asks) got =
-    subst (λ f. IfSome f (Prefix (λ bytes taken. GotFirst (IsAnswer words bytes) old new taken) left)) (sym told)
-    (by-result words left old new entries carried asks got)
+  -- ---- the text
 
--- ---- the audit
+  got-text : (old new : Option (List ℕ)) (bytes : List ℕ) → Asks words (asked_of request) → GotText (IsAnswerTo (asked_of request) bytes) old new → GotText (IsAnswer words bytes) old new
+  got-text old new bytes asked got = (got.0, answer-is bytes (Text got.0) asked got.1, got.2)
 
-ok-asked : (entries : Result (Vec TypeEntry Global) RunFault) (asked : List TypeEntry) (P : List TypeEntry → Type 0) → Ok asked ≡ asked_of entries → IfOk entries (λ v. P v.items) → P asked
-ok-asked (Ok v) asked P is holds = let same : ◌≡◌ {A = Result (List TypeEntry) RunFault} (Ok asked) (Ok v.items) = is in let one : v.items ≡ asked = cc in subst P one holds
-ok-asked (Err fault) asked P is holds = let never : ◌≡◌ {A = Result (List TypeEntry) RunFault} (Ok asked) (Err fault) = is in cc
+  carried-ok : fault ≡ None → carried ≡ Ok tt
+  carried-ok none = go carried (sym told ∙ none)
+    where
+      go : (r : Result (Unit {0}) RunFault) → fault_in r ≡ None → r ≡ Ok tt
+      go (Ok tt) is = refl
+      go (Err f) is = let never : ◌≡◌ {A = Option RunFault} (Some f) None = is in cc
 
--- what holds of the entries that were read holds of those that the words ask for
-pub of-asked : (words : List (List ℕ)) (entries : Result (Vec TypeEntry Global) RunFault) (carried : Result (Unit {0}) RunFault) (fault : Option RunFault)
-    (asked : List TypeEntry) (P : List TypeEntry → Type 0) → IfErr entries (λ f. carried ≡ Err f) → fault ≡ fault_in carried → fault ≡ None
-    → (entries ≡ Err run.NoMemory) ⊎ ((a : Result (List TypeEntry) RunFault) → Asks words a → a ≡ asked_of entries)
-    → Asks words (Ok asked) → IfOk entries (λ v. P v.items) → P asked
-of-asked words entries carried fault asked P early told none (inl memory) asks holds =
-    let never : ◌≡◌ {A = Option RunFault} None (Some run.NoMemory) = sym none ∙ no-memory entries carried fault memory early told in cc
-of-asked words entries carried fault asked P early told none (inr only) asks holds = ok-asked entries asked P (only (Ok asked) asks) holds
+  pub text-of-answer : (old new : Option (List ℕ)) → OnOk carried (IfSome left (λ bytes. GotText (IsAnswerTo (asked_of request) bytes) old new))
+      → fault ≡ None → (bytes : List ℕ) → IsInput words left bytes → GotText (IsAnswer words bytes) old new
+  text-of-answer old new got none bytes is =
+      got-text old new bytes (asked-alone none)
+      (at-input words left bytes (λ l. GotText (IsAnswerTo (asked_of request) l) old new) is
+      (subst (λ r. OnOk r (IfSome left (λ bytes. GotText (IsAnswerTo (asked_of request) bytes) old new))) (carried-ok none) got))

@@ -1,10 +1,9 @@
 -- What a run answers: the text of the table that was read, or the first fault, and the status of each fault.
 use Rattle.std.specs.Prelude.{◌≡◌, ℕ, nat_lt, List, [], length, Option, None, Some, Result, Ok, Err, if◌then◌else◌}
 use Rattle.fmt_string.specs.Table.{Column, Row}
-use Rattle.csv_read.specs.Body.{behind_header}
 use Rattle.csv_read.specs.Entries.{entries_of}
 use Rattle.csv_model.specs.Header.{Entry, header_of}
-use Rattle.csv_model.specs.Reading.{Record, body, records_of}
+use Rattle.csv_model.specs.Reading.{Record, behind_header, body, records_of}
 use Rattle.csv_model.specs.Text.{table_text}
 use Rattle.fmt_string.specs.declared.row_fault.RowFault.{RowFault}
 use Rattle.fmt_string.specs.declared.row_fault.RowFault.TheVariants as row
@@ -14,7 +13,7 @@ use Rattle.stage_plan.specs.Types.{Reads}
 use Rattle.stage_plan.specs.declared.fault.TypesFault.{TypesFault}
 use Rattle.stage_plan.specs.declared.fault.TypesFault.TheVariants as types
 use Rattle.stage_plan.specs.declared.types.TypeEntry.{TypeEntry}
-use Rattle.words.specs.Words.{Options, words_of}
+use Rattle.words.specs.Words.{Options, mark_of, words_of}
 use Rattle.words.specs.declared.WordsFault.{WordsFault}
 use Rattle.pipe_top.specs.declared.fault.RunFault.{RunFault}
 use Rattle.pipe_top.specs.declared.fault.RunFault.TheVariants as run
@@ -38,27 +37,37 @@ fault_of_header (header.Twice column) = run.HeaderTwice column
 fault_of_header (header.Unknown entry) = run.HeaderUnknown entry
 fault_of_header header.NoMemory = run.NoMemory
 
+-- what is asked for: types of columns by name, and the mark for null
+pub record Request : Type 0 where
+  pub entries : List TypeEntry
+  pub mark : List ℕ
+
+-- no types are asked for
+abbrev pub asking : List ℕ → Request
+asking mark = record { entries = []; mark = mark }
+
 -- the text of the table of these rows, where no record is refused
-abbrev pub answer_of_rows : List Column → Result (List Row) RowFault → Answer
-answer_of_rows columns (Ok rows) = Text (table_text (record { columns = columns; rows = rows }))
-answer_of_rows columns (Err fault) = Fault (fault_of_row fault)
+abbrev pub answer_of_rows : List ℕ → List Column → Result (List Row) RowFault → Answer
+answer_of_rows mark columns (Ok rows) = Text (table_text mark (record { columns = columns; rows = rows }))
+answer_of_rows mark columns (Err fault) = Fault (fault_of_row fault)
 
 -- the answer to the records behind a header of these columns
-abbrev pub answer_of_columns : Result (List Column) HeaderFault → List Record → Answer
-answer_of_columns (Ok columns) records = answer_of_rows columns (body columns records)
-answer_of_columns (Err fault) records = Fault (fault_of_header fault)
+abbrev pub answer_of_columns : List ℕ → Result (List Column) HeaderFault → List Record → Answer
+answer_of_columns mark (Ok columns) records = answer_of_rows mark columns (body mark columns records)
+answer_of_columns mark (Err fault) records = Fault (fault_of_header fault)
 
 -- the answer to entries and the records of a text, the first of which is the header
-abbrev pub answer_of_records : List Entry → List Record → Answer
-answer_of_records entries records = answer_of_columns (header_of entries records) (behind_header records)
+abbrev pub answer_of_records : List ℕ → List Entry → List Record → Answer
+answer_of_records mark entries records = answer_of_columns mark (header_of entries records) (behind_header records)
 
 -- the most bytes that are read
 abbrev pub input_limit : ℕ
 input_limit = 1_073_741_824
 
--- the answer to entries and the bytes of an input
-abbrev pub answer_of_bytes : List Entry → List ℕ → Answer
-answer_of_bytes entries bytes = if nat_lt input_limit (length bytes) then Fault run.InputTooLong else answer_of_records entries (records_of bytes)
+-- the answer to what is asked for and the bytes of an input
+abbrev pub answer_of_bytes : Request → List ℕ → Answer
+answer_of_bytes request bytes =
+    if nat_lt input_limit (length bytes) then Fault run.InputTooLong else answer_of_records request.mark (entries_of request.entries) (records_of bytes)
 
 -- ---- what the words ask for
 
@@ -73,44 +82,85 @@ abbrev pub EntriesRead : Option (List ℕ) → Result (List TypeEntry) TypesFaul
 EntriesRead None read = read ≡ Ok []
 EntriesRead (Some text) read = Reads text read
 
-abbrev pub SchemaAsks : Option (List ℕ) → Result (List TypeEntry) RunFault → Type 0
-SchemaAsks schema asked = (read : Result (List TypeEntry) TypesFault) × EntriesRead schema read × (asked ≡ asked_by read)
+abbrev pub EntriesAsk : Option (List ℕ) → Result (List TypeEntry) RunFault → Type 0
+EntriesAsk schema asked = (read : Result (List TypeEntry) TypesFault) × EntriesRead schema read × (asked ≡ asked_by read)
 
-abbrev pub OptionsAsk : Result Options WordsFault → Result (List TypeEntry) RunFault → Type 0
-OptionsAsk (Ok options) asked = SchemaAsks options.schema asked
+-- what is asked for with these entries
+abbrev pub request_with : List ℕ → Result (List TypeEntry) RunFault → Result Request RunFault
+request_with mark (Ok entries) = Ok (record { entries = entries; mark = mark })
+request_with mark (Err fault) = Err fault
+
+abbrev pub RequestIs : Options → Result Request RunFault → Type 0
+RequestIs options asked = (entries : Result (List TypeEntry) RunFault) × EntriesAsk options.schema entries × (asked ≡ request_with (mark_of options) entries)
+
+abbrev pub OptionsAsk : Result Options WordsFault → Result Request RunFault → Type 0
+OptionsAsk (Ok options) asked = RequestIs options asked
 OptionsAsk (Err fault) asked = asked ≡ Err (run.Words fault)
 
--- the words ask for these columns, or are refused for this fault, whatever the input is
-abbrev pub Asks : List (List ℕ) → Result (List TypeEntry) RunFault → Type 0
+-- the words ask for this, or are refused for this fault, whatever the input is
+abbrev pub Asks : List (List ℕ) → Result Request RunFault → Type 0
 Asks words asked = OptionsAsk (words_of words) asked
 
+-- the input of a run with these words: what the source tells that it has
+abbrev pub IsInput : List (List ℕ) → Option (List ℕ) → List ℕ → Type 0
+IsInput words left bytes = left ≡ Some bytes
+
 -- the answer to what is asked for and the bytes of the input
-abbrev pub answer_to : Result (List TypeEntry) RunFault → List ℕ → Answer
-answer_to (Ok entries) bytes = answer_of_bytes (entries_of entries) bytes
+abbrev pub answer_to : Result Request RunFault → List ℕ → Answer
+answer_to (Ok request) bytes = answer_of_bytes request bytes
 answer_to (Err fault) bytes = Fault fault
 
-abbrev pub IsAnswerTo : Result (List TypeEntry) RunFault → List ℕ → Answer → Type 0
+abbrev pub IsAnswerTo : Result Request RunFault → List ℕ → Answer → Type 0
 IsAnswerTo asked bytes answer = answer ≡ answer_to asked bytes
 
 -- the answer to the words of the command and the bytes of its input
 pub record IsAnswer (words : List (List ℕ)) (bytes : List ℕ) (answer : Answer) : Type 0 where
-  pub asked : Result (List TypeEntry) RunFault
+  pub asked : Result Request RunFault
   pub asks : Asks words asked
   pub is : IsAnswerTo asked bytes answer
+
+-- ---- causes
+
+-- what a fault comes from
+pub data Cause : Type 0 where
+  -- the words
+  OfWords : Cause
+  -- a text among the words
+  OfTexts : Cause
+  -- the header and the records
+  OfRecords : Cause
+  -- the length of the input
+  OfLength : Cause
+  Reading : Cause
+  -- a write, when so many bytes of the text were taken
+  Writing : ℕ → Cause
+  Memory : Cause
+
+abbrev pub cause_of : RunFault → Cause
+cause_of (run.Words fault) = OfWords
+cause_of (run.Schema entry rule) = OfTexts
+cause_of run.NoHeader = OfRecords
+cause_of (run.TooManyColumns count) = OfRecords
+cause_of (run.HeaderText column) = OfRecords
+cause_of (run.HeaderTwice column) = OfRecords
+cause_of (run.HeaderUnknown entry) = OfRecords
+cause_of (run.Ragged number found) = OfRecords
+cause_of (run.Field number column) = OfRecords
+cause_of run.InputTooLong = OfLength
+cause_of run.ReadFault = Reading
+cause_of (run.WriteFault taken) = Writing taken
+cause_of run.NoMemory = Memory
+
+abbrev pub status_by : Cause → ℕ
+status_by OfWords = 2
+status_by OfTexts = 3
+status_by OfRecords = 4
+status_by OfLength = 5
+status_by Reading = 6
+status_by (Writing taken) = 7
+status_by Memory = 9
 
 -- the status of a run, which is a function of its fault
 abbrev pub status_of : Option RunFault → ℕ
 status_of None = 0
-status_of (Some (run.Words fault)) = 2
-status_of (Some (run.Schema entry rule)) = 3
-status_of (Some run.NoHeader) = 4
-status_of (Some (run.TooManyColumns count)) = 4
-status_of (Some (run.HeaderText column)) = 4
-status_of (Some (run.HeaderTwice column)) = 4
-status_of (Some (run.HeaderUnknown entry)) = 4
-status_of (Some (run.Ragged number found)) = 4
-status_of (Some (run.Field number column)) = 4
-status_of (Some run.InputTooLong) = 5
-status_of (Some run.ReadFault) = 6
-status_of (Some (run.WriteFault taken)) = 7
-status_of (Some run.NoMemory) = 9
+status_of (Some fault) = status_by (cause_of fault)

@@ -5,73 +5,47 @@ use Rattle.std.specs.Io.KnownBytes.{Appends}
 use Rattle.stage_plan.specs.declared.types.TypeEntry.{TypeEntry}
 use Rattle.words.specs.Words.{Options}
 use Rattle.words.specs.declared.WordsFault.{WordsFault}
-use Rattle.pipe_top.specs.Answer.{Answer, Text}
+use Rattle.pipe_top.specs.Answer.{Answer, Text, Request, Cause, OfWords, OfTexts, OfRecords, OfLength, Reading, Writing, Memory, cause_of}
+use Rattle.pipe_top.specs.declared.asked.Request.{Request as AsksFor}
 use Rattle.pipe_top.specs.declared.fault.RunFault.{RunFault}
-use Rattle.pipe_top.specs.declared.fault.RunFault.TheVariants as run
 
--- the words and the bytes of the input decide this fault
+-- the words and the bytes of the input decide a fault of this cause
+abbrev pub decides : Cause → Bool
+decides OfWords = true
+decides OfTexts = true
+decides OfRecords = true
+decides OfLength = true
+decides Reading = false
+decides (Writing taken) = false
+decides Memory = false
+
 abbrev pub is_decided : RunFault → Bool
-is_decided (run.Words fault) = true
-is_decided (run.Schema entry rule) = true
-is_decided run.NoHeader = true
-is_decided (run.TooManyColumns count) = true
-is_decided (run.HeaderText column) = true
-is_decided (run.HeaderTwice column) = true
-is_decided (run.HeaderUnknown entry) = true
-is_decided (run.Ragged number found) = true
-is_decided (run.Field number column) = true
-is_decided run.InputTooLong = true
-is_decided run.ReadFault = false
-is_decided (run.WriteFault taken) = false
-is_decided run.NoMemory = false
+is_decided fault = decides (cause_of fault)
+
+-- the words alone decide it
+abbrev pub decides_early : Cause → Bool
+decides_early OfWords = true
+decides_early OfTexts = true
+decides_early _ = false
+
+abbrev pub is_early : RunFault → Bool
+is_early fault = decides_early (cause_of fault)
+
+-- it is a failed write
+abbrev pub is_writing : Cause → Bool
+is_writing (Writing taken) = true
+is_writing _ = false
+
+abbrev pub is_write_fault : RunFault → Bool
+is_write_fault fault = is_writing (cause_of fault)
 
 -- so many bytes were taken before a write failed
+abbrev pub AtWriting : Cause → (ℕ → Type 0) → Type 0
+AtWriting (Writing taken) P = P taken
+AtWriting _ P = ⊤
+
 abbrev pub AtWriteFault : RunFault → (ℕ → Type 0) → Type 0
-AtWriteFault (run.Words fault) P = ⊤
-AtWriteFault (run.Schema entry rule) P = ⊤
-AtWriteFault run.NoHeader P = ⊤
-AtWriteFault (run.TooManyColumns count) P = ⊤
-AtWriteFault (run.HeaderText column) P = ⊤
-AtWriteFault (run.HeaderTwice column) P = ⊤
-AtWriteFault (run.HeaderUnknown entry) P = ⊤
-AtWriteFault (run.Ragged number found) P = ⊤
-AtWriteFault (run.Field number column) P = ⊤
-AtWriteFault run.InputTooLong P = ⊤
-AtWriteFault run.ReadFault P = ⊤
-AtWriteFault (run.WriteFault taken) P = P taken
-AtWriteFault run.NoMemory P = ⊤
-
--- a write failed
-abbrev pub is_write_fault : RunFault → Bool
-is_write_fault (run.Words fault) = false
-is_write_fault (run.Schema entry rule) = false
-is_write_fault run.NoHeader = false
-is_write_fault (run.TooManyColumns count) = false
-is_write_fault (run.HeaderText column) = false
-is_write_fault (run.HeaderTwice column) = false
-is_write_fault (run.HeaderUnknown entry) = false
-is_write_fault (run.Ragged number found) = false
-is_write_fault (run.Field number column) = false
-is_write_fault run.InputTooLong = false
-is_write_fault run.ReadFault = false
-is_write_fault (run.WriteFault taken) = true
-is_write_fault run.NoMemory = false
-
--- the words alone decide this fault
-abbrev pub is_early : RunFault → Bool
-is_early (run.Words fault) = true
-is_early (run.Schema entry rule) = true
-is_early run.NoHeader = false
-is_early (run.TooManyColumns count) = false
-is_early (run.HeaderText column) = false
-is_early (run.HeaderTwice column) = false
-is_early (run.HeaderUnknown entry) = false
-is_early (run.Ragged number found) = false
-is_early (run.Field number column) = false
-is_early run.InputTooLong = false
-is_early run.ReadFault = false
-is_early (run.WriteFault taken) = false
-is_early run.NoMemory = false
+AtWriteFault fault P = AtWriting (cause_of fault) P
 
 -- an answer is a text, and the sink got all of it
 abbrev pub GotText : (Answer → Type 0) → Option (List ℕ) → Option (List ℕ) → Type 0
@@ -82,8 +56,15 @@ abbrev pub GotFirst : (Answer → Type 0) → Option (List ℕ) → Option (List
 GotFirst Answers old new taken = (text : List ℕ) × Answers (Text text) × (taken ≤ length text) × Appends old new (take taken text)
 
 -- what the program has read, as the definitions see it
-abbrev pub asked_of : Result (Vec TypeEntry Global) RunFault → Result (List TypeEntry) RunFault
-asked_of (Ok entries) = Ok entries.items
+abbrev pub entries_asked : Result (Vec TypeEntry Global) RunFault → Result (List TypeEntry) RunFault
+entries_asked (Ok entries) = Ok entries.items
+entries_asked (Err fault) = Err fault
+
+abbrev pub request_of : AsksFor → Request
+request_of asked = record { entries = asked.entries.items; mark = asked.mark.now }
+
+abbrev pub asked_of : Result AsksFor RunFault → Result Request RunFault
+asked_of (Ok asked) = Ok (request_of asked)
 asked_of (Err fault) = Err fault
 
 -- the words ask for the audit

@@ -1,10 +1,10 @@
-// The answer to the bytes of an input.
-ghost use Rattle.std.specs.Prelude.{◌≡◌, ◌⊎◌, ◌≤◌, vec_len, length, IfErr, IfOk, OnOk, All, Ok, map};
-ghost use Rattle.csv_read.specs.Body.{HoldsBody, behind_header};
+//! The answer to the bytes of an input.
+ghost use Rattle.std.specs.Prelude.{◌≡◌, ◌⊎◌, ◌≤◌, vec_len, length, ℕ, List, IfErr, IfOk, OnOk, All, Ok, map};
+ghost use Rattle.csv_read.specs.Body.{HoldsBody};
 ghost use Rattle.csv_read.specs.Entries.{entries_of};
 ghost use Rattle.field_codec.specs.TextColumns.{AreAllowed, AreProper, IsAllowed};
 ghost use Rattle.csv_model.specs.Header.{header_of, most_columns};
-ghost use Rattle.csv_model.specs.Reading.{records_of};
+ghost use Rattle.csv_model.specs.Reading.{behind_header, records_of};
 ghost use Rattle.fmt_string.specs.ColumnView.{column_of};
 ghost use Rattle.fmt_string.specs.Kinds.{KindOk};
 ghost use Rattle.unit_pass.specs.Tally.{risen};
@@ -15,7 +15,7 @@ ghost use Rattle.pipe_top.specs.Traffic.{run_blocks, run_nodes};
 use crate::fault::RunFault;
 use crate::text::table_text;
 use col_build::Builder;
-use csv_edge::{BodyFault, read_body, read_header};
+use csv_read::{BodyFault, read_body, read_header};
 use fmt_string::{ColumnType, RowFault};
 use stage_plan::TypeEntry;
 use std::alloc::Global;
@@ -34,7 +34,7 @@ fn header_columns(
     ensures few { IfOk result (λ columns. vec_len columns ≤ most_columns) }
     ensures proper { IfOk result (λ columns. AreProper (map column_of columns.items)) }
     ensures allowed { IfOk result (λ columns. AreAllowed (map column_of columns.items)) }
-    ensures fault { IfErr result (λ fault. (fault ≡ RunFault.NoMemory) ⊎ (answer_of_records (entries_of entries.now) (records_of bytes.now) ≡ Fault fault)) }
+    ensures fault { IfErr result (λ fault. (fault ≡ RunFault.NoMemory) ⊎ ((mark : List ℕ) → answer_of_records mark (entries_of entries.now) (records_of bytes.now) ≡ Fault fault)) }
 {
     match read_header(alloc, bytes, entries) {
         Ok(columns) => Ok(columns),
@@ -47,14 +47,15 @@ fn body_columns(
     alloc: Global,
     bytes: &[u8],
     columns: &[ColumnType],
+    mark: &[u8],
 ) -> Result<Vec<Builder>, RunFault>
     requires short { length bytes.now ≤ input_limit }
     requires proper { AreProper (map column_of columns.now) }
     requires allowed { AreAllowed (map column_of columns.now) }
-    ensures held { IfOk result (λ builders. HoldsBody builders.items (map column_of columns.now) (records_of bytes.now)) }
-    ensures fault { IfErr result (λ fault. (fault ≡ RunFault.NoMemory) ⊎ (answer_of_columns (Ok (map column_of columns.now)) (behind_header (records_of bytes.now)) ≡ Fault fault)) }
+    ensures held { IfOk result (λ builders. HoldsBody mark.now builders.items (map column_of columns.now) (records_of bytes.now)) }
+    ensures fault { IfErr result (λ fault. (fault ≡ RunFault.NoMemory) ⊎ (answer_of_columns mark.now (Ok (map column_of columns.now)) (behind_header (records_of bytes.now)) ≡ Fault fault)) }
 {
-    match read_body(alloc, bytes, columns) {
+    match read_body(alloc, bytes, columns, mark) {
         Ok(builders) => Ok(builders),
         Err(BodyFault::Row(RowFault::Ragged { row, found })) => Err(RunFault::Ragged {
             row,
@@ -68,25 +69,26 @@ fn body_columns(
     }
 }
 
-// The text of the table that a text spells under entries of flat column types, or its first fault.
+// The text of the table that a text spells under entries of flat column types and a mark for null, or its first fault.
 pub(crate) fn answer_input(
     alloc: Global,
     bytes: &[u8],
     entries: &[TypeEntry],
+    mark: &[u8],
     pass: &mut Pass,
 ) -> Result<Vec<u8>, RunFault>
     requires short { length bytes.now ≤ input_limit }
     requires units { pass.old.units ≡ SUPPLY }
     requires proper { All (λ e. KindOk e.kind) entries.now }
     requires allowed { All (λ e. IsAllowed e.kind) entries.now }
-    ensures text { IfOk result (λ text. answer_of_records (entries_of entries.now) (records_of bytes.now) ≡ Text text.items) }
-    ensures fault { IfErr result (λ fault. (fault ≡ RunFault.NoMemory) ⊎ (answer_of_records (entries_of entries.now) (records_of bytes.now) ≡ Fault fault)) }
+    ensures text { IfOk result (λ text. answer_of_records mark.now (entries_of entries.now) (records_of bytes.now) ≡ Text text.items) }
+    ensures fault { IfErr result (λ fault. (fault ≡ RunFault.NoMemory) ⊎ (answer_of_records mark.now (entries_of entries.now) (records_of bytes.now) ≡ Fault fault)) }
     ensures units { pass.new.units ≡ pass.old.units }
-    ensures blocks { OnOk result (pass.new.blocks ≡ risen pass.old.blocks (run_blocks (entries_of entries.now) (records_of bytes.now))) }
-    ensures nodes { OnOk result (pass.new.nodes ≡ risen pass.old.nodes (run_nodes (entries_of entries.now) (records_of bytes.now))) }
+    ensures blocks { OnOk result (pass.new.blocks ≡ risen pass.old.blocks (run_blocks mark.now (entries_of entries.now) (records_of bytes.now))) }
+    ensures nodes { OnOk result (pass.new.nodes ≡ risen pass.old.nodes (run_nodes mark.now (entries_of entries.now) (records_of bytes.now))) }
 {
     let columns = header_columns(alloc, bytes, entries)?;
-    let builders = body_columns(alloc, bytes, &columns)?;
-    let text = table_text(alloc, &columns, builders, pass)?;
+    let builders = body_columns(alloc, bytes, &columns, mark)?;
+    let text = table_text(alloc, &columns, builders, mark, pass)?;
     Ok(text)
 }

@@ -1,10 +1,10 @@
-// Why a run wrote no text, or not all of it.
-use csv_edge::HeaderFault;
+//! Why a run wrote no text, or not all of it.
+use csv_model::HeaderFault;
 use stage_plan::TypesRule;
 use unit_pass::NoMemory;
 use words::WordsFault;
 
-/// Why a run wrote no text, or not all of it.
+///! Why a run wrote no text, or not all of it.
 #[derive(Clone, Copy, PartialEq, Eq, Debug)]
 pub enum RunFault {
     /// The words of the command were not taken.

@@ -10,11 +10,11 @@
 //! a sink of diagnostics (`specs/Told.antt`); no line takes memory, and a failed write there changes nothing else.
 //!
 //! What CSV means stands in `csv_model`, the words in `words`, schema texts in `stage_plan`, fields, chunks and their text
-//! in `csv_edge`, the structures in `raw_schema` and `raw_array`, the sources and sinks in `edge_io`.
+//! in `csv_read` and `csv_write`, the structures in `raw_schema` and `raw_array`, the sources and sinks in `edge_io`.
 #![tactic(auto)]
 
 ghost use Rattle.std.specs.Prelude.{◌≡◌, ◌∷◌, ◌++◌, [], codes};
-ghost use Rattle.pipe_top.specs.Answer.{Fault, Text, answer_of_bytes};
+ghost use Rattle.pipe_top.specs.Answer.{Fault, Text, answer_of_bytes, asking};
 ghost use Rattle.pipe_top.specs.declared.fault.RunFault.TheVariants as run;
 
 mod answer;
@@ -32,14 +32,15 @@ pub use words::WordsFault;
 
 /// The answers to texts that are written out here.
 pub fn worked_answers()
-    ensures null_field { answer_of_bytes [] (codes "a,b\n1,\n") ≡ Text (codes "a,b\n1,\n") }
-    ensures null_alone { answer_of_bytes [] (codes "x\n\"\"\n") ≡ Text (codes "x\n\"\"\n") }
-    ensures header_alone { answer_of_bytes [] (codes "a,b\n") ≡ Text (codes "a,b\n") }
-    ensures no_header { answer_of_bytes [] [] ≡ Fault run.NoHeader }
-    ensures name_twice { answer_of_bytes [] (codes "a,a\n") ≡ Fault (run.HeaderTwice 2) }
-    ensures not_text { answer_of_bytes [] (codes "a\ncaf" ++ 0xff ∷ 10 ∷ []) ≡ Fault (run.Field 1 1) }
-    ensures ragged { answer_of_bytes [] (codes "a,b\n1\n") ≡ Fault (run.Ragged 1 1) }
-    ensures mark_and_quotes { answer_of_bytes [] (0xef ∷ 0xbb ∷ 0xbf ∷ codes "a\r\n\"x,y\"\r\n") ≡ Text (codes "a\n\"x,y\"\n") }
+    ensures null_field { answer_of_bytes (asking []) (codes "a,b\n1,\n") ≡ Text (codes "a,b\n1,\n") }
+    ensures null_alone { answer_of_bytes (asking []) (codes "x\n\"\"\n") ≡ Text (codes "x\n\"\"\n") }
+    ensures header_alone { answer_of_bytes (asking []) (codes "a,b\n") ≡ Text (codes "a,b\n") }
+    ensures no_header { answer_of_bytes (asking []) [] ≡ Fault run.NoHeader }
+    ensures name_twice { answer_of_bytes (asking []) (codes "a,a\n") ≡ Fault (run.HeaderTwice 2) }
+    ensures not_text { answer_of_bytes (asking []) (codes "a\ncaf" ++ 0xff ∷ 10 ∷ []) ≡ Fault (run.Field 1 1) }
+    ensures ragged { answer_of_bytes (asking []) (codes "a,b\n1\n") ≡ Fault (run.Ragged 1 1) }
+    ensures marked { answer_of_bytes (asking (codes "NA")) (codes "a,b\nNA,\n") ≡ Text (codes "a,b\nNA,\n") }
+    ensures mark_and_quotes { answer_of_bytes (asking []) (0xef ∷ 0xbb ∷ 0xbf ∷ codes "a\r\n\"x,y\"\r\n") ≡ Text (codes "a\n\"x,y\"\n") }
 {}
 
 #[cfg(test)]

@@ -1,4 +1,4 @@
-// The schema of the columns.
+//! The schema of the columns.
 ghost use Rattle.std.specs.Prelude.{◌≡◌, ◌+◌, ◌≤◌, length, map, IfOk, OnOk, OnErr};
 ghost use Rattle.arr_export.specs.ColumnSchema.{SchemaOf};
 ghost use Rattle.field_codec.specs.TextColumns.{AreProper};

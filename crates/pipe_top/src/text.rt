@@ -1,4 +1,4 @@
-// The text of a table, by way of a live chunk under its schema.
+//! The text of a table, by way of a live chunk under its schema.
 ghost use Rattle.std.specs.Prelude.{◌≡◌, ◌+◌, ◌*◌, ◌≤◌, ◌<◌, ◌^◌, ◌++◌, ℕ, List, pos, map, length, vec_len, if◌then◌else◌, is_ok, IfOk, OnOk, All};
 ghost use Rattle.csv_read.specs.Chunks.{HoldRows};
 ghost use Rattle.csv_write.specs.CsvTexts.{HasText};
@@ -22,7 +22,8 @@ use crate::schema::{make_schema, release_schema};
 use arr_export::column_schemas_are_lawful;
 use arr_import::{ImportFault, Imported, import};
 use col_build::Builder;
-use csv_edge::{CsvText, chunks_have_their_rows, export_rows};
+use csv_read::{chunks_have_their_rows, export_rows};
+use csv_write::CsvText;
 use fmt_string::ColumnType;
 use layout_check::{SchemaFault, one_schema_answer};
 use raw_array::RawArray;
@@ -89,10 +90,10 @@ fn write_chunk(
     text: &mut CsvText,
     pass: &mut Pass,
 ) -> Result<(), NoMemory>
-    requires chunk { (columns : List Column) × (rows : List Row) × (written : List ℕ) × IsChunkOf schema chunk columns rows × HasText text.old columns written }
+    requires chunk { (mark : List ℕ) × (columns : List Column) × (rows : List Row) × (written : List ℕ) × IsChunkOf schema chunk columns rows × HasText text.old mark columns written }
     requires units { pass.old.units + Nodes schema + Cost chunk ≤ SUPPLY }
-    ensures text { OnOk result ((columns : List Column) (rows : List Row) (written : List ℕ) → IsChunkOf schema chunk columns rows → HasText text.old columns written
-        → HasText text.new columns (written ++ rows_text columns rows)) }
+    ensures text { OnOk result ((mark : List ℕ) (columns : List Column) (rows : List Row) (written : List ℕ) → IsChunkOf schema chunk columns rows → HasText text.old mark columns written
+        → HasText text.new mark columns (written ++ rows_text mark columns rows)) }
     ensures units { pass.new.units ≡ pass.old.units + Nodes schema + Cost chunk }
     ensures blocks { pass.new.blocks ≡ pass.old.blocks }
     ensures nodes { pass.new.nodes ≡ pass.old.nodes }
@@ -125,17 +126,15 @@ fn write_rows(
 ) -> Result<(), NoMemory>
     requires some { 1 ≤ vec_len builders }
     requires few { vec_len builders ≤ most_columns }
-    requires held { (columns : List Column) × (rows : List Row) × (written : List ℕ) × IsSchemaOf schema columns × HoldRows builders.items columns rows × (length rows ≤ 2 ^ 30) × HasText text.old columns written }
+    requires held { (mark : List ℕ) × (columns : List Column) × (rows : List Row) × (written : List ℕ) × IsSchemaOf schema columns × HoldRows builders.items columns rows × (length rows ≤ 2 ^ 30) × HasText text.old mark columns written }
     requires units { pass.old.units + Nodes schema ≡ SUPPLY }
     requires small { Nodes schema ≤ 1 + most_columns }
-    ensures text { OnOk result ((columns : List Column) (rows : List Row) (written : List ℕ) → IsSchemaOf schema columns → HoldRows builders.items columns rows → length rows ≤ 2 ^ 30 → HasText text.old columns written
-        → HasText text.new columns (written ++ rows_text columns rows)) }
+    ensures text { OnOk result ((mark : List ℕ) (columns : List Column) (rows : List Row) (written : List ℕ) → IsSchemaOf schema columns → HoldRows builders.items columns rows → length rows ≤ 2 ^ 30 → HasText text.old mark columns written
+        → HasText text.new mark columns (written ++ rows_text mark columns rows)) }
     ensures units { pass.new.units ≡ SUPPLY }
     ensures blocks { OnOk result ((columns : List Column) (rows : List Row) → HoldRows builders.items columns rows → pass.new.blocks ≡ risen pass.old.blocks (chunk_blocks_of columns rows)) }
     ensures nodes { OnOk result ((columns : List Column) (rows : List Row) → HoldRows builders.items columns rows → pass.new.nodes ≡ risen pass.old.nodes (chunk_nodes_of columns rows)) }
 {
-    let _blocks = pass.blocks();
-    let _nodes = pass.nodes();
     let rows = count_rows(&builders);
     if rows == 0 {
         release_schema(schema, pass);
@@ -153,11 +152,12 @@ fn write_rows(
     }
 }
 
-// The text of the table of these columns whose rows builders hold.
+// The text of the table of these columns whose rows builders hold, with the mark for null.
 pub(crate) fn table_text(
     alloc: Global,
     columns: &[ColumnType],
     builders: Vec<Builder>,
+    mark: &[u8],
     pass: &mut Pass,
 ) -> Result<Vec<u8>, NoMemory>
     requires some { 1 ≤ length columns.now }
@@ -167,14 +167,14 @@ pub(crate) fn table_text(
     requires held { (rows : List Row) × HoldRows builders.items (map column_of columns.now) rows × (length rows ≤ 2 ^ 30) }
     requires units { pass.old.units ≡ SUPPLY }
     ensures text { IfOk result (λ text. (rows : List Row) → HoldRows builders.items (map column_of columns.now) rows → length rows ≤ 2 ^ 30
-        → text.items ≡ table_text (record { columns = map column_of columns.now; rows = rows })) }
+        → text.items ≡ table_text mark.now (record { columns = map column_of columns.now; rows = rows })) }
     ensures units { pass.new.units ≡ pass.old.units }
     ensures blocks { OnOk result ((rows : List Row) → HoldRows builders.items (map column_of columns.now) rows
         → pass.new.blocks ≡ risen pass.old.blocks (chunk_blocks_of (map column_of columns.now) rows)) }
     ensures nodes { OnOk result ((rows : List Row) → HoldRows builders.items (map column_of columns.now) rows
         → pass.new.nodes ≡ risen pass.old.nodes (schema_nodes (map column_of columns.now) + chunk_nodes_of (map column_of columns.now) rows)) }
 {
-    let mut text = CsvText::new(alloc, columns)?;
+    let mut text = CsvText::new(alloc, columns, mark)?;
     let schema = make_schema(alloc, columns, pass)?;
     write_rows(alloc, schema, builders, &mut text, pass)?;
     let text = text.finish()?;

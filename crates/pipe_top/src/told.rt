@@ -1,4 +1,4 @@
-// What is told of the fault and of the audit. No line takes memory.
+//! What is told of the fault and of the audit. No line takes memory.
 ghost use Rattle.std.specs.Prelude.{◌≡◌, ◌++◌, codes, decimal};
 ghost use Rattle.pipe_top.specs.Told.{Says, audit_if, audit_line, fault_line, fault_text, joined, line_of, rule_text};
 
@@ -92,7 +92,7 @@ fn tell_fault<E: Sink>(errs: &mut E, fault: RunFault) -> Result<(), WriteFault>
     }
 }
 
-// What is told of a fault of an entry.
+//! What is told of a fault of an entry.
 fn rule_text(rule: TypesRule) -> &'static str
     ensures { result.now ≡ rule_text rule }
 {

@@ -1,27 +1,22 @@
-// The top call.
+//! The top call.
 ghost use Rattle.std.specs.Prelude.{◌≡◌, ◌<◌, ◌≤◌, ◌⊎◌, ◌++◌, true, false, All, Some, None, Ok, Err, IfOk, IfErr, IfSome, OnOk, OnErr, length, ℕ, List};
 ghost use Rattle.std.specs.Io.KnownBytes.{IsAtEnd, Keeps};
-ghost use Rattle.csv_read.specs.Entries.{entries_of};
 ghost use Rattle.field_codec.specs.TextColumns.{IsAllowed};
-ghost use Rattle.csv_model.specs.Reading.{records_of};
 ghost use Rattle.fmt_string.specs.Kinds.{KindOk};
 ghost use Rattle.edge_io.specs.Edge.{LosesPrefix, Rose};
-ghost use Rattle.unit_pass.specs.Tally.{risen};
 ghost use Rattle.unit_pass.specs.declared.pass.TheConstants.{SUPPLY};
 ghost use Rattle.words.specs.Words.{texts_of, words_of};
-ghost use Rattle.pipe_top.specs.Answer.{Asks, Fault, IsAnswer, IsAnswerTo, Text, answer_of_bytes, answer_to, input_limit, status_of};
-ghost use Rattle.pipe_top.specs.Outcomes.{AtWriteFault, GotFirst, GotText, asked_of, fault_in, is_decided, is_early, is_write_fault, wants_audit};
+ghost use Rattle.pipe_top.specs.Answer.{Asks, Fault, IsAnswer, IsAnswerTo, IsInput, Text, answer_to, input_limit, status_of};
+ghost use Rattle.pipe_top.specs.Outcomes.{AtWriteFault, GotFirst, GotText, asked_of, fault_in, is_decided, is_early, is_write_fault, request_of, wants_audit};
 ghost use Rattle.pipe_top.specs.Told.{Told, audit_if};
-ghost use Rattle.pipe_top.specs.Traffic.{run_blocks, run_nodes};
-ghost use Rattle.stage_plan.specs.declared.types.TypeEntry.{TypeEntry as AnEntry};
+ghost use Rattle.pipe_top.specs.Traffic.{IsTraffic, RequestTraffic};
 ghost use Rattle.pipe_top.specs.declared.fault.RunFault.{RunFault as AFault};
 
 use crate::answer::answer_input;
-use crate::asked::{Asked, read_asked};
+use crate::asked::{Asked, Request, read_asked};
 use crate::fault::RunFault;
 use crate::told::tell;
 use edge_io::{ReadFault, Sink, Source, WriteFault, read_all, write_all};
-use stage_plan::TypeEntry;
 use std::alloc::Global;
 use unit_pass::{Audit, Pass, open_desk};
 use words::WordsFault;
@@ -42,8 +37,9 @@ pub struct Outcome {
 
 /// Reads the source to its end and writes the text of the table that it spells.
 ///
-/// `words` are those after the program's name: `[--schema TEXT] [--audit]`. A column holds values of the type that the
-/// schema text asks for, and UTF-8 text where it asks for none; an empty field is a null. The header's names are UTF-8 and
+/// `words` are those after the program's name: `[--schema TEXT] [--audit] [--null MARK]`. A column holds values of the type
+/// that the schema text asks for, and UTF-8 text where it asks for none; a field that equals the mark is a null, by default
+/// the empty one, and a null is written as the mark. The header's names are UTF-8 and
 /// differ, there are at most 1,024 of them, and each entry of the schema text names one of them.
 ///
 /// The first of these faults is told: of the words, of the schema text, of reading, of the header, of the records.
@@ -58,10 +54,12 @@ pub fn run<S: Source, K: Sink, E: Sink>(
     errs: &mut E,
 ) -> Outcome
     // Success: the answer is a text, all of it is in the sink, and the source was read to its end.
-    ensures text { result.fault ≡ None → IfSome (S.left source.old) (λ bytes. GotText (IsAnswer (texts_of words.now) bytes) (K.taken sink.old) (K.taken sink.new)) }
+    ensures text { result.fault ≡ None → (bytes : List ℕ) → IsInput (texts_of words.now) (S.left source.old) bytes
+        → GotText (IsAnswer (texts_of words.now) bytes) (K.taken sink.old) (K.taken sink.new) }
     ensures text_read_to_end { result.fault ≡ None → IsAtEnd (S.left source.new) }
     // A fault of the words or of the input is exactly the answer's.
-    ensures refused { IfSome result.fault (λ fault. is_decided fault ≡ true → IfSome (S.left source.old) (λ bytes. IsAnswer (texts_of words.now) bytes (Fault fault))) }
+    ensures refused { IfSome result.fault (λ fault. is_decided fault ≡ true → (bytes : List ℕ) → IsInput (texts_of words.now) (S.left source.old) bytes
+        → IsAnswer (texts_of words.now) bytes (Fault fault)) }
     // The words and the schema text are refused exactly where they are at fault, whatever the source tells, which is then
     // as before.
     ensures refused_early { (fault : AFault) → Asks (texts_of words.now) (Err fault) → (result.fault ≡ Some fault) ⊎ (result.fault ≡ Some RunFault.NoMemory) }
@@ -72,7 +70,8 @@ pub fn run<S: Source, K: Sink, E: Sink>(
     ensures read_fault { result.fault ≡ Some RunFault.ReadFault → Rose (S.faults source.old) (S.faults source.new) }
     ensures write_fault { IfSome result.fault (λ fault. AtWriteFault fault (λ taken. Rose (K.faults sink.old) (K.faults sink.new))) }
     // After a failed write the sink has the first bytes of the text, and after any other fault it is as before.
-    ensures write_fault_prefix { IfSome result.fault (λ fault. AtWriteFault fault (λ taken. IfSome (S.left source.old) (λ bytes. GotFirst (IsAnswer (texts_of words.now) bytes) (K.taken sink.old) (K.taken sink.new) taken))) }
+    ensures write_fault_prefix { IfSome result.fault (λ fault. AtWriteFault fault (λ taken. (bytes : List ℕ) → IsInput (texts_of words.now) (S.left source.old) bytes
+        → GotFirst (IsAnswer (texts_of words.now) bytes) (K.taken sink.old) (K.taken sink.new) taken)) }
     ensures no_memory { result.fault ≡ Some RunFault.NoMemory → Keeps (K.taken sink.old) (K.taken sink.new) }
     ensures unwritten { IfSome result.fault (λ fault. is_write_fault fault ≡ false → Keeps (K.taken sink.old) (K.taken sink.new)) }
     // The status is a function of the fault, and the source has lost a prefix.
@@ -80,25 +79,23 @@ pub fn run<S: Source, K: Sink, E: Sink>(
     ensures prefix { LosesPrefix (S.left source.old) (S.left source.new) }
     // Nothing is left, and on success as many blocks and nodes were made as the table needs.
     ensures audit { result.audit.left ≡ 0 }
-    ensures audit_blocks { result.fault ≡ None → IfSome (S.left source.old) (λ bytes. (entries : List AnEntry) → Asks (texts_of words.now) (Ok entries)
-        → result.audit.blocks ≡ risen 0 (run_blocks (entries_of entries) (records_of bytes))) }
-    ensures audit_nodes { result.fault ≡ None → IfSome (S.left source.old) (λ bytes. (entries : List AnEntry) → Asks (texts_of words.now) (Ok entries)
-        → result.audit.nodes ≡ risen 0 (run_nodes (entries_of entries) (records_of bytes))) }
+    ensures audit_counts { result.fault ≡ None → (bytes : List ℕ) → IsInput (texts_of words.now) (S.left source.old) bytes
+        → IsTraffic (texts_of words.now) bytes result.audit.blocks result.audit.nodes }
     // The sink of diagnostics took the fault's line and then the audit's where the words ask for it, or the first bytes
     // of that where its own faults rose. Without memory the audit's line may be missing.
     ensures diagnostics { Told (E.taken errs.old) (E.taken errs.new) (E.faults errs.old) (E.faults errs.new) result.fault (audit_if (wants_audit (words_of (texts_of words.now))) result.audit) }
     // Where no fault rises the answer is given, or there was no memory.
-    ensures complete { IfSome (S.left source.old) (λ bytes. (text : List ℕ) → IsAnswer (texts_of words.now) bytes (Text text)
-        → ¬ (Rose (S.faults source.old) (S.faults source.new)) → ¬ (Rose (K.faults sink.old) (K.faults sink.new)) → (result.status ≡ 0) ⊎ (result.status ≡ 9)) }
-    ensures complete_fault { IfSome (S.left source.old) (λ bytes. (fault : AFault) → IsAnswer (texts_of words.now) bytes (Fault fault)
-        → ¬ (Rose (S.faults source.old) (S.faults source.new)) → (result.fault ≡ Some fault) ⊎ (result.status ≡ 9)) }
+    ensures complete { (bytes text : List ℕ) → IsInput (texts_of words.now) (S.left source.old) bytes → IsAnswer (texts_of words.now) bytes (Text text)
+        → ¬ (Rose (S.faults source.old) (S.faults source.new)) → ¬ (Rose (K.faults sink.old) (K.faults sink.new)) → (result.status ≡ 0) ⊎ (result.status ≡ 9) }
+    ensures complete_fault { (bytes : List ℕ) (fault : AFault) → IsInput (texts_of words.now) (S.left source.old) bytes → IsAnswer (texts_of words.now) bytes (Fault fault)
+        → ¬ (Rose (S.faults source.old) (S.faults source.new)) → (result.fault ≡ Some fault) ⊎ (result.status ≡ 9) }
 {
     let (desk, mut pass) = open_desk();
     let Asked {
         audit: wanted,
-        entries,
+        request,
     } = read_asked(alloc, words);
-    let carried = carry_out(alloc, entries, source, sink, &mut pass);
+    let carried = carry_out(alloc, request, source, sink, &mut pass);
     let audit = desk.close(pass);
     let outcome = outcome_of(carried, audit);
     let _told = tell(errs, outcome.fault, &outcome.audit, wanted);
@@ -167,34 +164,33 @@ fn read_input<S: Source>(alloc: Global, source: &mut S) -> Result<Vec<u8>, RunFa
 // Reads the source, makes the text and writes it, where the words are taken.
 fn carry_out<S: Source, K: Sink>(
     alloc: Global,
-    entries: Result<Vec<TypeEntry>, RunFault>,
+    request: Result<Request<'_>, RunFault>,
     source: &mut S,
     sink: &mut K,
     pass: &mut Pass,
 ) -> Result<(), RunFault>
     requires units { pass.old.units ≡ SUPPLY }
-    requires proper { IfOk entries (λ v. All (λ e. KindOk e.kind) v.items) }
-    requires allowed { IfOk entries (λ v. All (λ e. IsAllowed e.kind) v.items) }
-    requires early { IfErr entries (λ fault. (is_early fault ≡ true) ⊎ (fault ≡ RunFault.NoMemory)) }
-    ensures text { OnOk result (IfSome (S.left source.old) (λ bytes. GotText (IsAnswerTo (asked_of entries) bytes) (K.taken sink.old) (K.taken sink.new))) }
+    requires proper { IfOk request (λ r. All (λ e. KindOk e.kind) r.entries.items) }
+    requires allowed { IfOk request (λ r. All (λ e. IsAllowed e.kind) r.entries.items) }
+    requires early { IfErr request (λ fault. (is_early fault ≡ true) ⊎ (fault ≡ RunFault.NoMemory)) }
+    ensures text { OnOk result (IfSome (S.left source.old) (λ bytes. GotText (IsAnswerTo (asked_of request.entry) bytes) (K.taken sink.old) (K.taken sink.new))) }
     ensures text_read_to_end { OnOk result (IsAtEnd (S.left source.new)) }
-    ensures refused { IfErr result (λ fault. is_decided fault ≡ true → IfSome (S.left source.old) (λ bytes. answer_to (asked_of entries) bytes ≡ Fault fault)) }
-    ensures refused_early { IfErr entries (λ fault. result ≡ Err fault) }
-    ensures refused_early_only { IfErr result (λ fault. is_early fault ≡ true → asked_of entries ≡ Err fault) }
-    ensures refused_unread { IfErr entries (λ _. Keeps (S.left source.old) (S.left source.new)) }
-    ensures refused_unfailed { IfErr entries (λ _. S.faults source.new ≡ S.faults source.old) }
+    ensures refused { IfErr result (λ fault. is_decided fault ≡ true → IfSome (S.left source.old) (λ bytes. answer_to (asked_of request.entry) bytes ≡ Fault fault)) }
+    ensures refused_early { IfErr request.entry (λ fault. result ≡ Err fault) }
+    ensures refused_early_only { IfErr result (λ fault. is_early fault ≡ true → asked_of request.entry ≡ Err fault) }
+    ensures refused_unread { IfErr request.entry (λ _. Keeps (S.left source.old) (S.left source.new)) }
+    ensures refused_unfailed { IfErr request.entry (λ _. S.faults source.new ≡ S.faults source.old) }
     ensures read_fault { result ≡ Err RunFault.ReadFault → Rose (S.faults source.old) (S.faults source.new) }
     ensures write_fault { IfErr result (λ fault. AtWriteFault fault (λ taken. Rose (K.faults sink.old) (K.faults sink.new))) }
-    ensures write_fault_prefix { IfErr result (λ fault. AtWriteFault fault (λ taken. IfSome (S.left source.old) (λ bytes. GotFirst (IsAnswerTo (asked_of entries) bytes) (K.taken sink.old) (K.taken sink.new) taken))) }
+    ensures write_fault_prefix { IfErr result (λ fault. AtWriteFault fault (λ taken. IfSome (S.left source.old) (λ bytes. GotFirst (IsAnswerTo (asked_of request.entry) bytes) (K.taken sink.old) (K.taken sink.new) taken))) }
     ensures unwritten { IfErr result (λ fault. is_write_fault fault ≡ false → Keeps (K.taken sink.old) (K.taken sink.new)) }
     ensures prefix { LosesPrefix (S.left source.old) (S.left source.new) }
     ensures units { pass.new.units ≡ pass.old.units }
-    ensures blocks { OnOk result (IfSome (S.left source.old) (λ bytes. IfOk entries (λ v. pass.new.blocks ≡ risen pass.old.blocks (run_blocks (entries_of v.items) (records_of bytes))))) }
-    ensures nodes { OnOk result (IfSome (S.left source.old) (λ bytes. IfOk entries (λ v. pass.new.nodes ≡ risen pass.old.nodes (run_nodes (entries_of v.items) (records_of bytes))))) }
+    ensures counts { OnOk result (IfSome (S.left source.old) (λ bytes. IfOk request.entry (λ r. RequestTraffic (request_of r) bytes pass.old.blocks pass.old.nodes pass.new.blocks pass.new.nodes))) }
 {
-    let entries = entries?;
+    let request = request?;
     let bytes = read_input(alloc, source)?;
-    let text = answer_input(alloc, &bytes, &entries, pass)?;
+    let text = answer_input(alloc, &bytes, &request.entries, request.mark.as_bytes(), pass)?;
     match write_all(sink, &text) {
         Ok(()) => Ok(()),
         Err(WriteFault::Failed { taken }) => Err(RunFault::WriteFault { taken }),

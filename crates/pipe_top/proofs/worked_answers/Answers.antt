@@ -15,5 +15,6 @@ returns c = record {
   name_twice = refl;
   not_text = refl;
   ragged = refl;
+  marked = refl;
   mark_and_quotes = refl;
 }

@@ -4,7 +4,7 @@ use Rattle.stage_plan.specs.declared.types.TypeEntry.{TypeEntry}
 use Rattle.stage_plan.specs.declared.fault.TypesFault.TheVariants as types
 use Rattle.std.proofs.lemmas.Bool.{false≢true}
 use Rattle.stage_plan.specs.Types.{Reads, TypesFaultIs}
-use Rattle.pipe_top.specs.Answer.{EntriesRead, SchemaAsks}
+use Rattle.pipe_top.specs.Answer.{EntriesAsk, EntriesRead}
 use Rattle.pipe_top.proofs.asked.read_entries.Goals as goal
 
 abbrev is-memory : TypesFault → Bool
@@ -19,7 +19,7 @@ text-read schema text read is reads = subst (λ s. EntriesRead (option_map (λ (
 -- no schema text asks for nothing
 pub returns-in_default-clause-asks : goal.returns-in_default-clause-asks
 returns-in_default-clause-asks c =
-    inr (subst (λ schema. SchemaAsks (option_map (λ (s : Bor (List ℕ)). s.now) schema) (Ok c.new.result.items)) (sym c.in_default.is)
+    inr (subst (λ schema. EntriesAsk (option_map (λ (s : Bor (List ℕ)). s.now) schema) (Ok c.new.result.items)) (sym c.in_default.is)
     (Ok [], refl, ap Ok c.new.ensures.items))
 
 pub returns-in-Ok-clause-asks : goal.returns-in-Ok-clause-asks
