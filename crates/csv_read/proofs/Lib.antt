@@ -5,7 +5,6 @@ pub mod Fields
 pub mod Entries
 pub mod HeaderColumns
 pub mod ChunkLaw
-pub mod Views
 pub mod ChunkCosts
 pub mod HeldRows
 pub mod Taken

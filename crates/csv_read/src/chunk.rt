@@ -1,21 +1,20 @@
 //! The chunk of the rows that builders hold.
-ghost use Rattle.std.specs.Prelude.{◌≡◌, ◌+◌, ◌-◌, ◌*◌, ◌<◌, ◌≤◌, ◌^◌, ◌++◌, ◌∷◌, [], List, None, pos, length, All, IfOk, OnOk, OnErr, vec_len, vec_capacity};
+ghost use Rattle.std.specs.Prelude.{◌≡◌, ◌+◌, ◌-◌, ◌*◌, ◌<◌, ◌≤◌, ◌^◌, ◌++◌, ◌∷◌, [], List, None, pos, length, All, IfOk, OnOk, OnErr, count_by, is_some};
 ghost use Rattle.fmt_string.specs.Table.{Column, Row};
 ghost use Rattle.tree_model.specs.Tree.{trees};
 ghost use Rattle.unit_pass.specs.Tally.{risen};
 ghost use Rattle.unit_pass.specs.declared.pass.TheConstants.{SUPPLY};
-ghost use Rattle.raw_array.specs.Members.{Cost, cost_of_all, holds_of};
-ghost use Rattle.raw_array.specs.View.{buffers_of};
+ghost use Rattle.raw_array.specs.Members.{Cost, cost_of_all};
 ghost use Rattle.col_build.specs.Holding.{HoldsSome};
 ghost use Rattle.layout_check.specs.Values.{rows_of};
 ghost use Rattle.layout_check.specs.Walk.{ChunkOk};
-ghost use Rattle.arr_export.specs.ColumnKinds.{type_of_columns};
+ghost use Rattle.layout_check.specs.ColumnKinds.{type_of_columns};
 ghost use Rattle.csv_read.specs.Chunks.{AreColumnsOf, FitFrom, HoldRows, IsColumnOf, all_blocks, chunk_blocks, chunk_of, own_blocks};
 
-use crate::release::{let_go_all, release_all};
 use arr_export::{export_column, export_table};
+use buf_block::let_go_all;
 use col_build::{Builder, Built};
-use raw_array::RawArray;
+use raw_array::{RawArray, release_all};
 use std::alloc::Global;
 use unit_pass::{NoMemory, Pass, SUPPLY};
 
@@ -39,7 +38,6 @@ fn column_array(alloc: Global, builder: Builder, pass: &mut Pass) -> Result<RawA
     ensures blocks { IfOk result (λ array. pass.new.blocks ≡ risen pass.old.blocks (own_blocks array)) }
     ensures nodes { OnOk result (pass.new.nodes ≡ risen pass.old.nodes 1) }
 {
-    let _supply = pass.units();
     match builder.finish(alloc, pass) {
         Ok(built) => match export_column(alloc, built, None, pass) {
             Ok(array) => Ok(array),
@@ -55,8 +53,8 @@ fn column_array(alloc: Global, builder: Builder, pass: &mut Pass) -> Result<RawA
 // Lets the buffers of a finished column without a dictionary go.
 fn give_up(built: Built, dictionary: Option<RawArray>, pass: &mut Pass)
     requires none { dictionary ≡ None }
-    requires units { pass.old.units + holds_of (buffers_of built.buffers.items) ≤ SUPPLY }
-    ensures units { pass.new.units ≡ pass.old.units + holds_of (buffers_of built.buffers.items) }
+    requires units { pass.old.units + count_by is_some built.buffers.items ≤ SUPPLY }
+    ensures units { pass.new.units ≡ pass.old.units + count_by is_some built.buffers.items }
     ensures blocks { pass.new.blocks ≡ pass.old.blocks }
     ensures nodes { pass.new.nodes ≡ pass.old.nodes }
 {
@@ -71,19 +69,6 @@ fn give_up(built: Built, dictionary: Option<RawArray>, pass: &mut Pass)
         buffers,
     } = built;
     let_go_all(buffers, pass);
-}
-
-// Appends where there is room.
-fn put(arrays: &mut Vec<RawArray>, array: RawArray)
-    requires { vec_len arrays.old < vec_capacity arrays.old }
-    ensures items { arrays.new.items ≡ arrays.old.items ++ array ∷ [] }
-    ensures len { vec_len arrays.new ≡ vec_len arrays.old + 1 }
-    ensures capacity { vec_capacity arrays.old ≤ vec_capacity arrays.new }
-{
-    match arrays.push(array) {
-        Ok(()) => {}
-        Err(_failed) => unreachable!(),
-    }
 }
 
 // The arrays of the columns, one after the other.
@@ -102,15 +87,12 @@ fn column_arrays(
     ensures blocks { IfOk result (λ arrays. pass.new.blocks ≡ risen pass.old.blocks (all_blocks arrays.items)) }
     ensures nodes { OnOk result (pass.new.nodes ≡ risen pass.old.nodes (length builders.items)) }
 {
-    let _supply = pass.units();
-    let _blocks = pass.blocks();
-    let _nodes = pass.nodes();
     let Ok(mut arrays) = Vec::with_capacity(alloc, builders.len()) else {
         return Err(NoMemory);
     };
     for builder in builders {
         match column_array(alloc, builder, pass) {
-            Ok(array) => put(&mut arrays, array),
+            Ok(array) => arrays.push_reserved(array),
             Err(NoMemory) => {
                 release_all(arrays, pass);
                 return Err(NoMemory);
@@ -137,7 +119,6 @@ pub fn export_rows(
     ensures blocks { OnOk result ((columns : List Column) (values : List Row) → HoldRows builders.items columns values → pass.new.blocks ≡ risen pass.old.blocks (chunk_blocks columns values)) }
     ensures nodes { OnOk result (pass.new.nodes ≡ risen pass.old.nodes (1 + length builders.items)) }
 {
-    let _supply = pass.units();
     let arrays = column_arrays(alloc, builders, pass)?;
     match export_table(alloc, arrays, rows, pass) {
         Ok(chunk) => Ok(chunk),

@@ -20,7 +20,6 @@ mod header;
 mod items;
 mod names;
 mod records;
-mod release;
 mod row;
 #[cfg(test)]
 mod tests;

@@ -6,8 +6,8 @@ ghost use Rattle.unit_pass.specs.declared.pass.TheConstants.{CHUNK};
 ghost use Rattle.layout_check.specs.Kinds.{TypedOk};
 ghost use Rattle.layout_check.specs.TypedView.{typed_of};
 ghost use Rattle.fmt_string.specs.ColumnForms.{AreColumnKinds};
-ghost use Rattle.arr_export.specs.ColumnKinds.{type_of_columns};
-ghost use Rattle.arr_export.specs.ColumnSchema.{KindsOk, SchemaOf};
+ghost use Rattle.layout_check.specs.ColumnKinds.{type_of_columns};
+ghost use Rattle.layout_check.specs.ColumnSchema.{KindsOk, SchemaOf};
 ghost use Rattle.field_codec.specs.TextColumns.{HaveTexts};
 
 use crate::csv_text::CsvText;

@@ -4,7 +4,7 @@ use Rattle.std.proofs.lemmas.List.{get_or-map, length-map}
 use Rattle.fmt_string.specs.declared.kind.ColumnType.{ColumnType}
 use Rattle.fmt_string.specs.ColumnView.{column_of}
 use Rattle.fmt_string.specs.Table.{Column}
-use Rattle.arr_export.specs.ColumnSchema.{KindsOk}
+use Rattle.layout_check.specs.ColumnSchema.{KindsOk}
 use Rattle.arr_export.specs.SchemaSize.{AreFlat}
 use Rattle.field_codec.specs.TextColumns.{AreProper}
 

@@ -5,7 +5,7 @@ use Rattle.raw_array.specs.Members.{ArrayTree}
 use Rattle.raw_schema.specs.Members.{SchemaTree}
 use Rattle.tree_model.specs.Tree.{Depth}
 use Rattle.fmt_string.specs.ColumnForms.{AreColumnKinds}
-use Rattle.arr_export.specs.ColumnSchema.{SchemaOf}
+use Rattle.layout_check.specs.ColumnSchema.{SchemaOf}
 use Rattle.csv_read.specs.Chunks.{FitFrom, chunk_of}
 
 -- the schema of columns of flat types

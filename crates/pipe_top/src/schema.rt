@@ -1,6 +1,6 @@
 //! The schema of the columns.
 ghost use Rattle.std.specs.Prelude.{◌≡◌, ◌+◌, ◌≤◌, length, map, IfOk, OnOk, OnErr};
-ghost use Rattle.arr_export.specs.ColumnSchema.{SchemaOf};
+ghost use Rattle.layout_check.specs.ColumnSchema.{SchemaOf};
 ghost use Rattle.field_codec.specs.TextColumns.{AreProper};
 ghost use Rattle.csv_model.specs.Header.{most_columns};
 ghost use Rattle.fmt_string.specs.ColumnView.{column_of};

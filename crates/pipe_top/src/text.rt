@@ -13,7 +13,7 @@ ghost use Rattle.unit_pass.specs.Tally.{risen};
 ghost use Rattle.unit_pass.specs.declared.pass.TheConstants.{SUPPLY};
 ghost use Rattle.arr_import.specs.declared.imported.ImportFault.TheVariants as faults;
 ghost use Rattle.layout_check.specs.declared.schema.SchemaFault.TheVariants as schemas;
-ghost use Rattle.arr_export.specs.ColumnKinds.{type_of_columns};
+ghost use Rattle.layout_check.specs.ColumnKinds.{type_of_columns};
 ghost use Rattle.layout_check.specs.TypedView.{typed_of};
 ghost use Rattle.pipe_top.specs.Rows.{IsChunkOf, IsSchemaOf};
 ghost use Rattle.pipe_top.specs.Traffic.{chunk_blocks_of, chunk_nodes_of, schema_nodes};

@@ -2,6 +2,7 @@ use Rattle.std.proofs.Common.{◌∙◌, ap, arith, sym}
 use Rattle.unit_pass.specs.Tally.{risen}
 use Rattle.raw_array.specs.Members.{Cost, holds_of}
 use Rattle.raw_array.specs.View.{buffers_of}
+use Rattle.raw_array.proofs.Buffers.{holds_of-count}
 use Rattle.csv_read.specs.Chunks.{own_blocks}
 use Rattle.csv_read.proofs.ChunkCosts.{column-blocks, column-cost, few-blocks, finished-holds}
 use Rattle.csv_read.proofs.chunk.column_array.Goals as goal
@@ -16,7 +17,7 @@ give_up-requires-clause-units c =
     let held = c.requires.holds in
     let made = c.in-Ok.ensures.encoded held.0 held.1 held.2 in
     let same = ap (λ views. holds_of (buffers_of views)) c.in-Err-export_column.ensures.buffers_back in
-    omega (arith, same, finished-holds _ _ made.buffers, c.in-Ok.ensures.units held.0 held.1 held.2, c.in-Err-export_column.ensures.units, c.units-supply.ensures.bounded)
+    omega (arith, same, finished-holds _ _ made.buffers, c.in-Ok.ensures.units held.0 held.1 held.2, c.in-Err-export_column.ensures.units, holds_of-count c.in-Err-export_column.built.buffers.items)
 
 pub returns-in-Ok-export_column-clause-units : goal.returns-in-Ok-export_column-clause-units
 returns-in-Ok-export_column-clause-units c =
@@ -41,4 +42,4 @@ returns-in-Err-export_column-clause-units_back c =
     let held = c.requires.holds in
     let made = c.in-Ok.ensures.encoded held.0 held.1 held.2 in
     let same = ap (λ views. holds_of (buffers_of views)) c.in-Err-export_column.ensures.buffers_back in
-    omega (arith, same, finished-holds _ _ made.buffers, c.in-Ok.ensures.units held.0 held.1 held.2, c.in-Err-export_column.ensures.units, c.give_up.ensures.units)
+    omega (arith, same, finished-holds _ _ made.buffers, c.in-Ok.ensures.units held.0 held.1 held.2, c.in-Err-export_column.ensures.units, c.give_up.ensures.units, holds_of-count c.in-Err-export_column.built.buffers.items)

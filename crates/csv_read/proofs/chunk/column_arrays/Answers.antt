@@ -18,14 +18,14 @@ pub loop-builder-preserved : goal.loop-builder-preserved
 loop-builder-preserved c =
     let before = c.loop-builder.invariant in
     let one = c.in-Ok-column_array.ensures in
-    let items = c.put.ensures.items in
+    let items = c.push_reserved.ensures.items in
     let cost = ap (λ arrays. cost_of_all (trees arrays)) items ∙ cost-push c.loop-builder.arrays.items c.in-Ok-column_array.array in
     let blocks = ap all_blocks items ∙ blocks-push c.loop-builder.arrays.items c.in-Ok-column_array.array in
     let more = length-append c.loop-builder.yielded (c.in-Some.builder ∷ []) in
     record {
       arrays = subst (AreColumnsOf (c.loop-builder.yielded ++ c.in-Some.builder ∷ [])) (sym items) (columns-push c.loop-builder.yielded c.loop-builder.arrays.items c.in-Some.builder c.in-Ok-column_array.array before.arrays one.column);
-      count = omega (arith, c.put.ensures.len, before.count, more);
-      room = omega (arith, before.room, c.put.ensures.capacity);
+      count = omega (arith, c.push_reserved.ensures.len, before.count, more);
+      room = omega (arith, before.room, c.push_reserved.ensures.capacity);
       units = omega (arith, cost, before.units, one.units);
       small = omega (arith, cost, before.small, one.small, more);
       blocks = omega (arith, one.blocks, before.blocks, blocks);

@@ -3,7 +3,7 @@ use Rattle.fmt_string.specs.ColumnView.{column_of}
 use Rattle.layout_check.specs.Kinds.{KindTree}
 use Rattle.layout_check.specs.SchemaAnswers.{FirstFault}
 use Rattle.layout_check.specs.Schemas.{TypedOf}
-use Rattle.arr_export.specs.ColumnKinds.{type_of_columns}
+use Rattle.layout_check.specs.ColumnKinds.{type_of_columns}
 use Rattle.csv_write.proofs.csv_text_tests.typed_columns.Goals as goal
 
 same-kinds : (a b : KindTree) → ◌≡◌ {A = Result KindTree FirstFault} (Ok a) (Ok b) → b ≡ a

@@ -2,7 +2,7 @@ use Rattle.std.proofs.Common.{◌≡◌, ◌+◌, ◌∙◌, arith, ap, length, 
 use Rattle.std.proofs.lemmas.List.{length-map}
 use Rattle.fmt_string.specs.ColumnView.{column_of}
 use Rattle.raw_schema.specs.Members.{Nodes}
-use Rattle.arr_export.specs.ColumnSchema.{SchemaOf}
+use Rattle.layout_check.specs.ColumnSchema.{SchemaOf}
 use Rattle.unit_pass.specs.Tally.{risen}
 use Rattle.pipe_top.proofs.Schemas.{proper-flat, proper-kinds}
 use Rattle.pipe_top.proofs.schema.make_schema.Goals as goal

@@ -4,8 +4,8 @@ use Rattle.layout_check.specs.SchemaAnswers.{FirstFault}
 use Rattle.layout_check.specs.Schemas.{TypedOf}
 use Rattle.layout_check.specs.TypedView.{typed_of}
 use Rattle.layout_check.specs.Walk.{LayoutOk}
-use Rattle.arr_export.specs.ColumnKinds.{type_of_columns}
-use Rattle.arr_export.specs.ColumnSchema.{SchemaOf}
+use Rattle.layout_check.specs.ColumnKinds.{type_of_columns}
+use Rattle.layout_check.specs.ColumnSchema.{SchemaOf}
 use Rattle.tree_model.specs.Tree.{Depth}
 use Rattle.pipe_top.proofs.text.take_chunk.Goals as goal
 

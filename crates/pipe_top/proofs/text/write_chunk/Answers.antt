@@ -1,5 +1,5 @@
 use Rattle.std.proofs.Common.{◌++◌, ◌∙◌, ap, subst}
-use Rattle.arr_export.specs.ColumnKinds.{type_of_columns}
+use Rattle.layout_check.specs.ColumnKinds.{type_of_columns}
 use Rattle.arr_import.specs.Window.{whole}
 use Rattle.csv_write.specs.CsvTexts.{HasText, rows_in}
 use Rattle.csv_model.specs.Text.{rows_text}
