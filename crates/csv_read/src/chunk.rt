@@ -116,6 +116,7 @@ pub fn export_rows(
     ensures chunk { IfOk result (λ chunk. (columns : List Column) (values : List Row) → HoldRows builders.items columns values → rows ≡ pos (length values) → chunk ≡ chunk_of columns values) }
     ensures units { IfOk result (λ chunk. pass.new.units + Cost chunk ≡ pass.old.units) }
     ensures units_back { OnErr result (pass.new.units ≡ pass.old.units) }
+    ensures cost { IfOk result (λ chunk. Cost chunk ≤ 1 + 4 * length builders.items) }
     ensures blocks { OnOk result ((columns : List Column) (values : List Row) → HoldRows builders.items columns values → pass.new.blocks ≡ risen pass.old.blocks (chunk_blocks columns values)) }
     ensures nodes { OnOk result (pass.new.nodes ≡ risen pass.old.nodes (1 + length builders.items)) }
 {

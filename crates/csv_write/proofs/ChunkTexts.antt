@@ -84,9 +84,6 @@ listed-trees (type ∷ types) = ap (λ ts. type ∷ ts) (listed-trees types)
 pub kids-long : (columns : List Column) → length (children_of (type_of_columns columns)) ≡ length columns
 kids-long columns = ap length (listed-trees (types_of_columns columns)) ∙ length-map columns type_of_column
 
-pub ruleset other_texts
-other_texts = (other-truth, other-whole, other-decimal, other-bits, other-bytes)
-
 -- ---- a row
 
 -- a value is written by the form of its column
@@ -184,6 +181,8 @@ bytes-none _ v of other = absurd of
 
 pub other-bytes : (mark : List ℕ) (form : Form) (v : Value) → IsOfBytes form → ((bytes : List ℕ) → v ≢ Bytes bytes) → written_in mark form v ≡ null_text mark v
 other-bytes mark form v of other = other-text mark form v (bytes-none form v of other)
+
+pub ruleset other_texts = (other-truth, other-whole, other-decimal, other-bits, other-bytes)
 
 kind-proper : (form : FieldForm) (kind : Kind) → IsFormOf form kind → IsProper form
 kind-proper form (Flat kind) h = h.1

@@ -1,4 +1,4 @@
-use Rattle.std.proofs.Common.{◌≡◌, ◌+◌, List, length, refl, rules, subst}
+use Rattle.std.proofs.Common.{◌≡◌, ◌+◌, ℕ, List, length, refl, rules, subst}
 use Rattle.csv.specs.Records.{fields_of}
 use Rattle.csv_read.specs.BodyRows.{AddsFields, RefusesFields}
 use Rattle.field_codec.specs.declared.form.FieldForm.{FieldForm}
@@ -9,10 +9,12 @@ pub returns-in_err-push_fields-clause-fault : goal.returns-in_err-push_fields-cl
 returns-in_err-push_fields-clause-fault c =
     let made = c.args.self.now in
     let fields = fields_of c.args.row.now in
+    let fault = c.in_err-push_fields.field-0.0 in
     let width : length fields ≡ length made.forms.items = search rules in
-    let refused : RefusesFields c.in_err-push_fields.field-0.0 made.mark made.forms.items fields (made.rows + 1) made.builders.items =
-    subst (λ (forms : List FieldForm). RefusesFields c.in_err-push_fields.field-0.0 made.mark forms fields (made.rows + 1) made.builders.items) c.as_slice.ensures.value c.in_err-push_fields.ensures.fault in
-    let told = fields-refused made fields c.in_err-push_fields.field-0.0 width refused in
+    let lent = subst (λ (forms : List FieldForm). RefusesFields fault c.as_slice-2.result.now forms fields (made.rows + 1) made.builders.items) c.as_slice.ensures.value c.in_err-push_fields.ensures.fault in
+    let refused : RefusesFields fault made.mark made.forms.items fields (made.rows + 1) made.builders.items =
+    subst (λ (mark : List ℕ). RefusesFields fault mark made.forms.items fields (made.rows + 1) made.builders.items) c.as_slice-2.ensures lent in
+    let told = fields-refused made fields fault width refused in
     search (rules, told)
 
 pub returns-clause-added : goal.returns-clause-added
