@@ -12,7 +12,7 @@ use Rattle.layout_check.specs.Values.{tree_items}
 use Rattle.layout_check.specs.Walk.{LayoutOk, Steps, first_some, visit_fault, visits, walk_children, walk_dictionary, walk_of, walks_of}
 use Rattle.layout_check.proofs.Faults.{first_some-append}
 use Rattle.layout_check.proofs.Lawful.{first_fault-lawful, left-none, right-none}
-use Rattle.array_laws.specs.Struct.{table_type}
+use Rattle.layout_check.specs.ColumnKinds.{table_type}
 use Rattle.array_laws.proofs.Steady.{steady}
 use Rattle.array_laws.proofs.LawfulNodes.{below-lawful, lawful-end, lawful-node, length-items, offset-first, type-live}
 

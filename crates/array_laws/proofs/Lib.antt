@@ -16,6 +16,7 @@ pub mod Steady
 pub mod Depths
 pub mod SharedPieces
 pub mod JoinedPieces
+pub mod WorkerPieces
 pub mod JoinedWindows
 pub mod StructParts
 pub mod StructLaw

@@ -18,7 +18,7 @@ use Rattle.layout_check.specs.Values.{each, field_items, readers, row_items, row
 use Rattle.layout_check.specs.Walk.{ChunkOk, LayoutOk, Steps, first_some, node_fault, root_fault, top_fault, visit_fault, visits, walk_children, walks_of}
 use Rattle.layout_check.specs.declared.rule.LayoutRule.TheVariants as rules
 use Rattle.layout_check.proofs.Lawful.{first_fault-lawful, lawful-first_fault}
-use Rattle.array_laws.specs.Struct.{table_type}
+use Rattle.layout_check.specs.ColumnKinds.{table_type}
 use Rattle.array_laws.proofs.NodeParts.{both-none, no-fault, ok-node}
 use Rattle.array_laws.proofs.Steady.{first_some-append, steady}
 use Rattle.array_laws.proofs.WindowItems.{each-same}
