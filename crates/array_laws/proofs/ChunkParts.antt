@@ -11,9 +11,9 @@ use Rattle.layout_check.specs.Rules.{child_short, count_wrong, fault_if, live_le
 use Rattle.layout_check.specs.Values.{tree_items}
 use Rattle.layout_check.specs.Walk.{LayoutOk, Steps, first_some, visit_fault, visits, walk_children, walk_dictionary, walk_of, walks_of}
 use Rattle.layout_check.proofs.Faults.{first_some-append}
-use Rattle.layout_check.proofs.Lawful.{first_fault-lawful, left-none, right-none}
+use Rattle.layout_check.proofs.Lawful.{left-none, right-none}
 use Rattle.layout_check.specs.ColumnKinds.{table_type}
-use Rattle.array_laws.proofs.Steady.{steady}
+use Rattle.layout_check.proofs.ReadWithin.{lawful-from}
 use Rattle.array_laws.proofs.LawfulNodes.{below-lawful, lawful-end, lawful-node, length-items, offset-first, type-live}
 
 pub append-left : {X Y : Type 0} → (f : X → Option Y) (xs ys : List X) → first_some f (xs ++ ys) ≡ None → first_some f xs ≡ None
@@ -28,8 +28,8 @@ child-at : (types : List KindTree) (cs : List ArrayTree) (k : ℕ) (path : Steps
 child-at [] cs k path p a b e = absurd (omega (arith, a))
 child-at (type ∷ types) [] k path p a b e = absurd (omega (arith, b))
 child-at (type ∷ types) (c ∷ cs) k path zero a b e =
-    first_fault-lawful type c (steady type (path ++ k ∷ []) [] c
-    (append-left visit_fault (visits type (path ++ k ∷ []) c) (walk_children (walks_of (trees types)) (suc k) path cs) e))
+    lawful-from type (path ++ k ∷ []) c
+    (append-left visit_fault (visits type (path ++ k ∷ []) c) (walk_children (walks_of (trees types)) (suc k) path cs) e)
 child-at (type ∷ types) (c ∷ cs) k path (suc p) a b e =
     child-at types cs (suc k) path p (omega (arith, a)) (omega (arith, b))
     (append-right visit_fault (visits type (path ++ k ∷ []) c) (walk_children (walks_of (trees types)) (suc k) path cs) e)

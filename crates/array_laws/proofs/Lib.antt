@@ -12,7 +12,6 @@ pub mod WindowNode
 pub mod WindowItems
 pub mod WindowTree
 pub mod ChunkParts
-pub mod Steady
 pub mod Depths
 pub mod SharedPieces
 pub mod JoinedPieces
