@@ -19,11 +19,11 @@ use Rattle.layout_check.specs.Walk.{ChunkOk, LayoutOk, Steps, first_some, node_f
 use Rattle.layout_check.specs.declared.rule.LayoutRule.TheVariants as rules
 use Rattle.layout_check.proofs.Faults.{first_some-append}
 use Rattle.layout_check.proofs.Lawful.{first_fault-lawful, lawful-first_fault}
-use Rattle.layout_check.proofs.ReadWithin.{any-path}
+use Rattle.layout_check.proofs.ReadWithin.{any-path, live-of}
 use Rattle.layout_check.specs.ColumnKinds.{table_type}
 use Rattle.array_laws.proofs.NodeParts.{both-none, no-fault, ok-node}
 use Rattle.array_laws.proofs.WindowItems.{each-same}
-use Rattle.array_laws.proofs.LawfulNodes.{length-items, node, type-live}
+use Rattle.array_laws.proofs.LawfulNodes.{length-items, node}
 
 -- there is a lawful column for each type, and no type is released
 abbrev pub AreLawful : List KindTree → List ArrayTree → Type 0
@@ -48,7 +48,7 @@ long-enough z needed k e le =
 child-long : (type : KindTree) (c : ArrayTree) (needed k : ℕ) → IsLive type → LayoutOk type c → needed ≤ tree_items c
     → short_child needed k (live_length c) ≡ None
 child-long Released c needed k live ok le = absurd live
-child-long (Live kind kids dict) Released needed k live ok le = absurd (type-live (Live kind kids dict) Released live ok)
+child-long (Live kind kids dict) Released needed k live ok le = absurd (live-of (Live kind kids dict) Released live ok)
 child-long (Live kind kids dict) (Live m ts d) needed k live ok le = long-enough m.length needed k (length-items kind kids dict m ts d ok) le
 
 all-long : (types : List KindTree) (columns : List ArrayTree) (needed k : ℕ) → AreLawful types columns → All (λ column. needed ≤ tree_items column) columns
