@@ -27,6 +27,8 @@ mod counts;
 mod indices;
 mod laws;
 mod layout;
+#[cfg(test)]
+mod layout_tests;
 mod node;
 mod nulls;
 mod rule;

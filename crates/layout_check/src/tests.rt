@@ -7,8 +7,7 @@ ghost use Rattle.layout_check.specs.Kinds.{levels, most_levels, dictionary_level
 ghost use Rattle.layout_check.specs.TypedView.{typed_of, dict_in};
 
 use crate::buffers::{buffers_absent, buffers_short, first_fall, layout_falls};
-use crate::chunk::{check_chunk, count_rows, nulls_of};
-use crate::indices::{first_bad_index, indices_wrong};
+use crate::chunk::{check_chunk, nulls_of};
 use crate::layout::{Layout, buffer_count};
 use crate::node::FormedNode;
 use crate::rule::{DICTIONARY_STEP, LayoutFault, LayoutRule};
@@ -25,7 +24,7 @@ use unit_pass::{Desk, Pass, SUPPLY, open_desk};
 // ---- types
 
 #[tactic(auto, using(crate::proofs::MadeTypes::made))]
-fn node(kind: DataType, kids: Vec<Typed>, dict: Option<Box<Typed>>) -> Typed
+pub(crate) fn node(kind: DataType, kids: Vec<Typed>, dict: Option<Box<Typed>>) -> Typed
     requires type_ok { KindOk kind }
     requires kids_ok { KidsOk kind (trees (map typed_of kids.items)) }
     requires dict_ok { DictOk kind (maybe_tree (dict_in dict)) }
@@ -61,7 +60,7 @@ fn struct_of(rt: &impl Abort, alloc: Global, kid: Typed) -> Typed
 }
 
 /// Indices into a dictionary.
-fn indexed(rt: &impl Abort, alloc: Global, dict: Typed) -> Typed
+pub(crate) fn indexed(rt: &impl Abort, alloc: Global, dict: Typed) -> Typed
     requires { NodesOk (typed_of dict) }
     ensures ok { NodesOk (typed_of result) }
     ensures levels { levels (typed_of result) ≡ levels (typed_of dict) + 1 }
@@ -77,7 +76,7 @@ fn indexed(rt: &impl Abort, alloc: Global, dict: Typed) -> Typed
 }
 
 /// A struct over two columns.
-fn struct_of_two(rt: &impl Abort, alloc: Global, first: Typed, second: Typed) -> Typed
+pub(crate) fn struct_of_two(rt: &impl Abort, alloc: Global, first: Typed, second: Typed) -> Typed
     requires first { NodesOk (typed_of first) }
     requires second { NodesOk (typed_of second) }
     ensures ok { NodesOk (typed_of result) }
@@ -94,7 +93,7 @@ fn struct_of_two(rt: &impl Abort, alloc: Global, first: Typed, second: Typed) ->
     }
 }
 
-fn int32(alloc: Global) -> Typed
+pub(crate) fn int32(alloc: Global) -> Typed
     ensures ok { NodesOk (typed_of result) }
     ensures levels { levels (typed_of result) ≡ 1 }
 {
@@ -133,7 +132,7 @@ fn few_levels_behind(rt: &impl Abort, dictionary: &Option<RawArray>)
     }
 }
 
-fn listed<T>(rt: &impl Abort, items: &mut Vec<T>, item: T) {
+pub(crate) fn listed<T>(rt: &impl Abort, items: &mut Vec<T>, item: T) {
     match items.push(item) {
         Ok(()) => {}
         Err(_failed) => panic!(rt; "no memory"),
@@ -158,7 +157,7 @@ fn view(rt: &impl Abort, alloc: Global, bytes: &[u8], pass: &mut Pass) -> BufVie
 }
 
 /// An array's length, number of nulls and offset.
-type Window = (i64, i64, i64);
+pub(crate) type Window = (i64, i64, i64);
 
 fn built(rt: &impl Abort, alloc: Global, parts: ArrayParts, pass: &mut Pass) -> RawArray {
     few_levels(rt, &parts.children);
@@ -172,7 +171,7 @@ fn built(rt: &impl Abort, alloc: Global, parts: ArrayParts, pass: &mut Pass) -> 
     }
 }
 
-fn array(
+pub(crate) fn array(
     rt: &impl Abort,
     alloc: Global,
     window: Window,
@@ -226,7 +225,12 @@ fn over(
 }
 
 /// No index, before a dictionary.
-fn before(rt: &impl Abort, alloc: Global, dictionary: RawArray, pass: &mut Pass) -> RawArray {
+pub(crate) fn before(
+    rt: &impl Abort,
+    alloc: Global,
+    dictionary: RawArray,
+    pass: &mut Pass,
+) -> RawArray {
     array(
         rt,
         alloc,
@@ -272,7 +276,7 @@ pub(crate) fn found(rt: &impl Abort, answer: Result<(), LayoutFault>, want: Want
 }
 
 /// The fault of an array as it stands, under a struct, and behind a dictionary.
-fn found_at_each_place(
+pub(crate) fn found_at_each_place(
     rt: &impl Abort,
     alloc: Global,
     typed: Typed,
@@ -428,7 +432,7 @@ fn each_rule_has_its_fault_at_each_place(rt: HostRuntime) {
 }
 
 /// The fault of an array of some parts.
-fn parts_found(
+pub(crate) fn parts_found(
     rt: &impl Abort,
     alloc: Global,
     typed: Typed,
@@ -576,7 +580,7 @@ fn a_chunk_is_a_table_without_null_rows(rt: HostRuntime) {
 }
 
 /// A node whose first rules hold.
-fn formed<'a>(rt: &impl Abort, layout: Layout, array: &'a RawArray) -> FormedNode<'a>
+pub(crate) fn formed<'a>(rt: &impl Abort, layout: Layout, array: &'a RawArray) -> FormedNode<'a>
     ensures layout { result.layout ≡ layout }
 {
     assert!(rt; !array.is_released());
@@ -630,183 +634,4 @@ fn scans_and_single_items_agree(rt: HostRuntime) {
             closed(&rt, desk, pass);
         }
     }
-}
-
-/// Indices by a scan over the whole buffer, and one by one.
-#[tactic(auto, using(crate::proofs::Long::long, crate::proofs::Long::valid))]
-fn indices_both_ways(rt: &impl Abort, array: &RawArray, total: i64) {
-    let kind = DataType::Int {
-        bits: 8,
-        signed: true,
-    };
-    let node = formed(rt, Layout::FixedWidth { width: 1 }, array);
-    assert!(rt; buffers_absent(&node).is_none());
-    assert!(rt; buffers_short(&node).is_none());
-    assert_eq!(rt;
-        indices_wrong(&kind, &node),
-        first_bad_index(1, true, &node, total)
-    );
-}
-
-#[test]
-fn indices_agree_with_the_plain_loop(rt: HostRuntime) {
-    let alloc = rt.alloc();
-    for stored in [[0u8, 1, 2, 1], [0, 3, 1, 2], [2, 255, 3, 0], [128, 0, 0, 3]] {
-        for valid in [0b1111u8, 0b1101, 0b0110] {
-            for window in [(4, -1, 0), (2, -1, 1), (3, -1, 1), (0, 0, 4)] {
-                let (desk, mut pass) = open_desk();
-                let validity = [valid];
-                let bytes = [Some(validity.as_slice()), Some(stored.as_slice())];
-                let numbers = [None, Some([0u8; 12].as_slice())];
-                let dictionary = leaf(&rt, alloc, (3, 0, 0), &numbers, &mut pass);
-                let a = array(
-                    &rt,
-                    alloc,
-                    window,
-                    &bytes,
-                    Vec::new(alloc),
-                    Some(dictionary),
-                    &mut pass,
-                );
-                indices_both_ways(&rt, &a, 3);
-                ended(&rt, a, &mut pass);
-                closed(&rt, desk, pass);
-            }
-        }
-    }
-}
-
-#[test]
-fn a_negative_length_is_found_at_the_root_and_behind(rt: HostRuntime) {
-    let alloc = rt.alloc();
-    let (desk, mut pass) = open_desk();
-    let want = (LayoutRule::NegativeLength, 0, -3, 0);
-    let a = leaf(&rt, alloc, (-3, 0, 0), &[None, None], &mut pass);
-    found(&rt, check_array(&int32(alloc), &a), want, &[]);
-    let typed = indexed(&rt, alloc, int32(alloc));
-    let a = before(&rt, alloc, a, &mut pass);
-    found(&rt, check_array(&typed, &a), want, &[DICTIONARY_STEP]);
-    ended(&rt, a, &mut pass);
-    closed(&rt, desk, pass);
-}
-
-#[test]
-fn each_item_without_buffers_is_null(rt: HostRuntime) {
-    let alloc = rt.alloc();
-    let (desk, mut pass) = open_desk();
-    let a = leaf(&rt, alloc, (3, 0, 2), &[], &mut pass);
-    let typed = flat(alloc, DataType::Null);
-    assert!(&rt; check_array(&typed, &a).is_ok());
-    assert_eq!(&rt; nulls_of(&typed, &a), 3);
-    assert_eq!(&rt; count_rows(&typed, &a), 3);
-    ended(&rt, a, &mut pass);
-    closed(&rt, desk, pass);
-}
-
-#[test]
-fn bits_and_wide_offsets_are_counted(rt: HostRuntime) {
-    let alloc = rt.alloc();
-    let want = (LayoutRule::BufferShort, 1, 1, 2);
-    let bits = [None, Some([255u8].as_slice())];
-    leaf_found(
-        &rt,
-        alloc,
-        flat(alloc, DataType::Bool),
-        (2, 0, 7),
-        &bits,
-        want,
-    );
-    let want = (LayoutRule::BufferShort, 1, 12, 16);
-    let offsets = [0u8; 12];
-    let bytes = [None, Some(offsets.as_slice()), None];
-    let wide = DataType::Utf8 { wide: true };
-    leaf_found(&rt, alloc, flat(alloc, wide), (1, 0, 0), &bytes, want);
-    let want = (LayoutRule::BufferShort, 2, 1, 2);
-    let offsets = [0u8, 0, 0, 0, 0, 0, 0, 0, 2, 0, 0, 0, 0, 0, 0, 0];
-    let bytes = [None, Some(offsets.as_slice()), Some(b"a".as_slice())];
-    let wide = DataType::Binary { wide: true };
-    leaf_found(&rt, alloc, flat(alloc, wide), (1, 0, 0), &bytes, want);
-}
-
-/// A list, or a map, of one type.
-fn listing(rt: &impl Abort, alloc: Global, kind: DataType, kid: Typed) -> Typed
-    requires type_ok { KindOk kind }
-    requires kids_ok { KidsOk kind (more_trees (typed_of kid) no_trees) }
-    requires kid { NodesOk (typed_of kid) }
-    ensures ok { NodesOk (typed_of result) }
-    ensures levels { levels (typed_of result) ≡ levels (typed_of kid) + 1 }
-{
-    let mut kids = Vec::new(alloc);
-    match kids.push(kid) {
-        Ok(()) => node(kind, kids, None),
-        Err(_failed) => panic!(rt; "no memory"),
-    }
-}
-
-/// A map from one type to another.
-fn map_of(rt: &impl Abort, alloc: Global, key: Typed, value: Typed) -> Typed
-    requires key { NodesOk (typed_of key) }
-    requires value { NodesOk (typed_of value) }
-    ensures ok { NodesOk (typed_of result) }
-    ensures levels { levels (typed_of result) ≡ max (levels (typed_of key)) (levels (typed_of value)) + 2 }
-{
-    let entries = struct_of_two(rt, alloc, key, value);
-    let mut kids = Vec::new(alloc);
-    match kids.push(entries) {
-        Ok(()) => node(DataType::Map, kids, None),
-        Err(_failed) => panic!(rt; "no memory"),
-    }
-}
-
-/// Two items between these offsets, over three numbers.
-fn listing_found(rt: &impl Abort, alloc: Global, typed: Typed, offsets: &[u8], want: Want)
-    requires ok { NodesOk (typed_of typed) }
-    requires few { levels (typed_of typed) ≤ 9 }
-{
-    let (desk, mut pass) = open_desk();
-    let numbers = [None, Some([0u8; 12].as_slice())];
-    let mut kids = Vec::new(alloc);
-    let kid = leaf(rt, alloc, (3, 0, 0), &numbers, &mut pass);
-    listed(rt, &mut kids, kid);
-    let bytes = [None, Some(offsets)];
-    let a = array(rt, alloc, (2, 0, 0), &bytes, kids, None, &mut pass);
-    found_at_each_place(rt, alloc, typed, a, want, &mut pass);
-    closed(rt, desk, pass);
-}
-
-#[test]
-fn lists_have_the_items_that_they_name(rt: HostRuntime) {
-    let alloc = rt.alloc();
-    let want = (LayoutRule::ChildShort, 0, 3, 4);
-    let narrow = [0u8, 0, 0, 0, 3, 0, 0, 0, 4, 0, 0, 0];
-    let list = DataType::List { wide: false };
-    let typed = listing(&rt, alloc, list, int32(alloc));
-    listing_found(&rt, alloc, typed, &narrow, want);
-    let wide = [
-        0u8, 0, 0, 0, 0, 0, 0, 0, 3, 0, 0, 0, 0, 0, 0, 0, 4, 0, 0, 0, 0, 0, 0, 0,
-    ];
-    let list = DataType::List { wide: true };
-    let typed = listing(&rt, alloc, list, int32(alloc));
-    listing_found(&rt, alloc, typed, &wide, want);
-    let want = (LayoutRule::OffsetsFall, 1, 3, 2);
-    let falling = [0u8, 0, 0, 0, 3, 0, 0, 0, 2, 0, 0, 0];
-    let list = DataType::List { wide: false };
-    let typed = listing(&rt, alloc, list, int32(alloc));
-    listing_found(&rt, alloc, typed, &falling, want);
-    // Three entries, of which the map names four.
-    let want = (LayoutRule::ChildShort, 0, 3, 4);
-    let (desk, mut pass) = open_desk();
-    let numbers = [None, Some([0u8; 12].as_slice())];
-    let mut columns = Vec::new(alloc);
-    let key = leaf(&rt, alloc, (3, 0, 0), &numbers, &mut pass);
-    listed(&rt, &mut columns, key);
-    let value = leaf(&rt, alloc, (3, 0, 0), &numbers, &mut pass);
-    listed(&rt, &mut columns, value);
-    let entries = array(&rt, alloc, (3, 0, 0), &[None], columns, None, &mut pass);
-    let mut kids = Vec::new(alloc);
-    listed(&rt, &mut kids, entries);
-    let bytes = [None, Some(narrow.as_slice())];
-    let a = array(&rt, alloc, (2, 0, 0), &bytes, kids, None, &mut pass);
-    let typed = map_of(&rt, alloc, int32(alloc), int32(alloc));
-    parts_found(&rt, alloc, typed, a, want, (desk, pass));
 }
