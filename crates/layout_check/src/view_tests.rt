@@ -43,6 +43,7 @@ fn changed(at: usize, new: [u8; 4]) -> [u8; 32] {
 }
 
 const MINUS_ONE: [u8; 4] = [255; 4];
+
 const THIRTEEN: [u8; 8] = [13, 0, 0, 0, 0, 0, 0, 0];
 
 /// Two views over one data buffer.
@@ -173,9 +174,30 @@ fn views_that_are_lawful(rt: HostRuntime) {
     let first = [0b01u8];
     let first = Some(first.as_slice());
     let data: &[u8] = b"hello, world!";
-    views_taken(&rt, alloc, texts(alloc), first, &changed(16, MINUS_ONE), data);
-    views_taken(&rt, alloc, texts(alloc), first, &changed(20, MINUS_ONE), data);
-    views_taken(&rt, alloc, texts(alloc), first, &changed(24, MINUS_ONE), data);
+    views_taken(
+        &rt,
+        alloc,
+        texts(alloc),
+        first,
+        &changed(16, MINUS_ONE),
+        data,
+    );
+    views_taken(
+        &rt,
+        alloc,
+        texts(alloc),
+        first,
+        &changed(20, MINUS_ONE),
+        data,
+    );
+    views_taken(
+        &rt,
+        alloc,
+        texts(alloc),
+        first,
+        &changed(24, MINUS_ONE),
+        data,
+    );
     views_taken(&rt, alloc, texts(alloc), None, &VIEWS, b"hello, world!\xff");
     views_taken(&rt, alloc, texts(alloc), None, &changed(8, MINUS_ONE), data);
     views_taken(&rt, alloc, bytes(alloc), None, &VIEWS, b"hell\xff, world!");

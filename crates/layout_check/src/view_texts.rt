@@ -343,4 +343,3 @@ pub fn view_text_wrong(array: &RawArray) -> Option<Numbers>
         first_bad_text(array, passed(array))
     }
 }
-
