@@ -1,16 +1,43 @@
 #!/bin/sh
-# table.sh ROWS [plain|quoted|japanese]: writes a made table of ROWS rows to standard output, about 30 bytes a row.
-#   plain:  id,name,amount,paid; row i is i, item and the last digit of i, i.25, true where i is odd and else false
-#   quoted: the same columns with commas, doubled quotes and line feeds inside quoted fields
+# table.sh ROWS [KIND]: writes a made table of ROWS rows to standard output.
+#   plain:    id,name,amount,paid; row i is i, item and the last digit of i, i.25, true where i is odd and else false
+#   quoted:   the same columns with commas, doubled quotes and line feeds inside quoted fields
 #   japanese: plain, with names and truths in Japanese
+#   longtext: id,text; 312 bytes of Japanese text a row
+#   halfnull: plain, with every second name and amount empty
+#   ints, decimals, floats (16 hexadecimal digits), bytes (8 bytes), truths: eight columns a to h of that kind
 rows=${1:?rows}
 kind=${2:-plain}
-exec awk -v n="$rows" -v kind="$kind" 'BEGIN {
+exec awk -v n="$rows" -v kind="$kind" '
+function eight(i, k) {
+  if (kind == "ints") return (i * 7919 * k) % 1000003
+  if (kind == "decimals") return sprintf("%d.%02d", (i * 101 * k) % 1000003, (i * k) % 100)
+  if (kind == "truths") return i * k % 3 ? "false" : "true"
+  return sprintf("%08x%08x", (i * 2654435 * k) % 4294967291, (i * 40503 * k) % 4294967291)
+}
+BEGIN {
+  if (kind ~ /^(ints|decimals|floats|bytes|truths)$/) {
+    print "a,b,c,d,e,f,g,h"
+    for (i = 1; i <= n; i++) {
+      line = eight(i, 1)
+      for (k = 2; k <= 8; k++) line = line "," eight(i, k)
+      print line
+    }
+    exit
+  }
+  if (kind == "longtext") {
+    print "id,text"
+    for (k = 1; k <= 8; k++) text = text "日本語の文章はここにある。"
+    for (i = 1; i <= n; i++) printf "%d,%s\n", i, text
+    exit
+  }
   print "id,name,amount,paid"
   for (i = 1; i <= n; i++) {
     paid = i % 2 ? "true" : "false"
-    if (kind == "japanese") { printf "%d,項目%d,%d.25,%s\n", i, i % 10, i, (i % 2 ? "はい" : "いいえ"); continue }
     if (kind == "plain") { printf "%d,item%d,%d.25,%s\n", i, i % 10, i, paid; continue }
+    if (kind == "japanese") { printf "%d,項目%d,%d.25,%s\n", i, i % 10, i, (i % 2 ? "はい" : "いいえ"); continue }
+    if (kind == "halfnull") { printf "%d,%s,%s,%s\n", i, (i % 2 ? "item" i % 10 : ""), (i % 2 ? "" : i ".25"), paid; continue }
+    if (kind != "quoted") exit 2
     name = i % 7 == 0 ? "\"two\nlines\"" : sprintf("\"item, \"\"%d\"\"\"", i % 10)
     printf "%d,%s,\"%d.25\",%s\n", i, name, i, paid
   }

@@ -1,9 +1,9 @@
 //! Structures that are made of their parts, or of which nothing is left.
-ghost use Rattle.std.specs.Prelude.{◌≡◌, ◌+◌, ◌-◌, ◌^◌, ◌<◌, ◌≤◌, ◌++◌, ◌∷◌, [], length, vec_len, vec_capacity, if◌then◌else◌, is_ok, IfOk, OnOk};
+ghost use Rattle.std.specs.Prelude.{◌≡◌, ◌+◌, ◌-◌, ◌^◌, ◌<◌, ◌≤◌, length, if◌then◌else◌, is_ok, IfOk, OnOk};
 ghost use Rattle.unit_pass.specs.Tally.{risen};
 ghost use Rattle.unit_pass.specs.declared.pass.TheConstants.{SUPPLY};
-ghost use Rattle.tree_model.specs.Tree.{Depth, trees};
-ghost use Rattle.raw_schema.specs.Members.{Nodes, nodes_of_all};
+ghost use Rattle.tree_model.specs.Tree.{Depth};
+ghost use Rattle.raw_schema.specs.Members.{Nodes};
 ghost use Rattle.raw_schema.specs.Parts.{tree_of_parts};
 
 use raw_schema::{RawSchema, SchemaParts, release_all};

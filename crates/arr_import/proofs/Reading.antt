@@ -8,9 +8,9 @@ use Rattle.std.proofs.Math.Logic.{∥∥₁_elim, ∥∥₁_map}
 use Rattle.std.proofs.Props.{props}
 use Rattle.fmt_string.specs.declared.kind.DataType.{DataType}
 use Rattle.fmt_string.specs.declared.kind.DataType.TheVariants as kinds
-use Rattle.fmt_string.specs.declared.kind.Tick.{Tick}
 use Rattle.fmt_string.specs.declared.kind.Tick.TheVariants as ticks
 use Rattle.fmt_string.specs.Kinds.{KindOk}
+use Rattle.fmt_string.specs.Storage.{storage_of}
 use Rattle.fmt_string.specs.Value.{values}
 use Rattle.fmt_string.specs.Value.Value.{Null, Fields}
 use Rattle.bit_pack.specs.Packed.{IsWidth}
@@ -20,37 +20,40 @@ use Rattle.layout_check.specs.declared.typed.Typed.{Typed, out-Typed}
 use Rattle.layout_check.specs.declared.layout.Layout.TheVariants.{ByChildren}
 use Rattle.layout_check.specs.Kinds.{KindTree, levels, NodesOk, AllNodesOk, DictNodesOk, KidsOk, DictOk, IsOneChild, IsPairOfColumns}
 use Rattle.layout_check.specs.TypedView.{typed_of, kind_of, kids_of, dict_in}
-use Rattle.layout_check.specs.Layout.{layout_of, time_width, bytes, first, is_valid}
+use Rattle.layout_check.specs.Layout.{layout_of, bytes, first, is_valid}
 use Rattle.layout_check.specs.Values.{Reader, each, child_item, field_items, row_items, item, item_or_entry, value_at, readers, reader_of, tree_items}
 use Rattle.layout_check.specs.Within.{StoredWithin, ItemsWithin, IndexWithin, ViewWithin, DataWithin}
-use Rattle.arr_import.specs.declared.shape.Shape.{Shape}
-use Rattle.arr_import.specs.Shapes.{shape_of, shaped_item, IsThere, NumberThere, IsListShape, IsViewShape, AreItemsThere, IsIndexThere}
+use Rattle.fmt_string.specs.declared.storage.Storage.{Storage}
+use Rattle.arr_import.specs.StoredItems.{stored_item, IsThere, NumberThere, IsListStorage, IsViewStorage, AreItemsThere, IsIndexThere}
 use Rattle.arr_import.specs.Window.{Window, Home, IsDictionary, IsStruct, IsStructValue, index_at, home_from, home_of}
 
-pub item-shaped : (kind : DataType) (kids : List Reader) (own : ArrayMembers) (children : List ArrayTree) (i : ℕ) → item kind kids own children i ≡ shaped_item (shape_of kind) kids own children i
-item-shaped kinds.Null kids own children i = refl
-item-shaped kinds.Bool kids own children i = refl
-item-shaped (kinds.Int width signed) kids own children i = refl
-item-shaped (kinds.Float width) kids own children i = refl
-item-shaped (kinds.Binary wide) kids own children i = refl
-item-shaped (kinds.Utf8 wide) kids own children i = refl
-item-shaped (kinds.FixedBinary size) kids own children i = refl
-item-shaped (kinds.Decimal precision scale false) kids own children i = refl
-item-shaped (kinds.Decimal precision scale true) kids own children i = refl
-item-shaped kinds.DateDay kids own children i = refl
-item-shaped kinds.DateMilli kids own children i = refl
-item-shaped (kinds.TimeOfDay tick) kids own children i = refl
-item-shaped (kinds.Timestamp tick zone) kids own children i = refl
-item-shaped (kinds.Duration tick) kids own children i = refl
-item-shaped kinds.IntervalMonths kids own children i = refl
-item-shaped kinds.IntervalDayTime kids own children i = refl
-item-shaped kinds.IntervalMonthDayNano kids own children i = refl
-item-shaped (kinds.List wide) kids own children i = refl
-item-shaped (kinds.FixedList size) kids own children i = refl
-item-shaped kinds.Struct kids own children i = refl
-item-shaped kinds.Map kids own children i = refl
-item-shaped kinds.BinaryView kids own children i = refl
-item-shaped kinds.Utf8View kids own children i = refl
+pub item-stored : (kind : DataType) (kids : List Reader) (own : ArrayMembers) (children : List ArrayTree) (i : ℕ) → item kind kids own children i ≡ stored_item (storage_of kind) kids own children i
+item-stored kinds.Null kids own children i = refl
+item-stored kinds.Bool kids own children i = refl
+item-stored (kinds.Int width signed) kids own children i = refl
+item-stored (kinds.Float width) kids own children i = refl
+item-stored (kinds.Binary wide) kids own children i = refl
+item-stored (kinds.Utf8 wide) kids own children i = refl
+item-stored (kinds.FixedBinary size) kids own children i = refl
+item-stored (kinds.Decimal precision scale false) kids own children i = refl
+item-stored (kinds.Decimal precision scale true) kids own children i = refl
+item-stored kinds.DateDay kids own children i = refl
+item-stored kinds.DateMilli kids own children i = refl
+item-stored (kinds.TimeOfDay ticks.Second) kids own children i = refl
+item-stored (kinds.TimeOfDay ticks.Milli) kids own children i = refl
+item-stored (kinds.TimeOfDay ticks.Micro) kids own children i = refl
+item-stored (kinds.TimeOfDay ticks.Nano) kids own children i = refl
+item-stored (kinds.Timestamp tick zone) kids own children i = refl
+item-stored (kinds.Duration tick) kids own children i = refl
+item-stored kinds.IntervalMonths kids own children i = refl
+item-stored kinds.IntervalDayTime kids own children i = refl
+item-stored kinds.IntervalMonthDayNano kids own children i = refl
+item-stored (kinds.List wide) kids own children i = refl
+item-stored (kinds.FixedList size) kids own children i = refl
+item-stored kinds.Struct kids own children i = refl
+item-stored kinds.Map kids own children i = refl
+item-stored kinds.BinaryView kids own children i = refl
+item-stored kinds.Utf8View kids own children i = refl
 
 -- ---- the widths of numbers
 
@@ -77,20 +80,14 @@ float_width bits h =
 narrow : (width : ℕ) (signed : Bool) → width < 16 → width ≡ 16 → IsTrue signed
 narrow width signed h e = absurd (omega (arith, h, e))
 
-time-there : (tick : Tick) (stored : List ℕ) (place : ℕ) → (place + 1) * time_width tick ≤ length stored → NumberThere (time_width tick) true stored place
-time-there ticks.Second stored place h = record { width_is = inr (inr (inl refl)); widest = λ e. refl; there = h }
-time-there ticks.Milli stored place h = record { width_is = inr (inr (inl refl)); widest = λ e. refl; there = h }
-time-there ticks.Micro stored place h = record { width_is = inr (inr (inr (inl refl))); widest = λ e. refl; there = h }
-time-there ticks.Nano stored place h = record { width_is = inr (inr (inr (inl refl))); widest = λ e. refl; there = h }
-
 four-there : (stored : List ℕ) (place : ℕ) → (place + 1) * 4 ≤ length stored → NumberThere 4 true stored place
-four-there stored place h = time-there ticks.Second stored place h
+four-there stored place h = record { width_is = inr (inr (inl refl)); widest = λ e. refl; there = h }
 
 eight-there : (stored : List ℕ) (place : ℕ) → (place + 1) * 8 ≤ length stored → NumberThere 8 true stored place
-eight-there stored place h = time-there ticks.Nano stored place h
+eight-there stored place h = record { width_is = inr (inr (inr (inl refl))); widest = λ e. refl; there = h }
 
 -- what a lawful array's buffers have of an item, by how the type is stored
-there : (kind : DataType) (own : ArrayMembers) (place : ℕ) → ∥ KindOk kind ∥₁ → StoredWithin (layout_of kind) own place → IsThere (shape_of kind) (bytes own 1) (bytes own 2) place
+there : (kind : DataType) (own : ArrayMembers) (place : ℕ) → ∥ KindOk kind ∥₁ → StoredWithin (layout_of kind) own place → IsThere (storage_of kind) (bytes own 1) (bytes own 2) place
 there kinds.Null own place ok h = tt
 there kinds.Bool own place ok h = h
 there (kinds.Int bits signed) own place ok h = record { width_is = (int_width bits ok).0; widest = narrow (bits / 8) signed (int_width bits ok).1; there = h }
@@ -102,7 +99,10 @@ there (kinds.Decimal precision scale false) own place ok h = record { width_is =
 there (kinds.Decimal precision scale true) own place ok h = h
 there kinds.DateDay own place ok h = four-there (bytes own 1) place h
 there kinds.DateMilli own place ok h = eight-there (bytes own 1) place h
-there (kinds.TimeOfDay tick) own place ok h = time-there tick (bytes own 1) place h
+there (kinds.TimeOfDay ticks.Second) own place ok h = four-there (bytes own 1) place h
+there (kinds.TimeOfDay ticks.Milli) own place ok h = four-there (bytes own 1) place h
+there (kinds.TimeOfDay ticks.Micro) own place ok h = eight-there (bytes own 1) place h
+there (kinds.TimeOfDay ticks.Nano) own place ok h = eight-there (bytes own 1) place h
 there (kinds.Timestamp tick zone) own place ok h = eight-there (bytes own 1) place h
 there (kinds.Duration tick) own place ok h = eight-there (bytes own 1) place h
 there kinds.IntervalMonths own place ok h = four-there (bytes own 1) place h
@@ -115,16 +115,16 @@ there kinds.Map own place ok h = record { there = h.there; from = h.from; rise =
 there kinds.BinaryView own place ok h = h
 there kinds.Utf8View own place ok h = h
 
-pub item-there : (kind : DataType) (shape : Shape) (own : ArrayMembers) (stored text : List ℕ) (place : ℕ) → shape ≡ shape_of kind → stored ≡ bytes own 1 → text ≡ bytes own 2
-    → ∥ KindOk kind ∥₁ → StoredWithin (layout_of kind) own place → IsThere shape stored text place
-item-there kind shape own stored text place s b t ok h =
+pub item-there : (kind : DataType) (storage : Storage) (own : ArrayMembers) (stored text : List ℕ) (place : ℕ) → storage ≡ storage_of kind → stored ≡ bytes own 1 → text ≡ bytes own 2
+    → ∥ KindOk kind ∥₁ → StoredWithin (layout_of kind) own place → IsThere storage stored text place
+item-there kind storage own stored text place s b t ok h =
     subst (λ a. IsThere a stored text place) (sym s)
-    (subst (λ a. IsThere (shape_of kind) a text place) (sym b)
-    (subst (λ a. IsThere (shape_of kind) (bytes own 1) a place) (sym t) (there kind own place ok h)))
+    (subst (λ a. IsThere (storage_of kind) a text place) (sym b)
+    (subst (λ a. IsThere (storage_of kind) (bytes own 1) a place) (sym t) (there kind own place ok h)))
 
 -- ---- views
 
-view-named : (kind : DataType) (own : ArrayMembers) (i : ℕ) → IsViewShape (shape_of kind) → IsTrue (is_valid own i) → ViewWithin (layout_of kind) own i → DataWithin own i
+view-named : (kind : DataType) (own : ArrayMembers) (i : ℕ) → IsViewStorage (storage_of kind) → IsTrue (is_valid own i) → ViewWithin (layout_of kind) own i → DataWithin own i
 view-named kinds.BinaryView own i is valid h = h valid
 view-named kinds.Utf8View own i is valid h = h valid
 view-named (kinds.Decimal precision scale false) own i is valid h = absurd is
@@ -132,8 +132,8 @@ view-named (kinds.Decimal precision scale true) own i is valid h = absurd is
 view-named kind own i is valid h = absurd is
 
 -- where the data of a valid view are
-pub view-there : (kind : DataType) (shape : Shape) (own : ArrayMembers) (i : ℕ) → shape ≡ shape_of kind → IsViewShape shape → is_valid own i ≡ true → ViewWithin (layout_of kind) own i → DataWithin own i
-view-there kind shape own i s is v h = view-named kind own i (subst IsViewShape s is) v h
+pub view-there : (kind : DataType) (storage : Storage) (own : ArrayMembers) (i : ℕ) → storage ≡ storage_of kind → IsViewStorage storage → is_valid own i ≡ true → ViewWithin (layout_of kind) own i → DataWithin own i
+view-there kind storage own i s is v h = view-named kind own i (subst IsViewStorage s is) v h
 
 -- ---- a node of kinds that is in order
 
@@ -164,7 +164,7 @@ one-of [] P h = absurd h
 one-of (kid ∷ []) P h = refl
 one-of (kid ∷ other ∷ others) P h = absurd h
 
-one-kid : (kind : DataType) (kids : List KindTree) → KidsOk kind (trees kids) → IsListShape (shape_of kind) → length kids ≡ 1
+one-kid : (kind : DataType) (kids : List KindTree) → KidsOk kind (trees kids) → IsListStorage (storage_of kind) → length kids ≡ 1
 one-kid (kinds.List wide) kids ok h = one-of kids (λ kid. Unit {0}) ok
 one-kid (kinds.FixedList size) kids ok h = one-of kids (λ kid. Unit {0}) ok
 one-kid kinds.Map kids ok h = one-of kids IsPairOfColumns ok
@@ -173,11 +173,11 @@ one-kid (kinds.Decimal precision scale true) kids ok h = absurd h
 one-kid kind kids ok h = absurd h
 
 pub one-child : (t : Typed) → typed_of t ≡ Live (kind_of t) (trees (kids_of t)) (maybe_tree (dict_in (out-Typed t).dict))
-    → (shape : Shape) → shape ≡ shape_of (kind_of t) → IsListShape shape → ∥ NodesOk (typed_of t) ∥₁ → length (kids_of t) ≡ 1
-one-child t e shape s list ok =
-    ∥∥₁_elim ok (hlevel props) (λ nodes. one-kid (kind_of t) (kids_of t) (subst NodesOk e nodes).1 (subst IsListShape s list))
+    → (storage : Storage) → storage ≡ storage_of (kind_of t) → IsListStorage storage → ∥ NodesOk (typed_of t) ∥₁ → length (kids_of t) ≡ 1
+one-child t e storage s list ok =
+    ∥∥₁_elim ok (hlevel props) (λ nodes. one-kid (kind_of t) (kids_of t) (subst NodesOk e nodes).1 (subst IsListStorage s list))
 
-items-there : (kind : DataType) (own : ArrayMembers) (place total : ℕ) → ItemsWithin (layout_of kind) own place total → AreItemsThere (shape_of kind) (bytes own 1) place total
+items-there : (kind : DataType) (own : ArrayMembers) (place total : ℕ) → ItemsWithin (layout_of kind) own place total → AreItemsThere (storage_of kind) (bytes own 1) place total
 items-there (kinds.List wide) own place total h = h
 items-there (kinds.FixedList size) own place total h = h
 items-there kinds.Map own place total h = h
@@ -185,10 +185,10 @@ items-there (kinds.Decimal precision scale false) own place total h = tt
 items-there (kinds.Decimal precision scale true) own place total h = tt
 items-there kind own place total h = tt
 
-pub are-items-there : (kind : DataType) (shape : Shape) (own : ArrayMembers) (stored : List ℕ) (place total : ℕ) → shape ≡ shape_of kind → stored ≡ bytes own 1
-    → ItemsWithin (layout_of kind) own place total → AreItemsThere shape stored place total
-are-items-there kind shape own stored place total s b h =
-    subst (λ a. AreItemsThere a stored place total) (sym s) (subst (λ a. AreItemsThere (shape_of kind) a place total) (sym b) (items-there kind own place total h))
+pub are-items-there : (kind : DataType) (storage : Storage) (own : ArrayMembers) (stored : List ℕ) (place total : ℕ) → storage ≡ storage_of kind → stored ≡ bytes own 1
+    → ItemsWithin (layout_of kind) own place total → AreItemsThere storage stored place total
+are-items-there kind storage own stored place total s b h =
+    subst (λ a. AreItemsThere a stored place total) (sym s) (subst (λ a. AreItemsThere (storage_of kind) a place total) (sym b) (items-there kind own place total h))
 
 -- the items of the one child
 pub each-child : (kids : List KindTree) (children : List ArrayTree) (a n : ℕ) → 0 < length kids → 0 < length children
@@ -225,13 +225,13 @@ valid-node t e array j live v =
 
 -- without a dictionary, by how the type is stored
 pub value-item : (t : Typed) → typed_of t ≡ Live (kind_of t) (trees (kids_of t)) (maybe_tree (dict_in (out-Typed t).dict)) → (array : ArrayTree) (j : ℕ) → IsLive array
-    → is_valid (members_of array) j ≡ true → dict_in (out-Typed t).dict ≡ None → (shape : Shape) → shape ≡ shape_of (kind_of t)
-    → value_at (typed_of t) array j ≡ shaped_item shape (readers (trees (kids_of t))) (members_of array) (children_of array) j
-value-item t e array j live v none shape s =
+    → is_valid (members_of array) j ≡ true → dict_in (out-Typed t).dict ≡ None → (storage : Storage) → storage ≡ storage_of (kind_of t)
+    → value_at (typed_of t) array j ≡ stored_item storage (readers (trees (kids_of t))) (members_of array) (children_of array) j
+value-item t e array j live v none storage s =
     valid-node t e array j live v
     ∙ ap (λ d. item_or_entry (reader_of (maybe_tree d)) (kind_of t) (readers (trees (kids_of t))) (members_of array) (children_of array) (dictionary_of array) j) none
-    ∙ item-shaped (kind_of t) (readers (trees (kids_of t))) (members_of array) (children_of array) j
-    ∙ ap (λ a. shaped_item a (readers (trees (kids_of t))) (members_of array) (children_of array) j) (sym s)
+    ∙ item-stored (kind_of t) (readers (trees (kids_of t))) (members_of array) (children_of array) j
+    ∙ ap (λ a. stored_item a (readers (trees (kids_of t))) (members_of array) (children_of array) j) (sym s)
 
 -- ---- a dictionary stands behind whole numbers
 
@@ -253,14 +253,14 @@ entry-at : (kind : DataType) (dict : KindTree) (kids : List Reader) (own : Array
 entry-at (kinds.Int bits signed) dict kids own children dictionary j h = refl
 entry-at kind dict kids own children dictionary j h = absurd (true≢false (sym h))
 
-within-shaped : (kind : DataType) (own : ArrayMembers) (j : ℕ) (dictionary : ArrayTree) → is_int kind ≡ true → is_valid own j ≡ true → IndexWithin kind own j dictionary
-    → IsIndexThere (shape_of kind) own j (index_at kind own j) (tree_items dictionary)
-within-shaped (kinds.Int bits signed) own j dictionary h v w = ((w v).0, refl, (w v).1)
-within-shaped kind own j dictionary h v w = absurd (true≢false (sym h))
+within-stored : (kind : DataType) (own : ArrayMembers) (j : ℕ) (dictionary : ArrayTree) → is_int kind ≡ true → is_valid own j ≡ true → IndexWithin kind own j dictionary
+    → IsIndexThere (storage_of kind) own j (index_at kind own j) (tree_items dictionary)
+within-stored (kinds.Int bits signed) own j dictionary h v w = ((w v).0, refl, (w v).1)
+within-stored kind own j dictionary h v w = absurd (true≢false (sym h))
 
-pub index-there : (kind : DataType) (shape : Shape) (own : ArrayMembers) (j : ℕ) (dictionary : ArrayTree) → shape ≡ shape_of kind → is_int kind ≡ true → is_valid own j ≡ true → IndexWithin kind own j dictionary
-    → IsIndexThere shape own j (index_at kind own j) (tree_items dictionary)
-index-there kind shape own j dictionary s h v w = subst (λ a. IsIndexThere a own j (index_at kind own j) (tree_items dictionary)) (sym s) (within-shaped kind own j dictionary h v w)
+pub index-there : (kind : DataType) (storage : Storage) (own : ArrayMembers) (j : ℕ) (dictionary : ArrayTree) → storage ≡ storage_of kind → is_int kind ≡ true → is_valid own j ≡ true → IndexWithin kind own j dictionary
+    → IsIndexThere storage own j (index_at kind own j) (tree_items dictionary)
+index-there kind storage own j dictionary s h v w = subst (λ a. IsIndexThere a own j (index_at kind own j) (tree_items dictionary)) (sym s) (within-stored kind own j dictionary h v w)
 
 -- the value of an item with an index is the dictionary's at the index
 pub value-entry : (t : Typed) → typed_of t ≡ Live (kind_of t) (trees (kids_of t)) (maybe_tree (dict_in (out-Typed t).dict)) → (array : ArrayTree) (j : ℕ) → IsLive array

@@ -1,5 +1,5 @@
 pub mod Lent
-pub mod Shapes
+pub mod StoredItems
 pub mod Window
 pub mod Cols
 pub mod Shown

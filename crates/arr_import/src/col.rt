@@ -7,10 +7,10 @@ ghost use Rattle.layout_check.specs.Layout.{buffer, bytes, first};
 ghost use Rattle.layout_check.specs.Walk.{first_fault};
 ghost use Rattle.layout_check.specs.Values.{tree_items};
 ghost use Rattle.arr_import.specs.Lent.{lent_bytes};
-ghost use Rattle.arr_import.specs.Shapes.{shape_of as shape_is};
+ghost use Rattle.fmt_string.specs.Storage.{storage_of as storage_is};
 ghost use Rattle.std.proofs.Props.{props};
 
-use crate::shape::{Shape, shape_of};
+use fmt_string::{Storage, storage_of};
 use layout_check::{Typed, lawful_has_no_fault, lawful_root};
 use raw_array::RawArray;
 
@@ -24,7 +24,7 @@ pub struct Col<'a> {
     pub(crate) count: u64,
     /// The array's offset.
     pub(crate) offset: u64,
-    pub(crate) shape: Shape,
+    pub(crate) storage: Storage,
     pub(crate) validity: Option<&'a [u8]>,
     pub(crate) stored: &'a [u8],
     pub(crate) text: &'a [u8],
@@ -32,7 +32,7 @@ pub struct Col<'a> {
     ghost valid: { ∥ NodesOk (typed_of typed.now) ∥₁ },
     ghost within: { start + count ≤ tree_items array.now },
     ghost offset_is: { offset ≡ first (members_of array.now) },
-    ghost shape_ok: { shape ≡ shape_is (kind_of typed.now) } by { Prim.hlevel props },
+    ghost storage_ok: { storage ≡ storage_is (kind_of typed.now) } by { Prim.hlevel props },
     ghost validity_is: { lent_bytes validity ≡ buffer (members_of array.now) 0 } by { Prim.hlevel props },
     ghost stored_is: { stored.now ≡ bytes (members_of array.now) 1 },
     ghost text_is: { text.now ≡ bytes (members_of array.now) 2 },
@@ -101,7 +101,7 @@ impl<'a> Col<'a> {
             start,
             count,
             offset: array.offset() as u64,
-            shape: shape_of(&typed.kind),
+            storage: storage_of(&typed.kind),
             validity: validity_of(array),
             stored: buffer_bytes(array, 1),
             text: buffer_bytes(array, 2),

@@ -6,14 +6,14 @@ ghost use Rattle.layout_check.specs.TypedView.{dict_in, kids_of};
 ghost use Rattle.layout_check.specs.declared.typed.Typed.{out-Typed};
 ghost use Rattle.layout_check.specs.Layout.{is_valid as is_valid_at};
 ghost use Rattle.layout_check.specs.Values.{readers};
-ghost use Rattle.arr_import.specs.Shapes.{shaped_item};
+ghost use Rattle.arr_import.specs.StoredItems.{stored_item};
 ghost use Rattle.arr_import.specs.Window.{item_at};
 ghost use Rattle.arr_import.specs.Cols.{window_of};
 ghost use Rattle.arr_import.specs.Flats.{IsFlat};
 
 use crate::col::Col;
-use crate::shape::Shape;
 use crate::stored::{bits_at, bytes_at, text_at, truth_at, whole_at};
+use fmt_string::Storage;
 use layout_check::{kinds_of_typed, lawful_has_no_fault, lawful_root};
 
 /// An item of a plain kind.
@@ -35,21 +35,26 @@ impl<'a> Col<'a> {
     fn flat_item(&self, i: u64) -> Flat<'a>
         requires inside { i < self.now.count }
         requires valid { is_valid_at (members_of self.now.array.now) (self.now.start + i) ≡ true }
-        ensures { IsFlat result (shaped_item self.now.shape (readers (trees (kids_of self.now.typed.now))) (members_of self.now.array.now) (children_of self.now.array.now) (self.now.start + i)) }
+        ensures { IsFlat result (stored_item self.now.storage (readers (trees (kids_of self.now.typed.now))) (members_of self.now.array.now) (children_of self.now.array.now) (self.now.start + i)) }
     {
         self.item_is_there(i);
         let place = self.place(i);
-        match self.shape {
-            Shape::Nothing => Flat::Null,
-            Shape::Truth => Flat::Truth(truth_at(self.stored, place)),
-            Shape::Whole { width, signed } => {
-                Flat::Whole(whole_at(self.stored, place, width, signed))
+        match self.storage {
+            Storage::Nothing => Flat::Null,
+            Storage::Truths => Flat::Truth(truth_at(self.stored, place)),
+            Storage::Wholes { bits, signed } => {
+                Flat::Whole(whole_at(self.stored, place, bits / 8, signed))
             }
-            Shape::Bits { width } => Flat::Bits(bits_at(self.stored, place, width)),
-            Shape::Fixed { width } => Flat::Bytes(bytes_at(self.stored, place, width)),
-            Shape::Text { wide } => Flat::Bytes(text_at(wide, self.stored, self.text, place)),
-            Shape::View => Flat::Bytes(self.view(i)),
-            Shape::List { .. } | Shape::FixedList { .. } | Shape::Struct => Flat::Nested,
+            Storage::Floats { bits } => Flat::Bits(bits_at(self.stored, place, bits / 8)),
+            Storage::Sized { size } => Flat::Bytes(bytes_at(self.stored, place, size)),
+            Storage::Between { wide, .. } => Flat::Bytes(text_at(
+                wide,
+                self.stored,
+                self.text,
+                place,
+            )),
+            Storage::Views { .. } => Flat::Bytes(self.view(i)),
+            Storage::Lists { .. } | Storage::FixedLists { .. } | Storage::Children => Flat::Nested,
         }
     }
 

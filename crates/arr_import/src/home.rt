@@ -7,13 +7,13 @@ ghost use Rattle.layout_check.specs.TypedView.{kind_of, dict_in};
 ghost use Rattle.layout_check.specs.Layout.{is_valid as is_valid_at, natural};
 ghost use Rattle.arr_import.specs.Window.{IsDictionary, home_of, index_at, item_at};
 ghost use Rattle.arr_import.specs.Cols.{window_of};
-ghost use Rattle.arr_import.specs.Shapes.{IsIndexThere};
+ghost use Rattle.arr_import.specs.StoredItems.{IsIndexThere};
 ghost use Rattle.arr_import.specs.Shown.{Shows};
 
 use crate::col::Col;
-use crate::shape::Shape;
 use crate::stored::whole_at;
 use crate::value_ref::ValueRef;
+use fmt_string::Storage;
 use layout_check::{
     kinds_of_typed, lawful_has_no_fault, lawful_items_lie_within, lawful_parts, lawful_root,
 };
@@ -42,7 +42,7 @@ impl<'a> Col<'a> {
         requires inside { i < self.now.count }
         requires valid { is_valid_at (members_of self.now.array.now) (self.now.start + i) ≡ true }
         requires dictionary { IsDictionary (window_of dictionary.now) (dict_in (out-Typed self.now.typed.now).dict) (dictionary_of self.now.array.now) }
-        ensures there { IsIndexThere self.now.shape (members_of self.now.array.now) (self.now.start + i) (index_at (kind_of self.now.typed.now) (members_of self.now.array.now) (self.now.start + i)) dictionary.now.count }
+        ensures there { IsIndexThere self.now.storage (members_of self.now.array.now) (self.now.start + i) (index_at (kind_of self.now.typed.now) (members_of self.now.array.now) (self.now.start + i)) dictionary.now.count }
         ensures value { item_at (window_of dictionary.now) (index_at (kind_of self.now.typed.now) (members_of self.now.array.now) (self.now.start + i)) ≡ item_at (window_of self.now) i }
     {
         kinds_of_typed(self.typed);
@@ -62,9 +62,9 @@ impl<'a> Col<'a> {
     {
         self.index_is_there(i, dictionary);
         self.item_is_there(i);
-        match self.shape {
-            Shape::Whole { width, signed } => {
-                let index = whole_at(self.stored, self.place(i), width, signed);
+        match self.storage {
+            Storage::Wholes { bits, signed } => {
+                let index = whole_at(self.stored, self.place(i), bits / 8, signed);
                 number_of(index, dictionary.count)
             }
             _ => 0,

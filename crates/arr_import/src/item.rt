@@ -6,8 +6,8 @@ ghost use Rattle.tree_model.specs.Tree.{Released, children_of, child_at, trees};
 ghost use Rattle.layout_check.specs.TypedView.{kind_of, kids_of};
 ghost use Rattle.layout_check.specs.Layout.{first, is_valid as is_valid_at};
 ghost use Rattle.layout_check.specs.Values.{each, child_item, listed, readers, tree_items};
-ghost use Rattle.arr_import.specs.Shapes.{shaped_item, IsThere, IsListShape, AreItemsThere};
-ghost use Rattle.arr_import.specs.declared.shape.Shape.TheVariants as shapes;
+ghost use Rattle.arr_import.specs.StoredItems.{stored_item, IsThere, IsListStorage, AreItemsThere};
+ghost use Rattle.fmt_string.specs.declared.storage.Storage.TheVariants as storages;
 ghost use Rattle.fmt_string.specs.Value.{values};
 ghost use Rattle.fmt_string.specs.Value.Value.{Items};
 ghost use Rattle.arr_import.specs.Window.{items_of};
@@ -15,10 +15,10 @@ ghost use Rattle.arr_import.specs.Cols.{window_of};
 ghost use Rattle.arr_import.specs.Shown.{Shows};
 
 use crate::col::Col;
-use crate::shape::Shape;
 use crate::stored::{bits_at, bytes_at, start_at, text_at, truth_at, whole_at};
 use crate::value_ref::ValueRef;
 use bit_pack::bit_at;
+use fmt_string::Storage;
 use layout_check::{
     kinds_of_typed, lawful_has_no_fault, lawful_items_lie_within, lawful_parts, lawful_root,
 };
@@ -27,7 +27,7 @@ impl<'a> Col<'a> {
     /// What the buffers have of an item.
     pub(crate) fn item_is_there(&self, i: u64)
         requires { i < self.now.count }
-        ensures { IsThere self.now.shape self.now.stored.now self.now.text.now (first (members_of self.now.array.now) + (self.now.start + i)) }
+        ensures { IsThere self.now.storage self.now.stored.now self.now.text.now (first (members_of self.now.array.now) + (self.now.start + i)) }
     {
         kinds_of_typed(self.typed);
         lawful_has_no_fault(self.typed, self.array);
@@ -81,11 +81,11 @@ impl<'a> Col<'a> {
     /// What the one child has of an item.
     fn items_are_there(&self, i: u64)
         requires inside { i < self.now.count }
-        requires list { IsListShape self.now.shape }
+        requires list { IsListStorage self.now.storage }
         ensures one { length (kids_of self.now.typed.now) ≡ 1 }
         ensures live { length (children_of self.now.array.now) ≡ 1 }
         ensures few { tree_items (child_at self.now.array.now 0) ≤ 2 ^ 40 }
-        ensures items { AreItemsThere self.now.shape self.now.stored.now (first (members_of self.now.array.now) + (self.now.start + i)) (tree_items (child_at self.now.array.now 0)) }
+        ensures items { AreItemsThere self.now.storage self.now.stored.now (first (members_of self.now.array.now) + (self.now.start + i)) (tree_items (child_at self.now.array.now 0)) }
     {
         kinds_of_typed(self.typed);
         lawful_has_no_fault(self.typed, self.array);
@@ -97,7 +97,7 @@ impl<'a> Col<'a> {
     /// The items between two offsets.
     fn list(&self, wide: bool, i: u64) -> Col<'a>
         requires inside { i < self.now.count }
-        requires shape { self.now.shape ≡ shapes.List wide }
+        requires storage { self.now.storage ≡ storages.Lists wide }
         ensures { listed wide (readers (trees (kids_of self.now.typed.now))) (members_of self.now.array.now) (children_of self.now.array.now) (self.now.start + i) ≡ Items (values (items_of (window_of result))) }
     {
         self.item_is_there(i);
@@ -111,7 +111,7 @@ impl<'a> Col<'a> {
     /// So many items for each item.
     fn fixed_list(&self, size: u32, i: u64) -> Col<'a>
         requires inside { i < self.now.count }
-        requires shape { self.now.shape ≡ shapes.FixedList size }
+        requires storage { self.now.storage ≡ storages.FixedLists size }
         ensures { Items (values (each (child_item (readers (trees (kids_of self.now.typed.now))) (children_of self.now.array.now)) ((first (members_of self.now.array.now) + (self.now.start + i)) * size) size)) ≡ Items (values (items_of (window_of result))) }
     {
         self.items_are_there(i);
@@ -123,23 +123,28 @@ impl<'a> Col<'a> {
     pub(crate) fn item(&self, i: u64) -> ValueRef<'a>
         requires inside { i < self.now.count }
         requires valid { is_valid_at (members_of self.now.array.now) (self.now.start + i) ≡ true }
-        ensures { Shows result (shaped_item self.now.shape (readers (trees (kids_of self.now.typed.now))) (members_of self.now.array.now) (children_of self.now.array.now) (self.now.start + i)) }
+        ensures { Shows result (stored_item self.now.storage (readers (trees (kids_of self.now.typed.now))) (members_of self.now.array.now) (children_of self.now.array.now) (self.now.start + i)) }
     {
         self.item_is_there(i);
         let place = self.place(i);
-        match self.shape {
-            Shape::Nothing => ValueRef::Null,
-            Shape::Truth => ValueRef::Truth(truth_at(self.stored, place)),
-            Shape::Whole { width, signed } => {
-                ValueRef::Whole(whole_at(self.stored, place, width, signed))
+        match self.storage {
+            Storage::Nothing => ValueRef::Null,
+            Storage::Truths => ValueRef::Truth(truth_at(self.stored, place)),
+            Storage::Wholes { bits, signed } => {
+                ValueRef::Whole(whole_at(self.stored, place, bits / 8, signed))
             }
-            Shape::Bits { width } => ValueRef::Bits(bits_at(self.stored, place, width)),
-            Shape::Fixed { width } => ValueRef::Bytes(bytes_at(self.stored, place, width)),
-            Shape::Text { wide } => ValueRef::Bytes(text_at(wide, self.stored, self.text, place)),
-            Shape::View => ValueRef::Bytes(self.view(i)),
-            Shape::List { wide } => ValueRef::Items(self.list(wide, i)),
-            Shape::FixedList { size } => ValueRef::Items(self.fixed_list(size, i)),
-            Shape::Struct => ValueRef::Struct,
+            Storage::Floats { bits } => ValueRef::Bits(bits_at(self.stored, place, bits / 8)),
+            Storage::Sized { size } => ValueRef::Bytes(bytes_at(self.stored, place, size)),
+            Storage::Between { wide, .. } => ValueRef::Bytes(text_at(
+                wide,
+                self.stored,
+                self.text,
+                place,
+            )),
+            Storage::Views { .. } => ValueRef::Bytes(self.view(i)),
+            Storage::Lists { wide } => ValueRef::Items(self.list(wide, i)),
+            Storage::FixedLists { size } => ValueRef::Items(self.fixed_list(size, i)),
+            Storage::Children => ValueRef::Struct,
         }
     }
 }

@@ -22,7 +22,6 @@ mod home;
 mod imported;
 mod item;
 mod rows;
-mod shape;
 mod stored;
 #[cfg(test)]
 mod tests;

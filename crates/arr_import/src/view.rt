@@ -7,14 +7,11 @@ ghost use Rattle.tree_model.specs.Tree.{IsLive};
 ghost use Rattle.layout_check.specs.Layout.{is_valid as is_valid_at, view_width};
 ghost use Rattle.layout_check.specs.Views.{view_data};
 ghost use Rattle.layout_check.specs.Within.{DataWithin};
-ghost use Rattle.arr_import.specs.Shapes.{IsViewShape};
-ghost use Rattle.arr_import.specs.declared.shape.Shape.TheVariants as shapes;
+ghost use Rattle.arr_import.specs.StoredItems.{IsViewStorage};
 
 use crate::col::{Col, buffer_bytes};
 use bit_pack::offset_at;
-use layout_check::{
-    kinds_of_typed, lawful_has_no_fault, lawful_items_lie_within, lawful_root,
-};
+use layout_check::{kinds_of_typed, lawful_has_no_fault, lawful_items_lie_within, lawful_root};
 
 /// The longest item that stands in its view.
 const MOST_IN_VIEW: i64 = 12;
@@ -33,7 +30,7 @@ impl<'a> Col<'a> {
     /// Where the data of a valid view are.
     fn view_is_there(&self, i: u64)
         requires inside { i < self.now.count }
-        requires view { IsViewShape self.now.shape }
+        requires view { IsViewStorage self.now.storage }
         requires valid { is_valid_at (members_of self.now.array.now) (self.now.start + i) ≡ true }
         ensures live { IsLive self.now.array.now }
         ensures within { DataWithin (members_of self.now.array.now) (self.now.start + i) }
@@ -47,7 +44,7 @@ impl<'a> Col<'a> {
     /// The bytes of a valid view.
     pub(crate) fn view(&self, i: u64) -> &'a [u8]
         requires inside { i < self.now.count }
-        requires shape { self.now.shape ≡ shapes.View }
+        requires storage { IsViewStorage self.now.storage }
         requires valid { is_valid_at (members_of self.now.array.now) (self.now.start + i) ≡ true }
         ensures { result.now ≡ view_data (members_of self.now.array.now) (self.now.start + i) }
     {

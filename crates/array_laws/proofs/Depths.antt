@@ -1,15 +1,24 @@
 -- A lawful array is no deeper than its type.
-use Rattle.std.proofs.Common.{◌≡◌, ℕ, suc, ◌≤◌, [], ◌∷◌, ◌++◌, length, None, Some, arith}
+use Rattle.std.proofs.Common.{◌≡◌, ℕ, suc, ◌≤◌, [], ◌∷◌, ◌++◌, length, None, Some, ◌∙◌, Option, sym, List, arith}
 use Rattle.fmt_string.specs.declared.kind.DataType.{DataType}
 use Rattle.tree_model.specs.Tree.{Released, Live, Trees, no_trees, more_trees, MaybeTree, absent, present, tree_list, option_tree, Depth, depth_of_all, depth_of_maybe}
 use Rattle.raw_array.specs.Members.{ArrayMembers, ArrayTree}
 use Rattle.layout_check.specs.Kinds.{AllNodesOk, DictNodesOk, KindTree, NodesOk, dictionary_levels, levels, most_levels}
-use Rattle.layout_check.specs.Rules.{one_if}
+use Rattle.layout_check.specs.Rules.{count_wrong, one_if}
 use Rattle.layout_check.specs.Walk.{LayoutOk, Steps, dictionary_step, fault_from, first_some, node_fault, visit_fault, visits, walk_below, walk_children, walk_dictionary, walk_of, walks_of}
 use Rattle.layout_check.proofs.Lawful.{lawful-first_fault, left-none, right-none}
-use Rattle.array_laws.proofs.ChunkParts.{append-left, append-right, counted}
+use Rattle.layout_check.proofs.Faults.{first_some-append}
 use Rattle.array_laws.proofs.NodeParts.{node-ok}
 use Rattle.array_laws.proofs.LawfulNodes.{node}
+
+append-left : {X Y : Type 0} → (f : X → Option Y) (xs ys : List X) → first_some f (xs ++ ys) ≡ None → first_some f xs ≡ None
+append-left f xs ys e = left-none (first_some f xs) (first_some f ys) (sym (first_some-append f xs ys) ∙ e)
+
+append-right : {X Y : Type 0} → (f : X → Option Y) (xs ys : List X) → first_some f (xs ++ ys) ≡ None → first_some f ys ≡ None
+append-right f xs ys e = right-none (first_some f xs) (first_some f ys) (append-left f xs ys e) (sym (first_some-append f xs ys) ∙ e)
+
+counted : (found needed : ℕ) → count_wrong found needed ≡ None → found ≡ needed
+counted found needed e = grind arith
 
 mutual
   depth-at : (typed : KindTree) → NodesOk typed → (path : Steps) (t : ArrayTree) → fault_from typed path t ≡ None → Depth t ≤ levels typed

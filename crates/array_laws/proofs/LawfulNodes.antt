@@ -4,7 +4,6 @@ use Rattle.std.specs.Prelude.{nat_lt}
 use Rattle.fmt_string.specs.declared.kind.DataType.{DataType}
 use Rattle.tree_model.specs.Tree.{IsLive, Released, Live, Trees, MaybeTree, tree_list, option_tree}
 use Rattle.raw_array.specs.Members.{ArrayMembers, ArrayTree}
-use Rattle.layout_check.specs.Kinds.{KindTree}
 use Rattle.layout_check.specs.Layout.{end, first, items, natural}
 use Rattle.layout_check.specs.Rules.{Node, fault_if, is_negative, window_limit}
 use Rattle.layout_check.specs.Walk.{LayoutOk, first_fault, first_some, node_fault, visit_fault, walk_below, walk_of, walks_of}
@@ -61,7 +60,3 @@ module _ (kind : DataType) (kids : Trees DataType) (dict : MaybeTree DataType) w
 
     pub lawful-end : end m ≤ window_limit
     lawful-end = not-long (end m) lawful-node.window
-
-pub type-live : (type : KindTree) (t : ArrayTree) → IsLive type → LayoutOk type t → IsLive t
-type-live Released t live ok = absurd live
-type-live (Live kind kids dict) t live ok = lawful-live kind kids dict t ok

@@ -12,10 +12,10 @@ pub mod WindowNode
 pub mod WindowItems
 pub mod WindowTree
 pub mod ChunkParts
-pub mod Steady
 pub mod Depths
 pub mod SharedPieces
 pub mod JoinedPieces
+pub mod WorkerPieces
 pub mod JoinedWindows
 pub mod StructParts
 pub mod StructLaw

@@ -261,27 +261,23 @@ pub record IsPart (m w : ArrayMembers) (off len : ℕ) : Type 0 where
   pub items_are : items w ≡ len
   pub fits : off + len ≤ items m
 
--- a rule by place says the same of an item in both
-pub item-part : (rule : ItemRule) → ByPlace rule → (m w : ArrayMembers) (off len : ℕ) → IsPart m w off len → (i : ℕ) → rule m (off + i) ≡ None
-    → rule w i ≡ None
-item-part rule by m w off len p i e =
-    let q : first w + i ≡ first m + (off + i) = omega (arith, p.first_is) in
-    by.is_said w i ∙ (λ t. by.said (λ k. p.same.bytes k t) (p.same.count t) (q t) i)
-    ∙ by.steady (buffer m) (length m.buffers) (first m + (off + i)) (off + i) i (sym (by.is_said m (off + i)) ∙ e)
+module _ (m w : ArrayMembers) (off len : ℕ) (p : IsPart m w off len) where
+  -- a rule by place says the same of an item in both
+  item-part : (rule : ItemRule) → ByPlace rule → (i : ℕ) → rule m (off + i) ≡ None → rule w i ≡ None
+  item-part rule by i e =
+      let q : first w + i ≡ first m + (off + i) = omega (arith, p.first_is) in
+      by.is_said w i ∙ (λ t. by.said (λ k. p.same.bytes k t) (p.same.count t) (q t) i)
+      ∙ by.steady (buffer m) (length m.buffers) (first m + (off + i)) (off + i) i (sym (by.is_said m (off + i)) ∙ e)
 
-pub rule-part : (rule : ItemRule) → ByPlace rule → (m w : ArrayMembers) (off len : ℕ) → IsPart m w off len → first_below (rule m) (items m) ≡ None
-    → first_below (rule w) (items w) ≡ None
-rule-part rule by m w off len p e =
-    below-part (rule m) (rule w) (items m) off (items w) (omega (arith, p.items_are, p.fits)) (λ i lt. item-part rule by m w off len p i) e
+  pub rule-part : (rule : ItemRule) → ByPlace rule → first_below (rule m) (items m) ≡ None → first_below (rule w) (items w) ≡ None
+  rule-part rule by e = below-part (rule m) (rule w) (items m) off (items w) (omega (arith, p.items_are, p.fits)) (λ i lt. item-part rule by i) e
 
-first-part : (rule : Option ItemRule) → ByPlaceIf rule → (m w : ArrayMembers) (off len : ℕ) → IsPart m w off len → first_of rule m ≡ None
-    → first_of rule w ≡ None
-first-part None by m w off len p e = refl
-first-part (Some rule) by m w off len p e = rule-part rule by m w off len p e
+  first-part : (rule : Option ItemRule) → ByPlaceIf rule → first_of rule m ≡ None → first_of rule w ≡ None
+  first-part None by e = refl
+  first-part (Some rule) by e = rule-part rule by e
 
-pub each-part : (wrong : ArrayMembers → Option Numbers) → EachByPlace wrong → (m w : ArrayMembers) (off len : ℕ) → IsPart m w off len → wrong m ≡ None
-    → wrong w ≡ None
-each-part wrong by m w off len p e = by.is_first w ∙ first-part by.rule by.by_place m w off len p (sym (by.is_first m) ∙ e)
+  pub each-part : (wrong : ArrayMembers → Option Numbers) → EachByPlace wrong → wrong m ≡ None → wrong w ≡ None
+  each-part wrong by e = by.is_first w ∙ first-part by.rule by.by_place (sym (by.is_first m) ∙ e)
 
 rule-shown : (rule : ItemRule) → ByPlace rule → (m : ArrayMembers) (i : ℕ) → rule (shown_members m) i ≡ rule m i
 rule-shown rule by m i =

@@ -1,5 +1,5 @@
 -- A struct of lawful columns that are long enough, none of whose items is null, is a chunk.
-use Rattle.std.proofs.Common.{◌≡◌, ◌∙◌, ℕ, zero, suc, ◌+◌, ◌^◌, ◌≤◌, ℤ, pos, negsuc, not, ◌&&◌, List, [], ◌∷◌, ◌++◌, length, map, None, Some, refl, ap, sym, arith}
+use Rattle.std.proofs.Common.{◌≡◌, ◌∙◌, ℕ, zero, suc, ◌+◌, ◌^◌, ◌≤◌, ℤ, pos, negsuc, not, ◌&&◌, List, [], ◌∷◌, ◌++◌, length, map, Option, None, Some, refl, ap, sym, arith}
 use Rattle.std.specs.Prelude.{if◌then◌else◌, int_lt, nat_lt, ◌==◌}
 use Rattle.std.specs.Ordering.{int_eq}
 use Rattle.std.specs.List.{All}
@@ -17,12 +17,13 @@ use Rattle.layout_check.specs.Rules.{child_short, count_wrong, fault_if, live_le
 use Rattle.layout_check.specs.Values.{each, field_items, readers, row_items, rows_of, tree_items, value_at}
 use Rattle.layout_check.specs.Walk.{ChunkOk, LayoutOk, Steps, first_some, node_fault, root_fault, top_fault, visit_fault, visits, walk_children, walks_of}
 use Rattle.layout_check.specs.declared.rule.LayoutRule.TheVariants as rules
+use Rattle.layout_check.proofs.Faults.{first_some-append}
 use Rattle.layout_check.proofs.Lawful.{first_fault-lawful, lawful-first_fault}
-use Rattle.array_laws.specs.Struct.{table_type}
+use Rattle.layout_check.proofs.ReadWithin.{any-path, live-of}
+use Rattle.layout_check.specs.ColumnKinds.{table_type}
 use Rattle.array_laws.proofs.NodeParts.{both-none, no-fault, ok-node}
-use Rattle.array_laws.proofs.Steady.{first_some-append, steady}
 use Rattle.array_laws.proofs.WindowItems.{each-same}
-use Rattle.array_laws.proofs.LawfulNodes.{length-items, node, type-live}
+use Rattle.array_laws.proofs.LawfulNodes.{length-items, node}
 
 -- there is a lawful column for each type, and no type is released
 abbrev pub AreLawful : List KindTree → List ArrayTree → Type 0
@@ -47,7 +48,7 @@ long-enough z needed k e le =
 child-long : (type : KindTree) (c : ArrayTree) (needed k : ℕ) → IsLive type → LayoutOk type c → needed ≤ tree_items c
     → short_child needed k (live_length c) ≡ None
 child-long Released c needed k live ok le = absurd live
-child-long (Live kind kids dict) Released needed k live ok le = absurd (type-live (Live kind kids dict) Released live ok)
+child-long (Live kind kids dict) Released needed k live ok le = absurd (live-of (Live kind kids dict) Released live ok)
 child-long (Live kind kids dict) (Live m ts d) needed k live ok le = long-enough m.length needed k (length-items kind kids dict m ts d ok) le
 
 all-long : (types : List KindTree) (columns : List ArrayTree) (needed k : ℕ) → AreLawful types columns → All (λ column. needed ≤ tree_items column) columns
@@ -77,14 +78,17 @@ null-count n e = ap (λ (m : ℕ). fault_if (not (int_eq (pos 0) (negsuc 0)) && 
 
 -- ---- it is lawful
 
+none-append : {X Y : Type 0} → (f : X → Option Y) (xs ys : List X) → first_some f xs ≡ None → first_some f ys ≡ None → first_some f (xs ++ ys) ≡ None
+none-append f xs ys e g = first_some-append f xs ys ∙ both-none (first_some f xs) (first_some f ys) e g
+
 children-pass : (types : List KindTree) (columns : List ArrayTree) → AreLawful types columns → (k : ℕ) (path : Steps)
     → first_some visit_fault (walk_children (walks_of (trees types)) k path (tree_list (trees columns))) ≡ None
 children-pass [] [] are k path = refl
 children-pass [] (c ∷ cs) are k path = absurd are
 children-pass (type ∷ types) [] are k path = absurd are
 children-pass (type ∷ types) (c ∷ cs) are k path =
-    first_some-append visit_fault (visits type (path ++ k ∷ []) c) (walk_children (walks_of (trees types)) (suc k) path (tree_list (trees cs)))
-    (steady type [] (path ++ k ∷ []) c (lawful-first_fault type c are.1)) (children-pass types cs are.2 (suc k) path)
+    none-append visit_fault (visits type (path ++ k ∷ []) c) (walk_children (walks_of (trees types)) (suc k) path (tree_list (trees cs)))
+    (any-path type [] (path ++ k ∷ []) c (lawful-first_fault type c are.1)) (children-pass types cs are.2 (suc k) path)
 
 module _ (types : List KindTree) (columns : List ArrayTree) (rows : ℕ) (are : AreLawful types columns)
     (long : All (λ column. rows ≤ tree_items column) columns) (few : rows ≤ 2 ^ 40) where
@@ -128,7 +132,7 @@ module _ (types : List KindTree) (columns : List ArrayTree) (rows : ℕ) (are : 
     first_fault-lawful (table_type types) (struct_tree rows columns)
         (both-none (node_fault [] (Some (node kinds.Struct (trees types) absent (row_members rows) (trees columns) absent)))
         (first_some visit_fault (walk_children (walks_of (trees types)) 0 [] (tree_list (trees columns)) ++ [])) here
-        (first_some-append visit_fault (walk_children (walks_of (trees types)) 0 [] (tree_list (trees columns))) []
+        (none-append visit_fault (walk_children (walks_of (trees types)) 0 [] (tree_list (trees columns))) []
         (children-pass types columns are 0 []) refl)),
     top,
   )

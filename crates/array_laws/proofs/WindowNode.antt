@@ -24,13 +24,7 @@ pub record IsWindow (m w : ArrayMembers) (off len : ℕ) : Type 0 where
   pub not_less : is_negative w.length ≡ false
   pub nulls_are : w.null_count ≡ nulls_in_part m.null_count
 
-pub end-part : (m w : ArrayMembers) (off len : ℕ) → IsPart m w off len → end w ≤ end m
-end-part m w off len p = omega (arith, p.first_is, p.items_are, p.fits)
-
-end-at : (m w : ArrayMembers) (off len : ℕ) → IsPart m w off len → end w ≡ first m + (off + len)
-end-at m w off len p = omega (arith, p.first_is, p.items_are)
-
--- ---- what the part needs is no more
+-- ---- numbers
 
 mul-le : (a b c : ℕ) → a ≤ b → a * c ≤ b * c
 mul-le a b zero h = omega arith
@@ -56,53 +50,6 @@ or-false a b e f = ap (λ x. x || b) e ∙ f
 above-zero : (n : ℕ) → (n == 0) ≡ false → 0 < n
 above-zero zero e = absurd (cc)
 above-zero (suc n) e = omega arith
-
-module _ (m w : ArrayMembers) (off len : ℕ) (p : IsPart m w off len) where
-  -- a place below the part's end
-  natural-end : (wide : Bool) → offsets_fall wide m ≡ None → 0 < end w → natural (offset wide w (end w)) ≤ natural (offset wide m (end m))
-  natural-end wide falls above =
-      let r = rises wide m falls (omega (arith, above, end-part m w off len p)) in
-      let here : natural (offset wide w (end w)) ≡ natural (offset wide m (first m + (off + len))) =
-      ap natural (offset-same wide m w p.same (end w) ∙ ap (offset wide m) (end-at m w off len p)) in
-      let le = natural-rises wide m r (off + len) (items m) p.fits (omega arith) in
-      omega (arith, here, le)
-
-  data-le : (wide : Bool) → offsets_fall wide m ≡ None → offsets_need wide (end m) ≤ length (bytes m 1) → data_need wide w ≤ data_need wide m
-  data-le wide falls long =
-      chosen ((end w == 0) || nat_lt (length (bytes w 1)) (offsets_need wide (end w)))
-      ((end m == 0) || nat_lt (length (bytes m 1)) (offsets_need wide (end m)))
-      (natural (offset wide w (end w))) (natural (offset wide m (end m))) (λ e.
-      let above = above-zero (end w) (or-parts _ _ e).0 in (
-        or-false (end m == 0) (nat_lt (length (bytes m 1)) (offsets_need wide (end m))) (not_zero (end m) (omega (arith, above, end-part m w off len p)))
-            (le-ltb (length (bytes m 1)) (offsets_need wide (end m)) long),
-        natural-end wide falls above,
-      ))
-
-  need-le : (l : Layout) (k : ℕ) → offsets_fall_if (is_behind_offsets l) m ≡ None
-      → ((wide : Bool) → l ≡ ByOffsets wide → offsets_need wide (end m) ≤ length (bytes m 1)) → need l w k ≤ need l m k
-  need-le l zero falls long = let e = end-part m w off len p in omega (arith, e)
-  need-le (FixedWidth width) (suc k) falls long = mul-le (end w) (end m) width (end-part m w off len p)
-  need-le TruthBits (suc k) falls long = let e = end-part m w off len p in omega (arith, e)
-  need-le (ByOffsets wide) (suc zero) falls long = offsets-le wide (end w) (end m) (end-part m w off len p)
-  need-le (ByOffsets wide) (suc (suc k)) falls long = data-le wide falls (long wide refl)
-  need-le (ListOffsets wide) (suc k) falls long = offsets-le wide (end w) (end m) (end-part m w off len p)
-  need-le NoBuffers (suc k) falls long = omega arith
-  need-le (FixedItems size) (suc k) falls long = omega arith
-  need-le ByChildren (suc k) falls long = omega arith
-  need-le Views (suc zero) falls long = mul-le (end w) (end m) view_width (end-part m w off len p)
-  need-le Views (suc (suc k)) falls long = let e = named-same m w p.same k in omega (arith, e)
-
-  items-le : (l : Layout) → offsets_fall_if (is_behind_offsets l) m ≡ None → items_need l w ≤ items_need l m
-  items-le NoBuffers falls = omega arith
-  items-le (FixedWidth width) falls = omega arith
-  items-le TruthBits falls = omega arith
-  items-le (ByOffsets wide) falls = omega arith
-  items-le (ListOffsets wide) falls =
-      chosen (end w == 0) (end m == 0) (natural (offset wide w (end w))) (natural (offset wide m (end m))) (λ e.
-      let above = above-zero (end w) e in (not_zero (end m) (omega (arith, above, end-part m w off len p)), natural-end wide falls above))
-  items-le (FixedItems size) falls = mul-le (end w) (end m) size (end-part m w off len p)
-  items-le ByChildren falls = end-part m w off len p
-  items-le Views falls = omega arith
 
 -- ---- the rules of buffers
 
@@ -135,20 +82,6 @@ fall-by true z rest h = refl
 fall-by false (pos n) rest h = (h refl).1
 fall-by false (negsuc n) rest h = let e : true ≡ false = (h refl).0 in absurd (cc)
 
-fall-part : (wide : Bool) (m w : ArrayMembers) (off len : ℕ) → IsPart m w off len → offsets_fall wide m ≡ None → offsets_fall wide w ≡ None
-fall-part wide m w off len p falls =
-    fall-by (end w == 0) (offset wide w (first w)) (first_below (offset_falls wide w) (items w)) (λ e.
-    let above : 0 < end m = omega (arith, above-zero (end w) e, end-part m w off len p) in
-    let r = rises wide m falls above in
-    let start : offset wide w (first w) ≡ offset wide m (first m + off) = offset-same wide m w p.same (first w) ∙ ap (offset wide m) p.first_is in (
-      ap is_negative start ∙ never-negative (offset wide m (first m + off)) (r.from off (omega (arith, p.fits))),
-      rule-part (offset_falls wide) (falls-by_place wide) m w off len p (falls-step wide m falls above),
-    ))
-
-falls-part : (o : Option Bool) (m w : ArrayMembers) (off len : ℕ) → IsPart m w off len → offsets_fall_if o m ≡ None → offsets_fall_if o w ≡ None
-falls-part None m w off len p e = refl
-falls-part (Some wide) m w off len p e = fall-part wide m w off len p e
-
 -- ---- children
 
 short-le : (a b k : ℕ) (found : Option ℤ) → a ≤ b → short_child b k found ≡ None → short_child a k found ≡ None
@@ -165,11 +98,6 @@ children-le a b k (c ∷ cs) h e =
 
 -- ---- nulls
 
-valid-part : (m w : ArrayMembers) (off len : ℕ) → IsPart m w off len → (i : ℕ) → is_valid w i ≡ is_valid m (off + i)
-valid-part m w off len p i =
-    let q : first w + i ≡ first m + (off + i) = omega (arith, p.first_is) in
-    λ t. is_valid_by (p.same.bytes 0 t) (q t)
-
 abbrev none_or_one : Bool → ℕ
 none_or_one b = if b then 0 else 1
 
@@ -181,24 +109,6 @@ total-more m a (suc k) =
     let g = total-more m a k in
     omega (arith, f, g)
 
-pub total-part : (m w : ArrayMembers) (off len : ℕ) → IsPart m w off len → (n : ℕ) → null_total w n ≤ null_total m (off + n)
-total-part m w off len p zero = omega arith
-total-part m w off len p (suc n) =
-    let e : off + suc n ≡ suc (off + n) = omega arith in
-    let f = ap (null_total m) e in
-    let g = total-part m w off len p n in
-    let v : none_or_one (is_valid w n) ≡ none_or_one (is_valid m (off + n)) = ap none_or_one (valid-part m w off len p n) in
-    omega (arith, f, g, v)
-
-pub total-within : (m w : ArrayMembers) (off len : ℕ) → IsPart m w off len → null_total w (items w) ≤ null_total m (items m)
-total-within m w off len p =
-    let a = total-part m w off len p len in
-    let b = total-more m (off + len) (items m - (off + len)) in
-    let e : off + len + (items m - (off + len)) ≡ items m = omega (arith, p.fits) in
-    let f = ap (null_total m) e in
-    let g = ap (null_total w) p.items_are in
-    omega (arith, a, b, f, g)
-
 abbrev wrong : ℤ → ℕ → Option Numbers
 wrong count total = fault_if (not (int_eq count (negsuc 0)) && not (int_eq count (pos total))) 0 count (pos total)
 
@@ -208,18 +118,110 @@ count-part (pos zero) total (suc fewer) le e = grind arith
 count-part (pos (suc n)) total fewer le e = refl
 count-part (negsuc n) total fewer le e = refl
 
-nulls-part : (m w : ArrayMembers) (off len : ℕ) → IsWindow m w off len → null_count_wrong m ≡ None → null_count_wrong w ≡ None
-nulls-part m w off len p e =
-    ap (λ count. wrong count (null_total w (items w))) p.nulls_are
-    ∙ count-part m.null_count (null_total m (items m)) (null_total w (items w)) (total-within m w off len p.part) e
+-- ---- a part needs no more, its offsets rise, and it has no more nulls
 
-nulls-part_if : (counted : Bool) (m w : ArrayMembers) (off len : ℕ) → IsWindow m w off len
-    → (if counted then null_count_wrong m else None) ≡ None → (if counted then null_count_wrong w else None) ≡ None
-nulls-part_if true m w off len p e = nulls-part m w off len p e
-nulls-part_if false m w off len p e = refl
+module _ (m w : ArrayMembers) (off len : ℕ) (p : IsPart m w off len) where
+  pub end-part : end w ≤ end m
+  end-part = omega (arith, p.first_is, p.items_are, p.fits)
 
-nulls-part_in : (l : Layout) (m w : ArrayMembers) (off len : ℕ) → IsWindow m w off len → null_count_wrong_in l m ≡ None → null_count_wrong_in l w ≡ None
-nulls-part_in l m w off len p e = nulls-in l w ∙ nulls-part_if (counts_nulls l) m w off len p (sym (nulls-in l m) ∙ e)
+  end-at : end w ≡ first m + (off + len)
+  end-at = omega (arith, p.first_is, p.items_are)
+
+  -- a place below the part's end
+  natural-end : (wide : Bool) → offsets_fall wide m ≡ None → 0 < end w → natural (offset wide w (end w)) ≤ natural (offset wide m (end m))
+  natural-end wide falls above =
+      let r = rises wide m falls (omega (arith, above, end-part)) in
+      let here : natural (offset wide w (end w)) ≡ natural (offset wide m (first m + (off + len))) =
+      ap natural (offset-same wide m w p.same (end w) ∙ ap (offset wide m) (end-at)) in
+      let le = natural-rises wide m r (off + len) (items m) p.fits (omega arith) in
+      omega (arith, here, le)
+
+  data-le : (wide : Bool) → offsets_fall wide m ≡ None → offsets_need wide (end m) ≤ length (bytes m 1) → data_need wide w ≤ data_need wide m
+  data-le wide falls long =
+      chosen ((end w == 0) || nat_lt (length (bytes w 1)) (offsets_need wide (end w)))
+      ((end m == 0) || nat_lt (length (bytes m 1)) (offsets_need wide (end m)))
+      (natural (offset wide w (end w))) (natural (offset wide m (end m))) (λ e.
+      let above = above-zero (end w) (or-parts _ _ e).0 in (
+        or-false (end m == 0) (nat_lt (length (bytes m 1)) (offsets_need wide (end m))) (not_zero (end m) (omega (arith, above, end-part)))
+            (le-ltb (length (bytes m 1)) (offsets_need wide (end m)) long),
+        natural-end wide falls above,
+      ))
+
+  need-le : (l : Layout) (k : ℕ) → offsets_fall_if (is_behind_offsets l) m ≡ None
+      → ((wide : Bool) → l ≡ ByOffsets wide → offsets_need wide (end m) ≤ length (bytes m 1)) → need l w k ≤ need l m k
+  need-le l zero falls long = let e = end-part in omega (arith, e)
+  need-le (FixedWidth width) (suc k) falls long = mul-le (end w) (end m) width (end-part)
+  need-le TruthBits (suc k) falls long = let e = end-part in omega (arith, e)
+  need-le (ByOffsets wide) (suc zero) falls long = offsets-le wide (end w) (end m) (end-part)
+  need-le (ByOffsets wide) (suc (suc k)) falls long = data-le wide falls (long wide refl)
+  need-le (ListOffsets wide) (suc k) falls long = offsets-le wide (end w) (end m) (end-part)
+  need-le NoBuffers (suc k) falls long = omega arith
+  need-le (FixedItems size) (suc k) falls long = omega arith
+  need-le ByChildren (suc k) falls long = omega arith
+  need-le Views (suc zero) falls long = mul-le (end w) (end m) view_width (end-part)
+  need-le Views (suc (suc k)) falls long = let e = named-same m w p.same k in omega (arith, e)
+
+  items-le : (l : Layout) → offsets_fall_if (is_behind_offsets l) m ≡ None → items_need l w ≤ items_need l m
+  items-le NoBuffers falls = omega arith
+  items-le (FixedWidth width) falls = omega arith
+  items-le TruthBits falls = omega arith
+  items-le (ByOffsets wide) falls = omega arith
+  items-le (ListOffsets wide) falls =
+      chosen (end w == 0) (end m == 0) (natural (offset wide w (end w))) (natural (offset wide m (end m))) (λ e.
+      let above = above-zero (end w) e in (not_zero (end m) (omega (arith, above, end-part)), natural-end wide falls above))
+  items-le (FixedItems size) falls = mul-le (end w) (end m) size (end-part)
+  items-le ByChildren falls = end-part
+  items-le Views falls = omega arith
+
+  fall-part : (wide : Bool) → offsets_fall wide m ≡ None → offsets_fall wide w ≡ None
+  fall-part wide falls =
+      fall-by (end w == 0) (offset wide w (first w)) (first_below (offset_falls wide w) (items w)) (λ e.
+      let above : 0 < end m = omega (arith, above-zero (end w) e, end-part) in
+      let r = rises wide m falls above in
+      let start : offset wide w (first w) ≡ offset wide m (first m + off) = offset-same wide m w p.same (first w) ∙ ap (offset wide m) p.first_is in (
+        ap is_negative start ∙ never-negative (offset wide m (first m + off)) (r.from off (omega (arith, p.fits))),
+        rule-part m w off len p (offset_falls wide) (falls-by_place wide) (falls-step wide m falls above),
+      ))
+
+  falls-part : (o : Option Bool) → offsets_fall_if o m ≡ None → offsets_fall_if o w ≡ None
+  falls-part None e = refl
+  falls-part (Some wide) e = fall-part wide e
+
+  valid-part : (i : ℕ) → is_valid w i ≡ is_valid m (off + i)
+  valid-part i =
+      let q : first w + i ≡ first m + (off + i) = omega (arith, p.first_is) in
+      λ t. is_valid_by (p.same.bytes 0 t) (q t)
+
+  total-part : (n : ℕ) → null_total w n ≤ null_total m (off + n)
+  total-part zero = omega arith
+  total-part (suc n) =
+      let e : off + suc n ≡ suc (off + n) = omega arith in
+      let f = ap (null_total m) e in
+      let g = total-part n in
+      let v : none_or_one (is_valid w n) ≡ none_or_one (is_valid m (off + n)) = ap none_or_one (valid-part n) in
+      omega (arith, f, g, v)
+
+  pub total-within : null_total w (items w) ≤ null_total m (items m)
+  total-within =
+      let a = total-part len in
+      let b = total-more m (off + len) (items m - (off + len)) in
+      let e : off + len + (items m - (off + len)) ≡ items m = omega (arith, p.fits) in
+      let f = ap (null_total m) e in
+      let g = ap (null_total w) p.items_are in
+      omega (arith, a, b, f, g)
+
+module _ (m w : ArrayMembers) (off len : ℕ) (p : IsWindow m w off len) where
+  nulls-part : null_count_wrong m ≡ None → null_count_wrong w ≡ None
+  nulls-part e =
+      ap (λ count. wrong count (null_total w (items w))) p.nulls_are
+      ∙ count-part m.null_count (null_total m (items m)) (null_total w (items w)) (total-within m w off len p.part) e
+
+  nulls-part_if : (counted : Bool) → (if counted then null_count_wrong m else None) ≡ None → (if counted then null_count_wrong w else None) ≡ None
+  nulls-part_if true e = nulls-part e
+  nulls-part_if false e = refl
+
+  nulls-part_in : (l : Layout) → null_count_wrong_in l m ≡ None → null_count_wrong_in l w ≡ None
+  nulls-part_in l e = nulls-in l w ∙ nulls-part_if (counts_nulls l) (sym (nulls-in l m) ∙ e)
 
 -- ---- the node
 
@@ -258,14 +260,14 @@ module _ (n : Node) (w : ArrayMembers) (off len : ℕ) (p : IsWindow n.own w off
         dictionary = ok.dictionary;
         there = buffers-part (buffer_absent l n.own) (buffer_absent l w) (λ k. absent-part l n.own w k (same.bytes k) (need k)) ok.there;
         long = buffers-part (buffer_short l n.own) (buffer_short l w) (λ k. short-part l n.own w k (same.bytes k) (need k)) ok.long;
-        rise = falls-part (is_behind_offsets l) n.own w off len p.part ok.rise;
+        rise = falls-part n.own w off len p.part (is_behind_offsets l) ok.rise;
         child_long = children-le (items_need l w) (items_need l n.own) 0 n.children (items-le n.own w off len p.part l ok.rise) ok.child_long;
-        nulls = nulls-part_in l n.own w off len p ok.nulls;
-        view_places = each-part (views_misplaced l) (places-by_place l) n.own w off len p.part ok.view_places;
-        view_prefixes = each-part (prefixes_wrong l) (prefixes-by_place l) n.own w off len p.part ok.view_prefixes;
-        text = each-part (texts_wrong n.kind) (texts-by_place n.kind) n.own w off len p.part ok.text;
+        nulls = nulls-part_in n.own w off len p l ok.nulls;
+        view_places = each-part n.own w off len p.part (views_misplaced l) (places-by_place l) ok.view_places;
+        view_prefixes = each-part n.own w off len p.part (prefixes_wrong l) (prefixes-by_place l) ok.view_prefixes;
+        text = each-part n.own w off len p.part (texts_wrong n.kind) (texts-by_place n.kind) ok.text;
         index =
-            each-part (λ own. indices_wrong n.kind own (length_if n.dictionary))
-            (indices-by_place n.kind (length_if n.dictionary)) n.own w off len p.part ok.index;
+            each-part n.own w off len p.part (λ own. indices_wrong n.kind own (length_if n.dictionary))
+            (indices-by_place n.kind (length_if n.dictionary)) ok.index;
         window = not-long (end w) (end n.own) (end-part n.own w off len p.part) ok.window;
       }

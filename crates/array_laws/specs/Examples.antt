@@ -11,7 +11,7 @@ use Rattle.raw_array.specs.declared.array.ReleaseKind.TheVariants.{Assembled, Ex
 use Rattle.layout_check.specs.Kinds.{KindTree}
 use Rattle.layout_check.specs.Values.{rows_of}
 use Rattle.layout_check.specs.Walk.{first_chunk_fault}
-use Rattle.array_laws.specs.Struct.{table_type}
+use Rattle.layout_check.specs.ColumnKinds.{table_type}
 
 abbrev pub bytes : List ℕ → Option Buffer
 bytes bs = Some (record { bytes = bs; amount = 7 })
@@ -57,9 +57,11 @@ texts =
 abbrev pub chunk : ArrayTree
 chunk = struct 3 (pos 0) 1 None (shorts ∷ octets ∷ texts ∷ [])
 
+abbrev pub text_views : KindTree
+text_views = Live kinds.Utf8View no_trees absent
+
 abbrev pub types : List KindTree
-types =
-    Live (kinds.Int 16 true) no_trees absent ∷ Live (kinds.Int 8 false) no_trees absent ∷ Live kinds.Utf8View no_trees absent ∷ []
+types = Live (kinds.Int 16 true) no_trees absent ∷ Live (kinds.Int 8 false) no_trees absent ∷ text_views ∷ []
 
 abbrev pub n : ℕ → Value
 n k = Whole (pos k)

@@ -1,4 +1,3 @@
 pub mod Examples
 pub mod Pieces
 pub mod Shown
-pub mod Struct

@@ -8,9 +8,9 @@ ghost use Rattle.layout_check.specs.Layout.{end};
 ghost use Rattle.layout_check.specs.Values.{rows_of, tree_items, values_of};
 ghost use Rattle.layout_check.specs.Walk.{ChunkOk, LayoutOk, first_chunk_fault, first_fault};
 ghost use Rattle.raw_array.specs.Windows.{FitsWindow, Window};
-ghost use Rattle.array_laws.specs.Struct.{table_type};
+ghost use Rattle.layout_check.specs.ColumnKinds.{table_type};
 ghost use Rattle.array_laws.specs.Shown.{SameShown};
-ghost use Rattle.array_laws.specs.Pieces.{border, joined_pieces};
+ghost use Rattle.array_laws.specs.Pieces.{border, joined_pieces, piece, rows_of_pieces};
 
 /// A law: faults, values and rows are those of what a tree shows.
 pub fn trees_that_show_the_same()
@@ -89,10 +89,17 @@ pub fn pieces_of_shares()
         → rows_of typed (Window (ShareOf (LoweredBy k t)) (pos off) (pos len)) ≡ take len (drop off (rows_of typed t)) }
 {}
 
-/// A law: the pieces of workers lie within the items, and joined they are the whole.
+/// A law: the borders of workers' pieces lie within the items, and the pieces of a list, joined, are the list.
 pub fn pieces_are_the_whole()
     ensures fit { (items workers w : ℕ) → w < workers
         → border items workers w + (border items workers (w + 1) - border items workers w) ≤ items }
     ensures rows { (rows : List Row) (workers : ℕ) → 0 < workers
         → joined_pieces (border (length rows) workers) rows workers ≡ rows }
+{}
+
+/// A law: each worker's piece of a chunk is a chunk, and the rows of the pieces, joined, are those of the chunk.
+pub fn workers_read_the_whole()
+    ensures chunk { (typed : KindTree) (t : ArrayTree) (workers w : ℕ) → w < workers → ChunkOk typed t → ChunkOk typed (piece t workers w) }
+    ensures rows { (typed : KindTree) (t : ArrayTree) (workers : ℕ) → 0 < workers → LayoutOk typed t
+        → rows_of_pieces typed t workers workers ≡ rows_of typed t }
 {}

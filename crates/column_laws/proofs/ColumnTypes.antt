@@ -5,9 +5,8 @@ use Rattle.fmt_string.specs.ColumnView.{members}
 use Rattle.fmt_string.specs.declared.kind.DataType.{DataType}
 use Rattle.fmt_string.specs.declared.kind.DataType.TheVariants as kinds
 use Rattle.tree_model.specs.Tree.{IsLive, Live, Released, absent, Trees, trees, more_trees}
-use Rattle.layout_check.specs.Kinds.{KindTree}
-use Rattle.array_laws.specs.Struct.{table_type}
-use Rattle.column_laws.specs.ColumnKinds.{type_of_column, type_of_kind, types_of_columns, types_of_members}
+use Rattle.layout_check.specs.Kinds.{AllNodesOk, KindTree, NodesOk}
+use Rattle.layout_check.specs.ColumnKinds.{table_type, type_of_column, type_of_kind, types_of_columns, types_of_members}
 use Rattle.column_laws.proofs.PickedColumns.{head-within, tail-within}
 use Rattle.fmt_string.specs.Parts.{AreWithin, member_columns, picked}
 use Rattle.column_laws.specs.Picking.{AreLive}
@@ -21,6 +20,18 @@ pub types-live : (columns : List Column) → AreLive (types_of_columns columns)
 types-live [] p lt = absurd (omega (arith, lt))
 types-live (c ∷ cs) zero lt = kind-live c.kind
 types-live (c ∷ cs) (suc p) lt = types-live cs p (omega (arith, lt))
+
+one-live : (type : KindTree) → NodesOk type → IsLive type
+one-live Released ok = absurd ok
+one-live (Live kind kids dict) ok = tt
+
+nodes-live : (types : List KindTree) → AllNodesOk (trees types) → AreLive types
+nodes-live [] ok p lt = absurd (omega (arith, lt))
+nodes-live (type ∷ types) ok zero lt = one-live type ok.0
+nodes-live (type ∷ types) ok (suc p) lt = nodes-live types ok.1 p (omega (arith, lt))
+
+pub checked-live : (types : List KindTree) → NodesOk (table_type types) → AreLive types
+checked-live types ok = nodes-live types ok.3
 
 pub type-at : (columns : List Column) (none : Column) (p : ℕ) → p < length columns
     → type_of_column (get_or columns p none) ≡ get_or (types_of_columns columns) p Released

@@ -10,7 +10,7 @@ use Rattle.layout_check.specs.Kinds.{KindTree}
 use Rattle.layout_check.specs.Layout.{first, items}
 use Rattle.layout_check.specs.Values.{each, field_items, readers, row_items, rows_of, tree_items, value_at}
 use Rattle.layout_check.specs.Walk.{ChunkOk, LayoutOk}
-use Rattle.array_laws.specs.Struct.{table_type}
+use Rattle.layout_check.specs.ColumnKinds.{table_type}
 use Rattle.raw_array.specs.Windows.{Window}
 use Rattle.arr_move.specs.TreeActs.{struct_members}
 use Rattle.array_laws.proofs.ChunkParts.{StructFacts, struct-facts}

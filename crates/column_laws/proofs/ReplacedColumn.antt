@@ -7,7 +7,7 @@ use Rattle.raw_array.specs.Members.{ArrayTree}
 use Rattle.layout_check.specs.Kinds.{KindTree}
 use Rattle.layout_check.specs.Values.{each, field_items, row_items, rows_of, tree_items, value_at, values_of}
 use Rattle.layout_check.specs.Walk.{ChunkOk, LayoutOk}
-use Rattle.array_laws.specs.Struct.{table_type}
+use Rattle.layout_check.specs.ColumnKinds.{table_type}
 use Rattle.column_laws.proofs.PackedColumns.{like-chunk, like-rows}
 use Rattle.column_laws.proofs.PickedColumns.{map-each}
 use Rattle.column_laws.proofs.StructRows.{CutFacts, all-append, all-drop, all-take, cut-facts, lawful-append, lawful-drop, lawful-take, row-append, row-drop, row-take}

@@ -11,7 +11,7 @@ use Rattle.layout_check.specs.Kinds.{KindTree}
 use Rattle.layout_check.specs.Layout.{first, items, is_valid}
 use Rattle.layout_check.specs.Values.{field_items, readers, row_items, tree_items, value_at}
 use Rattle.layout_check.specs.Walk.{LayoutOk}
-use Rattle.array_laws.specs.Struct.{table_type}
+use Rattle.layout_check.specs.ColumnKinds.{table_type}
 use Rattle.raw_array.specs.Windows.{Window}
 use Rattle.array_laws.proofs.ChunkParts.{struct-facts}
 use Rattle.column_laws.proofs.PickedColumns.{AreCut, facts-cut}

@@ -9,14 +9,14 @@ use Rattle.tree_model.specs.Tree.{Released}
 use Rattle.raw_array.specs.Members.{ArrayTree}
 use Rattle.layout_check.specs.Values.{rows_of}
 use Rattle.layout_check.specs.Walk.{ChunkOk}
-use Rattle.array_laws.specs.Struct.{table_type}
-use Rattle.column_laws.specs.ColumnKinds.{type_of_column, type_of_columns, type_of_kind, types_of_columns}
+use Rattle.layout_check.specs.Kinds.{KindTree}
+use Rattle.layout_check.specs.ColumnKinds.{table_type, type_of_column, type_of_columns, type_of_kind, types_of_columns}
 use Rattle.arr_move.specs.TreeActs.{Columns, FitParentWindow, InRange}
 use Rattle.column_laws.proofs.ColumnForm.{chunk-of, chunk-packed, fit-of, range-of, rows-packed, rows-picked}
 use Rattle.column_laws.proofs.ColumnTypes.{struct-type, type-at, type-fields, types-live, types-picked}
 use Rattle.column_laws.proofs.PackedColumns.{unpack-chunk, unpack-rows}
 use Rattle.fmt_string.specs.Parts.{AreWithin, IsFields, member_columns, packed, packed_columns, picked, unpacked, unpacked_columns}
-use Rattle.column_laws.specs.Picking.{Packed, Unpacked, packed_types, unpacked_types}
+use Rattle.column_laws.specs.Picking.{AreLive, Packed, Unpacked, packed_types, unpacked_types}
 
 pub within-types : (columns : List Column) (picks : List ℕ) → AreWithin (length columns) picks → AreWithin (length (types_of_columns columns)) picks
 within-types columns picks within = λ k lt. let e = within k lt in let f = length-map columns type_of_column in omega (arith, e, f)
@@ -48,42 +48,6 @@ unpacked-types columns place fields =
     ∙ ap (λ ts. ts ++ map type_of_column (drop (place + 1) columns)) (map-append type_of_column (take place columns) (member_columns fields))
     ∙ (λ t. map-take type_of_column place columns t ++ types_of_columns (member_columns fields) ++ map-drop type_of_column (place + 1) columns t)
 
-pub select-range : (columns : List Column) (t : ArrayTree) (picks : List ℕ) → ChunkOk (type_of_columns columns) t → AreWithin (length columns) picks
-    → InRange t picks
-select-range columns t picks ok within = range-of (types_of_columns columns) t picks ok.0 (within-types columns picks within)
-
-pub select-fit : (columns : List Column) (t : ArrayTree) (picks : List ℕ) → ChunkOk (type_of_columns columns) t → AreWithin (length columns) picks
-    → FitParentWindow t picks
-select-fit columns t picks ok within = fit-of (types_of_columns columns) t picks (types-live columns) ok.0 (within-types columns picks within)
-
-pub select-chunk : (columns : List Column) (none : Column) (t : ArrayTree) (picks : List ℕ) → ChunkOk (type_of_columns columns) t
-    → AreWithin (length columns) picks → ChunkOk (type_of_columns (picked none picks columns)) (Columns t picks)
-select-chunk columns none t picks ok within =
-    subst (λ types. ChunkOk (table_type types) (Columns t picks)) (sym (types-picked columns none picks within))
-    (chunk-of (types_of_columns columns) t picks (types-live columns) ok.0 (within-types columns picks within))
-
-pub select-rows : (columns : List Column) (none : Column) (t : ArrayTree) (picks : List ℕ) → ChunkOk (type_of_columns columns) t
-    → AreWithin (length columns) picks
-    → rows_of (type_of_columns (picked none picks columns)) (Columns t picks) ≡ map (picked Null picks) (rows_of (type_of_columns columns) t)
-select-rows columns none t picks ok within =
-    ap (λ types. rows_of (table_type types) (Columns t picks)) (types-picked columns none picks within)
-    ∙ rows-picked (types_of_columns columns) t picks (types-live columns) ok.0 (within-types columns picks within)
-
-pub pack-chunk : (columns : List Column) (none : Column) (name : List ℕ) (t : ArrayTree) (rest picks : List ℕ) → ChunkOk (type_of_columns columns) t
-    → AreWithin (length columns) rest → AreWithin (length columns) picks
-    → ChunkOk (type_of_columns (packed_columns none name rest picks columns)) (Packed t rest picks)
-pack-chunk columns none name t rest picks ok a b =
-    subst (λ types. ChunkOk (table_type types) (Packed t rest picks)) (sym (packed-types columns none name rest picks a b))
-    (chunk-packed (types_of_columns columns) t rest picks (types-live columns) ok.0 (within-types columns rest a) (within-types columns picks b))
-
-pub pack-rows : (columns : List Column) (none : Column) (name : List ℕ) (t : ArrayTree) (rest picks : List ℕ) → ChunkOk (type_of_columns columns) t
-    → AreWithin (length columns) rest → AreWithin (length columns) picks
-    → rows_of (type_of_columns (packed_columns none name rest picks columns)) (Packed t rest picks)
-    ≡ map (packed rest picks) (rows_of (type_of_columns columns) t)
-pack-rows columns none name t rest picks ok a b =
-    ap (λ types. rows_of (table_type types) (Packed t rest picks)) (packed-types columns none name rest picks a b)
-    ∙ rows-packed (types_of_columns columns) t rest picks (types-live columns) ok.0 (within-types columns rest a) (within-types columns picks b)
-
 struct-at : (columns : List Column) (none : Column) (place : ℕ) (fields : Members) → place < length columns
     → (get_or columns place none).kind ≡ StructOf fields
     → get_or (types_of_columns columns) place Released ≡ table_type (types_of_columns (member_columns fields))
@@ -92,19 +56,60 @@ struct-at columns none place fields lt is = sym (type-at columns none place lt) 
 few : (columns : List Column) (place : ℕ) → place < length columns → place < length (types_of_columns columns)
 few columns place lt = let f = length-map columns type_of_column in omega (arith, lt, f)
 
-pub unpack-table : (columns : List Column) (none : Column) (t : ArrayTree) (place : ℕ) (fields : Members) → ChunkOk (type_of_columns columns) t
-    → place < length columns → (get_or columns place none).kind ≡ StructOf fields
-    → ChunkOk (type_of_columns (unpacked_columns place fields columns)) (Unpacked t place)
-unpack-table columns none t place fields ok lt is =
-    subst (λ types. ChunkOk (table_type types) (Unpacked t place)) (sym (unpacked-types columns place fields))
-    (unpack-chunk (types_of_columns columns) (types_of_columns (member_columns fields)) t place (types-live columns)
-    (types-live (member_columns fields)) ok.0 (few columns place lt) (struct-at columns none place fields lt is))
+module _ (columns : List Column) (t : ArrayTree) (ok : ChunkOk (type_of_columns columns) t) where
+  abbrev types : List KindTree
+  types = types_of_columns columns
 
-pub unpack-table_rows : (columns : List Column) (none : Column) (t : ArrayTree) (place : ℕ) (fields : Members) → ChunkOk (type_of_columns columns) t
-    → place < length columns → (get_or columns place none).kind ≡ StructOf fields
-    → All (λ row. IsFields (get_or row place Null)) (rows_of (type_of_columns columns) t)
-    → rows_of (type_of_columns (unpacked_columns place fields columns)) (Unpacked t place) ≡ map (unpacked place) (rows_of (type_of_columns columns) t)
-unpack-table_rows columns none t place fields ok lt is all =
-    ap (λ types. rows_of (table_type types) (Unpacked t place)) (unpacked-types columns place fields)
-    ∙ unpack-rows (types_of_columns columns) (types_of_columns (member_columns fields)) t place (types-live columns)
-    (types-live (member_columns fields)) ok.0 (few columns place lt) (struct-at columns none place fields lt is) all
+  live : AreLive types
+  live = types-live columns
+
+  module _ (picks : List ℕ) (within : AreWithin (length columns) picks) where
+    within_types : AreWithin (length types) picks
+    within_types = within-types columns picks within
+
+    pub select-range : InRange t picks
+    select-range = range-of types t picks ok.0 within_types
+
+    pub select-fit : FitParentWindow t picks
+    select-fit = fit-of types t live ok.0 picks within_types
+
+    pub select-chunk : (none : Column) → ChunkOk (type_of_columns (picked none picks columns)) (Columns t picks)
+    select-chunk none =
+        subst (λ some. ChunkOk (table_type some) (Columns t picks)) (sym (types-picked columns none picks within))
+        (chunk-of types t live ok.0 picks within_types)
+
+    pub select-rows : (none : Column)
+        → rows_of (type_of_columns (picked none picks columns)) (Columns t picks) ≡ map (picked Null picks) (rows_of (type_of_columns columns) t)
+    select-rows none =
+        ap (λ some. rows_of (table_type some) (Columns t picks)) (types-picked columns none picks within)
+        ∙ rows-picked types t live ok.0 picks within_types
+
+  module _ (none : Column) (name rest picks : List ℕ) (a : AreWithin (length columns) rest) (b : AreWithin (length columns) picks) where
+    pub pack-chunk : ChunkOk (type_of_columns (packed_columns none name rest picks columns)) (Packed t rest picks)
+    pack-chunk =
+        subst (λ some. ChunkOk (table_type some) (Packed t rest picks)) (sym (packed-types columns none name rest picks a b))
+        (chunk-packed types t live ok.0 rest picks (within-types columns rest a) (within-types columns picks b))
+
+    pub pack-rows : rows_of (type_of_columns (packed_columns none name rest picks columns)) (Packed t rest picks)
+        ≡ map (packed rest picks) (rows_of (type_of_columns columns) t)
+    pack-rows =
+        ap (λ some. rows_of (table_type some) (Packed t rest picks)) (packed-types columns none name rest picks a b)
+        ∙ rows-packed types t live ok.0 rest picks (within-types columns rest a) (within-types columns picks b)
+
+  module _ (none : Column) (place : ℕ) (fields : Members) (lt : place < length columns) (is : (get_or columns place none).kind ≡ StructOf fields) where
+    abbrev inner : List KindTree
+    inner = types_of_columns (member_columns fields)
+
+    inner-live : AreLive inner
+    inner-live = types-live (member_columns fields)
+
+    pub unpack-table : ChunkOk (type_of_columns (unpacked_columns place fields columns)) (Unpacked t place)
+    unpack-table =
+        subst (λ some. ChunkOk (table_type some) (Unpacked t place)) (sym (unpacked-types columns place fields))
+        (unpack-chunk types inner t place live inner-live ok.0 (few columns place lt) (struct-at columns none place fields lt is))
+
+    pub unpack-table_rows : All (λ row. IsFields (get_or row place Null)) (rows_of (type_of_columns columns) t)
+        → rows_of (type_of_columns (unpacked_columns place fields columns)) (Unpacked t place) ≡ map (unpacked place) (rows_of (type_of_columns columns) t)
+    unpack-table_rows all =
+        ap (λ some. rows_of (table_type some) (Unpacked t place)) (unpacked-types columns place fields)
+        ∙ unpack-rows types inner t place live inner-live ok.0 (few columns place lt) (struct-at columns none place fields lt is) all

@@ -1,3 +1,2 @@
-pub mod ColumnKinds
 pub mod Examples
 pub mod Picking

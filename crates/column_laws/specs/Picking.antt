@@ -6,7 +6,7 @@ use Rattle.tree_model.specs.Tree.{IsLive, Released, Live, absent, trees, childre
 use Rattle.raw_array.specs.Members.{ArrayTree, members_of}
 use Rattle.raw_array.specs.Windows.{Window}
 use Rattle.layout_check.specs.Kinds.{KindTree}
-use Rattle.array_laws.specs.Struct.{table_type}
+use Rattle.layout_check.specs.ColumnKinds.{table_type}
 use Rattle.arr_move.specs.TreeActs.{Columns, cut, struct_members}
 
 -- no type is released

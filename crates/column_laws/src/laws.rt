@@ -6,12 +6,11 @@ ghost use Rattle.fmt_string.specs.Table.{Column, Columns as StructOf, Members};
 ghost use Rattle.fmt_string.specs.Value.{Null};
 ghost use Rattle.tree_model.specs.Tree.{Depth, IsLive, Released};
 ghost use Rattle.raw_array.specs.Members.{ArrayTree, Cost};
-ghost use Rattle.layout_check.specs.Kinds.{KindTree};
+ghost use Rattle.layout_check.specs.Kinds.{KindTree, NodesOk};
 ghost use Rattle.layout_check.specs.Values.{rows_of, tree_items, values_of};
 ghost use Rattle.layout_check.specs.Walk.{ChunkOk, LayoutOk};
 ghost use Rattle.arr_move.specs.TreeActs.{Columns, Distinct, FitParentWindow, InRange};
-ghost use Rattle.array_laws.specs.Struct.{table_type};
-ghost use Rattle.column_laws.specs.ColumnKinds.{type_of_columns, type_of_kind, types_of_columns};
+ghost use Rattle.layout_check.specs.ColumnKinds.{table_type, type_of_columns, type_of_kind, types_of_columns};
 ghost use Rattle.column_laws.specs.Picking.{AreLive, Packed, Replaced, Unpacked, packed_types, unpacked_types};
 
 /// A law: columns of a lawful struct can be taken: each pick is the place of a child, which has the items of the struct's
@@ -82,9 +81,11 @@ pub fn taken_columns_are_no_deeper()
     ensures unpacked { (t : ArrayTree) (place : ℕ) → IsLive t → Depth (Unpacked t place) ≤ Depth t }
 {}
 
-/// A law: the types of a table's columns follow picks, and those of a struct are those of its columns.
+/// A law: the types of a table's columns, and those below a struct's type that is in order, are live; they follow picks,
+/// and those of a struct are those of its columns.
 pub fn column_types_follow_picks()
     ensures live { (columns : List Column) → AreLive (types_of_columns columns) }
+    ensures checked { (types : List KindTree) → NodesOk (table_type types) → AreLive types }
     ensures picked { (columns : List Column) (none : Column) (picks : List ℕ) → AreWithin (length columns) picks
         → types_of_columns (picked none picks columns) ≡ picked Released picks (types_of_columns columns) }
     ensures packed { (columns : List Column) → type_of_kind (StructOf (members columns)) ≡ table_type (types_of_columns columns) }

@@ -1,4 +1,4 @@
--- The root of an array.
+-- Chunks, and the nulls of an array.
 use Rattle.std.proofs.Common.{◌≡◌, ℕ, zero, suc, ◌<◌, ◌≤◌, ◌&&◌, not, Bool, true, false, ℤ, pos, negsuc, List, [], ◌∷◌, length, drop, Option, Some, None, refl, ap, ◌∙◌, sym, arith}
 use Rattle.std.specs.Prelude.{if◌then◌else◌, is_some, nat_lt, ◌≤ℤ◌}
 use Rattle.std.specs.Global.{Box}
@@ -18,8 +18,6 @@ use Rattle.layout_check.specs.Layout.{layout_of, buffer_count, items, is_valid, 
 use Rattle.layout_check.specs.Rules.{Node, fails, fault_if, count_wrong, is_negative, in_order, null_total, null_items, first_below, buffer_short}
 use Rattle.layout_check.specs.Walk.{Steps, LayoutOk, ChunkOk, first_fault, first_chunk_fault, top_fault, root_fault, is_struct, is_absent, is_table, nulls_in, fault_from, own_fault, rules_fault, first_some, fault_by, fault_at, visit_fault, walk_below, walks_of, walk_of}
 use Rattle.layout_check.proofs.Levels.{typed_out}
-use Rattle.layout_check.proofs.Long.{long-validity}
-use Rattle.layout_check.proofs.Faults.{own_fault-node}
 use Rattle.layout_check.proofs.Lawful.{first_fault-lawful, lawful-first_fault, left-none, right-none}
 
 -- ---- no fault of a chunk, exactly where it is lawful
@@ -33,72 +31,6 @@ pub lawful-first_chunk_fault : (typed : KindTree) (array : ArrayTree) → ChunkO
 lawful-first_chunk_fault typed array h = ap (λ o. option_or o (top_fault typed array)) (lawful-first_fault typed array h.0) ∙ h.1
 
 pub ruleset lawful = (first_chunk_fault-lawful, lawful-first_chunk_fault)
-
--- ---- the root of a lawful array
-
-from-own : (kind : DataType) (kids : Trees DataType) (dict : MaybeTree DataType) (path : Steps) (array : ArrayTree)
-    → fault_from (Live kind kids dict) path array ≡ None → own_fault (Live kind kids dict) path array ≡ None
-from-own kind kids dict path array e = left-none (own_fault (Live kind kids dict) path array) (first_some visit_fault (walk_below (walks_of kids) (walk_of dict) path array)) e
-
-own-none : (t : Typed) (array : ArrayTree) → LayoutOk (typed_of t) array → own_fault (typed_of t) [] array ≡ None
-own-none t array h =
-    let e = typed_out t in
-    ap (λ k. own_fault k [] array) e
-    ∙ from-own (kind_of t) (trees (kids_of t)) (maybe_tree (dict_in (out-Typed t).dict)) [] array
-    (sym (ap (λ k. fault_from k [] array) e) ∙ lawful-first_fault (typed_of t) array h)
-
-is-live : (kind : DataType) (kids : Trees DataType) (dict : MaybeTree DataType) (array : ArrayTree) → own_fault (Live kind kids dict) [] array ≡ None → IsLive array
-is-live kind kids dict Released e = absurd (grind arith)
-is-live kind kids dict (Live own children dictionary) e = tt
-
-pub root-live : (t : Typed) (array : ArrayTree) → LayoutOk (typed_of t) array → IsLive array
-root-live t array h =
-    is-live (kind_of t) (trees (kids_of t)) (maybe_tree (dict_in (out-Typed t).dict)) array
-    (sym (ap (λ k. own_fault k [] array) (typed_out t)) ∙ own-none t array h)
-
-pub root-rules : (t : Typed) (array : ArrayTree) → LayoutOk (typed_of t) array → rules_fault in_order [] (live_node t array) ≡ None
-root-rules t array h = sym (own_fault-node t [] array (root-live t array h)) ∙ own-none t array h
-
-pub head : (node : Node) (rule : LayoutRule) (others : List LayoutRule) → rules_fault (rule ∷ others) [] node ≡ None → fails rule node ≡ None
-head node rule others e = not-at rule (fails rule node) (left-none (fault_by [] node rule) (rules_fault others [] node) e)
-  where
-    not-at : (rule : LayoutRule) (numbers : Option Numbers) → fault_at [] rule numbers ≡ None → numbers ≡ None
-    not-at rule None e = refl
-    not-at rule (Some numbers) e = grind arith
-
-pub tail : (node : Node) (rule : LayoutRule) (others : List LayoutRule) → rules_fault (rule ∷ others) [] node ≡ None → rules_fault others [] node ≡ None
-tail node rule others e = right-none (fault_by [] node rule) (rules_fault others [] node) (left-none (fault_by [] node rule) (rules_fault others [] node) e) e
-
-not_negative : (z : ℤ) → fault_if (is_negative z) 0 z (pos 0) ≡ None → pos 0 ≤ℤ z
-not_negative (pos n) e = grind arith
-not_negative (negsuc n) e = grind arith
-
-same_count : (found needed : ℕ) → count_wrong found needed ≡ None → found ≡ needed
-same_count found needed e = grind arith
-
-pub root-length : (t : Typed) (array : ArrayTree) → LayoutOk (typed_of t) array → pos 0 ≤ℤ (members_of array).length
-root-length t array h = not_negative (members_of array).length (head (live_node t array) rules.NegativeLength (drop 1 in_order) (root-rules t array h))
-
-pub root-offset : (t : Typed) (array : ArrayTree) → LayoutOk (typed_of t) array → pos 0 ≤ℤ (members_of array).offset
-root-offset t array h =
-    let node = live_node t array in
-    not_negative (members_of array).offset (head node rules.NegativeOffset (drop 2 in_order) (tail node rules.NegativeLength (drop 1 in_order) (root-rules t array h)))
-
-root-form : (t : Typed) (array : ArrayTree) → LayoutOk (typed_of t) array → rules_fault (drop 2 in_order) [] (live_node t array) ≡ None
-root-form t array h =
-    let node = live_node t array in
-    tail node rules.NegativeOffset (drop 2 in_order) (tail node rules.NegativeLength (drop 1 in_order) (root-rules t array h))
-
-pub root-count : (t : Typed) (array : ArrayTree) → LayoutOk (typed_of t) array → length (members_of array).buffers ≡ buffer_count (layout_of (out-Typed t).kind) (length (members_of array).buffers)
-root-count t array h = same_count (length (members_of array).buffers) (buffer_count (layout_of (out-Typed t).kind) (length (members_of array).buffers)) (head (live_node t array) rules.BufferCount (drop 3 in_order) (root-form t array h))
-
-pub root-short : (t : Typed) (array : ArrayTree) → LayoutOk (typed_of t) array → first_below (buffer_short (layout_of (out-Typed t).kind) (members_of array)) (buffer_count (layout_of (out-Typed t).kind) (length (members_of array).buffers)) ≡ None
-root-short t array h =
-    let node = live_node t array in
-    head node rules.BufferShort (drop 7 in_order) (tail node rules.BufferAbsent (drop 6 in_order) (tail node rules.Dictionary (drop 5 in_order) (tail node rules.ChildCount (drop 4 in_order) (tail node rules.BufferCount (drop 3 in_order) (root-form t array h)))))
-
-pub root-long : (t : Typed) (array : ArrayTree) → LayoutOk (typed_of t) array → 0 < buffer_count (layout_of (out-Typed t).kind) (length (members_of array).buffers) → IsLongIfPresent (members_of array)
-root-long t array h some = long-validity (layout_of (out-Typed t).kind) (members_of array) (root-short t array h) some
 
 -- ---- its type
 

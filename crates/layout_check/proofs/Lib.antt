@@ -10,9 +10,11 @@ pub mod SchemaOne
 pub mod SchemaValid
 pub mod TextData
 pub mod ChildSteps
+pub mod Roots
 pub mod Chunks
 pub mod Scanned
 pub mod ReadWithin
+pub mod TreeLaws
 pub mod MadeTypes
 pub mod Named
 pub mod Placed

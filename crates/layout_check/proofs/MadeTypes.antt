@@ -11,4 +11,4 @@ pub nodes-made : (t : Typed) → KindOk (out-Typed t).kind → KidsOk (out-Typed
     → AllNodesOk (trees (kids_of t)) → DictNodesOk (maybe_tree (dict_in (out-Typed t).dict)) → NodesOk (typed_of t)
 nodes-made t kind kids dict below behind = subst NodesOk (sym (typed_out t)) (kind, kids, dict, below, behind)
 
-pub ruleset made = (nodes-made, levels-typed)
+pub ruleset made = (nodes-made, levels-typed, typed_out)

@@ -25,11 +25,11 @@ use Rattle.layout_check.specs.Within.{StoredWithin, ItemsWithin, IndexWithin, Vi
 use Rattle.layout_check.proofs.Levels.{typed_out}
 use Rattle.layout_check.proofs.Firsts.{first_below-none_at}
 use Rattle.layout_check.proofs.Long.{long-bytes, long-data, long-list, long-fixed, long-truth, long-validity, long-views, long-named}
-use Rattle.layout_check.proofs.Faults.{first_some-append, fault_from-typed}
+use Rattle.layout_check.proofs.Faults.{first_some-append, fault_from-live}
 use Rattle.layout_check.proofs.Lawful.{first_fault-lawful, lawful-first_fault, left-none, right-none}
 use Rattle.layout_check.proofs.TextData.{offsets-from, offsets-rise, offsets-next, offsets-within, offsets-last, natural-rise, not_zero}
 use Rattle.layout_check.proofs.Placed.{view-within}
-use Rattle.layout_check.proofs.Chunks.{head, tail, root-live, root-rules, root-short}
+use Rattle.layout_check.proofs.Roots.{Level, tree_in, level_in, lawful-level_in, root-live, root-end, root-children, root-short, root-absent, root-falls, root-child_short, root-indices, views-placed, tree_items-items}
 
 pub ruleset one_level = (typed_out)
 
@@ -44,65 +44,6 @@ lawful-no_fault typed array h = first_fault-lawful typed array (is_none-none (fi
 
 pub no_fault-lawful : (typed : KindTree) (array : ArrayTree) → LayoutOk typed array → IsTrue (is_none (first_fault typed array))
 no_fault-lawful typed array h = ap is_none (lawful-first_fault typed array h)
-
--- ---- the rules of the root, one by one
-
-drop-none : (node : Node) (n : ℕ) (some : List LayoutRule) → rules_fault some [] node ≡ None → rules_fault (drop n some) [] node ≡ None
-drop-none node zero some e = e
-drop-none node (suc n) [] e = e
-drop-none node (suc n) (rule ∷ others) e = drop-none node n others (tail node rule others e)
-
-root-dictionary_count : (t : Typed) (array : ArrayTree) → LayoutOk (typed_of t) array → count_wrong (one_if (dictionary_of array)) (one_if (dict_in (out-Typed t).dict)) ≡ None
-root-dictionary_count t array h = head (live_node t array) rules.Dictionary (drop 5 in_order) (drop-none (live_node t array) 4 in_order (root-rules t array h))
-
-root-child_count : (t : Typed) (array : ArrayTree) → LayoutOk (typed_of t) array → count_wrong (length (children_of array)) (length (kids_of t)) ≡ None
-root-child_count t array h = head (live_node t array) rules.ChildCount (drop 4 in_order) (drop-none (live_node t array) 3 in_order (root-rules t array h))
-
-root-absent : (t : Typed) (array : ArrayTree) → LayoutOk (typed_of t) array → first_below (buffer_absent (layout_of (kind_of t)) (members_of array)) (buffer_count (layout_of (kind_of t)) (length (members_of array).buffers)) ≡ None
-root-absent t array h = head (live_node t array) rules.BufferAbsent (drop 6 in_order) (drop-none (live_node t array) 5 in_order (root-rules t array h))
-
-root-falls : (t : Typed) (array : ArrayTree) → LayoutOk (typed_of t) array → offsets_fall_if (is_behind_offsets (layout_of (kind_of t))) (members_of array) ≡ None
-root-falls t array h = head (live_node t array) rules.OffsetsFall (drop 8 in_order) (drop-none (live_node t array) 7 in_order (root-rules t array h))
-
-root-child_short : (t : Typed) (array : ArrayTree) → LayoutOk (typed_of t) array → child_short (items_need (layout_of (kind_of t)) (members_of array)) 0 (children_of array) ≡ None
-root-child_short t array h = head (live_node t array) rules.ChildShort (drop 9 in_order) (drop-none (live_node t array) 8 in_order (root-rules t array h))
-
-root-indices : (t : Typed) (array : ArrayTree) → LayoutOk (typed_of t) array → indices_wrong (kind_of t) (members_of array) (length_if (dictionary_of array)) ≡ None
-root-indices t array h = head (live_node t array) rules.IndexRange (drop 14 in_order) (drop-none (live_node t array) 13 in_order (root-rules t array h))
-
-root-window : (t : Typed) (array : ArrayTree) → LayoutOk (typed_of t) array → fault_if (nat_lt window_limit (end (members_of array))) 0 (pos (end (members_of array))) (pos window_limit) ≡ None
-root-window t array h = head (live_node t array) rules.WindowTooLong [] (drop-none (live_node t array) 14 in_order (root-rules t array h))
-
-same_count : (found needed : ℕ) → count_wrong found needed ≡ None → found ≡ needed
-same_count found needed e = grind arith
-
-within_limit : (n limit : ℕ) → fault_if (nat_lt limit n) 0 (pos n) (pos limit) ≡ None → n ≤ limit
-within_limit n limit e = grind arith
-
-pub root-end : (t : Typed) (array : ArrayTree) → LayoutOk (typed_of t) array → end (members_of array) ≤ 2 ^ 40
-root-end t array h = within_limit (end (members_of array)) window_limit (root-window t array h)
-
-pub root-children : (t : Typed) (array : ArrayTree) → LayoutOk (typed_of t) array → length (children_of array) ≡ length (kids_of t)
-root-children t array h = same_count (length (children_of array)) (length (kids_of t)) (root-child_count t array h)
-
-pub root-dictionary : (t : Typed) (array : ArrayTree) → LayoutOk (typed_of t) array → one_if (dictionary_of array) ≡ one_if (dict_in (out-Typed t).dict)
-root-dictionary t array h = same_count (one_if (dictionary_of array)) (one_if (dict_in (out-Typed t).dict)) (root-dictionary_count t array h)
-
--- the validity bits are long enough; where the layout has no buffer, there are none
-validity-here : (own : ArrayMembers) (count : ℕ) → length own.buffers ≡ count → (0 < count → IsLongIfPresent own) → IsLongIfPresent own
-validity-here own zero e h = subst (λ b. IsLongIfPresent (record own { buffers = b })) (sym (nil own.buffers e)) tt
-  where
-    nil : {X : Type 0} → (xs : List X) → length xs ≡ 0 → xs ≡ []
-    nil [] e = refl
-    nil (x ∷ xs) e = absurd (omega (arith, e))
-validity-here own (suc n) e h = h (omega arith)
-
-pub root-validity : (t : Typed) (array : ArrayTree) → LayoutOk (typed_of t) array → length (members_of array).buffers ≡ buffer_count (layout_of (kind_of t)) (length (members_of array).buffers) → IsLongIfPresent (members_of array)
-root-validity t array h e = validity-here (members_of array) (buffer_count (layout_of (kind_of t)) (length (members_of array).buffers)) e (long-validity (layout_of (kind_of t)) (members_of array) (root-short t array h))
-
-pub tree_items-items : (array : ArrayTree) → tree_items array ≡ items (members_of array)
-tree_items-items Released = refl
-tree_items-items (Live own children dictionary) = refl
 
 -- ---- the fault of a part doesn't depend on the way to it
 
@@ -124,7 +65,7 @@ both-none : {X : Type 0} → (a b : Option X) → a ≡ None → b ≡ None → 
 both-none a b e f = ap (λ o. option_or o b) e ∙ f
 
 mutual
-  any-path : (typed : KindTree) (p q : Steps) (array : ArrayTree) → fault_from typed p array ≡ None → fault_from typed q array ≡ None
+  pub any-path : (typed : KindTree) (p q : Steps) (array : ArrayTree) → fault_from typed p array ≡ None → fault_from typed q array ≡ None
   any-path Released p q array e = refl
   any-path (Live kind kids dict) p q Released e =
       both-none (node_fault q None) None (node-path p q None (left-none (node_fault p None) None e)) refl
@@ -167,21 +108,10 @@ mutual
   dict-path (present dict) p q None e = refl
   dict-path (present dict) p q (Some dictionary) e = any-path dict (p ++ dictionary_step ∷ []) (q ++ dictionary_step ∷ []) dictionary e
 
-lawful-from : (typed : KindTree) (path : Steps) (array : ArrayTree) → fault_from typed path array ≡ None → LayoutOk typed array
+pub lawful-from : (typed : KindTree) (path : Steps) (array : ArrayTree) → fault_from typed path array ≡ None → LayoutOk typed array
 lawful-from typed path array e = first_fault-lawful typed array (any-path typed path [] array e)
 
 -- ---- the parts of a lawful array
-
-parts-none : (t : Typed) (array : ArrayTree) → LayoutOk (typed_of t) array
-    → (children_fault (kids_of t) 0 [] (children_of array) ≡ None) × (dictionary_fault (dict_in (out-Typed t).dict) [] (dictionary_of array) ≡ None)
-parts-none t array h =
-    let own = own_fault (typed_of t) [] array in
-    let kids = children_fault (kids_of t) 0 [] (children_of array) in
-    let dict = dictionary_fault (dict_in (out-Typed t).dict) [] (dictionary_of array) in
-    let all : option_or own (option_or kids dict) ≡ None = sym (fault_from-typed t [] array (root-live t array h)) ∙ lawful-first_fault (typed_of t) array h in
-    let below : option_or kids dict ≡ None = right-none own (option_or kids dict) (left-none own (option_or kids dict) all) all in
-    let first : kids ≡ None = left-none kids dict below in
-    (first, right-none kids dict first below)
 
 child-none : (kids : List KindTree) (n : ℕ) (path : Steps) (children : List ArrayTree) (k : ℕ) → children_fault kids n path children ≡ None → length children ≡ length kids → k < length kids
     → LayoutOk (get_or kids k Released) (get_or children k Released)
@@ -194,15 +124,9 @@ child-none (kid ∷ kids) n path (child ∷ rest) (suc k) e same h =
     let others = children_fault kids (suc n) path rest in
     child-none kids (suc n) path rest k (right-none here others (left-none here others e) e) (omega (arith, same)) (omega (arith, h))
 
-pub child-lawful : (t : Typed) (array : ArrayTree) → LayoutOk (typed_of t) array → (k : ℕ) → k < length (kids_of t) → LayoutOk (get_or (kids_of t) k Released) (child_at array k)
-child-lawful t array h k l = child-none (kids_of t) 0 [] (children_of array) k (parts-none t array h).0 (root-children t array h) l
-
 dictionary-none : (dict : Option KindTree) (dictionary : Option ArrayTree) (typed : KindTree) (array : ArrayTree) → dictionary_fault dict [] dictionary ≡ None → dict ≡ Some typed → dictionary ≡ Some array → LayoutOk typed array
 dictionary-none dict dictionary typed array e d a =
     lawful-from typed ([] ++ dictionary_step ∷ []) array (sym (ap (λ o. dictionary_fault o [] dictionary) d ∙ ap (λ o. dictionary_fault (Some typed) [] o) a) ∙ e)
-
-pub dictionary-lawful : (t : Typed) (array : ArrayTree) → LayoutOk (typed_of t) array → (dict : KindTree) (dictionary : ArrayTree) → dict_in (out-Typed t).dict ≡ Some dict → dictionary_of array ≡ Some dictionary → LayoutOk dict dictionary
-dictionary-lawful t array h dict dictionary d a = dictionary-none (dict_in (out-Typed t).dict) (dictionary_of array) dict dictionary (parts-none t array h).1 d a
 
 -- ---- what the buffers have of an item
 
@@ -245,13 +169,6 @@ stored-within (FixedItems size) own i h e f r = tt
 stored-within ByChildren own i h e f r = tt
 stored-within Views own i h e f r = one_more (first own) (items own) i view_width (length (bytes own 1)) h (long-views own e f)
 
-pub item-stored : (t : Typed) (array : ArrayTree) → LayoutOk (typed_of t) array → (i : ℕ) → i < tree_items array → StoredWithin (layout_of (kind_of t)) (members_of array) (first (members_of array) + i)
-item-stored t array h i l =
-    stored-within (layout_of (kind_of t)) (members_of array) i (subst (λ n. i < n) (tree_items-items array) l) (root-absent t array h) (root-short t array h) (root-falls t array h)
-
-views-placed : (t : Typed) (array : ArrayTree) → LayoutOk (typed_of t) array → views_misplaced (layout_of (kind_of t)) (members_of array) ≡ None
-views-placed t array h = head (live_node t array) rules.ViewPlace (drop 11 in_order) (drop-none (live_node t array) 10 in_order (root-rules t array h))
-
 view-there : (layout : Layout) (own : ArrayMembers) (i : ℕ) → i < items own
     → first_below (buffer_absent layout own) (buffer_count layout (length own.buffers)) ≡ None → first_below (buffer_short layout own) (buffer_count layout (length own.buffers)) ≡ None
     → views_misplaced layout own ≡ None
@@ -264,10 +181,6 @@ view-there (ByOffsets wide) own i h e f p = tt
 view-there (ListOffsets wide) own i h e f p = tt
 view-there (FixedItems size) own i h e f p = tt
 view-there ByChildren own i h e f p = tt
-
-pub item-view : (t : Typed) (array : ArrayTree) → LayoutOk (typed_of t) array → (i : ℕ) → i < tree_items array → ViewWithin (layout_of (kind_of t)) (members_of array) i
-item-view t array h i l =
-    view-there (layout_of (kind_of t)) (members_of array) i (subst (λ n. i < n) (tree_items-items array) l) (root-absent t array h) (root-short t array h) (views-placed t array h)
 
 -- ---- what a child has of an item
 
@@ -305,18 +218,6 @@ items-within (FixedItems size) own i total h r l = one_more (first own) (items o
 items-within ByChildren own i total h r l = omega (arith, h, l)
 items-within Views own i total h r l = tt
 
-pub child-needed : (t : Typed) (array : ArrayTree) → LayoutOk (typed_of t) array
-    → ((k : ℕ) → k < length (kids_of t) → IsLive (child_at array k))
-    → (k : ℕ) → k < length (kids_of t) → items_need (layout_of (kind_of t)) (members_of array) ≤ tree_items (child_at array k)
-child-needed t array h live k m =
-    child-long (items_need (layout_of (kind_of t)) (members_of array)) 0 (children_of array) k (root-child_short t array h) (live k m) (omega (arith, m, root-children t array h))
-
-pub item-children : (t : Typed) (array : ArrayTree) → LayoutOk (typed_of t) array
-    → ((k : ℕ) → k < length (kids_of t) → IsLive (child_at array k))
-    → (i k : ℕ) → i < tree_items array → k < length (kids_of t) → ItemsWithin (layout_of (kind_of t)) (members_of array) (first (members_of array) + i) (tree_items (child_at array k))
-item-children t array h live i k l m =
-    items-within (layout_of (kind_of t)) (members_of array) i (tree_items (child_at array k)) (subst (λ n. i < n) (tree_items-items array) l) (root-falls t array h) (child-needed t array h live k m)
-
 -- ---- an index
 
 not_outside : (z : ℤ) (total : ℤ) (i : ℕ) → fault_if (is_outside total z) i z total ≡ None → (pos 0 ≤ℤ z) × (natural z < natural total)
@@ -336,30 +237,67 @@ index-within (kinds.Int bits signed) own i (Live members below behind) h live e 
     (first_below-none_at (index_wrong (bits / 8) signed own members.length) (items own) i h e) valid)
 index-within kind own i (Live members below behind) h live e = tt
 
-pub item-index : (t : Typed) (array : ArrayTree) → LayoutOk (typed_of t) array → (i : ℕ) (dictionary : ArrayTree) → i < tree_items array → dictionary_of array ≡ Some dictionary → IsLive dictionary → IndexWithin (kind_of t) (members_of array) i dictionary
-item-index t array h i dictionary l d live =
-    index-within (kind_of t) (members_of array) i dictionary (subst (λ n. i < n) (tree_items-items array) l) live
-    (sym (ap (λ o. indices_wrong (kind_of t) (members_of array) (length_if o)) d) ∙ root-indices t array h)
+-- ---- an array that has a type is live, and has at most 2^40 items
 
--- ---- each part of a lawful array is live, for each has a type
+pub live-of : (typed : KindTree) (array : ArrayTree) → IsLive typed → LayoutOk typed array → IsLive array
+live-of Released array live h = absurd live
+live-of (Live kind kids dict) array live h = root-live (level_in kind kids dict) array (lawful-level_in kind kids dict array h)
 
-pub kid-live : (kids : List Typed) (k : ℕ) (child : ArrayTree) → k < length (map typed_of kids) → LayoutOk (get_or (map typed_of kids) k Released) child → IsLive child
-kid-live [] k child h ok = absurd (omega (arith, h))
-kid-live (t ∷ ts) zero child h ok = root-live t child ok
-kid-live (t ∷ ts) (suc k) child h ok = kid-live ts k child (omega (arith, h)) ok
+pub few-of : (typed : KindTree) (array : ArrayTree) → IsLive typed → LayoutOk typed array → tree_items array ≤ 2 ^ 40
+few-of Released array live h = absurd live
+few-of (Live kind kids dict) array live h = omega (arith, root-end (level_in kind kids dict) array (lawful-level_in kind kids dict array h), tree_items-items array)
 
--- no child's window has more than 2^40 items
+-- the code's kids and dictionary have types
 
-few-items : (t : Typed) (array : ArrayTree) → LayoutOk (typed_of t) array → tree_items array ≤ 2 ^ 40
-few-items t array h = omega (arith, root-end t array h, tree_items-items array)
+pub kid-typed : (kids : List Typed) (k : ℕ) → k < length (map typed_of kids) → IsLive (get_or (map typed_of kids) k Released)
+kid-typed [] k h = absurd (omega (arith, h))
+kid-typed (t ∷ ts) zero h = subst IsLive (sym (typed_out t)) tt
+kid-typed (t ∷ ts) (suc k) h = kid-typed ts k (omega (arith, h))
 
-pub kid-few : (kids : List Typed) (k : ℕ) (child : ArrayTree) → k < length (map typed_of kids) → LayoutOk (get_or (map typed_of kids) k Released) child → tree_items child ≤ 2 ^ 40
-kid-few [] k child h ok = absurd (omega (arith, h))
-kid-few (t ∷ ts) zero child h ok = few-items t child ok
-kid-few (t ∷ ts) (suc k) child h ok = kid-few ts k child (omega (arith, h)) ok
+pub dict-typed : (dict : Option (Box Typed)) (typed : KindTree) → dict_in dict ≡ Some typed → IsLive typed
+dict-typed None typed e = absurd (cc)
+dict-typed (Some box) typed e =
+    let same : typed_of box.value ≡ typed = cc in
+    subst IsLive (sym (typed_out box.value) ∙ same) tt
 
-pub dict-live : (dict : Option (Box Typed)) (typed : KindTree) (array : ArrayTree) → dict_in dict ≡ Some typed → LayoutOk typed array → IsLive array
-dict-live None typed array e ok = absurd (cc)
-dict-live (Some box) typed array e ok =
-    let same : typed ≡ typed_of box.value = cc in
-    root-live box.value array (subst (λ t. LayoutOk t array) same ok)
+-- ---- what is read of an item, and the parts
+
+module _ (t : Level) (array : ArrayTree) (h : LayoutOk (tree_in t) array) where
+  parts-none : (children_fault t.kids 0 [] (children_of array) ≡ None) × (dictionary_fault t.dict [] (dictionary_of array) ≡ None)
+  parts-none =
+      let own = own_fault (tree_in t) [] array in
+      let kids = children_fault t.kids 0 [] (children_of array) in
+      let dict = dictionary_fault t.dict [] (dictionary_of array) in
+      let all : option_or own (option_or kids dict) ≡ None = sym (fault_from-live t.kind t.kids t.dict [] array (root-live t array h)) ∙ lawful-first_fault (tree_in t) array h in
+      let below : option_or kids dict ≡ None = right-none own (option_or kids dict) (left-none own (option_or kids dict) all) all in
+      let first : kids ≡ None = left-none kids dict below in
+      (first, right-none kids dict first below)
+
+  pub child-lawful : (k : ℕ) → k < length t.kids → LayoutOk (get_or t.kids k Released) (child_at array k)
+  child-lawful k l = child-none t.kids 0 [] (children_of array) k parts-none.0 (root-children t array h) l
+
+  pub dictionary-lawful : (dict : KindTree) (dictionary : ArrayTree) → t.dict ≡ Some dict → dictionary_of array ≡ Some dictionary → LayoutOk dict dictionary
+  dictionary-lawful dict dictionary d a = dictionary-none t.dict (dictionary_of array) dict dictionary parts-none.1 d a
+
+  pub item-stored : (i : ℕ) → i < tree_items array → StoredWithin (layout_of t.kind) (members_of array) (first (members_of array) + i)
+  item-stored i l =
+      stored-within (layout_of t.kind) (members_of array) i (subst (λ n. i < n) (tree_items-items array) l) (root-absent t array h) (root-short t array h) (root-falls t array h)
+
+  pub item-view : (i : ℕ) → i < tree_items array → ViewWithin (layout_of t.kind) (members_of array) i
+  item-view i l =
+      view-there (layout_of t.kind) (members_of array) i (subst (λ n. i < n) (tree_items-items array) l) (root-absent t array h) (root-short t array h) (views-placed t array h)
+
+  pub child-needed : (k : ℕ) → k < length t.kids → IsLive (child_at array k)
+      → items_need (layout_of t.kind) (members_of array) ≤ tree_items (child_at array k)
+  child-needed k m live =
+      child-long (items_need (layout_of t.kind) (members_of array)) 0 (children_of array) k (root-child_short t array h) live (omega (arith, m, root-children t array h))
+
+  pub item-children : (i k : ℕ) → i < tree_items array → k < length t.kids → IsLive (child_at array k)
+      → ItemsWithin (layout_of t.kind) (members_of array) (first (members_of array) + i) (tree_items (child_at array k))
+  item-children i k l m live =
+      items-within (layout_of t.kind) (members_of array) i (tree_items (child_at array k)) (subst (λ n. i < n) (tree_items-items array) l) (root-falls t array h) (child-needed k m live)
+
+  pub item-index : (i : ℕ) (dictionary : ArrayTree) → i < tree_items array → dictionary_of array ≡ Some dictionary → IsLive dictionary → IndexWithin t.kind (members_of array) i dictionary
+  item-index i dictionary l d live =
+      index-within t.kind (members_of array) i dictionary (subst (λ n. i < n) (tree_items-items array) l) live
+      (sym (ap (λ o. indices_wrong t.kind (members_of array) (length_if o)) d) ∙ root-indices t array h)

@@ -20,14 +20,17 @@ no-runs bytes n = record { at = λ j l. subst (IsRun bytes) (sym (get_or-replica
 
 pub runs-set : (bytes : List ℕ) (runs : List Run) (k : ℕ) (new : Run) → AreRuns bytes runs → IsRun bytes new → AreRuns bytes (slice_set runs k new)
 runs-set bytes runs k new h is =
-    record { at = λ j l.
-        let inside : j < length runs = omega (arith, l, length-set runs k new) in
-        elim (cases_eq j k) [
-          | inl same ↦ subst (IsRun bytes) (sym (get_or-set_at runs k j new no_run same (subst (λ n. n < length runs) same inside))) is
-          | inr other ↦ subst (IsRun bytes) (sym (get_or-set_other runs k j new no_run other)) (h.at j inside)
-        ] }
+    record {
+      at = λ j l.
+          let inside : j < length runs = omega (arith, l, length-set runs k new) in
+          elim (cases_eq j k) [
+            | inl same ↦ subst (IsRun bytes) (sym (get_or-set_at runs k j new no_run same (subst (λ n. n < length runs) same inside))) is
+            | inr other ↦ subst (IsRun bytes) (sym (get_or-set_other runs k j new no_run other)) (h.at j inside)
+          ];
+    }
 
 pub ruleset no_runs = (no-runs)
+
 pub ruleset noted = (runs-set)
 
 -- ---- behind a border

@@ -49,10 +49,12 @@ not_large size h = grind (arith, h)
 
 pub PassOne-small : (own : ArrayMembers) (k n : ℕ) → data_length own k ≤ 4096 → PassOne own k n
 PassOne-small own k n h =
-    record { at = λ i l large names.
-        let more : nat_lt 4096 (data_length own (natural (view_buffer own i))) ≡ true =
-        both_second (is_long (view_length own i)) (nat_lt 4096 (data_length own (natural (view_buffer own i)))) large in
-        absurd (true≢false (sym more ∙ ap (λ j. nat_lt 4096 (data_length own j)) names ∙ not_large (data_length own k) h)) }
+    record {
+      at = λ i l large names.
+          let more : nat_lt 4096 (data_length own (natural (view_buffer own i))) ≡ true =
+          both_second (is_long (view_length own i)) (nat_lt 4096 (data_length own (natural (view_buffer own i)))) large in
+          absurd (true≢false (sym more ∙ ap (λ j. nat_lt 4096 (data_length own j)) names ∙ not_large (data_length own k) h));
+    }
 
 pub ruleset one = (PassOne-none, PassOne-more, PassOne-small)
 
@@ -93,11 +95,13 @@ PassBefore-none own n = record { at = λ i l large below. absurd (omega (arith, 
 
 pub PassBefore-more : (own : ArrayMembers) (k n m : ℕ) → m ≤ n → PassBefore own k n → PassOne own k m → PassBefore own (k + 1) m
 PassBefore-more own k n m less h p =
-    record { at = λ i l large below.
-        elim (cases_eq (natural (view_buffer own i)) k) [
-          | inl same ↦ p.at i l large same
-          | inr other ↦ h.at i (omega (arith, l, less)) large (omega (arith, below, other))
-        ] }
+    record {
+      at = λ i l large below.
+          elim (cases_eq (natural (view_buffer own i)) k) [
+            | inl same ↦ p.at i l large same
+            | inr other ↦ h.at i (omega (arith, l, less)) large (omega (arith, below, other))
+          ];
+    }
 
 pub passes-all : (own : ArrayMembers) (m : ℕ) → PassAlone own m → PassBefore own (data_buffers own) m
     → ((i : ℕ) → i < m → IsTrue (is_valid own i) → DataWithin own i) → first_below (view_not_text own) m ≡ None

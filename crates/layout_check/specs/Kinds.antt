@@ -3,10 +3,14 @@ use Rattle.std.specs.Prelude.{ℕ, ◌+◌, ◌≤◌, max}
 use Rattle.fmt_string.specs.Kinds.{KindOk}
 use Rattle.fmt_string.specs.declared.kind.DataType.{DataType}
 use Rattle.fmt_string.specs.declared.kind.DataType.TheVariants as kinds
-use Rattle.tree_model.specs.Tree.{Tree, Released, Live, Trees, no_trees, more_trees, MaybeTree, absent, present}
+use Rattle.tree_model.specs.Tree.{Tree, Released, Live, members_or, Trees, no_trees, more_trees, MaybeTree, absent, present}
 
 abbrev pub KindTree : Type 0
 KindTree = Tree DataType
+
+-- the type at the root, and Null where there is none
+abbrev pub kind_in : KindTree → DataType
+kind_in typed = members_or kinds.Null typed
 
 -- how many levels a tree has
 abbrev mutual

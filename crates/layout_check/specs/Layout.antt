@@ -2,47 +2,33 @@
 -- ("Arrow Columnar Format", "Physical memory layout").
 use Rattle.std.specs.Prelude.{ℕ, zero, suc, ◌+◌, ◌-◌, ◌*◌, ◌≤◌, ◌/◌, ℤ, pos, negsuc, Bool, true, false, nat_lt, max, ◌==◌, ◌||◌, if◌then◌else◌, List, [], length, take, drop, get_or, Option, Some, None}
 use Rattle.fmt_string.specs.declared.kind.DataType.{DataType}
-use Rattle.fmt_string.specs.declared.kind.DataType.TheVariants as kinds
 use Rattle.fmt_string.specs.declared.kind.Tick.{Tick}
-use Rattle.fmt_string.specs.declared.kind.Tick.TheVariants.{Second, Milli, Micro, Nano}
+use Rattle.fmt_string.specs.declared.storage.Storage.{Storage}
+use Rattle.fmt_string.specs.declared.storage.Storage.TheVariants as stored
+use Rattle.fmt_string.specs.Storage.{storage_of, time_bits}
 use Rattle.bit_pack.specs.Packed.{bit, number_at, meant, offset_width}
 use Rattle.raw_array.specs.Members.{ArrayMembers, bytes_in}
 use Rattle.layout_check.specs.declared.layout.Layout.{Layout}
 use Rattle.layout_check.specs.declared.layout.Layout.TheVariants.{NoBuffers, FixedWidth, TruthBits, ByOffsets, ListOffsets, FixedItems, ByChildren, Views}
 
-abbrev pub time_width : Tick → ℕ
-time_width Second = 4
-time_width Milli = 4
-time_width Micro = 8
-time_width Nano = 8
+abbrev pub laid_out : Storage → Layout
+laid_out stored.Nothing = NoBuffers
+laid_out stored.Truths = TruthBits
+laid_out (stored.Wholes bits signed) = FixedWidth (bits / 8)
+laid_out (stored.Floats bits) = FixedWidth (bits / 8)
+laid_out (stored.Sized size) = FixedWidth size
+laid_out (stored.Between wide text) = ByOffsets wide
+laid_out (stored.Lists wide) = ListOffsets wide
+laid_out (stored.FixedLists size) = FixedItems size
+laid_out stored.Children = ByChildren
+laid_out (stored.Views text) = Views
 
-abbrev pub decimal_width : Bool → ℕ
-decimal_width false = 16
-decimal_width true = 32
-
+-- the layout of a type's arrays, by how its values are stored
 abbrev pub layout_of : DataType → Layout
-layout_of kinds.Null = NoBuffers
-layout_of kinds.Bool = TruthBits
-layout_of (kinds.Int bits signed) = FixedWidth (bits / 8)
-layout_of (kinds.Float bits) = FixedWidth (bits / 8)
-layout_of (kinds.Binary wide) = ByOffsets wide
-layout_of (kinds.Utf8 wide) = ByOffsets wide
-layout_of (kinds.FixedBinary size) = FixedWidth size
-layout_of (kinds.Decimal precision scale wide) = FixedWidth (decimal_width wide)
-layout_of kinds.DateDay = FixedWidth 4
-layout_of kinds.DateMilli = FixedWidth 8
-layout_of (kinds.TimeOfDay tick) = FixedWidth (time_width tick)
-layout_of (kinds.Timestamp tick zone) = FixedWidth 8
-layout_of (kinds.Duration tick) = FixedWidth 8
-layout_of kinds.IntervalMonths = FixedWidth 4
-layout_of kinds.IntervalDayTime = FixedWidth 8
-layout_of kinds.IntervalMonthDayNano = FixedWidth 16
-layout_of (kinds.List wide) = ListOffsets wide
-layout_of (kinds.FixedList size) = FixedItems size
-layout_of kinds.Struct = ByChildren
-layout_of kinds.Map = ListOffsets false
-layout_of kinds.BinaryView = Views
-layout_of kinds.Utf8View = Views
+layout_of kind = laid_out (storage_of kind)
+
+abbrev pub time_width : Tick → ℕ
+time_width tick = time_bits tick / 8
 
 -- how many buffers an array with so many must have: of views as many as it has, and at least validity, the views and the
 -- lengths

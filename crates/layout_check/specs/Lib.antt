@@ -1,5 +1,7 @@
 pub mod Kinds
 pub mod Layout
+pub mod Formed
+pub mod NodeView
 pub mod Views
 pub mod Rules
 pub mod Walk
@@ -13,3 +15,4 @@ pub mod Scans
 pub mod Within
 pub mod ColumnKinds
 pub mod ColumnSchema
+pub mod Lawful

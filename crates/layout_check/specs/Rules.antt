@@ -46,19 +46,24 @@ abbrev pub one_if : {X : Type 0} → Option X → ℕ
 one_if (Some x) = 1
 one_if None = 0
 
+-- an absent buffer of which so many bytes are needed
+abbrev pub missing : ℕ → ArrayMembers → ℕ → Option Numbers
+missing needed own k = fault_if (not (is_some (buffer own k)) && nat_lt 0 needed) k (pos 0) (pos needed)
+
+-- a present buffer that has fewer bytes than are needed
+abbrev pub too_short : ℕ → ArrayMembers → ℕ → Option Numbers
+too_short needed own k =
+    let found = length (bytes own k) in
+    fault_if (is_some (buffer own k) && nat_lt found needed) k (pos found) (pos needed)
+
 -- an absent buffer, other than validity, of which something is needed
 abbrev pub buffer_absent : Layout → ArrayMembers → ℕ → Option Numbers
 buffer_absent layout own zero = None
-buffer_absent layout own (suc k) =
-    let needed = need layout own (suc k) in
-    fault_if (not (is_some (buffer own (suc k))) && nat_lt 0 needed) (suc k) (pos 0) (pos needed)
+buffer_absent layout own (suc k) = missing (need layout own (suc k)) own (suc k)
 
 -- a present buffer that is shorter than its need
 abbrev pub buffer_short : Layout → ArrayMembers → ℕ → Option Numbers
-buffer_short layout own k =
-    let needed = need layout own k in
-    let found = length (bytes own k) in
-    fault_if (is_some (buffer own k) && nat_lt found needed) k (pos found) (pos needed)
+buffer_short layout own k = too_short (need layout own k) own k
 
 -- the first fault of the numbers below n
 abbrev pub first_below : (ℕ → Option Numbers) → ℕ → Option Numbers

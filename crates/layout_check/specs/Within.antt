@@ -1,29 +1,29 @@
 -- What is read of a lawful array lies within its buffers, its children and its dictionary ("Arrow Columnar Format",
 -- "Physical memory layout").
-use Rattle.std.specs.Prelude.{ℕ, ◌+◌, ◌*◌, ◌/◌, ◌<◌, ◌≤◌, ◌≤ℤ◌, pos, Bool, IsTrue, length}
+use Rattle.std.specs.Prelude.{ℕ, ◌+◌, ◌*◌, ◌/◌, ◌<◌, ◌≤◌, ◌≤ℤ◌, pos, Bool, IsTrue, List, length}
 use Rattle.fmt_string.specs.declared.kind.DataType.{DataType}
 use Rattle.fmt_string.specs.declared.kind.DataType.TheVariants as kinds
 use Rattle.bit_pack.specs.Packed.{offset_width}
 use Rattle.raw_array.specs.Members.{ArrayMembers, ArrayTree}
 use Rattle.layout_check.specs.declared.layout.Layout.{Layout}
 use Rattle.layout_check.specs.declared.layout.Layout.TheVariants.{NoBuffers, FixedWidth, TruthBits, ByOffsets, ListOffsets, FixedItems, ByChildren, Views}
-use Rattle.layout_check.specs.Layout.{natural, bytes, offset, is_valid, stored_number, view_width, data_buffers, data_length, data_place}
+use Rattle.layout_check.specs.Layout.{natural, bytes, offset, offset_in, is_valid, stored_number, view_width, data_buffers, data_length, data_place}
 use Rattle.layout_check.specs.Views.{view_length, view_buffer, view_offset, is_long}
 use Rattle.layout_check.specs.Values.{tree_items}
 
 -- the offset at a place and the one behind it are there, the first is at least 0, and the second no less than it
-pub record OffsetsRise (wide : Bool) (own : ArrayMembers) (place : ℕ) : Type 0 where
-  pub there : (place + 1 + 1) * offset_width wide ≤ length (bytes own 1)
-  pub from : pos 0 ≤ℤ offset wide own place
-  pub rise : offset wide own place ≤ℤ offset wide own (place + 1)
+pub record OffsetsRise (wide : Bool) (offsets : List ℕ) (place : ℕ) : Type 0 where
+  pub there : (place + 1 + 1) * offset_width wide ≤ length offsets
+  pub from : pos 0 ≤ℤ offset_in wide offsets place
+  pub rise : offset_in wide offsets place ≤ℤ offset_in wide offsets (place + 1)
 
 -- what the buffers have of the item at a place
 abbrev pub StoredWithin : Layout → ArrayMembers → ℕ → Type 0
 StoredWithin NoBuffers own place = Unit {0}
 StoredWithin (FixedWidth width) own place = (place + 1) * width ≤ length (bytes own 1)
 StoredWithin TruthBits own place = place < 8 * length (bytes own 1)
-StoredWithin (ByOffsets wide) own place = OffsetsRise wide own place × (offset wide own (place + 1) ≤ℤ pos (length (bytes own 2)))
-StoredWithin (ListOffsets wide) own place = OffsetsRise wide own place
+StoredWithin (ByOffsets wide) own place = OffsetsRise wide (bytes own 1) place × (offset wide own (place + 1) ≤ℤ pos (length (bytes own 2)))
+StoredWithin (ListOffsets wide) own place = OffsetsRise wide (bytes own 1) place
 StoredWithin (FixedItems size) own place = Unit {0}
 StoredWithin ByChildren own place = Unit {0}
 StoredWithin Views own place = (place + 1) * view_width ≤ length (bytes own 1)

@@ -1,61 +1,24 @@
-ghost use Rattle.std.specs.Prelude.{◌≡◌, None, if◌then◌else◌, ◌==◌, int_lt, ◌+◌, ◌*◌, ◌^◌, ◌<◌, ◌≤◌, ◌≤ℤ◌, pos, length, Option};
+//! What an array needs of its buffers, and whether it has that: buffers that are there, long enough, and with offsets
+//! that rise.
+ghost use Rattle.std.specs.Prelude.{◌≡◌, None, not, ◌&&◌, is_some, nat_lt, if◌then◌else◌, ◌==◌, int_lt, ◌+◌, ◌*◌, ◌^◌, ◌<◌, ◌≤◌, pos, length, Option};
 ghost use Rattle.bit_pack.specs.Packed.{offset_width};
 ghost use Rattle.tree_model.specs.Tree.{IsLive};
 ghost use Rattle.raw_array.specs.Members.{ArrayTree, members_of};
-ghost use Rattle.layout_check.specs.Layout.{natural, first, items, offset as offset_is, end, bytes as bytes_at, offsets_need as offsets_needed, data_need as data_needed, named_need as named_needed, need as needed_of, buffer_count as count_of};
-ghost use Rattle.layout_check.specs.Rules.{offsets_fall_if, is_behind_offsets, buffer_absent as absent_at, fault_if, offset_falls as falls_at, offsets_fall as fall_of, buffer_short as short_at, first_below};
+ghost use Rattle.layout_check.specs.NodeView.{own_of};
+ghost use Rattle.layout_check.specs.Layout.{natural, items, offset, end, bytes, offsets_need, data_need, named_need, need, buffer_count};
+ghost use Rattle.layout_check.specs.Rules.{missing, too_short, offsets_fall_if, is_behind_offsets, buffer_absent, fault_if, offset_falls, offsets_fall, buffer_short, first_below};
 
-use crate::layout::{Layout, buffer_count};
+use crate::layout::Layout;
+use crate::node::FormedNode;
 use crate::rule::Numbers;
 use crate::scans::offsets_rise;
 use crate::views::{data_buffers, data_length};
 use bit_pack::offset_at;
 use raw_array::RawArray;
 
-/// The place behind the window's last item.
-pub fn window_end(array: &RawArray) -> u64
-    requires live { IsLive array.now }
-    requires length { pos 0 ≤ℤ (members_of array.now).length }
-    requires offset { pos 0 ≤ℤ (members_of array.now).offset }
-    ensures { result ≡ end (members_of array.now) }
-{
-    array.offset() as u64 + array.length() as u64
-}
-
-/// The place of the window's first item.
-pub fn window_start(array: &RawArray) -> u64
-    requires live { IsLive array.now }
-    requires length { pos 0 ≤ℤ (members_of array.now).length }
-    requires offset { pos 0 ≤ℤ (members_of array.now).offset }
-    ensures { result ≡ first (members_of array.now) }
-{
-    array.offset() as u64
-}
-
-/// The number of the window's items.
-pub fn window_len(array: &RawArray) -> u64
-    requires live { IsLive array.now }
-    requires length { pos 0 ≤ℤ (members_of array.now).length }
-    ensures { result ≡ items (members_of array.now) }
-{
-    array.length() as u64
-}
-
-/// A buffer's bytes, and none where it is absent.
-pub fn bytes(array: &RawArray, k: usize) -> &[u8]
-    requires live { IsLive array.now }
-    requires inside { k < length (members_of array.now).buffers }
-    ensures { result.now ≡ bytes_at (members_of array.now) k }
-{
-    match array.buffer(k) {
-        Some(bytes) => bytes,
-        None => &[],
-    }
-}
-
 fn offsets_need(wide: bool, end: u128) -> u128
     requires { end < 2 ^ 64 }
-    ensures need { result ≡ offsets_needed wide end }
+    ensures need { result ≡ offsets_need wide end }
     ensures bound { result < 2 ^ 68 }
 {
     if end == 0 {
@@ -67,16 +30,13 @@ fn offsets_need(wide: bool, end: u128) -> u128
     }
 }
 
-fn data_need(wide: bool, array: &RawArray) -> u128
-    requires live { IsLive array.now }
-    requires length { pos 0 ≤ℤ (members_of array.now).length }
-    requires offset { pos 0 ≤ℤ (members_of array.now).offset }
-    requires offsets { 1 < length (members_of array.now).buffers }
-    ensures need { result ≡ data_needed wide (members_of array.now) }
+fn data_need(wide: bool, node: &FormedNode) -> u128
+    requires offsets { 1 < length (own_of node.now).buffers }
+    ensures need { result ≡ data_need wide (own_of node.now) }
     ensures bound { result < 2 ^ 68 }
 {
-    let end = window_end(array);
-    let offsets = bytes(array, 1);
+    let end = node.stop;
+    let offsets = node.bytes(1);
     if end == 0 {
         return 0;
     }
@@ -95,45 +55,40 @@ pub fn wide_need(end: u64, width: u32) -> u128
 }
 
 /// What a data buffer of views needs, counted from the first, and the lengths behind the last.
-fn named_need(array: &RawArray, k: usize) -> u128
-    requires live { IsLive array.now }
-    requires buffers { 3 ≤ length (members_of array.now).buffers }
-    ensures need { result ≡ named_needed (members_of array.now) k }
+fn named_need(node: &FormedNode, k: usize) -> u128
+    requires buffers { 3 ≤ length (own_of node.now).buffers }
+    ensures need { result ≡ named_need (own_of node.now) k }
     ensures bound { result < 2 ^ 64 }
 {
-    let count = data_buffers(array);
+    let count = data_buffers(node);
     let needed = count as u128 * 8;
     if k >= count {
         return needed;
     }
-    if (bytes(array, count + 2).len() as u128) < needed {
+    if (node.bytes(count + 2).len() as u128) < needed {
         return 0;
     }
-    u128::from(data_length(array, k))
+    u128::from(data_length(node, k))
 }
 
 /// How many bytes of its k-th buffer an array needs.
 #[tactic(auto, using(crate::proofs::Long::some_views))]
-fn need(layout: Layout, array: &RawArray, k: usize) -> u128
-    requires live { IsLive array.now }
-    requires length { pos 0 ≤ℤ (members_of array.now).length }
-    requires offset { pos 0 ≤ℤ (members_of array.now).offset }
-    requires count { length (members_of array.now).buffers ≡ count_of layout (length (members_of array.now).buffers) }
-    ensures need { result ≡ needed_of layout (members_of array.now) k }
+fn need(node: &FormedNode, k: usize) -> u128
+    ensures need { result ≡ need node.now.layout (own_of node.now) k }
     ensures bound { result < 2 ^ 97 }
 {
-    let end = window_end(array);
+    let end = node.stop;
     if k == 0 {
         return (u128::from(end) + 7) / 8;
     }
-    match layout {
+    match node.layout {
         Layout::FixedWidth { width } => wide_need(end, width),
         Layout::TruthBits => (u128::from(end) + 7) / 8,
         Layout::ByOffsets { wide } => {
             if k == 1 {
                 offsets_need(wide, u128::from(end))
             } else {
-                data_need(wide, array)
+                data_need(wide, node)
             }
         }
         Layout::ListOffsets { wide } => offsets_need(wide, u128::from(end)),
@@ -141,22 +96,43 @@ fn need(layout: Layout, array: &RawArray, k: usize) -> u128
             if k == 1 {
                 wide_need(end, 16)
             } else {
-                named_need(array, k - 2)
+                named_need(node, k - 2)
             }
         }
         Layout::NoBuffers | Layout::FixedItems { .. } | Layout::ByChildren => 0,
     }
 }
 
-fn buffer_short(layout: Layout, array: &RawArray, k: usize) -> Option<Numbers>
+/// An absent buffer of which so many bytes are needed: at the buffer, 0 and the need.
+pub fn missing(needed: u128, array: &RawArray, k: usize) -> Option<Numbers>
     requires live { IsLive array.now }
-    requires length { pos 0 ≤ℤ (members_of array.now).length }
-    requires offset { pos 0 ≤ℤ (members_of array.now).offset }
-    requires count { length (members_of array.now).buffers ≡ count_of layout (length (members_of array.now).buffers) }
-    requires inside { k < count_of layout (length (members_of array.now).buffers) }
-    ensures { result ≡ short_at layout (members_of array.now) k }
+    requires inside { k < length (members_of array.now).buffers }
+    requires bound { needed < 2 ^ 97 }
+    ensures { result ≡ missing needed (members_of array.now) k }
 {
-    let needed = need(layout, array, k);
+    match array.buffer(k) {
+        Some(_) => None,
+        None => {
+            if needed > 0 {
+                Some(Numbers {
+                    place: k as u64,
+                    left: 0,
+                    right: needed as i128,
+                })
+            } else {
+                None
+            }
+        }
+    }
+}
+
+/// A buffer that is there and has fewer bytes than are needed: at the buffer, its length and the need.
+pub fn too_short(needed: u128, array: &RawArray, k: usize) -> Option<Numbers>
+    requires live { IsLive array.now }
+    requires inside { k < length (members_of array.now).buffers }
+    requires bound { needed < 2 ^ 97 }
+    ensures { result ≡ too_short needed (members_of array.now) k }
+{
     match array.buffer(k) {
         Some(bytes) => {
             let found = bytes.len();
@@ -174,44 +150,30 @@ fn buffer_short(layout: Layout, array: &RawArray, k: usize) -> Option<Numbers>
     }
 }
 
-fn buffer_absent(layout: Layout, array: &RawArray, k: usize) -> Option<Numbers>
-    requires live { IsLive array.now }
-    requires length { pos 0 ≤ℤ (members_of array.now).length }
-    requires offset { pos 0 ≤ℤ (members_of array.now).offset }
-    requires count { length (members_of array.now).buffers ≡ count_of layout (length (members_of array.now).buffers) }
-    requires inside { k < count_of layout (length (members_of array.now).buffers) }
-    ensures { result ≡ absent_at layout (members_of array.now) k }
+fn buffer_short(node: &FormedNode, k: usize) -> Option<Numbers>
+    requires { k < length (own_of node.now).buffers }
+    ensures { result ≡ buffer_short node.now.layout (own_of node.now) k }
+{
+    too_short(need(node, k), node.array, k)
+}
+
+fn buffer_absent(node: &FormedNode, k: usize) -> Option<Numbers>
+    requires { k < length (own_of node.now).buffers }
+    ensures { result ≡ buffer_absent node.now.layout (own_of node.now) k }
 {
     if k == 0 {
-        return None;
-    }
-    let needed = need(layout, array, k);
-    match array.buffer(k) {
-        Some(_) => None,
-        None => {
-            if needed > 0 {
-                Some(Numbers {
-                    place: k as u64,
-                    left: 0,
-                    right: needed as i128,
-                })
-            } else {
-                None
-            }
-        }
+        None
+    } else {
+        missing(need(node, k), node.array, k)
     }
 }
 
 /// The first absent buffer of which something is needed.
-pub fn buffers_absent(layout: Layout, array: &RawArray) -> Option<Numbers>
-    requires live { IsLive array.now }
-    requires length { pos 0 ≤ℤ (members_of array.now).length }
-    requires offset { pos 0 ≤ℤ (members_of array.now).offset }
-    requires count { length (members_of array.now).buffers ≡ count_of layout (length (members_of array.now).buffers) }
-    ensures { result ≡ first_below (absent_at layout (members_of array.now)) (count_of layout (length (members_of array.now).buffers)) }
+pub fn buffers_absent(node: &FormedNode) -> Option<Numbers>
+    ensures { result ≡ first_below (buffer_absent node.now.layout (own_of node.now)) (buffer_count node.now.layout (length (own_of node.now).buffers)) }
 {
-    for k in 0..buffer_count(layout, array.n_buffers() as usize) {
-        if let Some(numbers) = buffer_absent(layout, array, k) {
+    for k in 0..node.buffer_count() {
+        if let Some(numbers) = buffer_absent(node, k) {
             return Some(numbers);
         }
     }
@@ -219,15 +181,11 @@ pub fn buffers_absent(layout: Layout, array: &RawArray) -> Option<Numbers>
 }
 
 /// The first buffer that is shorter than its need.
-pub fn buffers_short(layout: Layout, array: &RawArray) -> Option<Numbers>
-    requires live { IsLive array.now }
-    requires length { pos 0 ≤ℤ (members_of array.now).length }
-    requires offset { pos 0 ≤ℤ (members_of array.now).offset }
-    requires count { length (members_of array.now).buffers ≡ count_of layout (length (members_of array.now).buffers) }
-    ensures { result ≡ first_below (short_at layout (members_of array.now)) (count_of layout (length (members_of array.now).buffers)) }
+pub fn buffers_short(node: &FormedNode) -> Option<Numbers>
+    ensures { result ≡ first_below (buffer_short node.now.layout (own_of node.now)) (buffer_count node.now.layout (length (own_of node.now).buffers)) }
 {
-    for k in 0..buffer_count(layout, array.n_buffers() as usize) {
-        if let Some(numbers) = buffer_short(layout, array, k) {
+    for k in 0..node.buffer_count() {
+        if let Some(numbers) = buffer_short(node, k) {
             return Some(numbers);
         }
     }
@@ -235,30 +193,26 @@ pub fn buffers_short(layout: Layout, array: &RawArray) -> Option<Numbers>
 }
 
 /// The offset at a place of the offsets buffer.
-pub fn offset_of(wide: bool, array: &RawArray, place: u64) -> i64
-    requires live { IsLive array.now }
-    requires offsets { 1 < length (members_of array.now).buffers }
-    requires long { (place + 1) * offset_width wide ≤ length (bytes_at (members_of array.now) 1) }
-    ensures { result ≡ offset_is wide (members_of array.now) place }
+pub fn offset_of(wide: bool, node: &FormedNode, place: u64) -> i64
+    requires offsets { 1 < length (own_of node.now).buffers }
+    requires long { (place + 1) * offset_width wide ≤ length (bytes (own_of node.now) 1) }
+    ensures { result ≡ offset wide (own_of node.now) place }
 {
-    offset_at(bytes(array, 1), place as usize, wide)
+    offset_at(node.bytes(1), place as usize, wide)
 }
 
 /// The offset at the window's end, and 0 where no place lies before it.
-pub fn last_offset(wide: bool, array: &RawArray) -> u128
-    requires live { IsLive array.now }
-    requires length { pos 0 ≤ℤ (members_of array.now).length }
-    requires offset { pos 0 ≤ℤ (members_of array.now).offset }
-    requires offsets { 1 < length (members_of array.now).buffers }
-    requires long { offsets_needed wide (end (members_of array.now)) ≤ length (bytes_at (members_of array.now) 1) }
-    ensures last { result ≡ (if end (members_of array.now) == 0 then 0 else natural (offset_is wide (members_of array.now) (end (members_of array.now)))) }
+pub fn last_offset(wide: bool, node: &FormedNode) -> u128
+    requires offsets { 1 < length (own_of node.now).buffers }
+    requires long { offsets_need wide (end (own_of node.now)) ≤ length (bytes (own_of node.now) 1) }
+    ensures last { result ≡ (if end (own_of node.now) == 0 then 0 else natural (offset wide (own_of node.now) (end (own_of node.now)))) }
     ensures bound { result < 2 ^ 68 }
 {
-    let end = window_end(array);
+    let end = node.stop;
     if end == 0 {
         return 0;
     }
-    let offset = offset_of(wide, array, end);
+    let offset = offset_of(wide, node, end);
     if offset < 0 { 0 } else { offset as u128 }
 }
 
@@ -276,35 +230,28 @@ fn fall(i: u64, here: i64, next: i64) -> Option<Numbers>
     }
 }
 
-fn offset_falls(wide: bool, array: &RawArray, i: u64) -> Option<Numbers>
-    requires live { IsLive array.now }
-    requires length { pos 0 ≤ℤ (members_of array.now).length }
-    requires offset { pos 0 ≤ℤ (members_of array.now).offset }
-    requires offsets { 1 < length (members_of array.now).buffers }
-    requires inside { i < items (members_of array.now) }
-    requires bound { end (members_of array.now) < 2 ^ 64 }
-    requires long { (end (members_of array.now) + 1) * offset_width wide ≤ length (bytes_at (members_of array.now) 1) }
-    ensures { result ≡ falls_at wide (members_of array.now) i }
+fn offset_falls(wide: bool, node: &FormedNode, i: u64) -> Option<Numbers>
+    requires offsets { 1 < length (own_of node.now).buffers }
+    requires inside { i < items (own_of node.now) }
+    requires long { (end (own_of node.now) + 1) * offset_width wide ≤ length (bytes (own_of node.now) 1) }
+    ensures { result ≡ offset_falls wide (own_of node.now) i }
 {
-    let place = window_start(array) + i;
-    let here = offset_of(wide, array, place);
-    let next = offset_of(wide, array, place + 1);
+    let place = node.start + i;
+    let here = offset_of(wide, node, place);
+    let next = offset_of(wide, node, place + 1);
     fall(i, here, next)
 }
 
 /// An offset below 0 at the first item, or the first item whose offset is above the next one.
-pub fn offsets_fall(wide: bool, array: &RawArray) -> Option<Numbers>
-    requires live { IsLive array.now }
-    requires length { pos 0 ≤ℤ (members_of array.now).length }
-    requires offset { pos 0 ≤ℤ (members_of array.now).offset }
-    requires offsets { 1 < length (members_of array.now).buffers }
-    requires long { offsets_needed wide (end (members_of array.now)) ≤ length (bytes_at (members_of array.now) 1) }
-    ensures { result ≡ fall_of wide (members_of array.now) }
+pub fn offsets_fall(wide: bool, node: &FormedNode) -> Option<Numbers>
+    requires offsets { 1 < length (own_of node.now).buffers }
+    requires long { offsets_need wide (end (own_of node.now)) ≤ length (bytes (own_of node.now) 1) }
+    ensures { result ≡ offsets_fall wide (own_of node.now) }
 {
-    if window_end(array) == 0 {
+    if node.stop == 0 {
         return None;
     }
-    let first = offset_of(wide, array, window_start(array));
+    let first = offset_of(wide, node, node.start);
     if first < 0 {
         return Some(Numbers {
             place: 0,
@@ -312,44 +259,39 @@ pub fn offsets_fall(wide: bool, array: &RawArray) -> Option<Numbers>
             right: i128::from(first),
         });
     }
-    let start = window_start(array) as usize;
-    let end = window_end(array) as usize;
-    if offsets_rise(wide, bytes(array, 1), start, end - start) {
+    if offsets_rise(
+        wide,
+        node.bytes(1),
+        node.start as usize,
+        node.len() as usize,
+    ) {
         return None;
     }
-    first_fall(wide, array)
+    first_fall(wide, node)
 }
 
 /// The offsets of a layout that has some, once its buffers are long enough.
 #[tactic(auto, using(crate::proofs::Long::long))]
-pub fn layout_falls(layout: Layout, array: &RawArray) -> Option<Numbers>
-    requires live { IsLive array.now }
-    requires length { pos 0 ≤ℤ (members_of array.now).length }
-    requires offset { pos 0 ≤ℤ (members_of array.now).offset }
-    requires count { length (members_of array.now).buffers ≡ count_of layout (length (members_of array.now).buffers) }
-    requires there { first_below (absent_at layout (members_of array.now)) (count_of layout (length (members_of array.now).buffers)) ≡ None }
-    requires enough { first_below (short_at layout (members_of array.now)) (count_of layout (length (members_of array.now).buffers)) ≡ None }
-    ensures { result ≡ offsets_fall_if (is_behind_offsets layout) (members_of array.now) }
+pub fn layout_falls(node: &FormedNode) -> Option<Numbers>
+    requires there { first_below (buffer_absent node.now.layout (own_of node.now)) (buffer_count node.now.layout (length (own_of node.now).buffers)) ≡ None }
+    requires enough { first_below (buffer_short node.now.layout (own_of node.now)) (buffer_count node.now.layout (length (own_of node.now).buffers)) ≡ None }
+    ensures { result ≡ offsets_fall_if (is_behind_offsets node.now.layout) (own_of node.now) }
 {
-    match layout {
-        Layout::ByOffsets { wide } => offsets_fall(wide, array),
-        Layout::ListOffsets { wide } => offsets_fall(wide, array),
+    match node.layout {
+        Layout::ByOffsets { wide } => offsets_fall(wide, node),
+        Layout::ListOffsets { wide } => offsets_fall(wide, node),
         _ => None,
     }
 }
 
 /// The first item whose offset is above the next one, item by item.
-pub(crate) fn first_fall(wide: bool, array: &RawArray) -> Option<Numbers>
-    requires live { IsLive array.now }
-    requires length { pos 0 ≤ℤ (members_of array.now).length }
-    requires offset { pos 0 ≤ℤ (members_of array.now).offset }
-    requires offsets { 1 < length (members_of array.now).buffers }
-    requires bound { end (members_of array.now) < 2 ^ 64 }
-    requires long { (end (members_of array.now) + 1) * offset_width wide ≤ length (bytes_at (members_of array.now) 1) }
-    ensures { result ≡ first_below (falls_at wide (members_of array.now)) (items (members_of array.now)) }
+pub(crate) fn first_fall(wide: bool, node: &FormedNode) -> Option<Numbers>
+    requires offsets { 1 < length (own_of node.now).buffers }
+    requires long { (end (own_of node.now) + 1) * offset_width wide ≤ length (bytes (own_of node.now) 1) }
+    ensures { result ≡ first_below (offset_falls wide (own_of node.now)) (items (own_of node.now)) }
 {
-    for i in 0..window_len(array) {
-        if let Some(numbers) = offset_falls(wide, array, i) {
+    for i in 0..node.len() {
+        if let Some(numbers) = offset_falls(wide, node, i) {
             return Some(numbers);
         }
     }

@@ -1,37 +1,36 @@
-ghost use Rattle.std.specs.Prelude.{◌≡◌, None, if◌then◌else◌, ◌==◌, ◌+◌, ◌*◌, ◌^◌, ◌<◌, ◌≤◌, ◌≤ℤ◌, pos, length, Option};
+//! How many items an array needs of its children, and the first child that has fewer.
+ghost use Rattle.std.specs.Prelude.{◌≡◌, None, ◌^◌, ◌<◌, length, Option};
 ghost use Rattle.tree_model.specs.Tree.{IsLive, children_of};
-ghost use Rattle.raw_array.specs.Members.{ArrayTree, members_of};
-ghost use Rattle.layout_check.specs.Layout.{natural, offset as offset_is, end, bytes as bytes_at, offsets_need as offsets_needed, buffer_count as count_of};
-ghost use Rattle.layout_check.specs.Rules.{buffer_absent as absent_at, buffer_short as short_at, first_below, items_need as items_needed, short_child as child_fault, live_length, child_short};
+ghost use Rattle.raw_array.specs.Members.{ArrayTree};
+ghost use Rattle.layout_check.specs.NodeView.{own_of};
+ghost use Rattle.layout_check.specs.Layout.{buffer_count};
+ghost use Rattle.layout_check.specs.Rules.{buffer_absent, buffer_short, first_below, items_need, short_child, live_length, child_short};
 
-use crate::buffers::{last_offset, wide_need, window_end};
+use crate::buffers::{last_offset, wide_need};
 use crate::layout::Layout;
+use crate::node::FormedNode;
 use crate::rule::Numbers;
 use raw_array::RawArray;
 
 /// How many items an array needs of each child.
 #[tactic(auto, using(crate::proofs::Long::long))]
-fn items_need(layout: Layout, array: &RawArray) -> u128
-    requires live { IsLive array.now }
-    requires length { pos 0 ≤ℤ (members_of array.now).length }
-    requires offset { pos 0 ≤ℤ (members_of array.now).offset }
-    requires count { length (members_of array.now).buffers ≡ count_of layout (length (members_of array.now).buffers) }
-    requires there { first_below (absent_at layout (members_of array.now)) (count_of layout (length (members_of array.now).buffers)) ≡ None }
-    requires enough { first_below (short_at layout (members_of array.now)) (count_of layout (length (members_of array.now).buffers)) ≡ None }
-    ensures need { result ≡ items_needed layout (members_of array.now) }
+fn items_need(node: &FormedNode) -> u128
+    requires there { first_below (buffer_absent node.now.layout (own_of node.now)) (buffer_count node.now.layout (length (own_of node.now).buffers)) ≡ None }
+    requires enough { first_below (buffer_short node.now.layout (own_of node.now)) (buffer_count node.now.layout (length (own_of node.now).buffers)) ≡ None }
+    ensures need { result ≡ items_need node.now.layout (own_of node.now) }
     ensures bound { result < 2 ^ 97 }
 {
-    match layout {
-        Layout::ListOffsets { wide } => last_offset(wide, array),
-        Layout::FixedItems { size } => wide_need(window_end(array), size),
-        Layout::ByChildren => u128::from(window_end(array)),
+    match node.layout {
+        Layout::ListOffsets { wide } => last_offset(wide, node),
+        Layout::FixedItems { size } => wide_need(node.stop, size),
+        Layout::ByChildren => u128::from(node.stop),
         _ => 0,
     }
 }
 
 fn short_child(needed: u128, k: usize, child: &RawArray) -> Option<Numbers>
     requires { needed < 2 ^ 97 }
-    ensures { result ≡ child_fault needed k (live_length child.now) }
+    ensures { result ≡ short_child needed k (live_length child.now) }
 {
     if child.is_released() {
         return None;
@@ -48,8 +47,9 @@ fn short_child(needed: u128, k: usize, child: &RawArray) -> Option<Numbers>
     }
 }
 
+/// The first live child that has fewer items than are needed: at the child, its length and the need.
 #[tactic(auto, using(crate::proofs::ChildSteps::steps))]
-fn first_short(needed: u128, array: &RawArray) -> Option<Numbers>
+pub fn first_short(needed: u128, array: &RawArray) -> Option<Numbers>
     requires live { IsLive array.now }
     requires bound { needed < 2 ^ 97 }
     ensures { result ≡ child_short needed 0 (children_of array.now) }
@@ -63,14 +63,10 @@ fn first_short(needed: u128, array: &RawArray) -> Option<Numbers>
 }
 
 /// The first child that is too short.
-pub fn children_short(layout: Layout, array: &RawArray) -> Option<Numbers>
-    requires live { IsLive array.now }
-    requires length { pos 0 ≤ℤ (members_of array.now).length }
-    requires offset { pos 0 ≤ℤ (members_of array.now).offset }
-    requires count { length (members_of array.now).buffers ≡ count_of layout (length (members_of array.now).buffers) }
-    requires there { first_below (absent_at layout (members_of array.now)) (count_of layout (length (members_of array.now).buffers)) ≡ None }
-    requires enough { first_below (short_at layout (members_of array.now)) (count_of layout (length (members_of array.now).buffers)) ≡ None }
-    ensures { result ≡ child_short (items_needed layout (members_of array.now)) 0 (children_of array.now) }
+pub fn children_short(node: &FormedNode) -> Option<Numbers>
+    requires there { first_below (buffer_absent node.now.layout (own_of node.now)) (buffer_count node.now.layout (length (own_of node.now).buffers)) ≡ None }
+    requires enough { first_below (buffer_short node.now.layout (own_of node.now)) (buffer_count node.now.layout (length (own_of node.now).buffers)) ≡ None }
+    ensures { result ≡ child_short (items_need node.now.layout (own_of node.now)) 0 (children_of node.now.array.now) }
 {
-    first_short(items_need(layout, array), array)
+    first_short(items_need(node), node.array)
 }

@@ -1,15 +1,17 @@
-ghost use Rattle.std.specs.Prelude.{◌≡◌, None, Some, IsOk, IsTrue, is_some, not, ◌&&◌, ◌↔◌, ◌≤ℤ◌, pos, ◌<◌, ℕ, length, Option};
-ghost use Rattle.tree_model.specs.Tree.{IsLive};
-ghost use Rattle.raw_array.specs.Members.{ArrayTree, members_of};
+//! Chunks: what is asked of an array that holds rows.
+ghost use Rattle.std.specs.Prelude.{◌≡◌, None, Some, IsOk, IsTrue, is_some, not, ◌&&◌, ◌↔◌, pos, ℕ, length, Option};
+ghost use Rattle.raw_array.specs.Members.{ArrayTree};
 ghost use Rattle.layout_check.specs.Kinds.{TypedOk};
 ghost use Rattle.layout_check.specs.declared.typed.Typed.{out-Typed};
 ghost use Rattle.layout_check.specs.TypedView.{typed_of};
-ghost use Rattle.layout_check.specs.Layout.{layout_of as layout_is, buffer_count as count_of, IsLongIfPresent};
-ghost use Rattle.layout_check.specs.Rules.{first_below, buffer_short as short_at};
+ghost use Rattle.layout_check.specs.Layout.{layout_of, buffer_count};
 ghost use Rattle.layout_check.specs.Found.{found};
-ghost use Rattle.layout_check.specs.Walk.{LayoutOk, ChunkOk, root_fault, first_chunk_fault, top_fault, is_struct as is_struct_kind, is_table as is_table_tree, nulls_in};
+ghost use Rattle.layout_check.specs.Values.{rows_of};
+ghost use Rattle.layout_check.specs.Walk.{LayoutOk, ChunkOk, root_fault, first_chunk_fault, top_fault, is_struct, is_table, nulls_in};
 
-use crate::layout::{buffer_count, layout_of};
+use crate::laws::lawful_root;
+use crate::layout::layout_of;
+use crate::node::FormedNode;
 use crate::nulls::null_total;
 use crate::rule::{LayoutFault, LayoutRule, Numbers, Path, ruled};
 use crate::typed::Typed;
@@ -37,27 +39,27 @@ pub fn nulls_of(typed: &Typed, array: &RawArray) -> i64
     ensures { result ≡ pos (nulls_in (typed_of typed.now) array.now) }
 {
     lawful_root(typed, array);
-    let length = array.length();
-    if buffer_count(layout_of(&typed.kind), array.n_buffers() as usize) == 0 {
-        length
+    let node = FormedNode::of(layout_of(&typed.kind), array);
+    if node.buffer_count() == 0 {
+        array.length()
     } else {
-        null_total(array) as i64
+        null_total(&node) as i64
     }
 }
 
-/// What holds of the root of a lawful array.
-fn lawful_root(typed: &Typed, array: &RawArray)
+/// How many items a lawful array's window has, which are the rows of a struct.
+#[tactic(auto, using(crate::proofs::TreeLaws::rows))]
+pub fn count_rows(typed: &Typed, array: &RawArray) -> i64
     requires { LayoutOk (typed_of typed.now) array.now }
-    ensures live { IsLive array.now }
-    ensures length { pos 0 ≤ℤ (members_of array.now).length }
-    ensures offset { pos 0 ≤ℤ (members_of array.now).offset }
-    ensures count { length (members_of array.now).buffers ≡ count_of (layout_is (out-Typed typed.now).kind) (length (members_of array.now).buffers) }
-    ensures long { 0 < count_of (layout_is (out-Typed typed.now).kind) (length (members_of array.now).buffers) → IsLongIfPresent (members_of array.now) }
-{}
+    ensures { result ≡ pos (length (rows_of (typed_of typed.now) array.now)) }
+{
+    lawful_root(typed, array);
+    array.length()
+}
 
 fn is_struct(kind: &DataType) -> bool
-    ensures exact { result ≡ is_struct_kind kind.now }
-    ensures buffers { IsTrue result → (found : ℕ) → count_of (layout_is kind.now) found ≡ 1 }
+    ensures exact { result ≡ is_struct kind.now }
+    ensures buffers { IsTrue result → (found : ℕ) → buffer_count (layout_of kind.now) found ≡ 1 }
 {
     matches!(kind, DataType::Struct)
 }
@@ -65,8 +67,8 @@ fn is_struct(kind: &DataType) -> bool
 /// The type is a struct without a dictionary.
 #[tactic(auto, using(crate::proofs::Chunks::tables))]
 fn is_table(typed: &Typed) -> bool
-    ensures exact { result ≡ is_table_tree (typed_of typed.now) }
-    ensures buffers { IsTrue result → (found : ℕ) → count_of (layout_is (out-Typed typed.now).kind) found ≡ 1 }
+    ensures exact { result ≡ is_table (typed_of typed.now) }
+    ensures buffers { IsTrue result → (found : ℕ) → buffer_count (layout_of (out-Typed typed.now).kind) found ≡ 1 }
 {
     is_struct(&typed.kind) && typed.dict.is_none()
 }
@@ -81,7 +83,7 @@ fn check_top(typed: &Typed, array: &RawArray) -> Result<(), LayoutFault>
     if !is_table(typed) {
         return top_ruled(LayoutRule::TopKind, 0);
     }
-    let nulls = null_total(array);
+    let nulls = null_total(&FormedNode::of(layout_of(&typed.kind), array));
     if nulls > 0 {
         return top_ruled(LayoutRule::TopNulls, nulls);
     }

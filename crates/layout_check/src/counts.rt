@@ -1,11 +1,11 @@
+//! The rules on an array's own numbers, and on how many parts it has.
 ghost use Rattle.std.specs.Prelude.{◌≡◌, ◌≤ℤ◌, ◌<◌, ◌-◌, ◌^◌, nat_lt, pos, IfNone, length, Option};
-ghost use Rattle.layout_check.specs.Layout.{end, buffer_count as count_of};
+ghost use Rattle.layout_check.specs.Layout.{buffer_count};
 ghost use Rattle.layout_check.specs.Rules.{fault_if, window_limit, is_negative, count_wrong, one_if};
 ghost use Rattle.std.specs.Global.{Box};
 ghost use Rattle.tree_model.specs.Tree.{IsLive, children_of, dictionary_of};
 ghost use Rattle.raw_array.specs.Members.{ArrayTree, members_of};
 
-use crate::buffers::window_end;
 use crate::layout::{Layout, buffer_count};
 use crate::rule::Numbers;
 use crate::typed::Typed;
@@ -14,6 +14,7 @@ use raw_array::RawArray;
 /// The most places that a window may lie in.
 const MOST_PLACES: u64 = 1 << 40;
 
+/// A number below 0: the number, and 0.
 pub fn negative(number: i64) -> Option<Numbers>
     ensures passed { IfNone result (pos 0 ≤ℤ number) }
     ensures fault { result ≡ fault_if (is_negative number) 0 number (pos 0) }
@@ -29,6 +30,7 @@ pub fn negative(number: i64) -> Option<Numbers>
     }
 }
 
+/// A number that has to be another: found and needed.
 pub fn wrong_count(found: usize, needed: usize) -> Option<Numbers>
     ensures { result ≡ count_wrong found needed }
 {
@@ -46,8 +48,8 @@ pub fn wrong_count(found: usize, needed: usize) -> Option<Numbers>
 /// The number of buffers is the layout's.
 pub fn buffers_wrong(layout: Layout, array: &RawArray) -> Option<Numbers>
     requires { IsLive array.now }
-    ensures passed { IfNone result (length (members_of array.now).buffers ≡ count_of layout (length (members_of array.now).buffers)) }
-    ensures fault { result ≡ count_wrong (length (members_of array.now).buffers) (count_of layout (length (members_of array.now).buffers)) }
+    ensures passed { IfNone result (length (members_of array.now).buffers ≡ buffer_count layout (length (members_of array.now).buffers)) }
+    ensures fault { result ≡ count_wrong (length (members_of array.now).buffers) (buffer_count layout (length (members_of array.now).buffers)) }
 {
     wrong_count(
         array.n_buffers() as usize,
@@ -80,18 +82,14 @@ pub fn dictionary_wrong(dict: &Option<Box<Typed>>, array: &RawArray) -> Option<N
     wrong_count(found, needed)
 }
 
-/// The places up to the window's end are at most 2^40.
-pub fn window_too_long(array: &RawArray) -> Option<Numbers>
-    requires live { IsLive array.now }
-    requires length { pos 0 ≤ℤ (members_of array.now).length }
-    requires offset { pos 0 ≤ℤ (members_of array.now).offset }
-    ensures { result ≡ fault_if (nat_lt window_limit (end (members_of array.now))) 0 (pos (end (members_of array.now))) (pos window_limit) }
+/// The places up to a window's end are at most 2^40: their number, and 2^40.
+pub fn window_too_long(stop: u64) -> Option<Numbers>
+    ensures { result ≡ fault_if (nat_lt window_limit stop) 0 (pos stop) (pos window_limit) }
 {
-    let end = window_end(array);
-    if end > MOST_PLACES {
+    if stop > MOST_PLACES {
         Some(Numbers {
             place: 0,
-            left: i128::from(end),
+            left: i128::from(stop),
             right: i128::from(MOST_PLACES),
         })
     } else {

@@ -7,10 +7,12 @@
 //!   dictionary. Its answer is the first rule that fails at the first node at which one does, with the way to that node,
 //!   a place and two numbers; or `Ok` exactly where no rule fails at any node.
 //! - [`check_chunk`] asks two things more of the root: a struct without a dictionary, and no null item.
-//! - [`nulls_of`] counts the null items of a lawful array's window.
+//! - [`nulls_of`] counts the null items of a lawful array's window, and [`count_rows`] its items.
 //! - Laws say what whoever reads a lawful array may rely on: what holds of its root ([`lawful_root`]), that its parts are
 //!   lawful ([`lawful_parts`]), and that what is read of an item lies within the buffers, the children and the dictionary
-//!   ([`lawful_items_lie_within`], `specs/Within.antt`).
+//!   ([`lawful_items_lie_within`], `specs/Within.antt`). [`lawful_trees`] and [`chunks_are_tables`] say it over all trees.
+//! - Rules of layouts that aren't among the [`Layout`]s are made of [`negative`], [`wrong_count`], [`missing`],
+//!   [`too_short`], [`first_short`] and [`window_too_long`], which take what is needed as a number.
 //!
 //! The calls on arrays take no memory, and none writes. Numbers of bytes and places are computed without bounds, so no sum
 //! wraps. What the rules say stands in `specs/Schemas.antt` and `specs/Rules.antt`, the walk over arrays in
@@ -25,6 +27,9 @@ mod counts;
 mod indices;
 mod laws;
 mod layout;
+#[cfg(test)]
+mod layout_tests;
+mod node;
 mod nulls;
 mod rule;
 mod runs;
@@ -43,12 +48,16 @@ mod views;
 mod walk;
 mod worked_arrays;
 
-pub use chunk::{check_chunk, nulls_of};
+pub use buffers::{missing, too_short};
+pub use children::first_short;
+pub use chunk::{check_chunk, count_rows, nulls_of};
+pub use counts::{negative, window_too_long, wrong_count};
 pub use laws::{
-    kinds_of_typed, lawful_has_no_fault, lawful_items_lie_within, lawful_parts, lawful_root,
+    chunks_are_tables, kinds_of_typed, lawful_has_no_fault, lawful_items_lie_within, lawful_parts,
+    lawful_root, lawful_trees,
 };
 pub use layout::Layout;
-pub use rule::{DICTIONARY_STEP, LayoutFault, LayoutRule, Path, SchemaRule};
+pub use rule::{DICTIONARY_STEP, LayoutFault, LayoutRule, Numbers, Path, SchemaRule};
 pub use schema::{SchemaFault, check_schema, kinds_are_valid, one_schema_answer};
 pub use typed::Typed;
 pub use walk::check_array;

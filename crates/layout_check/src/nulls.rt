@@ -1,49 +1,40 @@
-ghost use Rattle.std.specs.Prelude.{◌≡◌, ◌+◌, ◌*◌, ◌^◌, ◌<◌, ◌≤◌, ◌≤ℤ◌, pos, ◌==◌, length, Option};
-ghost use Rattle.tree_model.specs.Tree.{IsLive};
-ghost use Rattle.raw_array.specs.Members.{ArrayTree, members_of};
-ghost use Rattle.layout_check.specs.Layout.{end, items, is_valid as is_valid_at, buffer_count as count_of, IsLongIfPresent};
-ghost use Rattle.layout_check.specs.Rules.{fault_if, null_total as null_sum, null_count_wrong as count_fault, null_count_wrong_in, first_below, buffer_short as short_at};
-ghost use Rattle.bit_pack.specs.Packed.{bit};
-ghost use Rattle.std.specs.Prelude.{None, not, ◌&&◌, negsuc};
+//! The null items of a window, and the rule on their number.
+ghost use Rattle.std.specs.Prelude.{◌≡◌, None, not, ◌&&◌, ◌+◌, ◌*◌, ◌<◌, ◌==◌, pos, negsuc, length, Option};
 ghost use Rattle.std.specs.Ordering.{int_eq};
+ghost use Rattle.bit_pack.specs.Packed.{bit};
+ghost use Rattle.layout_check.specs.NodeView.{own_of};
+ghost use Rattle.layout_check.specs.Layout.{items, is_valid, buffer_count, IsLongIfPresent};
+ghost use Rattle.layout_check.specs.Rules.{fault_if, null_total, null_count_wrong, null_count_wrong_in, first_below, buffer_short};
 
-use crate::buffers::{window_end, window_start};
-use crate::layout::{Layout, buffer_count};
+use crate::node::FormedNode;
 use crate::rule::Numbers;
 use bit_pack::{bit_at, count_clear};
-use raw_array::RawArray;
 
 /// How many items of the window are null.
 #[tactic(auto, using(crate::proofs::NullSums::nulls))]
-pub fn null_total(array: &RawArray) -> u64
-    requires live { IsLive array.now }
-    requires length { pos 0 ≤ℤ (members_of array.now).length }
-    requires offset { pos 0 ≤ℤ (members_of array.now).offset }
-    requires validity { 0 < length (members_of array.now).buffers }
-    requires long { IsLongIfPresent (members_of array.now) }
-    ensures { result ≡ null_sum (members_of array.now) (items (members_of array.now)) }
+pub fn null_total(node: &FormedNode) -> u64
+    requires validity { 0 < length (own_of node.now).buffers }
+    requires long { IsLongIfPresent (own_of node.now) }
+    ensures { result ≡ null_total (own_of node.now) (items (own_of node.now)) }
 {
-    let start = window_start(array);
-    let end = window_end(array);
-    match array.buffer(0) {
-        Some(validity) => count_clear(validity, start as usize, (end - start) as usize) as u64,
+    match node.array.buffer(0) {
+        Some(validity) => {
+            let len = node.stop - node.start;
+            count_clear(validity, node.start as usize, len as usize) as u64
+        }
         None => 0,
     }
 }
 
 /// An item is null where its bit is clear.
-pub fn is_valid(array: &RawArray, i: u64) -> bool
-    requires live { IsLive array.now }
-    requires length { pos 0 ≤ℤ (members_of array.now).length }
-    requires offset { pos 0 ≤ℤ (members_of array.now).offset }
-    requires bound { end (members_of array.now) < 2 ^ 64 }
-    requires inside { i < items (members_of array.now) }
-    requires buffers { 0 < length (members_of array.now).buffers }
-    requires long { IsLongIfPresent (members_of array.now) }
-    ensures { result ≡ is_valid_at (members_of array.now) i }
+pub fn is_valid(node: &FormedNode, i: u64) -> bool
+    requires inside { i < items (own_of node.now) }
+    requires buffers { 0 < length (own_of node.now).buffers }
+    requires long { IsLongIfPresent (own_of node.now) }
+    ensures { result ≡ is_valid (own_of node.now) i }
 {
-    let place = window_start(array) + i;
-    match array.buffer(0) {
+    let place = node.start + i;
+    match node.array.buffer(0) {
         Some(validity) => is_set(validity, place as usize),
         None => true,
     }
@@ -71,34 +62,27 @@ fn known_count_wrong(found: i64, nulls: u64) -> Option<Numbers>
 }
 
 /// A number of nulls that is known has to be right. Nothing is counted where it isn't known.
-fn null_count_wrong(array: &RawArray) -> Option<Numbers>
-    requires live { IsLive array.now }
-    requires length { pos 0 ≤ℤ (members_of array.now).length }
-    requires offset { pos 0 ≤ℤ (members_of array.now).offset }
-    requires validity { 0 < length (members_of array.now).buffers }
-    requires long { IsLongIfPresent (members_of array.now) }
-    ensures { result ≡ count_fault (members_of array.now) }
+fn null_count_wrong(node: &FormedNode) -> Option<Numbers>
+    requires validity { 0 < length (own_of node.now).buffers }
+    requires long { IsLongIfPresent (own_of node.now) }
+    ensures { result ≡ null_count_wrong (own_of node.now) }
 {
-    let found = array.null_count();
+    let found = node.array.null_count();
     if found == -1 {
         return None;
     }
-    known_count_wrong(found, null_total(array))
+    known_count_wrong(found, null_total(node))
 }
 
 /// The number of nulls, which is not tried where the layout has no buffer.
 #[tactic(auto, using(crate::proofs::Long::valid, crate::proofs::NullSums::by_layout))]
-pub fn nulls_wrong(layout: Layout, array: &RawArray) -> Option<Numbers>
-    requires live { IsLive array.now }
-    requires length { pos 0 ≤ℤ (members_of array.now).length }
-    requires offset { pos 0 ≤ℤ (members_of array.now).offset }
-    requires count { length (members_of array.now).buffers ≡ count_of layout (length (members_of array.now).buffers) }
-    requires enough { first_below (short_at layout (members_of array.now)) (count_of layout (length (members_of array.now).buffers)) ≡ None }
-    ensures { result ≡ null_count_wrong_in layout (members_of array.now) }
+pub fn nulls_wrong(node: &FormedNode) -> Option<Numbers>
+    requires enough { first_below (buffer_short node.now.layout (own_of node.now)) (buffer_count node.now.layout (length (own_of node.now).buffers)) ≡ None }
+    ensures { result ≡ null_count_wrong_in node.now.layout (own_of node.now) }
 {
-    if buffer_count(layout, array.n_buffers() as usize) == 0 {
+    if node.buffer_count() == 0 {
         None
     } else {
-        null_count_wrong(array)
+        null_count_wrong(node)
     }
 }

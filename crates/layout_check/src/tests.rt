@@ -1,13 +1,15 @@
+//! Tests of the check of arrays, by small trees.
 ghost use Rattle.std.specs.Prelude.{◌≡◌, ◌+◌, ◌≤◌, max, map, length, None, Option};
 ghost use Rattle.std.specs.Global.{Box};
 ghost use Rattle.fmt_string.specs.Kinds.{KindOk};
-ghost use Rattle.tree_model.specs.Tree.{IsLive, trees, maybe_tree, no_trees, absent, present, more_trees, depth_of_all, depth_of_maybe};
-ghost use Rattle.layout_check.specs.Kinds.{levels, most_levels, dictionary_levels, KidsOk, DictOk, NodesOk, AllNodesOk, DictNodesOk};
+ghost use Rattle.tree_model.specs.Tree.{IsLive, Live, trees, maybe_tree, no_trees, absent, present, more_trees, depth_of_all, depth_of_maybe};
+ghost use Rattle.layout_check.specs.Kinds.{levels, most_levels, dictionary_levels, KidsOk, DictOk, NodesOk, AllNodesOk, DictNodesOk, IsPairOfColumns};
 ghost use Rattle.layout_check.specs.TypedView.{typed_of, dict_in};
 
-use crate::buffers::{buffers_absent, buffers_short, first_fall, layout_falls, window_end};
+use crate::buffers::{buffers_absent, buffers_short, first_fall, layout_falls};
 use crate::chunk::{check_chunk, nulls_of};
-use crate::layout::Layout;
+use crate::layout::{Layout, buffer_count};
+use crate::node::FormedNode;
 use crate::rule::{DICTIONARY_STEP, LayoutFault, LayoutRule};
 use crate::texts::{first_bad_text, texts_wrong};
 use crate::typed::Typed;
@@ -22,13 +24,14 @@ use unit_pass::{Desk, Pass, SUPPLY, open_desk};
 // ---- types
 
 #[tactic(auto, using(crate::proofs::MadeTypes::made))]
-fn node(kind: DataType, kids: Vec<Typed>, dict: Option<Box<Typed>>) -> Typed
+pub(crate) fn node(kind: DataType, kids: Vec<Typed>, dict: Option<Box<Typed>>) -> Typed
     requires type_ok { KindOk kind }
     requires kids_ok { KidsOk kind (trees (map typed_of kids.items)) }
     requires dict_ok { DictOk kind (maybe_tree (dict_in dict)) }
     requires below { AllNodesOk (trees (map typed_of kids.items)) }
     requires behind { DictNodesOk (maybe_tree (dict_in dict)) }
     ensures ok { NodesOk (typed_of result) }
+    ensures made { typed_of result ≡ Live kind (trees (map typed_of kids.items)) (maybe_tree (dict_in dict)) }
     ensures levels { levels (typed_of result) ≡ max (most_levels (trees (map typed_of kids.items))) (dictionary_levels (maybe_tree (dict_in dict))) + 1 }
 {
     Typed { kind, dict, kids }
@@ -57,7 +60,7 @@ fn struct_of(rt: &impl Abort, alloc: Global, kid: Typed) -> Typed
 }
 
 /// Indices into a dictionary.
-fn indexed(rt: &impl Abort, alloc: Global, dict: Typed) -> Typed
+pub(crate) fn indexed(rt: &impl Abort, alloc: Global, dict: Typed) -> Typed
     requires { NodesOk (typed_of dict) }
     ensures ok { NodesOk (typed_of result) }
     ensures levels { levels (typed_of result) ≡ levels (typed_of dict) + 1 }
@@ -73,10 +76,11 @@ fn indexed(rt: &impl Abort, alloc: Global, dict: Typed) -> Typed
 }
 
 /// A struct over two columns.
-fn struct_of_two(rt: &impl Abort, alloc: Global, first: Typed, second: Typed) -> Typed
+pub(crate) fn struct_of_two(rt: &impl Abort, alloc: Global, first: Typed, second: Typed) -> Typed
     requires first { NodesOk (typed_of first) }
     requires second { NodesOk (typed_of second) }
     ensures ok { NodesOk (typed_of result) }
+    ensures pair { IsPairOfColumns (typed_of result) }
     ensures levels { levels (typed_of result) ≡ max (levels (typed_of first)) (levels (typed_of second)) + 1 }
 {
     let mut kids = Vec::new(alloc);
@@ -89,7 +93,7 @@ fn struct_of_two(rt: &impl Abort, alloc: Global, first: Typed, second: Typed) ->
     }
 }
 
-fn int32(alloc: Global) -> Typed
+pub(crate) fn int32(alloc: Global) -> Typed
     ensures ok { NodesOk (typed_of result) }
     ensures levels { levels (typed_of result) ≡ 1 }
 {
@@ -128,7 +132,7 @@ fn few_levels_behind(rt: &impl Abort, dictionary: &Option<RawArray>)
     }
 }
 
-fn listed<T>(rt: &impl Abort, items: &mut Vec<T>, item: T) {
+pub(crate) fn listed<T>(rt: &impl Abort, items: &mut Vec<T>, item: T) {
     match items.push(item) {
         Ok(()) => {}
         Err(_failed) => panic!(rt; "no memory"),
@@ -153,7 +157,7 @@ fn view(rt: &impl Abort, alloc: Global, bytes: &[u8], pass: &mut Pass) -> BufVie
 }
 
 /// An array's length, number of nulls and offset.
-type Window = (i64, i64, i64);
+pub(crate) type Window = (i64, i64, i64);
 
 fn built(rt: &impl Abort, alloc: Global, parts: ArrayParts, pass: &mut Pass) -> RawArray {
     few_levels(rt, &parts.children);
@@ -167,7 +171,7 @@ fn built(rt: &impl Abort, alloc: Global, parts: ArrayParts, pass: &mut Pass) -> 
     }
 }
 
-fn array(
+pub(crate) fn array(
     rt: &impl Abort,
     alloc: Global,
     window: Window,
@@ -221,7 +225,12 @@ fn over(
 }
 
 /// No index, before a dictionary.
-fn before(rt: &impl Abort, alloc: Global, dictionary: RawArray, pass: &mut Pass) -> RawArray {
+pub(crate) fn before(
+    rt: &impl Abort,
+    alloc: Global,
+    dictionary: RawArray,
+    pass: &mut Pass,
+) -> RawArray {
     array(
         rt,
         alloc,
@@ -267,7 +276,7 @@ pub(crate) fn found(rt: &impl Abort, answer: Result<(), LayoutFault>, want: Want
 }
 
 /// The fault of an array as it stands, under a struct, and behind a dictionary.
-fn found_at_each_place(
+pub(crate) fn found_at_each_place(
     rt: &impl Abort,
     alloc: Global,
     typed: Typed,
@@ -423,7 +432,7 @@ fn each_rule_has_its_fault_at_each_place(rt: HostRuntime) {
 }
 
 /// The fault of an array of some parts.
-fn parts_found(
+pub(crate) fn parts_found(
     rt: &impl Abort,
     alloc: Global,
     typed: Typed,
@@ -570,22 +579,29 @@ fn a_chunk_is_a_table_without_null_rows(rt: HostRuntime) {
     closed(&rt, desk, pass);
 }
 
-/// Items by a scan over the whole buffer, and one by one.
-#[tactic(auto, using(crate::proofs::Long::long))]
-fn both_ways(rt: &impl Abort, array: &RawArray) {
-    let layout = Layout::ByOffsets { wide: false };
-    let kind = DataType::Utf8 { wide: false };
+/// A node whose first rules hold.
+pub(crate) fn formed<'a>(rt: &impl Abort, layout: Layout, array: &'a RawArray) -> FormedNode<'a>
+    ensures layout { result.layout ≡ layout }
+{
     assert!(rt; !array.is_released());
     assert!(rt; array.length() >= 0);
     assert!(rt; array.offset() >= 0);
-    assert!(rt; array.n_buffers() == 3);
-    assert!(rt; buffers_absent(layout, array).is_none());
-    assert!(rt; buffers_short(layout, array).is_none());
-    assert!(rt; window_end(array) > 0);
-    let falls = layout_falls(layout, array);
-    assert_eq!(rt; falls, first_fall(false, array));
+    assert!(rt; array.n_buffers() as usize == buffer_count(layout, array.n_buffers() as usize));
+    FormedNode::of(layout, array)
+}
+
+/// Items by a scan over the whole buffer, and one by one.
+#[tactic(auto, using(crate::proofs::Long::long))]
+fn both_ways(rt: &impl Abort, array: &RawArray) {
+    let kind = DataType::Utf8 { wide: false };
+    let node = formed(rt, Layout::ByOffsets { wide: false }, array);
+    assert!(rt; buffers_absent(&node).is_none());
+    assert!(rt; buffers_short(&node).is_none());
+    assert!(rt; node.stop > 0);
+    let falls = layout_falls(&node);
+    assert_eq!(rt; falls, first_fall(false, &node));
     assert!(rt; falls.is_none());
-    assert_eq!(rt; texts_wrong(&kind, array), first_bad_text(false, array));
+    assert_eq!(rt; texts_wrong(&kind, &node), first_bad_text(false, &node));
 }
 
 #[test]

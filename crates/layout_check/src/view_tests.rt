@@ -1,4 +1,5 @@
 //! Hostile views, each with its rule, place and numbers, and lawful ones that look like them.
+ghost use Rattle.std.specs.Prelude.{◌≡◌, ◌≤◌};
 ghost use Rattle.layout_check.specs.Kinds.{NodesOk, levels};
 ghost use Rattle.layout_check.specs.TypedView.{typed_of};
 
@@ -35,7 +36,7 @@ const VIEWS: [u8; 32] = [
 fn changed(at: usize, new: [u8; 4]) -> [u8; 32] {
     let mut views = VIEWS;
     for (k, byte) in new.iter().enumerate() {
-        if at + k < views.len() {
+        if at < views.len() && k < views.len() - at {
             views[at + k] = *byte;
         }
     }
@@ -43,28 +44,38 @@ fn changed(at: usize, new: [u8; 4]) -> [u8; 32] {
 }
 
 const MINUS_ONE: [u8; 4] = [255; 4];
+
 const THIRTEEN: [u8; 8] = [13, 0, 0, 0, 0, 0, 0, 0];
 
+const FOURTEEN: [u8; 8] = [14, 0, 0, 0, 0, 0, 0, 0];
+
 /// Two views over one data buffer.
-fn views_found(rt: &impl Abort, alloc: Global, views: &[u8], data: &[u8], size: &[u8], want: Want) {
+fn views_found<'x>(
+    rt: &impl Abort,
+    alloc: Global,
+    views: &'x [u8],
+    data: &'x [u8],
+    size: &'x [u8],
+    want: Want,
+) {
     let bytes = [None, Some(views), Some(data), Some(size)];
     leaf_found(rt, alloc, texts(alloc), (2, -1, 0), &bytes, want);
 }
 
-fn views_taken(
+fn views_taken<'x>(
     rt: &impl Abort,
     alloc: Global,
     typed: Typed,
-    validity: Option<&[u8]>,
-    views: &[u8],
-    data: &[u8],
+    validity: Option<&'x [u8]>,
+    views: &'x [u8],
+    data: &'x [u8],
+    size: &'x [u8],
 )
     requires ok { NodesOk (typed_of typed) }
     requires few { levels (typed_of typed) ≤ 9 }
 {
     let (desk, mut pass) = open_desk();
-    let size = [data.len() as u8, 0, 0, 0, 0, 0, 0, 0];
-    let buffers = [validity, Some(views), Some(data), Some(size.as_slice())];
+    let buffers = [validity, Some(views), Some(data), Some(size)];
     let array = leaf(rt, alloc, (2, -1, 0), &buffers, &mut pass);
     taken(rt, typed, array, &mut pass);
     closed(rt, desk, pass);
@@ -173,12 +184,60 @@ fn views_that_are_lawful(rt: HostRuntime) {
     let first = [0b01u8];
     let first = Some(first.as_slice());
     let data: &[u8] = b"hello, world!";
-    views_taken(&rt, alloc, texts(alloc), first, &changed(16, MINUS_ONE), data);
-    views_taken(&rt, alloc, texts(alloc), first, &changed(20, MINUS_ONE), data);
-    views_taken(&rt, alloc, texts(alloc), first, &changed(24, MINUS_ONE), data);
-    views_taken(&rt, alloc, texts(alloc), None, &VIEWS, b"hello, world!\xff");
-    views_taken(&rt, alloc, texts(alloc), None, &changed(8, MINUS_ONE), data);
-    views_taken(&rt, alloc, bytes(alloc), None, &VIEWS, b"hell\xff, world!");
+    views_taken(
+        &rt,
+        alloc,
+        texts(alloc),
+        first,
+        &changed(16, MINUS_ONE),
+        data,
+        &THIRTEEN,
+    );
+    views_taken(
+        &rt,
+        alloc,
+        texts(alloc),
+        first,
+        &changed(20, MINUS_ONE),
+        data,
+        &THIRTEEN,
+    );
+    views_taken(
+        &rt,
+        alloc,
+        texts(alloc),
+        first,
+        &changed(24, MINUS_ONE),
+        data,
+        &THIRTEEN,
+    );
+    views_taken(
+        &rt,
+        alloc,
+        texts(alloc),
+        None,
+        &VIEWS,
+        b"hello, world!\xff",
+        &FOURTEEN,
+    );
+    views_taken(
+        &rt,
+        alloc,
+        texts(alloc),
+        None,
+        &changed(8, MINUS_ONE),
+        data,
+        &THIRTEEN,
+    );
+    views_taken(
+        &rt,
+        alloc,
+        bytes(alloc),
+        None,
+        &VIEWS,
+        b"hell\xff, world!",
+        &THIRTEEN,
+    );
 }
 
 // ---- views that overlap

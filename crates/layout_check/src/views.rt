@@ -1,103 +1,83 @@
 //! The rules on the places and the prefixes of views, item by item.
 ghost use Rattle.std.specs.Prelude.{◌≡◌, ◌==◌, not, nat_lt, None, IsTrue, true, ◌+◌, ◌*◌, ◌^◌, ◌<◌, ◌≤◌, ◌≤ℤ◌, pos, length, Option};
 ghost use Rattle.bit_pack.specs.Packed.{meant};
-ghost use Rattle.tree_model.specs.Tree.{IsLive};
-ghost use Rattle.raw_array.specs.Members.{ArrayTree, members_of};
-ghost use Rattle.layout_check.specs.Layout.{buffer_count as count_of, layout_of as layout_is, items, end, bytes as bytes_at, is_valid as is_valid_at, IsLongIfPresent, view_width, data_buffers as data_count, data_lengths as lengths_bytes, lengths_need as lengths_needed, data_length as data_size};
-ghost use Rattle.layout_check.specs.Views.{view_number, view_length as length_is, view_prefix as prefix_is, view_buffer as buffer_is, view_offset as offset_is, view_data as data_is, is_long};
-ghost use Rattle.layout_check.specs.Rules.{fault as fault_is, fault_if, is_outside as outside_is, first_below, named_outside as outside_at, view_outside as view_fault, misplaced as misplaced_at, prefix_wrong as prefix_fault, views_misplaced as misplaced_views, prefixes_wrong as wrong_prefixes, buffer_absent as absent_at, buffer_short as short_at};
+ghost use Rattle.layout_check.specs.NodeView.{own_of};
+ghost use Rattle.layout_check.specs.Layout.{buffer_count, layout_of, items, end, bytes, is_valid, IsLongIfPresent, view_width, data_buffers, data_lengths, lengths_need, data_length};
+ghost use Rattle.layout_check.specs.Views.{view_number, view_length, view_prefix, view_buffer, view_offset, view_data, is_long};
+ghost use Rattle.layout_check.specs.Rules.{fault, fault_if, is_outside, first_below, named_outside, view_outside, misplaced, prefix_wrong, views_misplaced, prefixes_wrong, buffer_absent, buffer_short};
 ghost use Rattle.layout_check.specs.Within.{DataWithin, AreThere};
 
-use crate::buffers::{bytes, window_end, window_start};
 use crate::layout::Layout;
+use crate::node::FormedNode;
 use crate::nulls::is_valid;
 use crate::rule::Numbers;
 use bit_pack::{offset_at, unsigned_at};
-use raw_array::RawArray;
 
 /// The longest item that stands in its view.
 pub const MOST_IN_VIEW: i64 = 12;
 
 /// How many data buffers there are.
-pub fn data_buffers(array: &RawArray) -> usize
-    requires live { IsLive array.now }
-    requires buffers { 3 ≤ length (members_of array.now).buffers }
-    ensures count { result ≡ data_count (members_of array.now) }
+pub fn data_buffers(node: &FormedNode) -> usize
+    requires buffers { 3 ≤ length (own_of node.now).buffers }
+    ensures count { result ≡ data_buffers (own_of node.now) }
     ensures few { result < 2 ^ 32 }
 {
-    array.n_buffers() as usize - 3
+    node.array.n_buffers() as usize - 3
 }
 
 /// What the lengths say of a data buffer.
-pub fn data_length(array: &RawArray, k: usize) -> u64
-    requires live { IsLive array.now }
-    requires buffers { 3 ≤ length (members_of array.now).buffers }
-    requires inside { k < data_count (members_of array.now) }
-    requires lengths { lengths_needed (members_of array.now) ≤ length (lengths_bytes (members_of array.now)) }
-    ensures size { result ≡ data_size (members_of array.now) k }
+pub fn data_length(node: &FormedNode, k: usize) -> u64
+    requires buffers { 3 ≤ length (own_of node.now).buffers }
+    requires inside { k < data_buffers (own_of node.now) }
+    requires lengths { lengths_need (own_of node.now) ≤ length (data_lengths (own_of node.now)) }
+    ensures size { result ≡ data_length (own_of node.now) k }
     ensures bound { result < 2 ^ 63 }
 {
-    let size = offset_at(bytes(array, data_buffers(array) + 2), k, true);
+    let size = offset_at(node.bytes(data_buffers(node) + 2), k, true);
     if size < 0 { 0 } else { size as u64 }
 }
 
 /// One of the four numbers of an item's view.
-fn view_word(array: &RawArray, i: u64, word: usize) -> i64
-    requires live { IsLive array.now }
-    requires length { pos 0 ≤ℤ (members_of array.now).length }
-    requires offset { pos 0 ≤ℤ (members_of array.now).offset }
-    requires buffers { 3 ≤ length (members_of array.now).buffers }
-    requires bound { end (members_of array.now) < 2 ^ 64 }
-    requires inside { i < items (members_of array.now) }
-    requires long { end (members_of array.now) * view_width ≤ length (bytes_at (members_of array.now) 1) }
+fn view_word(node: &FormedNode, i: u64, word: usize) -> i64
+    requires buffers { 3 ≤ length (own_of node.now).buffers }
+    requires inside { i < items (own_of node.now) }
+    requires long { end (own_of node.now) * view_width ≤ length (bytes (own_of node.now) 1) }
     requires four { word < 4 }
-    ensures { result ≡ meant 4 true (view_number (members_of array.now) i word) }
+    ensures { result ≡ meant 4 true (view_number (own_of node.now) i word) }
 {
-    let place = (window_start(array) + i) as usize;
-    offset_at(bytes(array, 1), place * 4 + word, false)
+    let place = (node.start + i) as usize;
+    offset_at(node.bytes(1), place * 4 + word, false)
 }
 
-pub fn view_length(array: &RawArray, i: u64) -> i64
-    requires live { IsLive array.now }
-    requires length { pos 0 ≤ℤ (members_of array.now).length }
-    requires offset { pos 0 ≤ℤ (members_of array.now).offset }
-    requires buffers { 3 ≤ length (members_of array.now).buffers }
-    requires bound { end (members_of array.now) < 2 ^ 64 }
-    requires inside { i < items (members_of array.now) }
-    requires long { end (members_of array.now) * view_width ≤ length (bytes_at (members_of array.now) 1) }
-    ensures { result ≡ length_is (members_of array.now) i }
+pub fn view_length(node: &FormedNode, i: u64) -> i64
+    requires buffers { 3 ≤ length (own_of node.now).buffers }
+    requires inside { i < items (own_of node.now) }
+    requires long { end (own_of node.now) * view_width ≤ length (bytes (own_of node.now) 1) }
+    ensures { result ≡ view_length (own_of node.now) i }
 {
-    view_word(array, i, 0)
+    view_word(node, i, 0)
 }
 
-pub fn view_buffer(array: &RawArray, i: u64) -> i64
-    requires live { IsLive array.now }
-    requires length { pos 0 ≤ℤ (members_of array.now).length }
-    requires offset { pos 0 ≤ℤ (members_of array.now).offset }
-    requires buffers { 3 ≤ length (members_of array.now).buffers }
-    requires bound { end (members_of array.now) < 2 ^ 64 }
-    requires inside { i < items (members_of array.now) }
-    requires long { end (members_of array.now) * view_width ≤ length (bytes_at (members_of array.now) 1) }
-    ensures { result ≡ buffer_is (members_of array.now) i }
+pub fn view_buffer(node: &FormedNode, i: u64) -> i64
+    requires buffers { 3 ≤ length (own_of node.now).buffers }
+    requires inside { i < items (own_of node.now) }
+    requires long { end (own_of node.now) * view_width ≤ length (bytes (own_of node.now) 1) }
+    ensures { result ≡ view_buffer (own_of node.now) i }
 {
-    view_word(array, i, 2)
+    view_word(node, i, 2)
 }
 
-pub fn view_offset(array: &RawArray, i: u64) -> i64
-    requires live { IsLive array.now }
-    requires length { pos 0 ≤ℤ (members_of array.now).length }
-    requires offset { pos 0 ≤ℤ (members_of array.now).offset }
-    requires buffers { 3 ≤ length (members_of array.now).buffers }
-    requires bound { end (members_of array.now) < 2 ^ 64 }
-    requires inside { i < items (members_of array.now) }
-    requires long { end (members_of array.now) * view_width ≤ length (bytes_at (members_of array.now) 1) }
-    ensures { result ≡ offset_is (members_of array.now) i }
+pub fn view_offset(node: &FormedNode, i: u64) -> i64
+    requires buffers { 3 ≤ length (own_of node.now).buffers }
+    requires inside { i < items (own_of node.now) }
+    requires long { end (own_of node.now) * view_width ≤ length (bytes (own_of node.now) 1) }
+    ensures { result ≡ view_offset (own_of node.now) i }
 {
-    view_word(array, i, 3)
+    view_word(node, i, 3)
 }
 
 fn fault(i: u64, left: i128, right: i128) -> Option<Numbers>
-    ensures { result ≡ fault_is i left right }
+    ensures { result ≡ fault i left right }
 {
     Some(Numbers {
         place: i,
@@ -109,7 +89,7 @@ fn fault(i: u64, left: i128, right: i128) -> Option<Numbers>
 /// A number that is no place of so many.
 fn is_outside(total: usize, index: i64) -> bool
     requires { total < 2 ^ 32 }
-    ensures { result ≡ outside_is (pos total) index }
+    ensures { result ≡ is_outside (pos total) index }
 {
     index < 0 || index >= total as i64
 }
@@ -127,87 +107,70 @@ fn ends_behind(i: u64, size: u64, to: u64) -> Option<Numbers>
 
 /// A long view that names no data.
 #[tactic(auto, using(crate::proofs::Named::named))]
-fn named_outside(array: &RawArray, i: u64) -> Option<Numbers>
-    requires live { IsLive array.now }
-    requires length { pos 0 ≤ℤ (members_of array.now).length }
-    requires offset { pos 0 ≤ℤ (members_of array.now).offset }
-    requires buffers { 3 ≤ length (members_of array.now).buffers }
-    requires bound { end (members_of array.now) < 2 ^ 64 }
-    requires inside { i < items (members_of array.now) }
-    requires long { end (members_of array.now) * view_width ≤ length (bytes_at (members_of array.now) 1) }
-    requires lengths { lengths_needed (members_of array.now) ≤ length (lengths_bytes (members_of array.now)) }
-    requires size { pos 0 ≤ℤ length_is (members_of array.now) i }
-    ensures { result ≡ outside_at (members_of array.now) i }
+fn named_outside(node: &FormedNode, i: u64) -> Option<Numbers>
+    requires buffers { 3 ≤ length (own_of node.now).buffers }
+    requires inside { i < items (own_of node.now) }
+    requires long { end (own_of node.now) * view_width ≤ length (bytes (own_of node.now) 1) }
+    requires lengths { lengths_need (own_of node.now) ≤ length (data_lengths (own_of node.now)) }
+    requires size { pos 0 ≤ℤ view_length (own_of node.now) i }
+    ensures { result ≡ named_outside (own_of node.now) i }
 {
-    let count = data_buffers(array);
-    let buffer = view_buffer(array, i);
+    let count = data_buffers(node);
+    let buffer = view_buffer(node, i);
     if is_outside(count, buffer) {
         return fault(i, i128::from(buffer), count as i128);
     }
-    let from = view_offset(array, i);
+    let from = view_offset(node, i);
     if from < 0 {
         return fault(i, i128::from(from), 0);
     }
-    let to = from as u64 + view_length(array, i) as u64;
-    ends_behind(i, data_length(array, buffer as usize), to)
+    let to = from as u64 + view_length(node, i) as u64;
+    ends_behind(i, data_length(node, buffer as usize), to)
 }
 
 /// A view with a length below 0, or a long one that names no data.
-fn view_outside(array: &RawArray, i: u64) -> Option<Numbers>
-    requires live { IsLive array.now }
-    requires length { pos 0 ≤ℤ (members_of array.now).length }
-    requires offset { pos 0 ≤ℤ (members_of array.now).offset }
-    requires buffers { 3 ≤ length (members_of array.now).buffers }
-    requires bound { end (members_of array.now) < 2 ^ 64 }
-    requires inside { i < items (members_of array.now) }
-    requires long { end (members_of array.now) * view_width ≤ length (bytes_at (members_of array.now) 1) }
-    requires lengths { lengths_needed (members_of array.now) ≤ length (lengths_bytes (members_of array.now)) }
-    ensures { result ≡ view_fault (members_of array.now) i }
+fn view_outside(node: &FormedNode, i: u64) -> Option<Numbers>
+    requires buffers { 3 ≤ length (own_of node.now).buffers }
+    requires inside { i < items (own_of node.now) }
+    requires long { end (own_of node.now) * view_width ≤ length (bytes (own_of node.now) 1) }
+    requires lengths { lengths_need (own_of node.now) ≤ length (data_lengths (own_of node.now)) }
+    ensures { result ≡ view_outside (own_of node.now) i }
 {
-    let size = view_length(array, i);
+    let size = view_length(node, i);
     if size < 0 {
         fault(i, i128::from(size), 0)
     } else if size > MOST_IN_VIEW {
-        named_outside(array, i)
+        named_outside(node, i)
     } else {
         None
     }
 }
 
-fn misplaced(array: &RawArray, i: u64) -> Option<Numbers>
-    requires live { IsLive array.now }
-    requires length { pos 0 ≤ℤ (members_of array.now).length }
-    requires offset { pos 0 ≤ℤ (members_of array.now).offset }
-    requires buffers { 3 ≤ length (members_of array.now).buffers }
-    requires bound { end (members_of array.now) < 2 ^ 64 }
-    requires validity { IsLongIfPresent (members_of array.now) }
-    requires inside { i < items (members_of array.now) }
-    requires long { end (members_of array.now) * view_width ≤ length (bytes_at (members_of array.now) 1) }
-    requires lengths { lengths_needed (members_of array.now) ≤ length (lengths_bytes (members_of array.now)) }
-    ensures { result ≡ misplaced_at (members_of array.now) i }
+fn misplaced(node: &FormedNode, i: u64) -> Option<Numbers>
+    requires buffers { 3 ≤ length (own_of node.now).buffers }
+    requires validity { IsLongIfPresent (own_of node.now) }
+    requires inside { i < items (own_of node.now) }
+    requires long { end (own_of node.now) * view_width ≤ length (bytes (own_of node.now) 1) }
+    requires lengths { lengths_need (own_of node.now) ≤ length (data_lengths (own_of node.now)) }
+    ensures { result ≡ misplaced (own_of node.now) i }
 {
-    if is_valid(array, i) {
-        view_outside(array, i)
+    if is_valid(node, i) {
+        view_outside(node, i)
     } else {
         None
     }
 }
 
 /// The first valid view that names no data.
-pub fn first_misplaced(array: &RawArray) -> Option<Numbers>
-    requires live { IsLive array.now }
-    requires length { pos 0 ≤ℤ (members_of array.now).length }
-    requires offset { pos 0 ≤ℤ (members_of array.now).offset }
-    requires buffers { 3 ≤ length (members_of array.now).buffers }
-    requires validity { IsLongIfPresent (members_of array.now) }
-    requires long { end (members_of array.now) * view_width ≤ length (bytes_at (members_of array.now) 1) }
-    requires lengths { lengths_needed (members_of array.now) ≤ length (lengths_bytes (members_of array.now)) }
-    ensures { result ≡ first_below (misplaced_at (members_of array.now)) (items (members_of array.now)) }
+pub fn first_misplaced(node: &FormedNode) -> Option<Numbers>
+    requires buffers { 3 ≤ length (own_of node.now).buffers }
+    requires validity { IsLongIfPresent (own_of node.now) }
+    requires long { end (own_of node.now) * view_width ≤ length (bytes (own_of node.now) 1) }
+    requires lengths { lengths_need (own_of node.now) ≤ length (data_lengths (own_of node.now)) }
+    ensures { result ≡ first_below (misplaced (own_of node.now)) (items (own_of node.now)) }
 {
-    let start = window_start(array);
-    let end = window_end(array);
-    for i in 0..end - start {
-        if let Some(numbers) = misplaced(array, i) {
+    for i in 0..node.len() {
+        if let Some(numbers) = misplaced(node, i) {
             return Some(numbers);
         }
     }
@@ -215,42 +178,34 @@ pub fn first_misplaced(array: &RawArray) -> Option<Numbers>
 }
 
 /// The bytes of an item.
-pub fn view_data(array: &RawArray, i: u64) -> &[u8]
-    requires live { IsLive array.now }
-    requires length { pos 0 ≤ℤ (members_of array.now).length }
-    requires offset { pos 0 ≤ℤ (members_of array.now).offset }
-    requires buffers { 3 ≤ length (members_of array.now).buffers }
-    requires bound { end (members_of array.now) < 2 ^ 64 }
-    requires inside { i < items (members_of array.now) }
-    requires long { end (members_of array.now) * view_width ≤ length (bytes_at (members_of array.now) 1) }
-    requires within { DataWithin (members_of array.now) i }
-    ensures bytes { result.now ≡ data_is (members_of array.now) i }
-    ensures size { pos (length result.now) ≡ length_is (members_of array.now) i }
+pub fn view_data<'a>(node: &FormedNode<'a>, i: u64) -> &'a [u8]
+    requires buffers { 3 ≤ length (own_of node.now).buffers }
+    requires inside { i < items (own_of node.now) }
+    requires long { end (own_of node.now) * view_width ≤ length (bytes (own_of node.now) 1) }
+    requires within { DataWithin (own_of node.now) i }
+    ensures bytes { result.now ≡ view_data (own_of node.now) i }
+    ensures size { pos (length result.now) ≡ view_length (own_of node.now) i }
 {
-    let size = view_length(array, i);
+    let size = view_length(node, i);
     if size > MOST_IN_VIEW {
-        let from = view_offset(array, i) as usize;
-        let place = view_buffer(array, i) as usize + 2;
-        &bytes(array, place)[from..from + size as usize]
+        let from = view_offset(node, i) as usize;
+        let place = view_buffer(node, i) as usize + 2;
+        &node.bytes(place)[from..from + size as usize]
     } else {
-        let views = bytes(array, 1);
-        let from = (window_start(array) + i) as usize * 16 + 4;
+        let views = node.bytes(1);
+        let from = (node.start + i) as usize * 16 + 4;
         &views[from..from + size as usize]
     }
 }
 
-fn view_prefix(array: &RawArray, i: u64) -> u64
-    requires live { IsLive array.now }
-    requires length { pos 0 ≤ℤ (members_of array.now).length }
-    requires offset { pos 0 ≤ℤ (members_of array.now).offset }
-    requires buffers { 3 ≤ length (members_of array.now).buffers }
-    requires bound { end (members_of array.now) < 2 ^ 64 }
-    requires inside { i < items (members_of array.now) }
-    requires long { end (members_of array.now) * view_width ≤ length (bytes_at (members_of array.now) 1) }
-    ensures { result ≡ prefix_is (members_of array.now) i }
+fn view_prefix(node: &FormedNode, i: u64) -> u64
+    requires buffers { 3 ≤ length (own_of node.now).buffers }
+    requires inside { i < items (own_of node.now) }
+    requires long { end (own_of node.now) * view_width ≤ length (bytes (own_of node.now) 1) }
+    ensures { result ≡ view_prefix (own_of node.now) i }
 {
-    let views = bytes(array, 1);
-    let place = (window_start(array) + i) as usize;
+    let views = node.bytes(1);
+    let place = (node.start + i) as usize;
     unsigned_at(views, (place * 4 + 1) * 4, 4)
 }
 
@@ -264,21 +219,17 @@ fn other_prefix(i: u64, prefix: u64, begin: u64) -> Option<Numbers>
     }
 }
 
-fn prefix_wrong(array: &RawArray, i: u64) -> Option<Numbers>
-    requires live { IsLive array.now }
-    requires length { pos 0 ≤ℤ (members_of array.now).length }
-    requires offset { pos 0 ≤ℤ (members_of array.now).offset }
-    requires buffers { 3 ≤ length (members_of array.now).buffers }
-    requires bound { end (members_of array.now) < 2 ^ 64 }
-    requires inside { i < items (members_of array.now) }
-    requires long { end (members_of array.now) * view_width ≤ length (bytes_at (members_of array.now) 1) }
-    requires validity { IsLongIfPresent (members_of array.now) }
-    requires within { IsTrue (is_valid_at (members_of array.now) i) → DataWithin (members_of array.now) i }
-    ensures { result ≡ prefix_fault (members_of array.now) i }
+fn prefix_wrong(node: &FormedNode, i: u64) -> Option<Numbers>
+    requires buffers { 3 ≤ length (own_of node.now).buffers }
+    requires inside { i < items (own_of node.now) }
+    requires long { end (own_of node.now) * view_width ≤ length (bytes (own_of node.now) 1) }
+    requires validity { IsLongIfPresent (own_of node.now) }
+    requires within { IsTrue (is_valid (own_of node.now) i) → DataWithin (own_of node.now) i }
+    ensures { result ≡ prefix_wrong (own_of node.now) i }
 {
-    if is_valid(array, i) && view_length(array, i) > MOST_IN_VIEW {
-        let begin = unsigned_at(view_data(array, i), 0, 4);
-        other_prefix(i, view_prefix(array, i), begin)
+    if is_valid(node, i) && view_length(node, i) > MOST_IN_VIEW {
+        let begin = unsigned_at(view_data(node, i), 0, 4);
+        other_prefix(i, view_prefix(node, i), begin)
     } else {
         None
     }
@@ -286,21 +237,16 @@ fn prefix_wrong(array: &RawArray, i: u64) -> Option<Numbers>
 
 /// The first valid long view whose prefix isn't how its data begin, once each valid view names some.
 #[tactic(auto, using(crate::proofs::Placed::placed))]
-pub fn first_wrong_prefix(array: &RawArray) -> Option<Numbers>
-    requires live { IsLive array.now }
-    requires length { pos 0 ≤ℤ (members_of array.now).length }
-    requires offset { pos 0 ≤ℤ (members_of array.now).offset }
-    requires buffers { 3 ≤ length (members_of array.now).buffers }
-    requires validity { IsLongIfPresent (members_of array.now) }
-    requires long { end (members_of array.now) * view_width ≤ length (bytes_at (members_of array.now) 1) }
-    requires named { AreThere (members_of array.now) }
-    requires placed { first_below (misplaced_at (members_of array.now)) (items (members_of array.now)) ≡ None }
-    ensures { result ≡ first_below (prefix_fault (members_of array.now)) (items (members_of array.now)) }
+pub fn first_wrong_prefix(node: &FormedNode) -> Option<Numbers>
+    requires buffers { 3 ≤ length (own_of node.now).buffers }
+    requires validity { IsLongIfPresent (own_of node.now) }
+    requires long { end (own_of node.now) * view_width ≤ length (bytes (own_of node.now) 1) }
+    requires named { AreThere (own_of node.now) }
+    requires placed { first_below (misplaced (own_of node.now)) (items (own_of node.now)) ≡ None }
+    ensures { result ≡ first_below (prefix_wrong (own_of node.now)) (items (own_of node.now)) }
 {
-    let start = window_start(array);
-    let end = window_end(array);
-    for i in 0..end - start {
-        if let Some(numbers) = prefix_wrong(array, i) {
+    for i in 0..node.len() {
+        if let Some(numbers) = prefix_wrong(node, i) {
             return Some(numbers);
         }
     }
@@ -309,35 +255,27 @@ pub fn first_wrong_prefix(array: &RawArray) -> Option<Numbers>
 
 /// The rule on the places of views, once the buffers are long enough.
 #[tactic(auto, using(crate::proofs::Long::long))]
-pub fn views_misplaced(layout: Layout, array: &RawArray) -> Option<Numbers>
-    requires live { IsLive array.now }
-    requires length { pos 0 ≤ℤ (members_of array.now).length }
-    requires offset { pos 0 ≤ℤ (members_of array.now).offset }
-    requires count { length (members_of array.now).buffers ≡ count_of layout (length (members_of array.now).buffers) }
-    requires there { first_below (absent_at layout (members_of array.now)) (count_of layout (length (members_of array.now).buffers)) ≡ None }
-    requires enough { first_below (short_at layout (members_of array.now)) (count_of layout (length (members_of array.now).buffers)) ≡ None }
-    ensures { result ≡ misplaced_views layout (members_of array.now) }
+pub fn views_misplaced(node: &FormedNode) -> Option<Numbers>
+    requires there { first_below (buffer_absent node.now.layout (own_of node.now)) (buffer_count node.now.layout (length (own_of node.now).buffers)) ≡ None }
+    requires enough { first_below (buffer_short node.now.layout (own_of node.now)) (buffer_count node.now.layout (length (own_of node.now).buffers)) ≡ None }
+    ensures { result ≡ views_misplaced node.now.layout (own_of node.now) }
 {
-    match layout {
-        Layout::Views => first_misplaced(array),
+    match node.layout {
+        Layout::Views => first_misplaced(node),
         _ => None,
     }
 }
 
 /// The rule on prefixes, once each valid view names data.
 #[tactic(auto, using(crate::proofs::Long::long))]
-pub fn prefixes_wrong(layout: Layout, array: &RawArray) -> Option<Numbers>
-    requires live { IsLive array.now }
-    requires length { pos 0 ≤ℤ (members_of array.now).length }
-    requires offset { pos 0 ≤ℤ (members_of array.now).offset }
-    requires count { length (members_of array.now).buffers ≡ count_of layout (length (members_of array.now).buffers) }
-    requires there { first_below (absent_at layout (members_of array.now)) (count_of layout (length (members_of array.now).buffers)) ≡ None }
-    requires enough { first_below (short_at layout (members_of array.now)) (count_of layout (length (members_of array.now).buffers)) ≡ None }
-    requires placed { misplaced_views layout (members_of array.now) ≡ None }
-    ensures { result ≡ wrong_prefixes layout (members_of array.now) }
+pub fn prefixes_wrong(node: &FormedNode) -> Option<Numbers>
+    requires there { first_below (buffer_absent node.now.layout (own_of node.now)) (buffer_count node.now.layout (length (own_of node.now).buffers)) ≡ None }
+    requires enough { first_below (buffer_short node.now.layout (own_of node.now)) (buffer_count node.now.layout (length (own_of node.now).buffers)) ≡ None }
+    requires placed { views_misplaced node.now.layout (own_of node.now) ≡ None }
+    ensures { result ≡ prefixes_wrong node.now.layout (own_of node.now) }
 {
-    match layout {
-        Layout::Views => first_wrong_prefix(array),
+    match node.layout {
+        Layout::Views => first_wrong_prefix(node),
         _ => None,
     }
 }

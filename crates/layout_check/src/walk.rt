@@ -1,3 +1,4 @@
+//! The walk over an array and its kinds: the rules of each node in preorder.
 ghost use Rattle.std.specs.Prelude.{◌≡◌, IsOk, ◌↔◌, ◌≤ℤ◌, pos, ◌+◌, ◌-◌, ◌^◌, ◌<◌, ◌≤◌, length, map, OnOk, [], None, Option};
 ghost use Rattle.std.specs.Global.{Box};
 ghost use Rattle.tree_model.specs.Tree.{IsLive, children_of, dictionary_of, trees, maybe_tree};
@@ -7,8 +8,9 @@ ghost use Rattle.fmt_string.specs.Kinds.{KindOk};
 ghost use Rattle.layout_check.specs.Rules.{one_if};
 ghost use Rattle.layout_check.specs.declared.typed.Typed.{out-Typed};
 ghost use Rattle.layout_check.specs.TypedView.{live_node, typed_of, kids_of, dict_in};
-ghost use Rattle.layout_check.specs.Layout.{layout_of as layout_is, buffer_count as count_of};
-ghost use Rattle.layout_check.specs.Rules.{buffer_rules, form_rules, item_rules, first_below, buffer_absent as absent_at, buffer_short as short_at, offsets_fall_if, is_behind_offsets};
+ghost use Rattle.layout_check.specs.Layout.{layout_of, buffer_count};
+ghost use Rattle.layout_check.specs.Rules.{buffer_rules, form_rules, item_rules, first_below, buffer_absent, buffer_short, offsets_fall_if, is_behind_offsets};
+ghost use Rattle.layout_check.specs.NodeView.{own_of};
 ghost use Rattle.layout_check.specs.Found.{steps_of, found};
 ghost use Rattle.layout_check.specs.Walk.{LayoutOk, rules_fault, first_fault, fault_from, own_fault, children_fault, dictionary_fault};
 
@@ -17,6 +19,7 @@ use crate::children::children_short;
 use crate::counts::{buffers_wrong, children_wrong, dictionary_wrong, negative, window_too_long};
 use crate::indices::indices_wrong;
 use crate::layout::layout_of;
+use crate::node::FormedNode;
 use crate::nulls::nulls_wrong;
 use crate::rule::{DICTIONARY_STEP, LayoutFault, LayoutRule, Numbers, Path, ruled};
 use crate::texts::texts_wrong;
@@ -66,55 +69,44 @@ fn check_own(typed: &Typed, array: &RawArray, path: &Path) -> Result<(), LayoutF
         return ruled(path, LayoutRule::Released, Some(none));
     }
     check_form(typed, array, path)?;
-    check_buffers(typed, array, path)?;
-    check_items(typed, array, path)
+    let node = FormedNode::of(layout_of(&typed.kind), array);
+    check_buffers(typed, &node, path)?;
+    check_items(typed, &node, path)
 }
 
 /// The rules of a live node's buffers.
-fn check_buffers(typed: &Typed, array: &RawArray, path: &Path) -> Result<(), LayoutFault>
-    requires live { IsLive array.now }
-    requires length { pos 0 ≤ℤ (members_of array.now).length }
-    requires offset { pos 0 ≤ℤ (members_of array.now).offset }
-    requires buffers { length (members_of array.now).buffers ≡ count_of (layout_is (out-Typed typed.now).kind) (length (members_of array.now).buffers) }
-    ensures fault { found result ≡ rules_fault buffer_rules (steps_of path.now) (live_node typed.now array.now) }
-    ensures there { OnOk result (first_below (absent_at (layout_is (out-Typed typed.now).kind) (members_of array.now)) (count_of (layout_is (out-Typed typed.now).kind) (length (members_of array.now).buffers)) ≡ None) }
-    ensures enough { OnOk result (first_below (short_at (layout_is (out-Typed typed.now).kind) (members_of array.now)) (count_of (layout_is (out-Typed typed.now).kind) (length (members_of array.now).buffers)) ≡ None) }
-    ensures rise { OnOk result (offsets_fall_if (is_behind_offsets (layout_is (out-Typed typed.now).kind)) (members_of array.now) ≡ None) }
+fn check_buffers(typed: &Typed, node: &FormedNode, path: &Path) -> Result<(), LayoutFault>
+    requires layout { node.now.layout ≡ layout_of (out-Typed typed.now).kind }
+    ensures fault { found result ≡ rules_fault buffer_rules (steps_of path.now) (live_node typed.now node.now.array.now) }
+    ensures there { OnOk result (first_below (buffer_absent node.now.layout (own_of node.now)) (buffer_count node.now.layout (length (own_of node.now).buffers)) ≡ None) }
+    ensures enough { OnOk result (first_below (buffer_short node.now.layout (own_of node.now)) (buffer_count node.now.layout (length (own_of node.now).buffers)) ≡ None) }
+    ensures rise { OnOk result (offsets_fall_if (is_behind_offsets node.now.layout) (own_of node.now) ≡ None) }
 {
-    let layout = layout_of(&typed.kind);
-    ruled(
-        path,
-        LayoutRule::BufferAbsent,
-        buffers_absent(layout, array),
-    )?;
-    ruled(path, LayoutRule::BufferShort, buffers_short(layout, array))?;
-    ruled(path, LayoutRule::OffsetsFall, layout_falls(layout, array))
+    ruled(path, LayoutRule::BufferAbsent, buffers_absent(node))?;
+    ruled(path, LayoutRule::BufferShort, buffers_short(node))?;
+    ruled(path, LayoutRule::OffsetsFall, layout_falls(node))
 }
 
 /// The rules of a live node's items, once its buffers are long enough.
-fn check_items(typed: &Typed, array: &RawArray, path: &Path) -> Result<(), LayoutFault>
-    requires live { IsLive array.now }
+fn check_items(typed: &Typed, node: &FormedNode, path: &Path) -> Result<(), LayoutFault>
     requires type_ok { KindOk (out-Typed typed.now).kind }
-    requires length { pos 0 ≤ℤ (members_of array.now).length }
-    requires offset { pos 0 ≤ℤ (members_of array.now).offset }
-    requires buffers { length (members_of array.now).buffers ≡ count_of (layout_is (out-Typed typed.now).kind) (length (members_of array.now).buffers) }
-    requires there { first_below (absent_at (layout_is (out-Typed typed.now).kind) (members_of array.now)) (count_of (layout_is (out-Typed typed.now).kind) (length (members_of array.now).buffers)) ≡ None }
-    requires enough { first_below (short_at (layout_is (out-Typed typed.now).kind) (members_of array.now)) (count_of (layout_is (out-Typed typed.now).kind) (length (members_of array.now).buffers)) ≡ None }
-    requires rise { offsets_fall_if (is_behind_offsets (layout_is (out-Typed typed.now).kind)) (members_of array.now) ≡ None }
-    ensures { found result ≡ rules_fault item_rules (steps_of path.now) (live_node typed.now array.now) }
+    requires layout { node.now.layout ≡ layout_of (out-Typed typed.now).kind }
+    requires there { first_below (buffer_absent node.now.layout (own_of node.now)) (buffer_count node.now.layout (length (own_of node.now).buffers)) ≡ None }
+    requires enough { first_below (buffer_short node.now.layout (own_of node.now)) (buffer_count node.now.layout (length (own_of node.now).buffers)) ≡ None }
+    requires rise { offsets_fall_if (is_behind_offsets node.now.layout) (own_of node.now) ≡ None }
+    ensures { found result ≡ rules_fault item_rules (steps_of path.now) (live_node typed.now node.now.array.now) }
 {
-    let layout = layout_of(&typed.kind);
-    ruled(path, LayoutRule::ChildShort, children_short(layout, array))?;
-    ruled(path, LayoutRule::NullCount, nulls_wrong(layout, array))?;
-    ruled(path, LayoutRule::ViewPlace, views_misplaced(layout, array))?;
-    ruled(path, LayoutRule::ViewPrefix, prefixes_wrong(layout, array))?;
-    ruled(path, LayoutRule::NotText, texts_wrong(&typed.kind, array))?;
+    ruled(path, LayoutRule::ChildShort, children_short(node))?;
+    ruled(path, LayoutRule::NullCount, nulls_wrong(node))?;
+    ruled(path, LayoutRule::ViewPlace, views_misplaced(node))?;
+    ruled(path, LayoutRule::ViewPrefix, prefixes_wrong(node))?;
+    ruled(path, LayoutRule::NotText, texts_wrong(&typed.kind, node))?;
     ruled(
         path,
         LayoutRule::IndexRange,
-        indices_wrong(&typed.kind, array),
+        indices_wrong(&typed.kind, node),
     )?;
-    ruled(path, LayoutRule::WindowTooLong, window_too_long(array))
+    ruled(path, LayoutRule::WindowTooLong, window_too_long(node.stop))
 }
 
 /// The rules of a live node's form: its numbers, and how many parts it has.
@@ -124,7 +116,7 @@ fn check_form(typed: &Typed, array: &RawArray, path: &Path) -> Result<(), Layout
     ensures fault { found result ≡ rules_fault form_rules (steps_of path.now) (live_node typed.now array.now) }
     ensures length { OnOk result (pos 0 ≤ℤ (members_of array.now).length) }
     ensures offset { OnOk result (pos 0 ≤ℤ (members_of array.now).offset) }
-    ensures buffers { OnOk result (length (members_of array.now).buffers ≡ count_of (layout_is (out-Typed typed.now).kind) (length (members_of array.now).buffers)) }
+    ensures buffers { OnOk result (length (members_of array.now).buffers ≡ buffer_count (layout_of (out-Typed typed.now).kind) (length (members_of array.now).buffers)) }
     ensures children { OnOk result (length (children_of array.now) ≡ length (out-Typed typed.now).kids.items) }
     ensures few { OnOk result (length (out-Typed typed.now).kids.items < 2 ^ 32 - 1) }
 {

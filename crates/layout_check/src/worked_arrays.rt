@@ -1,3 +1,4 @@
+//! Small arrays, computed from the definitions.
 ghost use Rattle.std.specs.Prelude.{◌≡◌, None, [], ◌∷◌, pos, negsuc};
 ghost use Rattle.fmt_string.specs.declared.kind.DataType.TheVariants as kinds;
 ghost use Rattle.fmt_string.specs.Value.{values};

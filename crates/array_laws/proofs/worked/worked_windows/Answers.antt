@@ -11,6 +11,13 @@ pub returns-clause-window : goal.returns-clause-window
 unfolding is_utf8 chars encode
 returns-clause-window c = (refl, refl)
 
+pub returns-clause-views : goal.returns-clause-views
+returns-clause-views c = refl
+
+pub returns-clause-views_are_lawful : goal.returns-clause-views_are_lawful
+unfolding is_utf8 chars encode
+returns-clause-views_are_lawful c = refl
+
 pub returns-clause-share : goal.returns-clause-share
 unfolding is_utf8 chars encode
 returns-clause-share c = (refl, refl)
@@ -18,6 +25,9 @@ returns-clause-share c = (refl, refl)
 pub returns-clause-piece : goal.returns-clause-piece
 unfolding is_utf8 chars encode
 returns-clause-piece c = (refl, refl)
+
+pub returns-clause-pieces : goal.returns-clause-pieces
+returns-clause-pieces c = refl
 
 pub returns-clause-nothing : goal.returns-clause-nothing
 unfolding is_utf8 chars encode

@@ -5,4 +5,4 @@ pub returns-clause-range : goal.returns-clause-range
 returns-clause-range c = range-of
 
 pub returns-clause-fit : goal.returns-clause-fit
-returns-clause-fit c = fit-of
+returns-clause-fit c types t picks live ok within = fit-of types t live ok picks within

@@ -1,19 +1,19 @@
-use Rattle.layout_check.proofs.Chunks.{root-live, root-length, root-offset, root-count}
-use Rattle.layout_check.proofs.ReadWithin.{tree_items-items, root-end, root-validity, root-children, root-dictionary}
+use Rattle.layout_check.proofs.Roots.{level_of, lawful-level, root-live, root-length, root-offset, root-count, root-end, root-validity, root-children, root-dictionary, tree_items-items}
 use Rattle.layout_check.proofs.laws.lawful_root.Goals as goal
 
 pub returns : goal.returns
 returns c =
-    let typed = c.args.typed.now in
     let array = c.args.array.now in
+    let t = level_of c.args.typed.now in
+    let ok = lawful-level c.args.typed.now array c.requires in
     record {
-      live = root-live typed array c.requires;
-      length = root-length typed array c.requires;
-      offset = root-offset typed array c.requires;
+      live = root-live t array ok;
+      length = root-length t array ok;
+      offset = root-offset t array ok;
       items = tree_items-items array;
-      end = root-end typed array c.requires;
-      count = root-count typed array c.requires;
-      long = root-validity typed array c.requires (root-count typed array c.requires);
-      children = root-children typed array c.requires;
-      dictionary = root-dictionary typed array c.requires;
+      end = root-end t array ok;
+      count = root-count t array ok;
+      long = root-validity t array ok (root-count t array ok);
+      children = root-children t array ok;
+      dictionary = root-dictionary t array ok;
     }

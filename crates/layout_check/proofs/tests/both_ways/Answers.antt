@@ -12,7 +12,7 @@ all_of (suc n) size h l = omega (arith, l)
 
 pub first_fall-requires-clause-long : goal.first_fall-requires-clause-long
 first_fall-requires-clause-long t c =
-    let own = members_of c.args.array.now in
+    let own = members_of c.formed-node.result.array.now in
     let there : first_below (buffer_absent (ByOffsets false) own) 3 ≡ None = search rules in
     let enough : first_below (buffer_short (ByOffsets false) own) 3 ≡ None = search rules in
     let some : 0 < end own = search rules in

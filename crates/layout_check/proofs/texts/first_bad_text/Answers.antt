@@ -7,7 +7,7 @@ use Rattle.layout_check.proofs.texts.first_bad_text.Goals as goal
 
 pub returns-in-Some : goal.returns-in-Some
 returns-in-Some c =
-    let own = members_of c.args.array.now in
+    let own = members_of c.args.node.now.array.now in
     let inside : c.loop-i.i < items own = search rules in
     let is : not_text c.args.wide own c.loop-i.i ≡ Some c.in-Some.numbers = search rules in
     sym (first_below-some (not_text c.args.wide own) (items own) c.loop-i.i c.in-Some.numbers inside c.loop-i.invariant is)

@@ -4,4 +4,4 @@ use Rattle.layout_check.specs.Rules.{not_text, first_below}
 use Rattle.layout_check.proofs.texts.first_bad_text.Given as goal
 
 abbrev pub invariant-loop-i : goal.invariant-loop-i
-invariant-loop-i l = first_below (not_text l.wide (members_of l.array)) l.i ≡ None
+invariant-loop-i l = first_below (not_text l.wide (members_of l.node.array.now)) l.i ≡ None

@@ -8,7 +8,7 @@ use Rattle.layout_check.proofs.texts.is_text_in_items.Goals as goal
 
 pub returns-in-Ok : goal.returns-in-Ok
 returns-in-Ok c passed =
-    let own = members_of c.args.array.now in
+    let own = members_of c.args.node.now.array.now in
     let wide = c.args.wide in
     let found = c.cut_between_characters.ensures passed in
     let text : c.in-Ok.text.now ≡ used_data wide own = c.in-Ok.ensures.0 ∙ c.requires.used in

@@ -4,4 +4,4 @@ use Rattle.layout_check.specs.Rules.{view_not_text, first_below}
 use Rattle.layout_check.proofs.view_texts.first_bad_text.Given as goal
 
 abbrev pub invariant-loop-i : goal.invariant-loop-i
-invariant-loop-i l = first_below (view_not_text (members_of l.array)) l.i ≡ None
+invariant-loop-i l = first_below (view_not_text (members_of l.node.array.now)) l.i ≡ None

@@ -10,7 +10,7 @@ use Rattle.layout_check.proofs.view_texts.is_cut_well.Goals as goal
 
 pub returns-then-is_border : goal.returns-then-is_border
 returns-then-is_border c = λ h.
-    let own = members_of c.args.array.now in
+    let own = members_of c.args.node.now.array.now in
     let i = c.args.i in
     let valid : IsTrue (is_valid own i) = search rules in
     let long : IsTrue (is_long (view_length own i)) = search rules in

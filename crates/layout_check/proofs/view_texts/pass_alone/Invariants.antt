@@ -3,4 +3,4 @@ use Rattle.layout_check.specs.Scans.{PassAlone}
 use Rattle.layout_check.proofs.view_texts.pass_alone.Given as goal
 
 abbrev pub invariant-loop-i : goal.invariant-loop-i
-invariant-loop-i l = PassAlone (members_of l.array) l.i
+invariant-loop-i l = PassAlone (members_of l.node.array.now) l.i

@@ -9,7 +9,7 @@ use Rattle.layout_check.proofs.view_texts.passed.Goals as goal
 
 pub returns-clause-pass : goal.returns-clause-pass
 returns-clause-pass c =
-    let own = members_of c.args.array.now in
+    let own = members_of c.args.node.now.array.now in
     let h = c.loop-k.invariant in
     let last : c.loop-k.k ≡ data_buffers own = search rules in
     passes-all own c.loop-k.n h.1 (subst (λ k. PassBefore own k c.loop-k.n) last h.2)

@@ -9,7 +9,7 @@ use Rattle.layout_check.proofs.view_texts.passes_in.Goals as goal
 
 pub returns : goal.returns
 returns c = λ h.
-    let own = members_of c.args.array.now in
+    let own = members_of c.args.node.now.array.now in
     let i = c.args.i in
     let valid : IsTrue (is_valid own i) = search rules in
     let long : IsTrue (is_long (view_length own i)) = search rules in

@@ -4,4 +4,4 @@ use Rattle.layout_check.specs.Rules.{misplaced, first_below}
 use Rattle.layout_check.proofs.views.first_misplaced.Given as goal
 
 abbrev pub invariant-loop-i : goal.invariant-loop-i
-invariant-loop-i l = first_below (misplaced (members_of l.array)) l.i ≡ None
+invariant-loop-i l = first_below (misplaced (members_of l.node.array.now)) l.i ≡ None

@@ -3,7 +3,7 @@ use Rattle.raw_array.specs.Members.{members_of}
 use Rattle.layout_check.specs.TypedView.{kind_of}
 use Rattle.layout_check.specs.Values.{value_at, tree_items}
 use Rattle.arr_import.specs.Cols.{window_of}
-use Rattle.arr_import.specs.Shapes.{IsIndexThere}
+use Rattle.arr_import.specs.StoredItems.{IsIndexThere}
 use Rattle.arr_import.specs.Window.{index_at}
 use Rattle.arr_import.proofs.Reading.{index-int, index-there, value-entry}
 use Rattle.arr_import.proofs.col.Col.index_is_there.Goals as goal
@@ -22,8 +22,8 @@ returns c =
     let from : w.start ≡ 0 = ap (λ a. a.start) d.whole in
     record {
       there =
-          subst (λ n. IsIndexThere col.shape own j (index_at (kind_of t) own j) n) (sym all)
-          (index-there (kind_of t) col.shape own j w.array col.shape_ok int c.requires.valid (c.lawful_items_lie_within.ensures.index j w.typed w.array inside d.typed d.array));
+          subst (λ n. IsIndexThere col.storage own j (index_at (kind_of t) own j) n) (sym all)
+          (index-there (kind_of t) col.storage own j w.array col.storage_ok int c.requires.valid (c.lawful_items_lie_within.ensures.index j w.typed w.array inside d.typed d.array));
       value =
           ap (value_at w.typed w.array) (omega (arith, from))
           ∙ sym (value-entry t c.kinds_of_typed.ensures col.array.now j c.lawful_root.ensures.live c.requires.valid w.typed w.array d.typed d.array int);

@@ -11,6 +11,6 @@ returns c =
     let col = c.args.self.now in
     let own = members_of col.array.now in
     let inside : col.start + c.args.i < tree_items col.array.now = omega (arith, col.within, c.requires) in
-    item-there (kind_of col.typed.now) col.shape own col.stored.now col.text.now (first own + (col.start + c.args.i)) col.shape_ok col.stored_is col.text_is
+    item-there (kind_of col.typed.now) col.storage own col.stored.now col.text.now (first own + (col.start + c.args.i)) col.storage_ok col.stored_is col.text_is
     (kind-ok col.typed.now c.kinds_of_typed.ensures col.valid)
     (c.lawful_items_lie_within.ensures.stored (col.start + c.args.i) inside)

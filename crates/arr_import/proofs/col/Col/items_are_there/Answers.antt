@@ -12,12 +12,12 @@ returns c =
     let col = c.args.self.now in
     let own = members_of col.array.now in
     let inside : col.start + c.args.i < tree_items col.array.now = omega (arith, col.within, c.requires.inside) in
-    let one : length (kids_of col.typed.now) ≡ 1 = one-child col.typed.now c.kinds_of_typed.ensures col.shape col.shape_ok c.requires.list col.valid in
+    let one : length (kids_of col.typed.now) ≡ 1 = one-child col.typed.now c.kinds_of_typed.ensures col.storage col.storage_ok c.requires.list col.valid in
     record {
       one = one;
       live = omega (arith, one, c.lawful_root.ensures.children);
       few = c.lawful_parts.ensures.few 0 (omega (arith, one));
       items =
-          are-items-there (kind_of col.typed.now) col.shape own col.stored.now (first own + (col.start + c.args.i)) (tree_items (child_at col.array.now 0)) col.shape_ok col.stored_is
+          are-items-there (kind_of col.typed.now) col.storage own col.stored.now (first own + (col.start + c.args.i)) (tree_items (child_at col.array.now 0)) col.storage_ok col.stored_is
           (c.lawful_items_lie_within.ensures.children (col.start + c.args.i) 0 inside (omega (arith, one)));
     }

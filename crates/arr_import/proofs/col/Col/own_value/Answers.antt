@@ -11,5 +11,5 @@ returns-then-is_valid c =
     let j = col.start + c.args.i in
     let valid : is_valid (members_of col.array.now) j ≡ true = cc in
     subst (λ v. Shows c.item.result v)
-    (sym (value-item col.typed.now c.kinds_of_typed.ensures col.array.now j c.lawful_root.ensures.live valid (c.requires.own valid) col.shape col.shape_ok))
+    (sym (value-item col.typed.now c.kinds_of_typed.ensures col.array.now j c.lawful_root.ensures.live valid (c.requires.own valid) col.storage col.storage_ok))
     c.item.ensures

@@ -10,5 +10,5 @@ returns-clause-within c =
     let col = c.args.self.now in
     let j = col.start + c.args.i in
     let inside : j < tree_items col.array.now = omega (arith, col.within, c.requires.inside) in
-    view-there (kind_of col.typed.now) col.shape (members_of col.array.now) j col.shape_ok c.requires.view c.requires.valid
+    view-there (kind_of col.typed.now) col.storage (members_of col.array.now) j col.storage_ok c.requires.view c.requires.valid
     (c.lawful_items_lie_within.ensures.views j inside)
