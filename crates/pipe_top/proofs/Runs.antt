@@ -1,10 +1,10 @@
 -- What a run comes to, from what its parts come to.
-use Rattle.std.proofs.Common.{ℕ, ◌≡◌, ◌⊎◌, ◌++◌, ◌∙◌, Bool, false, List, Option, None, Some, IfSome, Result, Ok, Err, IfErr, IfOk, ap, sym, subst, append-nil, inl, inr}
+use Rattle.std.proofs.Common.{ℕ, ◌≡◌, ◌⊎◌, ◌++◌, ◌∙◌, Bool, true, false, List, Option, None, Some, IfSome, Result, Ok, Err, IfErr, ap, refl, sym, subst, append-nil, inl, inr}
+use Rattle.std.proofs.lemmas.Bool.{false≢true}
 use Rattle.edge_io.specs.declared.WriteFault.{WriteFault}
 use Rattle.unit_pass.specs.declared.pass.Audit.{Audit}
-use Rattle.pipe_top.specs.Answer.{Answer, Asks, IsAnswer, IsAnswerTo, IsInput, Request, Text, Fault, answer_to, cause_of, Cause, Writing}
-use Rattle.pipe_top.specs.Outcomes.{AtWriteFault, AtWriting, GotFirst, GotText, asked_of, fault_in, request_of}
-use Rattle.pipe_top.specs.Traffic.{IsTraffic, RequestTraffic}
+use Rattle.pipe_top.specs.Answer.{Answer, Asks, IsAnswer, IsAnswerTo, IsInput, Request, Text, Fault, answer_to, cause_of, status_of, Cause, OfWords, OfTexts, OfRecords, OfLength, Reading, Writing, Memory}
+use Rattle.pipe_top.specs.Outcomes.{AtWriteFault, AtWriting, GotFirst, GotText, asked_of, fault_in, is_decided}
 use Rattle.pipe_top.specs.declared.asked.Request.{Request as AsksFor}
 use Rattle.pipe_top.specs.Told.{Says, Told, Took, audit_if, fault_line}
 use Rattle.pipe_top.specs.declared.fault.RunFault.{RunFault}
@@ -38,6 +38,32 @@ pub silent-audit : (request : Result AsksFor RunFault) (carried : Result (Unit {
 silent-audit request carried fault wanted asked early told (inl none) = inl (no-memory request carried fault none.0 early told, none.1)
 silent-audit request carried fault wanted asked early told (inr same) = inr same
 
+-- ---- faults by what they come from
+
+pub fault-cases : (f : RunFault) → (is_decided f ≡ true) ⊎ ((f ≡ run.ReadFault) ⊎ (((taken : ℕ) × (f ≡ run.WriteFault taken)) ⊎ (f ≡ run.NoMemory)))
+fault-cases (run.Words fault) = inl refl
+fault-cases (run.Schema entry rule) = inl refl
+fault-cases run.NoHeader = inl refl
+fault-cases (run.TooManyColumns count) = inl refl
+fault-cases (run.HeaderText column) = inl refl
+fault-cases (run.HeaderTwice column) = inl refl
+fault-cases (run.HeaderUnknown entry) = inl refl
+fault-cases (run.Ragged number found) = inl refl
+fault-cases (run.Field number column) = inl refl
+fault-cases run.InputTooLong = inl refl
+fault-cases run.ReadFault = inr (inl refl)
+fault-cases (run.WriteFault taken) = inr (inr (inl (taken, refl)))
+fault-cases run.NoMemory = inr (inr (inr refl))
+
+at-writing : (cause : Cause) (P Q : ℕ → Type 0) → ((n : ℕ) → cause ≡ Writing n → P n → Q n) → AtWriting cause P → AtWriting cause Q
+at-writing OfWords P Q step holds = tt
+at-writing OfTexts P Q step holds = tt
+at-writing OfRecords P Q step holds = tt
+at-writing OfLength P Q step holds = tt
+at-writing Reading P Q step holds = tt
+at-writing (Writing n) P Q step holds = step n refl holds
+at-writing Memory P Q step holds = tt
+
 -- ---- what is asked for, and what the words ask for
 
 -- what holds of the bytes that the source tells, holds of its input
@@ -50,29 +76,127 @@ module _ (words : List (List ℕ)) (left : Option (List ℕ)) (request : Result 
   answer-is : (bytes : List ℕ) (answer : Answer) → Asks words (asked_of request) → IsAnswerTo (asked_of request) bytes answer → IsAnswer words bytes answer
   answer-is bytes answer asked is = record { asked = asked_of request; asks = asked; is = is }
 
-  -- where the run has no fault, the words ask for what was read
-  asked-alone : fault ≡ None → Asks words (asked_of request)
-  asked-alone none = go asks
+  asked-unless : (request ≡ Err run.NoMemory → ⊥) → Asks words (asked_of request)
+  asked-unless never = go asks
     where
       go : (request ≡ Err run.NoMemory) ⊎ Asks words (asked_of request) → Asks words (asked_of request)
-      go (inl memory) = let never : ◌≡◌ {A = Option RunFault} None (Some run.NoMemory) = sym none ∙ no-memory request carried fault memory early told in cc
+      go (inl none) = absurd (never none)
       go (inr asked) = asked
 
-  -- ---- the text
+  -- want of memory while the words are read is the fault
+  fault-of-memory : (f : RunFault) → carried ≡ Err f → request ≡ Err run.NoMemory → f ≡ run.NoMemory
+  fault-of-memory f is none =
+      let memory : ◌≡◌ {A = Result (Unit {0}) RunFault} carried (Err run.NoMemory) = subst (λ e. IfErr e (λ f. carried ≡ Err f)) none early in
+      let same : ◌≡◌ {A = Result (Unit {0}) RunFault} (Err f) (Err run.NoMemory) = sym is ∙ memory in
+      let one : f ≡ run.NoMemory = cc in
+      one
 
-  got-text : (old new : Option (List ℕ)) (bytes : List ℕ) → Asks words (asked_of request) → GotText (IsAnswerTo (asked_of request) bytes) old new → GotText (IsAnswer words bytes) old new
-  got-text old new bytes asked got = (got.0, answer-is bytes (Text got.0) asked got.1, got.2)
+  decided-asked : (f : RunFault) → is_decided f ≡ true → carried ≡ Err f → request ≡ Err run.NoMemory → ⊥
+  decided-asked f decided is none = false≢true (subst (λ f. is_decided f ≡ true) (fault-of-memory f is none) decided)
+
+  writing-asked : (f : RunFault) (n : ℕ) → cause_of f ≡ Writing n → carried ≡ Err f → request ≡ Err run.NoMemory → ⊥
+  writing-asked f n writes is none = let never : ◌≡◌ {A = Cause} Memory (Writing n) = sym (ap cause_of (fault-of-memory f is none)) ∙ writes in cc
 
   carried-ok : fault ≡ None → carried ≡ Ok tt
   carried-ok none = go carried (sym told ∙ none)
     where
       go : (r : Result (Unit {0}) RunFault) → fault_in r ≡ None → r ≡ Ok tt
-      go (Ok tt) is = refl
+      go (Ok done) is = refl
       go (Err f) is = let never : ◌≡◌ {A = Option RunFault} (Some f) None = is in cc
 
-  pub text-of-answer : (old new : Option (List ℕ)) → OnOk carried (IfSome left (λ bytes. GotText (IsAnswerTo (asked_of request) bytes) old new))
-      → fault ≡ None → (bytes : List ℕ) → IsInput words left bytes → GotText (IsAnswer words bytes) old new
-  text-of-answer old new got none bytes is =
-      got-text old new bytes (asked-alone none)
-      (at-input words left bytes (λ l. GotText (IsAnswerTo (asked_of request) l) old new) is
-      (subst (λ r. OnOk r (IfSome left (λ bytes. GotText (IsAnswerTo (asked_of request) bytes) old new))) (carried-ok none) got))
+  -- where the run has no fault, the words ask for what was read
+  done-asked : fault ≡ None → request ≡ Err run.NoMemory → ⊥
+  done-asked none memory =
+      let never : ◌≡◌ {A = Result (Unit {0}) RunFault} (Ok tt) (Err run.NoMemory) = sym (carried-ok none) ∙ subst (λ e. IfErr e (λ f. carried ≡ Err f)) memory early in
+      cc
+
+  -- ---- the text
+
+  pub prefix-of-answer : (old new : Option (List ℕ))
+      → IfErr carried (λ f. AtWriteFault f (λ taken. IfSome left (λ bytes. GotFirst (IsAnswerTo (asked_of request) bytes) old new taken)))
+      → IfSome fault (λ f. AtWriteFault f (λ taken. (bytes : List ℕ) → IsInput words left bytes → GotFirst (IsAnswer words bytes) old new taken))
+  prefix-of-answer old new got =
+      subst (λ o. IfSome o (λ f. AtWriteFault f (λ taken. (bytes : List ℕ) → IsInput words left bytes → GotFirst (IsAnswer words bytes) old new taken))) (sym told) (go carried refl got)
+    where
+      go : (r : Result (Unit {0}) RunFault) → carried ≡ r → IfErr r (λ f. AtWriteFault f (λ taken. IfSome left (λ bytes. GotFirst (IsAnswerTo (asked_of request) bytes) old new taken)))
+          → IfSome (fault_in r) (λ f. AtWriteFault f (λ taken. (bytes : List ℕ) → IsInput words left bytes → GotFirst (IsAnswer words bytes) old new taken))
+      go (Ok done) is wrote = tt
+      go (Err f) is wrote =
+          at-writing (cause_of f) (λ taken. IfSome left (λ bytes. GotFirst (IsAnswerTo (asked_of request) bytes) old new taken))
+          (λ taken. (bytes : List ℕ) → IsInput words left bytes → GotFirst (IsAnswer words bytes) old new taken)
+          (λ n writes first bytes input.
+            let here : GotFirst (IsAnswerTo (asked_of request) bytes) old new n = at-input words left bytes (λ l. GotFirst (IsAnswerTo (asked_of request) l) old new n) input first in
+            (here.0, answer-is bytes (Text here.0) (asked-unless (writing-asked f n writes is)) here.1, here.2, here.3))
+          wrote
+
+  -- ---- the refusal
+
+  pub refused-by-answer : IfErr carried (λ f. is_decided f ≡ true → IfSome left (λ bytes. answer_to (asked_of request) bytes ≡ Fault f))
+      → IfSome fault (λ f. is_decided f ≡ true → (bytes : List ℕ) → IsInput words left bytes → IsAnswer words bytes (Fault f))
+  refused-by-answer got =
+      subst (λ o. IfSome o (λ f. is_decided f ≡ true → (bytes : List ℕ) → IsInput words left bytes → IsAnswer words bytes (Fault f))) (sym told) (go carried refl got)
+    where
+      go : (r : Result (Unit {0}) RunFault) → carried ≡ r → IfErr r (λ f. is_decided f ≡ true → IfSome left (λ bytes. answer_to (asked_of request) bytes ≡ Fault f))
+          → IfSome (fault_in r) (λ f. is_decided f ≡ true → (bytes : List ℕ) → IsInput words left bytes → IsAnswer words bytes (Fault f))
+      go (Ok done) is refused = tt
+      go (Err f) is refused = λ decided bytes input.
+          answer-is bytes (Fault f) (asked-unless (decided-asked f decided is)) (sym (at-input words left bytes (λ l. answer_to (asked_of request) l ≡ Fault f) input (refused decided)))
+
+  -- ---- which outcome it is
+
+  module _ (only : (request ≡ Err run.NoMemory) ⊎ ((asked : Result Request RunFault) → Asks words asked → asked ≡ asked_of request)) where
+    -- no other answer is the run's
+    one-answer : (bytes : List ℕ) (answer : Answer) → (request ≡ Err run.NoMemory → ⊥) → IsAnswer words bytes answer → answer ≡ answer_to (asked_of request) bytes
+    one-answer bytes answer never is = go only
+      where
+        go : (request ≡ Err run.NoMemory) ⊎ ((asked : Result Request RunFault) → Asks words asked → asked ≡ asked_of request) → answer ≡ answer_to (asked_of request) bytes
+        go (inl none) = absurd (never none)
+        go (inr alone) = is.is ∙ ap (λ a. answer_to a bytes) (alone is.asked is.asks)
+
+    both-answers : (bytes : List ℕ) (one other : Answer) → (request ≡ Err run.NoMemory → ⊥) → IsAnswer words bytes one → IsAnswer words bytes other → one ≡ other
+    both-answers bytes one other never is-one is-other = one-answer bytes one never is-one ∙ sym (one-answer bytes other never is-other)
+
+    module _ (ReadRose : Type 0) (status : ℕ) (status-is : status ≡ status_of fault) (read : fault ≡ Some run.ReadFault → ReadRose)
+        (refused : IfSome fault (λ f. is_decided f ≡ true → (bytes : List ℕ) → IsInput words left bytes → IsAnswer words bytes (Fault f))) where
+
+      carried-err : (f : RunFault) → fault ≡ Some f → carried ≡ Err f
+      carried-err f is = go carried (sym told ∙ is)
+        where
+          go : (r : Result (Unit {0}) RunFault) → fault_in r ≡ Some f → r ≡ Err f
+          go (Ok done) is = let never : ◌≡◌ {A = Option RunFault} None (Some f) = is in cc
+          go (Err g) is = let some : ◌≡◌ {A = Option RunFault} (Some g) (Some f) = is in let one : g ≡ f = cc in ap Err one
+
+      refused-at : (f : RunFault) → fault ≡ Some f → is_decided f ≡ true → (bytes : List ℕ) → IsInput words left bytes → IsAnswer words bytes (Fault f)
+      refused-at f is = subst (λ o. IfSome o (λ f. is_decided f ≡ true → (bytes : List ℕ) → IsInput words left bytes → IsAnswer words bytes (Fault f))) is refused
+
+      memory-status : (f : RunFault) → fault ≡ Some f → f ≡ run.NoMemory → status ≡ 9
+      memory-status f is none = status-is ∙ ap status_of is ∙ ap (λ g. status_of (Some g)) none
+
+      pub is-complete-fault : (old new : Option (List ℕ)) (bytes : List ℕ) (told_fault : RunFault)
+          → (fault ≡ None → (bytes : List ℕ) → IsInput words left bytes → GotText (IsAnswer words bytes) old new)
+          → IfSome fault (λ f. AtWriteFault f (λ taken. (bytes : List ℕ) → IsInput words left bytes → GotFirst (IsAnswer words bytes) old new taken))
+          → IsInput words left bytes → IsAnswer words bytes (Fault told_fault) → (ReadRose → ⊥) → (fault ≡ Some told_fault) ⊎ (status ≡ 9)
+      is-complete-fault old new bytes told_fault text first input answer no-read = go fault refl
+        where
+          by-cause : (f : RunFault) → fault ≡ Some f → (is_decided f ≡ true) ⊎ ((f ≡ run.ReadFault) ⊎ (((taken : ℕ) × (f ≡ run.WriteFault taken)) ⊎ (f ≡ run.NoMemory)))
+              → (fault ≡ Some told_fault) ⊎ (status ≡ 9)
+          by-cause f is (inl decided) =
+              let same : ◌≡◌ {A = Answer} (Fault f) (Fault told_fault) =
+              both-answers bytes (Fault f) (Fault told_fault) (decided-asked f decided (carried-err f is)) (refused-at f is decided bytes input) answer in
+              let one : f ≡ told_fault = cc in
+              inl (is ∙ ap Some one)
+          by-cause f is (inr (inl reading)) = absurd (no-read (read (is ∙ ap Some reading)))
+          by-cause f is (inr (inr (inl (taken, writing)))) =
+              let all = subst (λ o. IfSome o (λ f. AtWriteFault f (λ taken. (bytes : List ℕ) → IsInput words left bytes → GotFirst (IsAnswer words bytes) old new taken))) (is ∙ ap Some writing) first in
+              let here = all bytes input in
+              let never : ◌≡◌ {A = Answer} (Text here.0) (Fault told_fault) =
+              both-answers bytes (Text here.0) (Fault told_fault) (writing-asked f taken (ap cause_of writing) (carried-err f is)) here.1 answer in
+              cc
+          by-cause f is (inr (inr (inr memory))) = inr (memory-status f is memory)
+
+          go : (o : Option RunFault) → fault ≡ o → (fault ≡ Some told_fault) ⊎ (status ≡ 9)
+          go None is =
+              let here = text is bytes input in
+              let never : ◌≡◌ {A = Answer} (Text here.0) (Fault told_fault) = both-answers bytes (Text here.0) (Fault told_fault) (done-asked is) here.1 answer in
+              cc
+          go (Some f) is = by-cause f is (fault-cases f)

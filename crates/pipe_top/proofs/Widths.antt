@@ -17,18 +17,18 @@ ok-step : (number column : ℕ) (value : Option Value) (spelled : Result Row Row
 ok-step number column None spelled values is = let never : ◌≡◌ {A = Result Row RowFault} (Err (row.Field number column)) (Ok values) = is in cc
 ok-step number column (Some value) spelled values is = ok-cons value spelled values is
 
-values-width : (number column : ℕ) (columns : List Column) (fields : Record) (values : Row) → length fields ≡ length columns → values_from number column columns fields ≡ Ok values
+values-width : (mark : List ℕ) (number column : ℕ) (columns : List Column) (fields : Record) (values : Row) → length fields ≡ length columns → values_from mark number column columns fields ≡ Ok values
     → length values ≡ length columns
-values-width number column [] fields values same is = let none : ◌≡◌ {A = Result Row RowFault} (Ok []) (Ok values) = is in let one : [] ≡ values = cc in ap length (sym one)
-values-width number column (c ∷ cs) (text ∷ texts) values same is =
-    let step = ok-step number column (field_in c.kind text) (values_from number (column + 1) cs texts) values is in
-    let rest = values-width number (column + 1) cs texts step.0 (omega (arith, same)) step.1 in
+values-width mark number column [] fields values same is = let none : ◌≡◌ {A = Result Row RowFault} (Ok []) (Ok values) = is in let one : [] ≡ values = cc in ap length (sym one)
+values-width mark number column (c ∷ cs) (text ∷ texts) values same is =
+    let step = ok-step number column (field_in mark c.kind text) (values_from mark number (column + 1) cs texts) values is in
+    let rest = values-width mark number (column + 1) cs texts step.0 (omega (arith, same)) step.1 in
     omega (arith, step.2, rest)
-values-width number column (c ∷ cs) [] values same is = absurd (omega (arith, same))
+values-width mark number column (c ∷ cs) [] values same is = absurd (omega (arith, same))
 
-row-width : (number : ℕ) (columns : List Column) (fields : Record) (values : Row) → row_of number columns fields ≡ Ok values → length values ≡ length columns
-row-width number columns fields values is = elim (cases_Bool (length fields == length columns)) [
-  | inl same ↦ values-width number 1 columns fields values (eqb-true (length fields) (length columns) same) (rw same at is)
+row-width : (mark : List ℕ) (number : ℕ) (columns : List Column) (fields : Record) (values : Row) → row_of mark number columns fields ≡ Ok values → length values ≡ length columns
+row-width mark number columns fields values is = elim (cases_Bool (length fields == length columns)) [
+  | inl same ↦ values-width mark number 1 columns fields values (eqb-true (length fields) (length columns) same) (rw same at is)
   | inr other ↦ let never : ◌≡◌ {A = Result Row RowFault} (Err (row.Ragged number (length fields))) (Ok values) = rw other at is in cc
 ]
 
@@ -42,15 +42,15 @@ rows-wide : (columns : List Column) (values : Row) (rest : List Row) → length 
 rows-wide columns values rest first others zero d small = first
 rows-wide columns values rest first others (suc k) d small = others k d (omega (arith, small))
 
-widths-from : (number : ℕ) (columns : List Column) (records : List Record) (rows : List Row) → body_from number columns records ≡ Ok rows → All (λ row. length row ≡ length columns) rows
-widths-from number columns [] rows is =
+widths-from : (mark : List ℕ) (number : ℕ) (columns : List Column) (records : List Record) (rows : List Row) → body_from mark number columns records ≡ Ok rows → All (λ row. length row ≡ length columns) rows
+widths-from mark number columns [] rows is =
     let none : ◌≡◌ {A = Result (List Row) RowFault} (Ok []) (Ok rows) = is in
     let one : [] ≡ rows = cc in
     subst (All (λ row. length row ≡ length columns)) one (λ k d small. absurd (omega (arith, small)))
-widths-from number columns (fields ∷ records) rows is =
-    let parts = ok-row (row_of number columns fields) (body_from (number + 1) columns records) rows is in
+widths-from mark number columns (fields ∷ records) rows is =
+    let parts = ok-row (row_of mark number columns fields) (body_from mark (number + 1) columns records) rows is in
     subst (All (λ row. length row ≡ length columns)) (sym parts.4)
-    (rows-wide columns parts.0 parts.1 (row-width number columns fields parts.0 parts.2) (widths-from (number + 1) columns records parts.1 parts.3))
+    (rows-wide columns parts.0 parts.1 (row-width mark number columns fields parts.0 parts.2) (widths-from mark (number + 1) columns records parts.1 parts.3))
 
-pub body-widths : (columns : List Column) (records : List Record) (rows : List Row) → body columns records ≡ Ok rows → All (λ row. length row ≡ length columns) rows
-body-widths columns records rows is = widths-from 1 columns records rows is
+pub body-widths : (mark : List ℕ) (columns : List Column) (records : List Record) (rows : List Row) → body mark columns records ≡ Ok rows → All (λ row. length row ≡ length columns) rows
+body-widths mark columns records rows is = widths-from mark 1 columns records rows is

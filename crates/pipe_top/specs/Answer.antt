@@ -90,11 +90,12 @@ abbrev pub request_with : List ℕ → Result (List TypeEntry) RunFault → Resu
 request_with mark (Ok entries) = Ok (record { entries = entries; mark = mark })
 request_with mark (Err fault) = Err fault
 
-abbrev pub RequestIs : Options → Result Request RunFault → Type 0
-RequestIs options asked = (entries : Result (List TypeEntry) RunFault) × EntriesAsk options.schema entries × (asked ≡ request_with (mark_of options) entries)
+-- what a schema text and a mark for null ask for
+abbrev pub RequestIs : Option (List ℕ) → List ℕ → Result Request RunFault → Type 0
+RequestIs schema mark asked = (entries : Result (List TypeEntry) RunFault) × EntriesAsk schema entries × (asked ≡ request_with mark entries)
 
 abbrev pub OptionsAsk : Result Options WordsFault → Result Request RunFault → Type 0
-OptionsAsk (Ok options) asked = RequestIs options asked
+OptionsAsk (Ok options) asked = RequestIs options.schema (mark_of options) asked
 OptionsAsk (Err fault) asked = asked ≡ Err (run.Words fault)
 
 -- the words ask for this, or are refused for this fault, whatever the input is

@@ -61,7 +61,7 @@ entries_asked (Ok entries) = Ok entries.items
 entries_asked (Err fault) = Err fault
 
 abbrev pub request_of : AsksFor → Request
-request_of asked = record { entries = asked.entries.items; mark = asked.mark.now }
+request_of asked = record { entries = asked.entries.items; mark = asked.mark }
 
 abbrev pub asked_of : Result AsksFor RunFault → Result Request RunFault
 asked_of (Ok asked) = Ok (request_of asked)

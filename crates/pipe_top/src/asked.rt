@@ -4,7 +4,7 @@ ghost use Rattle.std.specs.Option.{unwrap_or};
 ghost use Rattle.field_codec.specs.TextColumns.{IsAllowed};
 ghost use Rattle.fmt_string.specs.Kinds.{KindOk};
 ghost use Rattle.stage_plan.specs.declared.types.TypeEntry.{TypeEntry as AnEntry};
-ghost use Rattle.words.specs.Words.{mark_of, options_of, texts_of, words_of};
+ghost use Rattle.words.specs.Words.{texts_of, words_of};
 ghost use Rattle.pipe_top.specs.Answer.{Asks, EntriesAsk, Request as ARequest, RequestIs};
 ghost use Rattle.pipe_top.specs.Outcomes.{asked_of, entries_asked, is_early, wants_audit};
 ghost use Rattle.pipe_top.specs.declared.fault.RunFault.{RunFault as AFault};
@@ -12,24 +12,25 @@ ghost use Rattle.pipe_top.specs.declared.fault.RunFault.{RunFault as AFault};
 use crate::fault::RunFault;
 use stage_plan::{TypeEntry, TypesFault, read_types};
 use std::alloc::Global;
-use words::{Words, WordsError, read_words};
+use unit_pass::{Name, NoMemory};
+use words::{WordsError, read_words};
 
-// What is asked for: types of columns by name, and the text that stands for a null.
+// What is asked for: types of columns by name, and the mark for null.
 #[derive(Drop)]
-pub(crate) struct Request<'a> {
+pub(crate) struct Request {
     pub(crate) entries: Vec<TypeEntry>,
-    pub(crate) mark: &'a str,
+    pub(crate) mark: Name,
 }
 
 // What the words ask for, or why they are refused.
 #[derive(Drop)]
-pub(crate) struct Asked<'a> {
+pub(crate) struct Asked {
     pub(crate) audit: bool,
-    pub(crate) request: Result<Request<'a>, RunFault>,
+    pub(crate) request: Result<Request, RunFault>,
 }
 
 // Reads the words and the schema text among them.
-pub(crate) fn read_asked<'a>(alloc: Global, words: &'a [String]) -> Asked<'a>
+pub(crate) fn read_asked(alloc: Global, words: &[String]) -> Asked
     ensures asks { (result.request ≡ Err RunFault.NoMemory) ⊎ Asks (texts_of words.now) (asked_of result.request) }
     ensures only { (result.request ≡ Err RunFault.NoMemory) ⊎ ((asked : Result ARequest AFault) → Asks (texts_of words.now) asked → asked ≡ asked_of result.request) }
     ensures early { IfErr result.request (λ fault. (is_early fault ≡ true) ⊎ (fault ≡ RunFault.NoMemory)) }
@@ -40,7 +41,7 @@ pub(crate) fn read_asked<'a>(alloc: Global, words: &'a [String]) -> Asked<'a>
     match read_words(alloc, words) {
         Ok(read) => Asked {
             audit: read.audit,
-            request: read_request(alloc, read),
+            request: read_request(alloc, read.schema, read.null),
         },
         Err(WordsError::Words(fault)) => refused(RunFault::Words(fault)),
         Err(WordsError::NoMemory) => refused(RunFault::NoMemory),
@@ -48,7 +49,7 @@ pub(crate) fn read_asked<'a>(alloc: Global, words: &'a [String]) -> Asked<'a>
 }
 
 // The words are refused.
-fn refused<'a>(fault: RunFault) -> Asked<'a>
+fn refused(fault: RunFault) -> Asked
     ensures request { result.request ≡ Err fault }
     ensures audit { result.audit ≡ false }
 {
@@ -58,28 +59,35 @@ fn refused<'a>(fault: RunFault) -> Asked<'a>
     }
 }
 
-// What the options ask for.
-fn read_request<'a>(alloc: Global, read: Words<'a>) -> Result<Request<'a>, RunFault>
-    ensures asks { (result ≡ Err RunFault.NoMemory) ⊎ RequestIs (options_of read) (asked_of result) }
-    ensures only { (result ≡ Err RunFault.NoMemory) ⊎ ((asked : Result ARequest AFault) → RequestIs (options_of read) asked → asked ≡ asked_of result) }
+// What a schema text and a mark for null ask for, where there are any: no mark is the empty one.
+fn read_request(
+    alloc: Global,
+    schema: Option<&str>,
+    null: Option<&str>,
+) -> Result<Request, RunFault>
+    ensures asks { (result ≡ Err RunFault.NoMemory) ⊎ RequestIs (option_map (λ s. s.now) schema.entry) (unwrap_or (option_map (λ s. s.now) null.entry) []) (asked_of result) }
+    ensures only { (result ≡ Err RunFault.NoMemory)
+        ⊎ ((asked : Result ARequest AFault) → RequestIs (option_map (λ s. s.now) schema.entry) (unwrap_or (option_map (λ s. s.now) null.entry) []) asked → asked ≡ asked_of result) }
     ensures early { IfErr result (λ fault. (is_early fault ≡ true) ⊎ (fault ≡ RunFault.NoMemory)) }
     ensures proper { IfOk result (λ r. All (λ e. KindOk e.kind) r.entries.items) }
     ensures allowed { IfOk result (λ r. All (λ e. IsAllowed e.kind) r.entries.items) }
 {
-    let mark = mark(read.null);
-    match read_entries(alloc, read.schema) {
-        Ok(entries) => Ok(Request { entries, mark }),
+    match read_entries(alloc, schema) {
+        Ok(entries) => {
+            let mark = read_mark(alloc, null)?;
+            Ok(Request { entries, mark })
+        }
         Err(fault) => Err(fault),
     }
 }
 
-// The mark for null: none stands for the empty text.
-fn mark<'a>(null: Option<&'a str>) -> &'a str
-    ensures { result.now ≡ unwrap_or (option_map (λ s. s.now) null.entry) [] }
+// The mark for null.
+fn read_mark(alloc: Global, null: Option<&str>) -> Result<Name, NoMemory>
+    ensures { IfOk result (λ mark. mark ≡ unwrap_or (option_map (λ s. s.now) null.entry) []) }
 {
     match null {
-        Some(text) => text,
-        None => "",
+        Some(text) => Name::from_slice(alloc, text.as_bytes()),
+        None => Name::from_slice(alloc, b""),
     }
 }
 

@@ -92,7 +92,7 @@ fn tell_fault<E: Sink>(errs: &mut E, fault: RunFault) -> Result<(), WriteFault>
     }
 }
 
-//! What is told of a fault of an entry.
+// What is told of a fault of an entry.
 fn rule_text(rule: TypesRule) -> &'static str
     ensures { result.now ≡ rule_text rule }
 {

@@ -164,7 +164,7 @@ fn read_input<S: Source>(alloc: Global, source: &mut S) -> Result<Vec<u8>, RunFa
 // Reads the source, makes the text and writes it, where the words are taken.
 fn carry_out<S: Source, K: Sink>(
     alloc: Global,
-    request: Result<Request<'_>, RunFault>,
+    request: Result<Request, RunFault>,
     source: &mut S,
     sink: &mut K,
     pass: &mut Pass,
@@ -173,24 +173,24 @@ fn carry_out<S: Source, K: Sink>(
     requires proper { IfOk request (λ r. All (λ e. KindOk e.kind) r.entries.items) }
     requires allowed { IfOk request (λ r. All (λ e. IsAllowed e.kind) r.entries.items) }
     requires early { IfErr request (λ fault. (is_early fault ≡ true) ⊎ (fault ≡ RunFault.NoMemory)) }
-    ensures text { OnOk result (IfSome (S.left source.old) (λ bytes. GotText (IsAnswerTo (asked_of request.entry) bytes) (K.taken sink.old) (K.taken sink.new))) }
+    ensures text { OnOk result (IfSome (S.left source.old) (λ bytes. GotText (IsAnswerTo (asked_of request) bytes) (K.taken sink.old) (K.taken sink.new))) }
     ensures text_read_to_end { OnOk result (IsAtEnd (S.left source.new)) }
-    ensures refused { IfErr result (λ fault. is_decided fault ≡ true → IfSome (S.left source.old) (λ bytes. answer_to (asked_of request.entry) bytes ≡ Fault fault)) }
-    ensures refused_early { IfErr request.entry (λ fault. result ≡ Err fault) }
-    ensures refused_early_only { IfErr result (λ fault. is_early fault ≡ true → asked_of request.entry ≡ Err fault) }
-    ensures refused_unread { IfErr request.entry (λ _. Keeps (S.left source.old) (S.left source.new)) }
-    ensures refused_unfailed { IfErr request.entry (λ _. S.faults source.new ≡ S.faults source.old) }
+    ensures refused { IfErr result (λ fault. is_decided fault ≡ true → IfSome (S.left source.old) (λ bytes. answer_to (asked_of request) bytes ≡ Fault fault)) }
+    ensures refused_early { IfErr request (λ fault. result ≡ Err fault) }
+    ensures refused_early_only { IfErr result (λ fault. is_early fault ≡ true → asked_of request ≡ Err fault) }
+    ensures refused_unread { IfErr request (λ _. Keeps (S.left source.old) (S.left source.new)) }
+    ensures refused_unfailed { IfErr request (λ _. S.faults source.new ≡ S.faults source.old) }
     ensures read_fault { result ≡ Err RunFault.ReadFault → Rose (S.faults source.old) (S.faults source.new) }
     ensures write_fault { IfErr result (λ fault. AtWriteFault fault (λ taken. Rose (K.faults sink.old) (K.faults sink.new))) }
-    ensures write_fault_prefix { IfErr result (λ fault. AtWriteFault fault (λ taken. IfSome (S.left source.old) (λ bytes. GotFirst (IsAnswerTo (asked_of request.entry) bytes) (K.taken sink.old) (K.taken sink.new) taken))) }
+    ensures write_fault_prefix { IfErr result (λ fault. AtWriteFault fault (λ taken. IfSome (S.left source.old) (λ bytes. GotFirst (IsAnswerTo (asked_of request) bytes) (K.taken sink.old) (K.taken sink.new) taken))) }
     ensures unwritten { IfErr result (λ fault. is_write_fault fault ≡ false → Keeps (K.taken sink.old) (K.taken sink.new)) }
     ensures prefix { LosesPrefix (S.left source.old) (S.left source.new) }
     ensures units { pass.new.units ≡ pass.old.units }
-    ensures counts { OnOk result (IfSome (S.left source.old) (λ bytes. IfOk request.entry (λ r. RequestTraffic (request_of r) bytes pass.old.blocks pass.old.nodes pass.new.blocks pass.new.nodes))) }
+    ensures counts { OnOk result (IfSome (S.left source.old) (λ bytes. IfOk request (λ r. RequestTraffic (request_of r) bytes pass.old.blocks pass.old.nodes pass.new.blocks pass.new.nodes))) }
 {
     let request = request?;
     let bytes = read_input(alloc, source)?;
-    let text = answer_input(alloc, &bytes, &request.entries, request.mark.as_bytes(), pass)?;
+    let text = answer_input(alloc, &bytes, &request.entries, request.mark.as_slice(), pass)?;
     match write_all(sink, &text) {
         Ok(()) => Ok(()),
         Err(WriteFault::Failed { taken }) => Err(RunFault::WriteFault { taken }),

@@ -27,37 +27,37 @@ table_text-requires-clause-allowed c = subst (λ columns. AreAllowed (map column
 
 pub table_text-requires-clause-held : goal.table_text-requires-clause-held
 table_text-requires-clause-held c =
-    let held = subst (λ columns. HoldsBody c.in_ok-builders.builders.items (map column_of columns) (records_of c.args.bytes.now)) c.deref.ensures.value c.in_ok-builders.ensures.held in
+    let held = subst (λ columns. HoldsBody c.args.mark.now c.in_ok-builders.builders.items (map column_of columns) (records_of c.args.bytes.now)) c.deref.ensures.value c.in_ok-builders.ensures.held in
     let columns = map column_of c.in_ok-columns.columns.items in
-    let rows : HoldRows c.in_ok-builders.builders.items columns held.rows = record { held = held.held; widths = body-widths columns _ held.rows held.spelled } in
+    let rows : HoldRows c.in_ok-builders.builders.items columns held.rows = record { held = held.held; widths = body-widths c.args.mark.now columns _ held.rows held.spelled } in
     (held.rows, subst (λ items. HoldRows c.in_ok-builders.builders.items (map column_of items) held.rows) (sym c.deref-2.ensures.value) rows, held.few)
 
 pub returns-clause-text : goal.returns-clause-text
 returns-clause-text c =
-    let held = subst (λ columns. HoldsBody c.in_ok-builders.builders.items (map column_of columns) (records_of c.args.bytes.now)) c.deref.ensures.value c.in_ok-builders.ensures.held in
+    let held = subst (λ columns. HoldsBody c.args.mark.now c.in_ok-builders.builders.items (map column_of columns) (records_of c.args.bytes.now)) c.deref.ensures.value c.in_ok-builders.ensures.held in
     let columns = map column_of c.in_ok-columns.columns.items in
-    let rows : HoldRows c.in_ok-builders.builders.items columns held.rows = record { held = held.held; widths = body-widths columns _ held.rows held.spelled } in
+    let rows : HoldRows c.in_ok-builders.builders.items columns held.rows = record { held = held.held; widths = body-widths c.args.mark.now columns _ held.rows held.spelled } in
     let lent = subst (λ items. HoldRows c.in_ok-builders.builders.items (map column_of items) held.rows) (sym c.deref-2.ensures.value) rows in
     let written = c.in_ok-text.ensures.text held.rows lent held.few in
-    let same = ap (λ items. Text (table_text (record { columns = map column_of items; rows = held.rows }))) c.deref-2.ensures.value in
-    text-answer (entries_of c.args.entries.now) (records_of c.args.bytes.now) columns c.in_ok-columns.ensures.found held.rows held.spelled ∙ sym same ∙ ap Text (sym written)
+    let same = ap (λ items. Text (table_text c.args.mark.now (record { columns = map column_of items; rows = held.rows }))) c.deref-2.ensures.value in
+    text-answer c.args.mark.now (entries_of c.args.entries.now) (records_of c.args.bytes.now) columns c.in_ok-columns.ensures.found held.rows held.spelled ∙ sym same ∙ ap Text (sym written)
 
 pub returns-clause-blocks : goal.returns-clause-blocks
 returns-clause-blocks c =
-    let held = subst (λ columns. HoldsBody c.in_ok-builders.builders.items (map column_of columns) (records_of c.args.bytes.now)) c.deref.ensures.value c.in_ok-builders.ensures.held in
+    let held = subst (λ columns. HoldsBody c.args.mark.now c.in_ok-builders.builders.items (map column_of columns) (records_of c.args.bytes.now)) c.deref.ensures.value c.in_ok-builders.ensures.held in
     let columns = map column_of c.in_ok-columns.columns.items in
-    let rows : HoldRows c.in_ok-builders.builders.items columns held.rows = record { held = held.held; widths = body-widths columns _ held.rows held.spelled } in
+    let rows : HoldRows c.in_ok-builders.builders.items columns held.rows = record { held = held.held; widths = body-widths c.args.mark.now columns _ held.rows held.spelled } in
     let lent = subst (λ items. HoldRows c.in_ok-builders.builders.items (map column_of items) held.rows) (sym c.deref-2.ensures.value) rows in
     c.in_ok-text.ensures.blocks held.rows lent
     ∙ ap (λ items. risen c.args.pass.now.blocks (chunk_blocks_of (map column_of items) held.rows)) c.deref-2.ensures.value
-    ∙ ap (risen c.args.pass.now.blocks) (sym (blocks-are (entries_of c.args.entries.now) (records_of c.args.bytes.now) columns c.in_ok-columns.ensures.found held.rows held.spelled))
+    ∙ ap (risen c.args.pass.now.blocks) (sym (blocks-are c.args.mark.now (entries_of c.args.entries.now) (records_of c.args.bytes.now) columns c.in_ok-columns.ensures.found held.rows held.spelled))
 
 pub returns-clause-nodes : goal.returns-clause-nodes
 returns-clause-nodes c =
-    let held = subst (λ columns. HoldsBody c.in_ok-builders.builders.items (map column_of columns) (records_of c.args.bytes.now)) c.deref.ensures.value c.in_ok-builders.ensures.held in
+    let held = subst (λ columns. HoldsBody c.args.mark.now c.in_ok-builders.builders.items (map column_of columns) (records_of c.args.bytes.now)) c.deref.ensures.value c.in_ok-builders.ensures.held in
     let columns = map column_of c.in_ok-columns.columns.items in
-    let rows : HoldRows c.in_ok-builders.builders.items columns held.rows = record { held = held.held; widths = body-widths columns _ held.rows held.spelled } in
+    let rows : HoldRows c.in_ok-builders.builders.items columns held.rows = record { held = held.held; widths = body-widths c.args.mark.now columns _ held.rows held.spelled } in
     let lent = subst (λ items. HoldRows c.in_ok-builders.builders.items (map column_of items) held.rows) (sym c.deref-2.ensures.value) rows in
     c.in_ok-text.ensures.nodes held.rows lent
     ∙ ap (λ items. risen c.args.pass.now.nodes (schema_nodes (map column_of items) + chunk_nodes_of (map column_of items) held.rows)) c.deref-2.ensures.value
-    ∙ ap (risen c.args.pass.now.nodes) (sym (nodes-are (entries_of c.args.entries.now) (records_of c.args.bytes.now) columns c.in_ok-columns.ensures.found held.rows held.spelled))
+    ∙ ap (risen c.args.pass.now.nodes) (sym (nodes-are c.args.mark.now (entries_of c.args.entries.now) (records_of c.args.bytes.now) columns c.in_ok-columns.ensures.found held.rows held.spelled))

@@ -9,7 +9,7 @@ use Rattle.pipe_top.proofs.text.write_rows.Goals as goal
 
 pub write_chunk-requires-clause-chunk : goal.write_chunk-requires-clause-chunk
 write_chunk-requires-clause-chunk c =
-    let (columns, rows, written, schema, held, few, has) = c.requires.held in
+    let (mark, columns, rows, written, schema, held, few, has) = c.requires.held in
     let lent = subst (λ builders. HoldRows builders columns rows) (sym c.deref.ensures.value) held in
     let same : to_z w64 (of_z w64 c.count_rows-rows.result) ≡ c.count_rows-rows.result = omega (arith, ints) in
     let chunk : IsChunkOf c.args.schema c.in-Ok.chunk columns rows = record {
@@ -19,10 +19,10 @@ write_chunk-requires-clause-chunk c =
       few = few;
       widths = held.widths;
     } in
-    (columns, rows, written, chunk, has)
+    (mark, columns, rows, written, chunk, has)
 
 pub returns-in_ok-write_chunk-in-Ok-clause-text : goal.returns-in_ok-write_chunk-in-Ok-clause-text
-returns-in_ok-write_chunk-in-Ok-clause-text c columns rows written schema held few has =
+returns-in_ok-write_chunk-in-Ok-clause-text c mark columns rows written schema held few has =
     let lent = subst (λ builders. HoldRows builders columns rows) (sym c.deref.ensures.value) held in
     let same : to_z w64 (of_z w64 c.count_rows-rows.result) ≡ c.count_rows-rows.result = omega (arith, ints) in
     let chunk : IsChunkOf c.args.schema c.in-Ok.chunk columns rows = record {
@@ -32,7 +32,7 @@ returns-in_ok-write_chunk-in-Ok-clause-text c columns rows written schema held f
       few = few;
       widths = held.widths;
     } in
-    c.in_ok-write_chunk-in-Ok.ensures.text columns rows written chunk has
+    c.in_ok-write_chunk-in-Ok.ensures.text mark columns rows written chunk has
 
 pub returns-in_ok-write_chunk-in-Ok-clause-blocks : goal.returns-in_ok-write_chunk-in-Ok-clause-blocks
 returns-in_ok-write_chunk-in-Ok-clause-blocks c columns rows held =

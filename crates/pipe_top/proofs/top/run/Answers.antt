@@ -1,16 +1,34 @@
-use Rattle.pipe_top.proofs.Runs.{prefix-of-answer, silent-audit, told-all}
+use Rattle.std.proofs.Common.{rules}
+use Rattle.pipe_top.proofs.Runs.{is-complete-fault, prefix-of-answer, refused-by-answer, silent-audit, told-all}
 use Rattle.pipe_top.proofs.top.run.Goals as goal
-
-pub returns-clause-write_fault_prefix : goal.returns-clause-write_fault_prefix
-returns-clause-write_fault_prefix g c =
-    let entries = c.read_asked-wanted.result.entries in
-    let carried = c.carry_out-carried.ensures in
-    prefix-of-answer _ (g.S.Source.left c.args.source.now) _ _ entries c.carry_out-carried.result _ carried.refused_early c.outcome_of-outcome.ensures.fault
-    c.read_asked-wanted.ensures.asks carried.write_fault_prefix
 
 pub returns-clause-diagnostics : goal.returns-clause-diagnostics
 returns-clause-diagnostics g c =
-    let entries = c.read_asked-wanted.result.entries in
+    let request = c.read_asked-wanted.result.request in
     let early = c.carry_out-carried.ensures.refused_early in
-    let audit = silent-audit entries c.carry_out-carried.result _ c.read_asked-wanted.result.audit _ early c.outcome_of-outcome.ensures.fault c.read_asked-wanted.ensures.audit in
+    let audit = silent-audit request c.carry_out-carried.result _ c.read_asked-wanted.result.audit _ early c.outcome_of-outcome.ensures.fault c.read_asked-wanted.ensures.audit in
     told-all c.tell-told.result _ _ _ _ c.outcome_of-outcome.result.fault c.outcome_of-outcome.result.audit c.read_asked-wanted.result.audit _ audit c.tell-told.ensures
+
+pub returns-clause-refused : goal.returns-clause-refused
+returns-clause-refused g c =
+    let carried = c.carry_out-carried.ensures in
+    refused-by-answer _ (g.S.Source.left c.args.source.now) c.read_asked-wanted.result.request c.carry_out-carried.result _ carried.refused_early c.outcome_of-outcome.ensures.fault
+    c.read_asked-wanted.ensures.asks carried.refused
+
+pub returns-clause-write_fault_prefix : goal.returns-clause-write_fault_prefix
+returns-clause-write_fault_prefix g c =
+    let carried = c.carry_out-carried.ensures in
+    prefix-of-answer _ (g.S.Source.left c.args.source.now) c.read_asked-wanted.result.request c.carry_out-carried.result _ carried.refused_early c.outcome_of-outcome.ensures.fault
+    c.read_asked-wanted.ensures.asks _ _ carried.write_fault_prefix
+
+pub returns-clause-complete_fault : goal.returns-clause-complete_fault
+returns-clause-complete_fault g c bytes fault input answer no-read =
+    let request = c.read_asked-wanted.result.request in
+    let left = g.S.Source.left c.args.source.now in
+    let carried = c.carry_out-carried.ensures in
+    let told = c.outcome_of-outcome.ensures.fault in
+    let asks = c.read_asked-wanted.ensures.asks in
+    let refused = refused-by-answer _ left request c.carry_out-carried.result _ carried.refused_early told asks carried.refused in
+    let first = prefix-of-answer _ left request c.carry_out-carried.result _ carried.refused_early told asks _ _ carried.write_fault_prefix in
+    is-complete-fault _ left request c.carry_out-carried.result _ carried.refused_early told asks c.read_asked-wanted.ensures.only
+    _ c.outcome_of-outcome.result.status c.outcome_of-outcome.ensures.status (search rules) refused _ _ bytes fault (search rules) first input answer no-read
