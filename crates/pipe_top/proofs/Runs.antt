@@ -72,7 +72,6 @@ at-input words left bytes P is holds = subst (λ l. IfSome l P) is holds
 
 module _ (words : List (List ℕ)) (left : Option (List ℕ)) (request : Result AsksFor RunFault) (carried : Result (Unit {0}) RunFault) (fault : Option RunFault)
     (early : IfErr request (λ f. carried ≡ Err f)) (told : fault ≡ fault_in carried) (asks : (request ≡ Err run.NoMemory) ⊎ Asks words (asked_of request)) where
-
   answer-is : (bytes : List ℕ) (answer : Answer) → Asks words (asked_of request) → IsAnswerTo (asked_of request) bytes answer → IsAnswer words bytes answer
   answer-is bytes answer asked is = record { asked = asked_of request; asks = asked; is = is }
 
@@ -125,8 +124,8 @@ module _ (words : List (List ℕ)) (left : Option (List ℕ)) (request : Result 
           at-writing (cause_of f) (λ taken. IfSome left (λ bytes. GotFirst (IsAnswerTo (asked_of request) bytes) old new taken))
           (λ taken. (bytes : List ℕ) → IsInput words left bytes → GotFirst (IsAnswer words bytes) old new taken)
           (λ n writes first bytes input.
-            let here : GotFirst (IsAnswerTo (asked_of request) bytes) old new n = at-input words left bytes (λ l. GotFirst (IsAnswerTo (asked_of request) l) old new n) input first in
-            (here.0, answer-is bytes (Text here.0) (asked-unless (writing-asked f n writes is)) here.1, here.2, here.3))
+          let here : GotFirst (IsAnswerTo (asked_of request) bytes) old new n = at-input words left bytes (λ l. GotFirst (IsAnswerTo (asked_of request) l) old new n) input first in
+          (here.0, answer-is bytes (Text here.0) (asked-unless (writing-asked f n writes is)) here.1, here.2, here.3))
           wrote
 
   -- ---- the refusal
@@ -158,7 +157,6 @@ module _ (words : List (List ℕ)) (left : Option (List ℕ)) (request : Result 
 
     module _ (ReadRose : Type 0) (status : ℕ) (status-is : status ≡ status_of fault) (read : fault ≡ Some run.ReadFault → ReadRose)
         (refused : IfSome fault (λ f. is_decided f ≡ true → (bytes : List ℕ) → IsInput words left bytes → IsAnswer words bytes (Fault f))) where
-
       carried-err : (f : RunFault) → fault ≡ Some f → carried ≡ Err f
       carried-err f is = go carried (sym told ∙ is)
         where

@@ -44,4 +44,6 @@ pub fn worked_answers()
 {}
 
 #[cfg(test)]
+mod field_tests;
+#[cfg(test)]
 mod tests;

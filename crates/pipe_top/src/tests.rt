@@ -174,6 +174,27 @@ fn words_and_schema_texts_are_refused_by_their_rules(rt: HostRuntime) -> Result<
     Ok(())
 }
 
+#[test]
+fn a_table_of_thousands_of_rows_comes_back(rt: HostRuntime) -> Result<(), Fail> {
+    let alloc = rt.alloc();
+    let mut bytes = b"a,b\n".to_vec(alloc)?;
+    for row in 0..3000_u32 {
+        bytes.push(b'0' + (row % 10) as u8)?;
+        bytes.extend_from_slice(b",x\n")?;
+    }
+    let words = words_of(alloc, "--schema a:l")?;
+    let mut source = source_of(alloc, &bytes, 4096, &[])?;
+    let mut errs = sink_of(alloc, 5, &[])?;
+    let Ok(mut sink) = MemSink::new(alloc, 20_000, 4096, Vec::new(alloc)) else {
+        return Err(Fail::from("memory"));
+    };
+    let outcome = run(alloc, &words, &mut source, &mut sink, &mut errs);
+    assert_eq!(rt; outcome.status, 0);
+    assert_eq!(rt; sink.taken(), bytes.as_slice());
+    assert_eq!(rt; outcome.audit.left, 0);
+    Ok(())
+}
+
 // A header of so many columns, whose names differ.
 fn wide_header(alloc: Global, columns: u32) -> Result<Vec<u8>, Fail> {
     let mut bytes = Vec::new(alloc);
@@ -197,6 +218,26 @@ fn headers_are_refused_for_width_and_for_entries_of_no_column(rt: HostRuntime) -
     let (status, fault, _errs) = run_words(alloc, "--schema q:u", b"a,b\n1,\n", &[])?;
     assert_eq!(rt; fault, Some(RunFault::HeaderUnknown { entry: 1 }));
     assert_eq!(rt; status, 4);
+    Ok(())
+}
+
+// Runs with these words, and expects this fault and this text.
+pub(crate) fn expect_outcome(
+    rt: &impl Abort,
+    alloc: Global,
+    line: &str,
+    bytes: &[u8],
+    fault: Option<RunFault>,
+    text: &[u8],
+) -> Result<(), Fail> {
+    let words = words_of(alloc, line)?;
+    let mut source = source_of(alloc, bytes, 7, &[])?;
+    let mut sink = sink_of(alloc, 5, &[])?;
+    let mut errs = sink_of(alloc, 5, &[])?;
+    let outcome = run(alloc, &words, &mut source, &mut sink, &mut errs);
+    assert_eq!(rt; outcome.fault, fault);
+    assert_eq!(rt; sink.taken(), text);
+    assert_eq!(rt; outcome.audit.left, 0);
     Ok(())
 }
 
@@ -226,7 +267,15 @@ fn expect_typed(
 
 #[test]
 fn typed_columns_come_back_in_the_texts_of_their_types(rt: HostRuntime) -> Result<(), Fail> {
-    let cases: [(&str, &[u8], u64, u64, &[u8]); 4] = [
+    let cases: [(&str, &[u8], u64, u64, &[u8]); 6] = [
+        ("--null NA", b"a,b\nNA,\n", 3, 6, b"a,b\nNA,\n"),
+        (
+            "--null NA --schema a:l",
+            b"a\nNA\n+7\n",
+            2,
+            4,
+            b"a\nNA\n7\n",
+        ),
         (
             "--schema a:d:5,2",
             b"a\n7.5\n-0.05\n",
@@ -258,7 +307,12 @@ fn typed_columns_come_back_in_the_texts_of_their_types(rt: HostRuntime) -> Resul
 
 #[test]
 fn fields_outside_their_types_are_refused_with_their_places(rt: HostRuntime) -> Result<(), Fail> {
-    let cases: [(&str, &[u8], RunFault); 4] = [
+    let cases: [(&str, &[u8], RunFault); 5] = [
+        (
+            "--null NA --schema a:l",
+            b"a\n\"\"\n",
+            RunFault::Field { row: 1, column: 1 },
+        ),
         (
             "--schema a:d:5,2",
             b"a\n1000\n-0.05\n",

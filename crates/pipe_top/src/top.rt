@@ -190,7 +190,13 @@ fn carry_out<S: Source, K: Sink>(
 {
     let request = request?;
     let bytes = read_input(alloc, source)?;
-    let text = answer_input(alloc, &bytes, &request.entries, request.mark.as_slice(), pass)?;
+    let text = answer_input(
+        alloc,
+        &bytes,
+        &request.entries,
+        request.mark.as_slice(),
+        pass,
+    )?;
     match write_all(sink, &text) {
         Ok(()) => Ok(()),
         Err(WriteFault::Failed { taken }) => Err(RunFault::WriteFault { taken }),
