@@ -3,7 +3,6 @@ use Rattle.std.proofs.Common.{◌≡◌, ◌≤◌, ◌<◌, ◌+◌, ◌^◌, �
 use Rattle.std.proofs.lemmas.List.{map-append}
 use Rattle.std.proofs.lemmas.List.Folds.{concat-append}
 use Rattle.std.specs.List.{concat}
-
 use Rattle.col_build.specs.declared.builder.Builder.{Builder}
 use Rattle.csv.specs.declared.reader.Reader.{Reader}
 use Rattle.fmt_string.specs.Table.{Column, Kind, Row}

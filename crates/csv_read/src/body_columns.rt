@@ -158,7 +158,10 @@ fn push_spelled(
     match form {
         FieldForm::Text => push_text(text, ascii, builder),
         FieldForm::Wholes { bits, signed } => {
-            push_some(read_whole(bits, signed, text).map(|n| Item::Whole(n)), builder)
+            push_some(
+                read_whole(bits, signed, text).map(|n| Item::Whole(n)),
+                builder,
+            )
         }
         FieldForm::Decimals { precision, places } => push_some(
             read_decimal(precision, places, text).map(|n| Item::Whole(n)),
