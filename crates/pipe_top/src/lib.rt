@@ -20,12 +20,14 @@ ghost use Rattle.pipe_top.specs.declared.fault.RunFault.TheVariants as run;
 mod answer;
 mod asked;
 mod fault;
+mod laws;
 mod schema;
 mod text;
 mod told;
 mod top;
 
 pub use fault::RunFault;
+pub use laws::one_answer;
 pub use stage_plan::TypesRule;
 pub use top::{Outcome, run};
 pub use words::WordsFault;

@@ -2,4 +2,5 @@ pub mod Cuts
 pub mod Columns
 pub mod Walk
 pub mod Loop
+pub mod Readings
 pub mod Worked

@@ -25,7 +25,7 @@ abbrev texts : List (Bor (List ℕ)) → List (List ℕ)
 texts = map (λ p. p.now)
 
 -- whether one of the names is this
-abbrev has_name : List TypeEntry → List ℕ → Bool
+abbrev pub has_name : List TypeEntry → List ℕ → Bool
 has_name es name = list_any (λ e. bytes_eq name e.name) es
 
 abbrev pub has_key : List (Bor (List ℕ)) → List ℕ → Bool
@@ -88,15 +88,22 @@ pub at_start : (items keys : List (Bor (List ℕ))) (es : List TypeEntry) → ke
 at_start items keys es no_keys none =
     rw (no_keys, none) (record { each = tt; differ = λ i j d below within. absurd (omega arith); knows = λ name. refl })
 
-named : (es : List TypeEntry) (e : TypeEntry) → has_name es e.name ≡ true → Named es e
+pub named : (es : List TypeEntry) (e : TypeEntry) → has_name es e.name ≡ true → Named es e
 named es e has =
     let (k, x, within, at, same) = Any-from_list_any (λ x. bytes_eq e.name x.name) es has in
     (k, x, within, at, sym ((bytes_eq-Decides e.name x.name).0 same))
 
-new_name : (es : List TypeEntry) (e : TypeEntry) → has_name es e.name ≡ false → (k : ℕ) (d : TypeEntry) → k < length es → (slice_index_or es k d).name ≢ e.name
+pub new_name : (es : List TypeEntry) (e : TypeEntry) → has_name es e.name ≡ false → (k : ℕ) (d : TypeEntry) → k < length es → (slice_index_or es k d).name ≢ e.name
 new_name es e none k d within same =
     let is : bytes_eq e.name (slice_index_or es k d).name ≡ true = (bytes_eq-Decides e.name (slice_index_or es k d).name).1 (sym same) in
     true≢false (sym (list_any_at (λ x. bytes_eq e.name x.name) es k d within is) ∙ none)
+
+-- one entry more
+pub push_settled : (part : List ℕ) (e : TypeEntry) (ps : List (List ℕ)) (fs : List TypeEntry) → Settled ps fs → Settles part (Some e) → Settled (ps ++ part ∷ []) (fs ++ e ∷ [])
+push_settled part e [] [] each s = (s, tt)
+push_settled part e [] (f ∷ fs) each s = absurd each
+push_settled part e (p ∷ ps) [] each s = absurd each
+push_settled part e (p ∷ ps) (f ∷ fs) each s = (each.0, push_settled part e ps fs each.1 s)
 
 swap : (a b : Bool) → (a || b) ≡ (b || (a || false))
 swap true true = refl
@@ -116,7 +123,7 @@ module _ (items : List (Bor (List ℕ))) (i : ℕ) (keys : List (Bor (List ℕ))
         let longer : texts (take (i + 1) items) ≡ texts (take i items) ++ part ∷ [] =
         ap texts (take_more items i d within) ∙ map-append (λ p. p.now) (take i items) (slice_index_or items i d ∷ []) in
         record {
-          each = subst (λ (l : List (List ℕ)). Settled l (es ++ e ∷ [])) (sym longer) (push_settled (texts (take i items)) es far.each settles);
+          each = subst (λ (l : List (List ℕ)). Settled l (es ++ e ∷ [])) (sym longer) (push_settled part e (texts (take i items)) es far.each settles);
           differ = all_pairs_push (λ a b. a.name ≢ b.name) es e far.differ (new_name es e none);
           knows = λ n.
               sym (list_any-IsPermutation (λ k. bytes_eq n k.now) (key ∷ keys) after puts)
@@ -125,12 +132,6 @@ module _ (items : List (Bor (List ℕ))) (i : ℕ) (keys : List (Bor (List ℕ))
               ∙ swap (bytes_eq n e.name) (has_name es n)
               ∙ sym (list_any-append (λ x. bytes_eq n x.name) es (e ∷ []));
         }
-      where
-        push_settled : (ps : List (List ℕ)) (fs : List TypeEntry) → Settled ps fs → Settles part (Some e) → Settled (ps ++ part ∷ []) (fs ++ e ∷ [])
-        push_settled [] [] each s = (s, tt)
-        push_settled [] (f ∷ fs) each s = absurd each
-        push_settled (p ∷ ps) [] each s = absurd each
-        push_settled (p ∷ ps) (f ∷ fs) each s = (each.0, push_settled ps fs each.1 s)
 
     module _ (text : List ℕ) (all : texts items ≡ parts text) where
       abbrev behind : List (List ℕ)

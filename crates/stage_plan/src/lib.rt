@@ -7,9 +7,11 @@
 #![tactic(auto)]
 
 mod fault;
+mod laws;
 mod types;
 
 pub use fault::{TypesFault, TypesRule};
+pub use laws::one_reading;
 pub use types::{TypeEntry, read_types};
 
 #[cfg(test)]
