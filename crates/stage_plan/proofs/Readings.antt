@@ -1,5 +1,5 @@
 -- Each text reads as entries or as a fault, and as one alone.
-use Rattle.std.proofs.Common.{◌≡◌, ◌∙◌, ◌⊎◌, ◌+◌, ◌==◌, ℕ, Bool, true, false, true≢false, List, [], ◌∷◌, ◌++◌, length, Option, Some, None, Result, Ok, Err, option_map, ap, sym, subst, refl, arith, inl, inr, append-nil, append_assoc}
+use Rattle.std.proofs.Common.{◌≡◌, ◌∙◌, ◌⊎◌, ◌==◌, ℕ, Bool, true, false, true≢false, List, [], ◌∷◌, ◌++◌, Option, Some, None, Result, Ok, Err, ap, sym, subst, refl, arith, inl, inr, append-nil, append_assoc}
 use Rattle.std.proofs.lemmas.Bool.{eqb-true, eq-eqb}
 use Rattle.std.proofs.lemmas.List.Quantifiers.{all_pairs_push}
 use Rattle.fmt_string.specs.declared.kind.DataType.{DataType}
@@ -10,7 +10,7 @@ use Rattle.fmt_string.specs.Kinds.{is_column_type}
 use Rattle.std.specs.Prelude.{◌≢◌}
 use Rattle.stage_plan.specs.declared.types.TypeEntry.{TypeEntry}
 use Rattle.stage_plan.specs.declared.fault.TypesRule.TheVariants.{BadEntry, Twice}
-use Rattle.stage_plan.specs.Types.{parts, colon, Lacks, CutsAt, TypeReads, EntryReads, NamesDiffer, Reads}
+use Rattle.stage_plan.specs.Types.{parts, colon, Lacks, CutsAt, TypeReads, NamesDiffer, Reads}
 use Rattle.stage_plan.proofs.Columns.{Only, column, no_column, refused}
 use Rattle.stage_plan.proofs.Cuts.{entry, no_entry, one_entry}
 use Rattle.stage_plan.proofs.Loop.{has_name, named, new_name, push_settled}
