@@ -1,4 +1,4 @@
-//! Views as they are read: the worked rows, and views below other columns.
+//! Views as they are read: three columns written out by hand, and views below other columns.
 use crate::imported::ImportFault;
 use crate::tests::{Want, closed, reads, refused};
 use crate::trees::{encoded, flat, holding, indexing, leaf, over};
