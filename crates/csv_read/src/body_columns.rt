@@ -1,6 +1,6 @@
 //! The columns of a body in the making.
 ghost use Rattle.std.specs.Prelude.{◌≡◌, ◌<◌, ◌^◌, [], length, map, true, false, vec_len, option_map, IfErr, IfOk, OnOk, Ok, None, Some};
-ghost use Rattle.std.specs.Str.{IsAscii, is_utf8};
+ghost use Rattle.std.specs.Str.{IsAscii, bytes_eq, is_utf8};
 ghost use Rattle.csv.specs.Records.{fields_of};
 ghost use Rattle.col_build.specs.Encoding.{HasForm};
 ghost use Rattle.col_build.specs.Holding.{Adds};
@@ -176,6 +176,14 @@ fn push_spelled(
     }
 }
 
+// Whether a field is the mark: most differ from it in length, and an empty one has nothing to compare.
+#[inline(always)]
+fn is_mark(text: &[u8], mark: &[u8]) -> bool
+    ensures { result ≡ bytes_eq text.now mark.now }
+{
+    text.len() == mark.len() && (text.is_empty() || text == mark)
+}
+
 // Adds the value that a field spells, where it spells one. A field that equals the mark is null.
 fn push_field(
     form: FieldForm,
@@ -191,7 +199,7 @@ fn push_field(
     ensures added { result ≡ Ok true → AddsField mark.now form text.now builder.old builder.new }
     ensures none { result ≡ Ok false → SpellsNone mark.now form text.now }
 {
-    if text == mark {
+    if is_mark(text, mark) {
         push_item(builder, Item::Null)?;
         return Ok(true);
     }

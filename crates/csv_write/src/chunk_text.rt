@@ -45,13 +45,17 @@ pub(crate) fn chunk_columns<'a>(
     Ok(columns)
 }
 
-// The text of an item that isn't of its column's form: the mark for a null, and nothing for an item of another form.
+// The text of an item that isn't of its column's form: the mark for a null, and nothing for an item of another form. Under the
+// empty mark both are nothing, and no item is looked at.
 #[inline(never)]
 fn null_or_nothing<'b>(items: &Col<'_>, i: i64, mark: &'b [u8]) -> &'b [u8]
     requires from { pos 0 ≤ℤ i }
     requires below { i <ℤ pos (window_of items.now).count }
     ensures { result.now ≡ null_text mark.now (item_at (window_of items.now) (natural i)) }
 {
+    if mark.is_empty() {
+        return b"";
+    }
     match items.value(i) {
         ValueRef::Null => mark,
         _ => b"",
