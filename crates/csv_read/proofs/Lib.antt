@@ -10,4 +10,6 @@ pub mod HeldRows
 pub mod Taken
 pub mod FieldPush
 pub mod BodyRows
+pub mod Widths
 pub mod BodyRead
+pub mod BatchNext

@@ -10,6 +10,7 @@
 //! the mark is null. [`export_rows`] makes the chunk of the rows that builders hold.
 #![tactic(auto)]
 
+mod batches;
 mod body;
 mod body_columns;
 #[cfg(test)]
@@ -24,6 +25,7 @@ mod row;
 #[cfg(test)]
 mod tests;
 
+pub use batches::BatchReader;
 pub use body::{BodyFault, read_body};
 pub use chunk::{chunks_have_their_rows, export_rows};
 pub use csv_model::HeaderFault;
