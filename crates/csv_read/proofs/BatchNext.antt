@@ -1,15 +1,14 @@
 -- From one batch to the next.
-use Rattle.std.proofs.Common.{◌≡◌, ◌≤◌, ◌<◌, ◌+◌, ◌^◌, ◌∙◌, ℕ, zero, suc, Bool, true, false, not, List, [], ◌∷◌, length, map, take, drop, Bor, Result, Ok, Err, refl, sym, ap, subst, arith}
+use Rattle.std.proofs.Common.{◌≡◌, ◌≤◌, ◌+◌, ◌^◌, ◌∙◌, ℕ, zero, suc, Bool, true, false, not, List, [], ◌∷◌, length, take, drop, Bor, refl, sym, ap, arith}
 use Rattle.csv.specs.declared.reader.Reader.{Reader}
-use Rattle.fmt_string.specs.Table.{Column, Row}
-use Rattle.fmt_string.specs.declared.row_fault.RowFault.{RowFault}
-use Rattle.csv_model.specs.Reading.{Record, behind_header, body_from, records_of, row_of, with_row}
-use Rattle.csv_read.specs.BatchesLeft.{BatchesLeft, IsNextBatch, StandsBetween, at_end, columns_in, records_ahead}
+use Rattle.csv_model.specs.Reading.{Record, behind_header, body_from, records_of}
+use Rattle.csv_read.specs.BatchesLeft.{BatchesLeft, IsNextBatch, StandsBetween, columns_in, records_ahead}
 use Rattle.csv_read.specs.BodyRows.{HasBatch}
 use Rattle.csv_read.specs.RecordReader.{IsReading, Takes, records_left, text_left}
 use Rattle.csv_read.specs.declared.body_columns.BodyColumns.{BodyColumns}
+use Rattle.csv_read.proofs.Bodies.{rows-count}
 use Rattle.csv_read.proofs.BodyRead.{hold-each}
-use Rattle.csv_read.proofs.Widths.{ok-row, widths-from}
+use Rattle.csv_read.proofs.Widths.{widths-from}
 
 abbrev Reads : BatchesLeft → ℕ → Reader (Bor (List ℕ)) → Bool → BodyColumns → Reader (Bor (List ℕ)) → Type 0
 Reads s batch from more made to = HasBatch s.mark (s.read + 1) batch (columns_in s) (records_left from) (length (text_left from)) more made to
@@ -17,14 +16,6 @@ Reads s batch from more made to = HasBatch s.mark (s.read + 1) batch (columns_in
 -- behind a batch
 abbrev pub after : BatchesLeft → ℕ → Bool → Reader (Bor (List ℕ)) → BatchesLeft
 after s rows more to = record { columns = s.columns; mark = s.mark; read = s.read + rows; records = records_ahead (not more) to }
-
--- each record spells a row
-pub rows-count : (mark : List ℕ) (number : ℕ) (columns : List Column) (records : List Record) (rows : List Row) → body_from mark number columns records ≡ Ok rows → length rows ≡ length records
-rows-count mark number columns [] rows is = let e : ◌≡◌ {A = Result (List Row) RowFault} (Ok []) (Ok rows) = is in let one : [] ≡ rows = cc in ap length (sym one)
-rows-count mark number columns (fields ∷ records) rows is =
-    let parts = ok-row (row_of mark number columns fields) (body_from mark (number + 1) columns records) rows is in
-    let rest = rows-count mark (number + 1) columns records parts.1 parts.3 in
-    omega (arith, ap length parts.4, rest)
 
 none-dropped : (batch : ℕ) (records : List Record) → records ≡ [] → drop batch records ≡ []
 none-dropped zero records is = is
@@ -84,13 +75,13 @@ next-batch s batch from to made more stands same has some = record {
 
 -- a batch of no rows is at the end
 pub next-end : (s : BatchesLeft) (batch : ℕ) (from to : Reader (Bor (List ℕ))) (made : BodyColumns) (more : Bool) → 1 ≤ batch → s.records ≡ records_left from → Reads s batch from more made to → made.rows ≡ 0
-    → (s ≡ at_end s) × (after s made.rows more to ≡ s)
+    → (s.records ≡ []) × (after s made.rows more to ≡ s)
 next-end s batch from to made more some same has none =
     let count = rows-count s.mark (s.read + 1) (columns_in s) (take batch (records_left from)) has.rows has.spelled in
     let empty : records_left from ≡ [] = none-taken batch (records_left from) some (omega (arith, count, none, has.holds.height)) in
     let left : s.records ≡ [] = same ∙ empty in
     let rest : records_ahead (not more) to ≡ [] = records-after s batch from to made more has ∙ none-dropped batch (records_left from) empty in
     let read : s.read + made.rows ≡ s.read = omega (arith, none) in (
-      ap (λ (rs : List Record). record { columns = s.columns; mark = s.mark; read = s.read; records = rs }) left,
+      left,
       ap (λ (n : ℕ). record { columns = s.columns; mark = s.mark; read = n; records = records_ahead (not more) to }) read ∙ ap (λ (rs : List Record). record { columns = s.columns; mark = s.mark; read = s.read; records = rs }) (rest ∙ sym left),
     )

@@ -17,6 +17,7 @@ use Rattle.csv_read.specs.declared.body.BodyFault.TheVariants as faults
 use Rattle.csv_read.specs.declared.body_columns.BodyColumns.{BodyColumns}
 use Rattle.field_codec.specs.declared.form.FieldForm.{FieldForm}
 use Rattle.field_codec.specs.declared.form.FieldForm.TheVariants.{Truths}
+use Rattle.csv_read.proofs.Bodies.{none-before, refused}
 
 -- ---- sizes
 
@@ -38,10 +39,6 @@ column-push : (j : ℕ) (rows : List Row) (values : Row) → byte_total (column_
 column-push j rows values = ap byte_total (map-append _ rows (values ∷ [])) ∙ total-push (column_values j rows) (get_or values j Null)
 
 -- ---- records, one after the other
-
-none-before : (spelled : Result (List Row) RowFault) → with_rows [] spelled ≡ spelled
-none-before (Ok rows) = refl
-none-before (Err fault) = refl
 
 one-before : (rows : List Row) (values : Row) (rest : Result (List Row) RowFault) → with_rows rows (with_row (Ok values) rest) ≡ with_rows (rows ++ values ∷ []) rest
 one-before rows values (Ok others) = ap (λ (rs : List Row). Ok rs) (sym (append_assoc rows (values ∷ []) others))
@@ -203,22 +200,8 @@ some-body mark made columns records rest header batch size false reader is small
     let spelled : body_from mark 1 columns rest ≡ Ok has.rows = ap (body_from mark 1 columns) (sym all) ∙ has.spelled in
     subst (HoldsBody mark made.builders.items columns) (sym is) (record { rows = has.rows; spelled = spelled; few = omega (arith, has.few, small); held = hold-each made columns has.rows has.holds })
 
--- the first record that spells no row is the same, however many are behind it
-with-err : (row : Result Row RowFault) (few all : Result (List Row) RowFault) (fault : RowFault) → ((g : RowFault) → few ≡ Err g → all ≡ Err g) → with_row row few ≡ Err fault → with_row row all ≡ Err fault
-with-err (Err own) few all fault same is = is
-with-err (Ok values) (Err own) all fault same is =
-    let e : ◌≡◌ {A = Result (List Row) RowFault} (Err own) (Err fault) = is in
-    ap (with_row (Ok values)) (same own refl) ∙ e
-with-err (Ok values) (Ok rows) all fault same is = let never : ◌≡◌ {A = Result (List Row) RowFault} (Ok (values ∷ rows)) (Err fault) = is in absurd (cc)
-
-pub refused-early : (mark : List ℕ) (number batch : ℕ) (columns : List Column) (records : List Record) (fault : RowFault) → body_from mark number columns (take batch records) ≡ Err fault → body_from mark number columns records ≡ Err fault
-refused-early mark number zero columns records fault is = let never : ◌≡◌ {A = Result (List Row) RowFault} (Ok []) (Err fault) = is in absurd (cc)
-refused-early mark number (suc batch) columns [] fault is = is
-refused-early mark number (suc batch) columns (fields ∷ records) fault is =
-    with-err (row_of mark number columns fields) (body_from mark (number + 1) columns (take batch records)) (body_from mark (number + 1) columns records) fault (λ g e. refused-early mark (number + 1) batch columns records g e) is
-
 -- the fault of the records behind a header
 pub body-refused : (mark : List ℕ) (columns : List Column) (records rest : List Record) (header : Record) (batch : ℕ) (fault : BodyFault) → records ≡ header ∷ rest → IsRowsFault fault (body_from mark 1 columns (take batch rest))
     → IsBodyFault fault mark columns records
-body-refused mark columns records rest header batch (faults.Row fault) is refuses = subst (IsBodyFault (faults.Row fault) mark columns) (sym is) (refused-early mark 1 batch columns rest fault refuses)
+body-refused mark columns records rest header batch (faults.Row fault) is refuses = subst (IsBodyFault (faults.Row fault) mark columns) (sym is) (refused mark 1 batch columns rest fault refuses).0
 body-refused mark columns records rest header batch faults.NoMemory is refuses = tt

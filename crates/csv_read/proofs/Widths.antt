@@ -4,7 +4,7 @@ use Rattle.std.proofs.lemmas.Bool.{cases_Bool, eqb-true}
 use Rattle.std.specs.Prelude.{◌==◌}
 use Rattle.fmt_string.specs.Table.{Column, Row}
 use Rattle.fmt_string.specs.Value.{Value}
-use Rattle.csv_model.specs.Reading.{Record, body, body_from, field_in, row_of, values_from, values_step, with_row, with_value}
+use Rattle.csv_model.specs.Reading.{Record, body_from, field_in, row_of, values_from, values_step, with_row, with_value}
 use Rattle.fmt_string.specs.declared.row_fault.RowFault.{RowFault}
 use Rattle.fmt_string.specs.declared.row_fault.RowFault.TheVariants as row
 

@@ -1,5 +1,5 @@
 -- A text whose rows are read in batches: what is left of it, and what the next batch is.
-use Rattle.std.specs.Prelude.{◌≡◌, ◌≤◌, ◌+◌, ◌^◌, ℕ, Bool, true, false, if◌then◌else◌, List, [], ◌∷◌, length, map, take, drop, Ok}
+use Rattle.std.specs.Prelude.{◌≡◌, ◌≤◌, ◌+◌, ◌^◌, ℕ, Bool, false, if◌then◌else◌, List, [], ◌∷◌, length, map, take, drop, Ok}
 use Rattle.std.specs.Borrow.{Bor}
 use Rattle.csv.specs.declared.reader.Reader.{Reader}
 use Rattle.col_build.specs.declared.builder.Builder.{Builder}

@@ -1,5 +1,5 @@
 //! The rows of a text, read into builders a batch a call. The reader keeps its place between two calls.
-ghost use Rattle.std.specs.Prelude.{◌≡◌, ◌≤◌, ◌^◌, length, map, Ok, None, IfErr, IfOk, IfSome, OnErr};
+ghost use Rattle.std.specs.Prelude.{◌≡◌, ◌≤◌, ◌^◌, [], length, map, Ok, None, IfErr, IfOk, IfSome, OnErr};
 ghost use Rattle.fmt_string.specs.ColumnView.{column_of};
 ghost use Rattle.field_codec.specs.TextColumns.{AreAllowed, AreProper};
 
@@ -99,7 +99,7 @@ impl<'a> BatchReader<'a> {
         // The builders hold the rows that the next records spell.
         ensures batch { IfOk result (λ found. IfSome found (λ builders. IsNextBatch batch builders.items self.old self.new)) }
         // There is nothing where no record is left.
-        ensures end { result ≡ Ok None → self.old ≡ at_end self.old }
+        ensures end { result ≡ Ok None → self.old.records ≡ [] }
         ensures end_stays { result ≡ Ok None → self.new ≡ self.old }
         // Which fault it is.
         ensures fault { IfErr result (λ fault. IsNextFault fault batch self.old) }

@@ -1,4 +1,4 @@
-use Rattle.std.proofs.Common.{rules, arith, ◌≡◌, ◌∙◌, ◌≤◌, ◌<◌, ◌^◌, ℕ, List, Bool, Result, Ok, true, false, ap, length, map, take, subst, sym}
+use Rattle.std.proofs.Common.{rules, arith, ◌≡◌, ◌∙◌, ◌≤◌, ◌^◌, ℕ, List, Bool, Result, Ok, true, false, ap, length, map, take, subst, sym}
 use Rattle.csv.specs.Records.{fields_of}
 use Rattle.fmt_string.specs.ColumnView.{column_of}
 use Rattle.unit_pass.specs.declared.no_memory.NoMemory.{NoMemory}

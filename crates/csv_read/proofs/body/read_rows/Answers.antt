@@ -1,9 +1,9 @@
-use Rattle.std.proofs.Common.{rules, arith, ◌≡◌, ◌<◌, ◌≤◌, ◌+◌, ◌^◌, Bool, Result, Ok, true, false, ap, length}
+use Rattle.std.proofs.Common.{rules, arith, ◌≡◌, ◌<◌, ◌+◌, Bool, Result, Ok, true, false, ap, length}
 use Rattle.csv.specs.Records.{fields_of}
 use Rattle.unit_pass.specs.declared.no_memory.NoMemory.{NoMemory}
 use Rattle.csv_read.specs.BodyRows.{RefusesBatch}
 use Rattle.csv_read.specs.RecordReader.{records_left, text_left}
-use Rattle.csv_read.proofs.BodyRead.{all-read, first-refused, no-more, none-read, one-read, room-for}
+use Rattle.csv_read.proofs.BodyRead.{first-refused, no-more, none-read, one-read, room-for}
 use Rattle.csv_read.proofs.body.read_rows.Goals as goal
 
 ok : (a b : Bool) → a ≡ b → ◌≡◌ {A = Result Bool NoMemory} (Ok a) (Ok b)

@@ -1,7 +1,7 @@
 use Rattle.std.proofs.Common.{rules, ◌≡◌, ◌≤◌, ◌+◌, ◌∙◌, ℕ, Bool, false, List, [], length, map, ap, subst, sym}
 use Rattle.fmt_string.specs.ColumnView.{column_of}
 use Rattle.field_codec.specs.TextColumns.{AreAllowed, AreProper}
-use Rattle.csv_read.specs.BatchesLeft.{BatchesLeft, IsNextBatch, StandsBetween, at_end, records_ahead}
+use Rattle.csv_read.specs.BatchesLeft.{BatchesLeft, IsNextBatch, StandsBetween, records_ahead}
 use Rattle.csv_read.specs.BodyRows.{HasBatch, HasRows}
 use Rattle.csv_read.specs.RecordReader.{records_left, text_left}
 use Rattle.csv_read.proofs.BatchNext.{after, next-batch, next-end}
@@ -27,7 +27,7 @@ returns-then-made-eq0-clause-end c = λ _.
     let reads = subst (λ (m : List ℕ). HasBatch m (inside.read + 1) c.args.batch columns (records_left inside.reader) (length (text_left inside.reader)) more made c.read_rows.new.reader) mark
     (c.in-Ok-read_rows.ensures.rows columns has) in
     let none : made.rows ≡ 0 = search rules in
-    subst (λ (o : BatchesLeft). o ≡ at_end o) view (next-end s c.args.batch inside.reader c.read_rows.new.reader made more c.requires.some left reads none).0
+    subst (λ (o : BatchesLeft). o.records ≡ []) view (next-end s c.args.batch inside.reader c.read_rows.new.reader made more c.requires.some left reads none).0
 
 pub returns-then-made-eq0-clause-end_stays : goal.returns-then-made-eq0-clause-end_stays
 returns-then-made-eq0-clause-end_stays c = λ _.

@@ -1,4 +1,4 @@
-use Rattle.std.proofs.Common.{◌≡◌, ◌+◌, ℕ, List, length, refl, rules, subst}
+use Rattle.std.proofs.Common.{◌≡◌, ℕ, List, length, refl, rules, subst}
 use Rattle.csv.specs.Records.{fields_of}
 use Rattle.csv_read.specs.BodyRows.{AddsFields, RefusesFields}
 use Rattle.field_codec.specs.declared.form.FieldForm.{FieldForm}
