@@ -1,22 +1,23 @@
 -- Reading the records of a text into the columns of a body.
-use Rattle.std.proofs.Common.{◌≡◌, ◌≤◌, ◌<◌, ◌+◌, ◌^◌, ◌++◌, ◌∙◌, ℕ, zero, suc, List, [], ◌∷◌, length, map, get_or, Bor, Result, Ok, Err, refl, sym, ap, subst, arith, length-append, append_assoc, append-nil}
-use Rattle.std.proofs.lemmas.List.{map-append}
+use Rattle.std.proofs.Common.{◌≡◌, ◌≤◌, ◌<◌, ◌+◌, ◌^◌, ◌++◌, ◌∙◌, ℕ, zero, suc, Bool, true, false, List, [], ◌∷◌, length, map, take, drop, get_or, Bor, Result, Ok, Err, refl, sym, ap, subst, arith, length-append, append_assoc, append-nil}
+use Rattle.std.proofs.lemmas.List.{map-append, take-append-drop}
 use Rattle.std.proofs.lemmas.List.Folds.{concat-append}
 use Rattle.std.specs.List.{concat}
 use Rattle.col_build.specs.declared.builder.Builder.{Builder}
 use Rattle.csv.specs.declared.reader.Reader.{Reader}
 use Rattle.fmt_string.specs.Table.{Column, Kind, Row}
 use Rattle.fmt_string.specs.Value.{Value, Null, byte_total, bytes_of}
-use Rattle.csv_model.specs.Reading.{Record, body, body_from, row_of, with_row}
+use Rattle.csv_model.specs.Reading.{Record, body_from, row_of, with_row}
 use Rattle.fmt_string.specs.declared.row_fault.RowFault.{RowFault}
-use Rattle.csv_read.specs.Body.{HoldEach, HoldsBody, HoldsKind, column_values}
-use Rattle.csv_read.specs.BodyRows.{AddsRow, BodySoFar, HasBody, HasRoomFor, HasRows, IsBodyFaultOf, IsColumnOf, RefusesRow, with_rows}
+use Rattle.csv_read.specs.Body.{HoldEach, HoldsBody, HoldsKind, IsBodyFault, column_values}
+use Rattle.csv_read.specs.BodyRows.{AddsRow, HasBatch, HasRoomFor, HasRows, IsColumnOf, IsRowsFault, RefusesRow, RowsSoFar, with_rows}
 use Rattle.csv_read.specs.RecordReader.{Takes, records_left, text_left}
 use Rattle.csv_read.specs.declared.body.BodyFault.{BodyFault}
 use Rattle.csv_read.specs.declared.body.BodyFault.TheVariants as faults
 use Rattle.csv_read.specs.declared.body_columns.BodyColumns.{BodyColumns}
 use Rattle.field_codec.specs.declared.form.FieldForm.{FieldForm}
 use Rattle.field_codec.specs.declared.form.FieldForm.TheVariants.{Truths}
+use Rattle.csv_read.proofs.Bodies.{none-before, refused}
 
 -- ---- sizes
 
@@ -39,90 +40,143 @@ column-push j rows values = ap byte_total (map-append _ rows (values ∷ [])) �
 
 -- ---- records, one after the other
 
-none-before : (spelled : Result (List Row) RowFault) → with_rows [] spelled ≡ spelled
-none-before (Ok rows) = refl
-none-before (Err fault) = refl
-
 one-before : (rows : List Row) (values : Row) (rest : Result (List Row) RowFault) → with_rows rows (with_row (Ok values) rest) ≡ with_rows (rows ++ values ∷ []) rest
 one-before rows values (Ok others) = ap (λ (rs : List Row). Ok rs) (sym (append_assoc rows (values ∷ []) others))
 one-before rows values (Err fault) = refl
 
--- under the same mark
-spelled-by : (mark : List ℕ) (number : ℕ) (columns : List Column) (fields : Record) (own : List ℕ) (spelled : Result Row RowFault) → own ≡ mark → row_of own number columns fields ≡ spelled
+-- under the same mark, for a record of the same number
+spelled-by : (mark own : List ℕ) (number other : ℕ) (columns : List Column) (fields : Record) (spelled : Result Row RowFault) → own ≡ mark → other ≡ number → row_of own other columns fields ≡ spelled
     → row_of mark number columns fields ≡ spelled
-spelled-by mark number columns fields own spelled same is = subst (λ (m : List ℕ). row_of m number columns fields ≡ spelled) same is
+spelled-by mark own number other columns fields spelled same equal is = subst (λ (n : ℕ). row_of mark n columns fields ≡ spelled) equal (subst (λ (m : List ℕ). row_of m other columns fields ≡ spelled) same is)
 
 -- before the first record
-pub none-read : (columns : List Column) (made : BodyColumns) (reader : Reader (Bor (List ℕ))) → HasRows made columns [] → length (text_left reader) ≤ 2 ^ 30 → BodySoFar made.mark columns (records_left reader) made reader
-none-read columns made reader has short = record {
-  rows = [];
-  holds = has;
-  marked = refl;
-  spelled = sym (none-before (body_from made.mark 1 columns (records_left reader)));
-  few = omega (arith, short);
-  short = λ j within. omega (arith, short);
-}
+pub none-read : (number batch : ℕ) (columns : List Column) (made : BodyColumns) (reader : Reader (Bor (List ℕ))) → HasRows made columns []
+    → RowsSoFar made.mark number batch columns (records_left reader) (length (text_left reader)) made reader
+none-read number batch columns made reader has =
+    let first : number + 0 ≡ number = omega arith in
+    record {
+      rows = [];
+      others = batch;
+      count = omega arith;
+      holds = has;
+      marked = refl;
+      spelled = sym (none-before (body_from made.mark (number + 0) columns (take batch (records_left reader))) ∙ ap (λ (n : ℕ). body_from made.mark n columns (take batch (records_left reader))) first);
+      rest = refl;
+      few = omega arith;
+      short = λ j within. omega arith;
+    }
 
 -- there is room for one more record
-pub room-for : (mark : List ℕ) (columns : List Column) (records : List Record) (made : BodyColumns) (reader : Reader (Bor (List ℕ))) (fields : Record) (rest : List ℕ) → BodySoFar mark columns records made reader → Takes (text_left reader) fields rest
-    → HasRoomFor made.forms.items made.builders.items fields
-room-for mark columns records made reader fields rest so_far takes = record {
+pub room-for : (mark : List ℕ) (number batch : ℕ) (columns : List Column) (records : List Record) (size : ℕ) (made : BodyColumns) (reader : Reader (Bor (List ℕ))) (fields : Record) (rest : List ℕ) → size ≤ 2 ^ 30
+    → RowsSoFar mark number batch columns records size made reader → Takes (text_left reader) fields rest → HasRoomFor made.forms.items made.builders.items fields
+room-for mark number batch columns records size made reader fields rest small so_far takes = record {
   columns = columns;
   rows = so_far.rows;
   held = so_far.holds.held;
-  few = omega (arith, so_far.few);
-  narrow = omega (arith, takes.count, so_far.few);
-  bytes = λ j within. omega (arith, so_far.short j within, field-short fields j, takes.bytes);
+  few = omega (arith, so_far.few, small);
+  narrow = omega (arith, takes.count, so_far.few, small);
+  bytes = λ j within. omega (arith, so_far.short j within, field-short fields j, takes.bytes, small);
 }
 
-pub rows-few : (mark : List ℕ) (columns : List Column) (records : List Record) (made : BodyColumns) (reader : Reader (Bor (List ℕ))) → BodySoFar mark columns records made reader → made.rows < 2 ^ 40
-rows-few mark columns records made reader so_far = omega (arith, so_far.few, so_far.holds.height)
+pub rows-few : (mark : List ℕ) (number batch : ℕ) (columns : List Column) (records : List Record) (size : ℕ) (made : BodyColumns) (reader : Reader (Bor (List ℕ))) → size ≤ 2 ^ 30 → RowsSoFar mark number batch columns records size made reader → made.rows ≤ 2 ^ 30
+rows-few mark number batch columns records size made reader small so_far = omega (arith, so_far.few, so_far.holds.height, small)
+
+-- the next record is the first of those that are still to come
+take-next : (others : ℕ) (records rest : List Record) (fields : Record) → records ≡ fields ∷ rest → take (suc others) records ≡ fields ∷ take others rest
+take-next others records rest fields is = ap (take (suc others)) is
+
+drop-next : (others : ℕ) (records rest : List Record) (fields : Record) → records ≡ fields ∷ rest → drop (suc others) records ≡ drop others rest
+drop-next others records rest fields is = ap (drop (suc others)) is
+
+one-fewer : (others : ℕ) → 1 ≤ others → (fewer : ℕ) × (others ≡ suc fewer)
+one-fewer zero some = absurd (omega (arith, some))
+one-fewer (suc fewer) some = (fewer, refl)
 
 -- one more record was read and its row was added
-pub one-read : (mark : List ℕ) (columns : List Column) (records : List Record) (old new : BodyColumns) (before after : Reader (Bor (List ℕ))) (fields : Record) → BodySoFar mark columns records old before → Takes (text_left before) fields (text_left after)
-    → records_left before ≡ fields ∷ records_left after → AddsRow fields old new → BodySoFar mark columns records new after
-one-read mark columns records old new before after fields so_far takes left adds =
-    let added = adds columns so_far.rows so_far.holds in
-    let rest = body_from mark (1 + length so_far.rows + 1) columns (records_left after) in
-    let next : 1 + length so_far.rows + 1 ≡ 1 + length (so_far.rows ++ added.values ∷ []) = omega (arith, length-append so_far.rows (added.values ∷ [])) in
+pub one-read : (mark : List ℕ) (number batch : ℕ) (columns : List Column) (records : List Record) (size : ℕ) (old new : BodyColumns) (before after : Reader (Bor (List ℕ))) (fields : Record) (n : ℕ)
+    → RowsSoFar mark number batch columns records size old before → old.rows < batch → n ≡ number + old.rows → Takes (text_left before) fields (text_left after)
+    → records_left before ≡ fields ∷ records_left after → AddsRow n fields old new → RowsSoFar mark number batch columns records size new after
+one-read mark number batch columns records size old new before after fields n so_far below is takes left adds =
+    let rows = so_far.rows in
+    let added = adds columns rows so_far.holds in
+    let (others, fewer) = one-fewer so_far.others (omega (arith, below, so_far.count, so_far.holds.height)) in
+    let longer = length-append rows (added.values ∷ []) in
+    let here : n ≡ number + length rows = omega (arith, is, so_far.holds.height) in
+    let next : number + length rows + 1 ≡ number + length (rows ++ added.values ∷ []) = omega (arith, longer) in
+    let rest = body_from mark (number + length rows + 1) columns (take others (records_left after)) in
+    let taken : take so_far.others (records_left before) ≡ fields ∷ take others (records_left after) = ap (λ (k : ℕ). take k (records_left before)) fewer ∙ take-next others (records_left before) (records_left after) fields left in
     record {
-      rows = so_far.rows ++ added.values ∷ [];
+      rows = rows ++ added.values ∷ [];
+      others = others;
+      count = omega (arith, so_far.count, fewer, longer);
       holds = added.holds;
       marked = added.marked ∙ so_far.marked;
       spelled = so_far.spelled
-          ∙ ap (λ (rs : List Record). with_rows so_far.rows (body_from mark (1 + length so_far.rows) columns rs)) left
-          ∙ ap (λ (r : Result Row RowFault). with_rows so_far.rows (with_row r rest)) (spelled-by mark (1 + length so_far.rows) columns fields old.mark (Ok added.values) so_far.marked added.spelled)
-          ∙ one-before so_far.rows added.values rest
-          ∙ ap (λ (n : ℕ). with_rows (so_far.rows ++ added.values ∷ []) (body_from mark n columns (records_left after))) next;
-      few = omega (arith, so_far.few, takes.shorter, length-append so_far.rows (added.values ∷ []));
-      short = λ j within. omega (arith, so_far.short j within, column-push j so_far.rows added.values, added.short j within, field-short fields j, takes.bytes);
+          ∙ ap (λ (rs : List Record). with_rows rows (body_from mark (number + length rows) columns rs)) taken
+          ∙ ap (λ (r : Result Row RowFault). with_rows rows (with_row r rest)) (spelled-by mark old.mark (number + length rows) n columns fields (Ok added.values) so_far.marked here added.spelled)
+          ∙ one-before rows added.values rest
+          ∙ ap (λ (k : ℕ). with_rows (rows ++ added.values ∷ []) (body_from mark k columns (take others (records_left after)))) next;
+      rest = so_far.rest ∙ ap (λ (k : ℕ). drop k (records_left before)) fewer ∙ drop-next others (records_left before) (records_left after) fields left;
+      few = omega (arith, so_far.few, takes.shorter, longer);
+      short = λ j within. omega (arith, so_far.short j within, column-push j rows added.values, added.short j within, field-short fields j, takes.bytes);
     }
 
--- all records were read
-pub all-read : (mark : List ℕ) (columns : List Column) (records : List Record) (made : BodyColumns) (reader : Reader (Bor (List ℕ))) → BodySoFar mark columns records made reader → records_left reader ≡ [] → HasBody mark columns records made
-all-read mark columns records made reader so_far none = record {
-  rows = so_far.rows;
-  spelled = so_far.spelled ∙ ap (λ (rs : List Record). with_rows so_far.rows (body_from mark (1 + length so_far.rows) columns rs)) none ∙ ap (λ (rs : List Row). Ok rs) (append-nil so_far.rows);
-  few = omega (arith, so_far.few);
-  holds = so_far.holds;
-}
+none-of : {A : Type 0} (n : ℕ) (xs : List A) → xs ≡ [] → (take n xs ≡ []) × (drop n xs ≡ [])
+none-of zero xs is = (refl, is)
+none-of (suc n) xs is = (ap (take (suc n)) is, ap (drop (suc n)) is)
+
+-- all of them were read
+pub all-read : (mark : List ℕ) (number batch : ℕ) (columns : List Column) (records : List Record) (size : ℕ) (made : BodyColumns) (reader : Reader (Bor (List ℕ))) → RowsSoFar mark number batch columns records size made reader → batch ≤ made.rows
+    → HasBatch mark number batch columns records size true made reader
+all-read mark number batch columns records size made reader so_far full =
+    let none : so_far.others ≡ 0 = omega (arith, full, so_far.count, so_far.holds.height) in
+    record {
+      rows = so_far.rows;
+      holds = so_far.holds;
+      spelled = so_far.spelled ∙ ap (λ (k : ℕ). with_rows so_far.rows (body_from mark (number + length so_far.rows) columns (take k (records_left reader)))) none ∙ ap (λ (rs : List Row). Ok rs) (append-nil so_far.rows);
+      few = omega (arith, so_far.few);
+      full = λ e. omega (arith, none, so_far.count);
+      behind = λ e. so_far.rest ∙ ap (λ (k : ℕ). drop k (records_left reader)) none;
+      short = λ e. so_far.few;
+      last = λ e. absurd (cc);
+    }
+
+-- there are no more records
+pub no-more : (mark : List ℕ) (number batch : ℕ) (columns : List Column) (records : List Record) (size : ℕ) (made : BodyColumns) (reader left : Reader (Bor (List ℕ))) → RowsSoFar mark number batch columns records size made reader → records_left reader ≡ []
+    → HasBatch mark number batch columns records size false made left
+no-more mark number batch columns records size made reader left so_far end =
+    let none = none-of so_far.others (records_left reader) end in
+    record {
+      rows = so_far.rows;
+      holds = so_far.holds;
+      spelled = so_far.spelled ∙ ap (λ (rs : List Record). with_rows so_far.rows (body_from mark (number + length so_far.rows) columns rs)) none.0 ∙ ap (λ (rs : List Row). Ok rs) (append-nil so_far.rows);
+      few = omega (arith, so_far.few);
+      full = λ e. absurd (cc);
+      behind = λ e. absurd (cc);
+      short = λ e. absurd (cc);
+      last = λ e. so_far.rest ∙ none.1;
+    }
 
 -- a record that spells no row is the first one
-pub first-refused : (mark : List ℕ) (columns : List Column) (records : List Record) (made : BodyColumns) (reader : Reader (Bor (List ℕ))) (fields : Record) (rest : List Record) (fault : BodyFault) → BodySoFar mark columns records made reader
-    → records_left reader ≡ fields ∷ rest → RefusesRow fault fields made → IsBodyFaultOf fault (body mark columns records)
-first-refused mark columns records made reader fields rest (faults.Row fault) so_far left refuses =
-    let why : row_of mark (1 + length so_far.rows) columns fields ≡ Err fault = spelled-by mark (1 + length so_far.rows) columns fields made.mark (Err fault) so_far.marked (refuses columns so_far.rows so_far.holds) in
+pub first-refused : (mark : List ℕ) (number batch : ℕ) (columns : List Column) (records : List Record) (size : ℕ) (made : BodyColumns) (reader : Reader (Bor (List ℕ))) (fields : Record) (rest : List Record) (n : ℕ) (fault : BodyFault)
+    → RowsSoFar mark number batch columns records size made reader → made.rows < batch → n ≡ number + made.rows → records_left reader ≡ fields ∷ rest → RefusesRow fault n fields made
+    → IsRowsFault fault (body_from mark number columns (take batch records))
+first-refused mark number batch columns records size made reader fields rest n (faults.Row fault) so_far below is left refuses =
+    let rows = so_far.rows in
+    let (others, fewer) = one-fewer so_far.others (omega (arith, below, so_far.count, so_far.holds.height)) in
+    let here : n ≡ number + length rows = omega (arith, is, so_far.holds.height) in
+    let taken : take so_far.others (records_left reader) ≡ fields ∷ take others rest = ap (λ (k : ℕ). take k (records_left reader)) fewer ∙ take-next others (records_left reader) rest fields left in
     so_far.spelled
-    ∙ ap (λ (rs : List Record). with_rows so_far.rows (body_from mark (1 + length so_far.rows) columns rs)) left
-    ∙ ap (λ (r : Result Row RowFault). with_rows so_far.rows (with_row r (body_from mark (1 + length so_far.rows + 1) columns rest))) why
-first-refused mark columns records made reader fields rest faults.NoMemory so_far left refuses = tt
+    ∙ ap (λ (rs : List Record). with_rows rows (body_from mark (number + length rows) columns rs)) taken
+    ∙ ap (λ (r : Result Row RowFault). with_rows rows (with_row r (body_from mark (number + length rows + 1) columns (take others rest)))) (spelled-by mark made.mark (number + length rows) n columns fields (Err fault) so_far.marked here (refuses columns rows so_far.holds))
+first-refused mark number batch columns records size made reader fields rest n faults.NoMemory so_far below is left refuses = tt
 
 -- ---- the builders alone
 
 holds-kind : (builder : Builder) (kind : Kind) (values : List Value) (form : FieldForm) (column : Column) → column.kind ≡ kind → IsColumnOf form builder column values → HoldsKind builder kind values
 holds-kind builder kind values form column same is = subst (λ (k : Kind). HoldsKind builder k values) (sym is.flat ∙ same) is.holds
 
-hold-each : (made : BodyColumns) (columns : List Column) (rows : List Row) → HasRows made columns rows → HoldEach made.builders.items columns rows
+pub hold-each : (made : BodyColumns) (columns : List Column) (rows : List Row) → HasRows made columns rows → HoldEach made.builders.items columns rows
 hold-each made columns rows has = record {
   count = has.held.builders_count;
   each = λ j b c within. holds-kind _ _ _ (get_or made.forms.items j Truths) (get_or columns j c) refl (has.held.each j Truths b c within);
@@ -133,7 +187,21 @@ pub no-body : (mark : List ℕ) (made : BodyColumns) (columns : List Column) (re
 no-body mark made columns [] none has = record { rows = []; spelled = refl; few = omega arith; held = hold-each made columns [] has }
 no-body mark made columns (r ∷ records) none has = absurd cc
 
--- a text of a header and records behind it
-pub some-body : (mark : List ℕ) (made : BodyColumns) (columns : List Column) (records rest : List Record) (header : Record) → records ≡ header ∷ rest → HasBody mark columns rest made → HoldsBody mark made.builders.items columns records
-some-body mark made columns records rest header is has =
-    subst (HoldsBody mark made.builders.items columns) (sym is) (record { rows = has.rows; spelled = has.spelled; few = has.few; held = hold-each made columns has.rows has.holds })
+-- nothing is behind more records than there are
+all-taken : {A : Type 0} (n : ℕ) (xs : List A) → drop n xs ≡ [] → take n xs ≡ xs
+all-taken {A = A} n xs none = sym (append-nil (take n xs)) ∙ ap (λ (rest : List A). take n xs ++ rest) (sym none) ∙ take-append-drop n xs
+
+-- a text of a header and records behind it, which were read as one batch
+pub some-body : (mark : List ℕ) (made : BodyColumns) (columns : List Column) (records rest : List Record) (header : Record) (batch size : ℕ) (more : Bool) (reader : Reader (Bor (List ℕ))) → records ≡ header ∷ rest → size ≤ 2 ^ 30 → 2 ^ 30 < batch
+    → HasBatch mark 1 batch columns rest size more made reader → HoldsBody mark made.builders.items columns records
+some-body mark made columns records rest header batch size true reader is small large has = absurd (omega (arith, has.full refl, has.few, small, large))
+some-body mark made columns records rest header batch size false reader is small large has =
+    let all : take batch rest ≡ rest = all-taken batch rest (has.last refl) in
+    let spelled : body_from mark 1 columns rest ≡ Ok has.rows = ap (body_from mark 1 columns) (sym all) ∙ has.spelled in
+    subst (HoldsBody mark made.builders.items columns) (sym is) (record { rows = has.rows; spelled = spelled; few = omega (arith, has.few, small); held = hold-each made columns has.rows has.holds })
+
+-- the fault of the records behind a header
+pub body-refused : (mark : List ℕ) (columns : List Column) (records rest : List Record) (header : Record) (batch : ℕ) (fault : BodyFault) → records ≡ header ∷ rest → IsRowsFault fault (body_from mark 1 columns (take batch rest))
+    → IsBodyFault fault mark columns records
+body-refused mark columns records rest header batch (faults.Row fault) is refuses = subst (IsBodyFault (faults.Row fault) mark columns) (sym is) (refused mark 1 batch columns rest fault refuses).0
+body-refused mark columns records rest header batch faults.NoMemory is refuses = tt

@@ -210,11 +210,10 @@ row-fields mark number columns fields same =
     rw equal refl
 
 -- and is refused where they are
-pub fields-refused : (old : BodyColumns) (fields : Record) (fault : BodyFault) → length fields ≡ length old.forms.items → RefusesFields fault old.mark old.forms.items fields (old.rows + 1) old.builders.items → RefusesRow fault fields old
-fields-refused old fields fault width refuses columns rows has =
-    let number : old.rows + 1 ≡ 1 + length rows = omega (arith, has.height) in
-    let told = rw number at (refuses columns rows has.held) in
-    subst (IsRowFault fault) (sym (row-fields old.mark (1 + length rows) columns fields (omega (arith, width, has.held.forms_count)))) told
+pub fields-refused : (old : BodyColumns) (fields : Record) (number : ℕ) (fault : BodyFault) → length fields ≡ length old.forms.items → RefusesFields fault old.mark old.forms.items fields number old.builders.items
+    → RefusesRow fault number fields old
+fields-refused old fields number fault width refuses columns rows has =
+    subst (IsRowFault fault) (sym (row-fields old.mark number columns fields (omega (arith, width, has.held.forms_count)))) (refuses columns rows has.held)
 
 values-push : (j : ℕ) (rows : List Row) (values : Row) → column_values j (rows ++ values ∷ []) ≡ column_values j rows ++ get_or values j Null ∷ []
 values-push j rows values = map-append _ rows (values ∷ [])
@@ -225,20 +224,17 @@ all-spelled mark values number column [] fields none = ap (λ (vs : Row). Ok vs)
 all-spelled mark values number column (c ∷ cs) fields none = absurd cc
 
 -- all fields are added
-pub row-added : (old new : BodyColumns) (fields : Record) → length fields ≡ length old.forms.items → new.forms.items ≡ old.forms.items → length new.builders.items ≡ length old.builders.items → new.rows ≡ old.rows + 1
-    → new.mark ≡ old.mark → AddsFields old.mark old.forms.items fields (old.rows + 1) (length old.forms.items) old.builders.items new.builders.items → AddsRow fields old new
-row-added old new fields width forms count height marked adds columns rows has =
+pub row-added : (old new : BodyColumns) (fields : Record) (number : ℕ) → length fields ≡ length old.forms.items → new.forms.items ≡ old.forms.items → length new.builders.items ≡ length old.builders.items → new.rows ≡ old.rows + 1
+    → new.mark ≡ old.mark → AddsFields old.mark old.forms.items fields number (length old.forms.items) old.builders.items new.builders.items → AddsRow number fields old new
+row-added old new fields number width forms count height marked adds columns rows has =
     let added = adds columns rows has.held in
-    let number : old.rows + 1 ≡ 1 + length rows = omega (arith, has.height) in
     let wide : length old.forms.items ≡ length columns = has.held.forms_count in
     let no_columns : drop (length old.forms.items) columns ≡ [] = drop_all (length old.forms.items) columns (omega (arith, wide)) in
-    let all = all-spelled old.mark added.values (old.rows + 1) (1 + length old.forms.items) (drop (length old.forms.items) columns) (drop (length old.forms.items) fields) no_columns in
-    let spelled : values_from old.mark (old.rows + 1) 1 columns fields ≡ Ok added.values = added.spelled ∙ all in
-    let spelled2 : values_from old.mark (1 + length rows) 1 columns fields ≡ Ok added.values = rw number at spelled in
+    let all = all-spelled old.mark added.values number (1 + length old.forms.items) (drop (length old.forms.items) columns) (drop (length old.forms.items) fields) no_columns in
     record {
       values = added.values;
       marked = marked;
-      spelled = row-fields old.mark (1 + length rows) columns fields (omega (arith, width, wide)) ∙ spelled2;
+      spelled = row-fields old.mark number columns fields (omega (arith, width, wide)) ∙ added.spelled ∙ all;
       short = λ j within. added.short j (omega (arith, within, wide));
       holds = record {
         held = record {

@@ -10,4 +10,8 @@ pub mod HeldRows
 pub mod Taken
 pub mod FieldPush
 pub mod BodyRows
+pub mod Widths
+pub mod Bodies
 pub mod BodyRead
+pub mod BatchNext
+pub mod BatchLaw

@@ -1,5 +1,5 @@
 -- The columns of a body in the making, and one more row for them, under a mark for null.
-use Rattle.std.specs.Prelude.{◌≡◌, ◌≤◌, ◌<◌, ◌+◌, ◌^◌, ◌++◌, ℕ, List, [], ◌∷◌, length, get_or, drop, Option, None, Some, Result, Ok, Err}
+use Rattle.std.specs.Prelude.{◌≡◌, ◌≤◌, ◌<◌, ◌+◌, ◌^◌, ◌++◌, ℕ, Bool, true, false, List, [], ◌∷◌, length, get_or, take, drop, Option, None, Some, Result, Ok, Err}
 use Rattle.std.specs.Borrow.{Bor}
 use Rattle.col_build.specs.Encoding.{push_fault}
 use Rattle.col_build.specs.Holding.{Adds, Holds}
@@ -9,7 +9,7 @@ use Rattle.fmt_string.specs.declared.kind.DataType.{DataType}
 use Rattle.fmt_string.specs.FieldText.{form_of, read_field}
 use Rattle.fmt_string.specs.Table.{Column, Flat, Row}
 use Rattle.fmt_string.specs.Value.{Value, Null, byte_total, bytes_of}
-use Rattle.csv_model.specs.Reading.{Record, body, body_from, row_of, values_from}
+use Rattle.csv_model.specs.Reading.{Record, body_from, row_of, values_from}
 use Rattle.fmt_string.specs.declared.row_fault.RowFault.{RowFault}
 use Rattle.csv_read.specs.Body.{column_values}
 use Rattle.field_codec.specs.FieldForms.{IsProper, form_in}
@@ -119,48 +119,61 @@ pub record HasRows (made : BodyColumns) (columns : List Column) (rows : List Row
   pub held : HoldRows made.forms.items made.builders.items columns rows
   pub height : made.rows ≡ length rows
 
--- the fields of a record spell the values of a row, which the columns hold besides, and the mark stays
-pub record HasRow (mark : List ℕ) (columns : List Column) (rows : List Row) (fields : Record) (made : BodyColumns) : Type 0 where
+-- the fields of the record of this number spell the values of a row, which the columns hold besides, and the mark stays
+pub record HasRow (mark : List ℕ) (number : ℕ) (columns : List Column) (rows : List Row) (fields : Record) (made : BodyColumns) : Type 0 where
   pub values : Row
   pub marked : made.mark ≡ mark
-  pub spelled : row_of mark (1 + length rows) columns fields ≡ Ok values
+  pub spelled : row_of mark number columns fields ≡ Ok values
   pub short : (j : ℕ) → j < length columns → length (bytes_of (get_or values j Null)) ≤ length (get_or fields j [])
   pub holds : HasRows made columns (rows ++ values ∷ [])
 
-abbrev pub AddsRow : Record → BodyColumns → BodyColumns → Type 0
-AddsRow fields old new = (columns : List Column) (rows : List Row) → HasRows old columns rows → HasRow old.mark columns rows fields new
+abbrev pub AddsRow : ℕ → Record → BodyColumns → BodyColumns → Type 0
+AddsRow number fields old new = (columns : List Column) (rows : List Row) → HasRows old columns rows → HasRow old.mark number columns rows fields new
 
-abbrev pub RefusesRow : BodyFault → Record → BodyColumns → Type 0
-RefusesRow fault fields old = (columns : List Column) (rows : List Row) → HasRows old columns rows → IsRowFault fault (row_of old.mark (1 + length rows) columns fields)
+abbrev pub RefusesRow : BodyFault → ℕ → Record → BodyColumns → Type 0
+RefusesRow fault number fields old = (columns : List Column) (rows : List Row) → HasRows old columns rows → IsRowFault fault (row_of old.mark number columns fields)
 
--- ---- all rows
+-- ---- the rows of the next records
+
+-- the fault is why the rows aren't spelled; want of memory says nothing of it
+abbrev pub IsRowsFault : BodyFault → Result (List Row) RowFault → Type 0
+IsRowsFault (faults.Row fault) spelled = spelled ≡ Err fault
+IsRowsFault faults.NoMemory spelled = Unit {0}
 
 abbrev pub with_rows : List Row → Result (List Row) RowFault → Result (List Row) RowFault
 with_rows rows (Ok others) = Ok (rows ++ others)
 with_rows rows (Err fault) = Err fault
 
--- of these records the columns hold the rows of those that the reader has given, and there is room for the others
-pub record BodySoFar (mark : List ℕ) (columns : List Column) (records : List Record) (made : BodyColumns) (reader : Reader (Bor (List ℕ))) : Type 0 where
+-- of the next records, so many or all that are left, the columns hold the rows of those that the reader has given, and
+-- there is room for the others; the first record has this number
+pub record RowsSoFar (mark : List ℕ) (number batch : ℕ) (columns : List Column) (records : List Record) (size : ℕ) (made : BodyColumns) (reader : Reader (Bor (List ℕ))) : Type 0 where
   pub rows : List Row
+  -- how many rows are still to come, where there are as many records
+  pub others : ℕ
+  pub count : length rows + others ≡ batch
   pub holds : HasRows made columns rows
   pub marked : made.mark ≡ mark
-  pub spelled : body mark columns records ≡ with_rows rows (body_from mark (1 + length rows) columns (records_left reader))
-  pub few : length rows + length (text_left reader) ≤ 2 ^ 30
-  pub short : (j : ℕ) → j < length columns → byte_total (column_values j rows) + length (text_left reader) ≤ 2 ^ 30
+  pub spelled : body_from mark number columns (take batch records) ≡ with_rows rows (body_from mark (number + length rows) columns (take others (records_left reader)))
+  pub rest : drop batch records ≡ drop others (records_left reader)
+  pub few : length rows + length (text_left reader) ≤ size
+  pub short : (j : ℕ) → j < length columns → byte_total (column_values j rows) + length (text_left reader) ≤ size
 
--- the columns hold the rows of these records
-pub record HasBody (mark : List ℕ) (columns : List Column) (records : List Record) (made : BodyColumns) : Type 0 where
+-- the columns hold the rows of the next records, so many or all that are left; and the reader stands behind them, or it has
+-- come to the end
+pub record HasBatch (mark : List ℕ) (number batch : ℕ) (columns : List Column) (records : List Record) (size : ℕ) (more : Bool) (made : BodyColumns) (reader : Reader (Bor (List ℕ))) : Type 0 where
   pub rows : List Row
-  pub spelled : body mark columns records ≡ Ok rows
-  pub few : length rows ≤ 2 ^ 30
   pub holds : HasRows made columns rows
+  pub spelled : body_from mark number columns (take batch records) ≡ Ok rows
+  pub few : length rows ≤ size
+  pub full : more ≡ true → length rows ≡ batch
+  pub behind : more ≡ true → drop batch records ≡ records_left reader
+  pub short : more ≡ true → length rows + length (text_left reader) ≤ size
+  pub last : more ≡ false → drop batch records ≡ []
 
-abbrev pub ReadsBody : List Record → BodyColumns → BodyColumns → Type 0
-ReadsBody records old new = (columns : List Column) → HasRows old columns [] → HasBody old.mark columns records new
+abbrev pub ReadsBatch : ℕ → ℕ → Reader (Bor (List ℕ)) → Bool → BodyColumns → BodyColumns → Reader (Bor (List ℕ)) → Type 0
+ReadsBatch number batch from more old new to =
+    (columns : List Column) → HasRows old columns [] → HasBatch old.mark number batch columns (records_left from) (length (text_left from)) more new to
 
-abbrev pub IsBodyFaultOf : BodyFault → Result (List Row) RowFault → Type 0
-IsBodyFaultOf (faults.Row fault) spelled = spelled ≡ Err fault
-IsBodyFaultOf faults.NoMemory spelled = Unit {0}
-
-abbrev pub RefusesBody : BodyFault → List Record → BodyColumns → Type 0
-RefusesBody fault records old = (columns : List Column) → HasRows old columns [] → IsBodyFaultOf fault (body old.mark columns records)
+abbrev pub RefusesBatch : BodyFault → ℕ → ℕ → List Record → BodyColumns → Type 0
+RefusesBatch fault number batch records old =
+    (columns : List Column) → HasRows old columns [] → IsRowsFault fault (body_from old.mark number columns (take batch records))

@@ -3,3 +3,4 @@ pub mod BodyRows
 pub mod Entries
 pub mod RecordReader
 pub mod Chunks
+pub mod BatchesLeft

@@ -1,10 +1,10 @@
 //! The body of a text: the rows of the records behind its header.
-ghost use Rattle.std.specs.Prelude.{◌≡◌, ◌≤◌, ◌^◌, [], List, length, map, IfErr, IfOk, OnOk};
+ghost use Rattle.std.specs.Prelude.{◌≡◌, ◌≤◌, ◌+◌, ◌^◌, [], List, Ok, length, map, true, IfErr, IfOk};
 ghost use Rattle.fmt_string.specs.ColumnView.{column_of};
 ghost use Rattle.fmt_string.specs.Table.{Column};
 ghost use Rattle.csv_model.specs.Reading.{records_of};
 ghost use Rattle.csv_read.specs.Body.{HoldsBody, IsBodyFault};
-ghost use Rattle.csv_read.specs.BodyRows.{HasRows, ReadsBody, RefusesBody};
+ghost use Rattle.csv_read.specs.BodyRows.{HasRows, ReadsBatch, RefusesBatch};
 ghost use Rattle.csv_read.specs.RecordReader.{IsReading, records_left, text_left};
 ghost use Rattle.field_codec.specs.TextColumns.{AreAllowed, AreProper};
 ghost use Rattle.csv_read.specs.declared.body.BodyFault.TheVariants.{NoMemory};
@@ -60,24 +60,32 @@ pub fn read_body(
     if !next_record(&mut reader, &mut row)? {
         return Ok(made.builders);
     }
-    read_rows(&mut reader, &mut row, &mut made)?;
+    read_rows(&mut reader, &mut row, &mut made, u64::MAX, 0)?;
     Ok(made.builders)
 }
 
-// Reads the records that are left into columns without rows, each by the same record.
-fn read_rows(
+// Reads the next records into columns without rows, so many or all that are left, each by the same record; `read` were read
+// before. Whether the reader stands behind them, and not at the end.
+pub(crate) fn read_rows(
     reader: &mut Reader<&[u8]>,
     row: &mut ByteRecord,
     made: &mut BodyColumns,
-) -> Result<(), BodyFault>
+    batch: u64,
+    read: u64,
+) -> Result<bool, BodyFault>
     requires reading { IsReading reader.old }
     requires none { (columns : List Column) × HasRows made.old columns [] }
     requires short { length (text_left reader.old) ≤ 2 ^ 30 }
-    ensures rows { OnOk result (ReadsBody (records_left reader.old) made.old made.new) }
-    ensures fault { IfErr result (λ fault. RefusesBody fault (records_left reader.old) made.old) }
+    requires few { read ≤ 2 ^ 30 }
+    ensures more { result ≡ Ok true → IsReading reader.new }
+    ensures rows { IfOk result (λ more. ReadsBatch (read + 1) batch reader.old more made.old made.new reader.new) }
+    ensures fault { IfErr result (λ fault. RefusesBatch fault (read + 1) batch (records_left reader.old) made.old) }
 {
-    while next_record(reader, row)? {
-        made.push(row)?;
+    while made.rows < batch {
+        if !next_record(reader, row)? {
+            return Ok(false);
+        }
+        made.push(row, read + made.rows + 1)?;
     }
-    Ok(())
+    Ok(true)
 }

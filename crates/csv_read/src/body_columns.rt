@@ -263,14 +263,13 @@ impl BodyColumns {
         })
     }
 
-    // Adds the row that a record spells.
-    pub(crate) fn push(&mut self, row: &ByteRecord) -> Result<(), BodyFault>
+    // Adds the row that the record of this number spells.
+    pub(crate) fn push(&mut self, row: &ByteRecord, number: u64) -> Result<(), BodyFault>
         requires few { self.old.rows < 2 ^ 40 }
         requires fits { HasRoomFor self.old.forms.items self.old.builders.items (fields_of row.now) }
-        ensures added { OnOk result (AddsRow (fields_of row.now) self.old self.new) }
-        ensures fault { IfErr result (λ fault. RefusesRow fault (fields_of row.now) self.old) }
+        ensures added { OnOk result (AddsRow number (fields_of row.now) self.old self.new) }
+        ensures fault { IfErr result (λ fault. RefusesRow fault number (fields_of row.now) self.old) }
     {
-        let number = self.rows + 1;
         if row.len() != self.forms.len() {
             return Err(BodyFault::Row(RowFault::Ragged {
                 row: number,
@@ -285,7 +284,7 @@ impl BodyColumns {
             &mut self.room,
             &mut self.builders,
         )?;
-        self.rows = number;
+        self.rows += 1;
         Ok(())
     }
 }

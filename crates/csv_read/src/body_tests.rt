@@ -13,7 +13,7 @@ use std::process::Abort;
 use std::test::Fail;
 
 // The columns of a text under the types that are asked for.
-fn columns_of(alloc: Global, text: &[u8], asked: &str) -> Result<Vec<ColumnType>, Fail>
+pub(crate) fn columns_of(alloc: Global, text: &[u8], asked: &str) -> Result<Vec<ColumnType>, Fail>
     ensures proper { IfOk result (λ columns. AreProper (map column_of columns.items)) }
     ensures allowed { IfOk result (λ columns. AreAllowed (map column_of columns.items)) }
 {
@@ -113,7 +113,7 @@ fn first_record_that_spells_no_row_is_named(rt: HostRuntime) -> Result<(), Fail>
 }
 
 // Expects so many columns of so many values.
-fn expect_lengths(rt: &impl Abort, builders: &[Builder], columns: usize, rows: i64)
+pub(crate) fn expect_lengths(rt: &impl Abort, builders: &[Builder], columns: usize, rows: i64)
     requires { (columns : List Column) × (rows : List Row) × HoldEach builders.now columns rows }
 {
     assert_eq!(rt; builders.len(), columns);

@@ -7,9 +7,13 @@
 //! `stage_plan`, and how a column is stored and finished is `col_build`'s.
 //!
 //! Which value a field spells in a column is `fmt_string`'s table of the flat types, read by `field_codec`; a field that equals
-//! the mark is null. [`export_rows`] makes the chunk of the rows that builders hold.
+//! the mark is null. A [`BatchReader`] reads the rows in batches. [`export_rows`] makes the chunk of the rows that builders hold.
 #![tactic(auto)]
 
+mod batch_laws;
+#[cfg(test)]
+mod batch_tests;
+mod batches;
 mod body;
 mod body_columns;
 #[cfg(test)]
@@ -24,6 +28,8 @@ mod row;
 #[cfg(test)]
 mod tests;
 
+pub use batch_laws::batches_are_read_in_turn;
+pub use batches::BatchReader;
 pub use body::{BodyFault, read_body};
 pub use chunk::{chunks_have_their_rows, export_rows};
 pub use csv_model::HeaderFault;

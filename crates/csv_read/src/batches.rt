@@ -1,0 +1,137 @@
+//! The rows of a text, read into builders a batch a call. The reader keeps its place between two calls.
+ghost use Rattle.std.specs.Prelude.{◌≡◌, ◌≤◌, ◌^◌, [], length, map, Ok, None, IfErr, IfOk, IfSome, OnErr};
+ghost use Rattle.fmt_string.specs.ColumnView.{column_of};
+ghost use Rattle.field_codec.specs.TextColumns.{AreAllowed, AreProper};
+
+use crate::body::{BodyFault, read_rows};
+use crate::body_columns::BodyColumns;
+use crate::records::{next_record, start_reading};
+use col_build::Builder;
+use csv::{ByteRecord, Reader};
+use fmt_string::ColumnType;
+use std::alloc::Global;
+use std::marker::Model;
+use unit_pass::{Name, NoMemory};
+
+/// The records behind the header of a text, whose rows are read in batches.
+///
+/// [`read_body`](crate::read_body) reads them all at once.
+#[derive(Drop)]
+pub struct BatchReader<'a> {
+    reader: Reader<&'a [u8]>,
+    row: ByteRecord,
+    columns: Vec<ColumnType>,
+    // The text that stands for a null.
+    mark: Name,
+    // How many records behind the header were read.
+    read: u64,
+    // No record is left, or a batch was refused.
+    ended: bool,
+}
+
+impl<'a> Model for BatchReader<'a> {
+    ghost use Rattle.std.specs.Prelude.{map};
+    ghost use Rattle.std.specs.Coded.{codes};
+    ghost use Rattle.fmt_string.specs.ColumnView.{column_of};
+    ghost use Rattle.fmt_string.specs.contracts.kind.ColumnType as kinds;
+    ghost use Rattle.field_codec.specs.TextColumns.{AreAllowed, AreProper};
+    ghost use Rattle.csv_read.specs.BatchesLeft.{BatchesLeft, StandsBetween, records_ahead};
+
+    ghost Value = { BatchesLeft };
+
+    ghost coded = { Prim.hlevel (codes, kinds.the_row.coded) };
+
+    ghost view = { λ s. record { columns = s.columns.items; mark = s.mark; read = s.read; records = records_ahead s.ended s.reader } };
+
+    ghost invariant = { λ s. AreProper (map column_of s.columns.items) × AreAllowed (map column_of s.columns.items) × StandsBetween s.read s.ended s.reader };
+}
+
+impl<'a> BatchReader<'a> {
+    ghost use Rattle.csv_read.specs.BatchesLeft.{IsNextBatch, IsNextFault, all_left, at_end};
+
+    /// Stands before the first batch, behind the header. A text of no records has none behind it. A field that equals the
+    /// mark is null.
+    pub fn start(
+        alloc: Global,
+        bytes: &'a [u8],
+        columns: Vec<ColumnType>,
+        mark: &[u8],
+    ) -> Result<BatchReader<'a>, NoMemory>
+        requires short { length bytes.now ≤ 2 ^ 30 }
+        // The columns are such as a header names: of plain values, and of types that may be asked for.
+        requires proper { AreProper (map column_of columns.items) }
+        requires allowed { AreAllowed (map column_of columns.items) }
+        ensures left { IfOk result (λ batches. batches ≡ all_left bytes.now columns.items mark.now) }
+    {
+        let mark = Name::from_slice(alloc, mark)?;
+        let mut reader = start_reading(alloc, bytes);
+        let mut row = ByteRecord::new(alloc);
+        let ended = !next_record(&mut reader, &mut row)?;
+        Ok(BatchReader {
+            reader,
+            row,
+            columns,
+            mark,
+            read: 0,
+            ended,
+        })
+    }
+
+    /// The columns of the rows.
+    pub fn columns(&self) -> &[ColumnType]
+        ensures columns { result.now ≡ self.now.columns }
+        ensures proper { AreProper (map column_of self.now.columns) }
+        ensures allowed { AreAllowed (map column_of self.now.columns) }
+    {
+        self.columns.as_slice()
+    }
+
+    /// A builder a column, which hold the rows of the next `batch` records, or of all that are left where they are fewer;
+    /// none where no record is left.
+    ///
+    /// The first of these records that spells no row is the fault, and in it that it has another number of fields than there
+    /// are columns, or else its first field that is no value of its column. Records are numbered from 1 behind the header,
+    /// over all batches. Want of memory alone is free. After an error no record is left.
+    pub fn next(&mut self, alloc: Global, batch: u64) -> Result<Option<Vec<Builder>>, BodyFault>
+        requires some { 1 ≤ batch }
+        ensures columns { self.new.columns ≡ self.old.columns }
+        ensures mark { self.new.mark ≡ self.old.mark }
+        // The builders hold the rows that the next records spell.
+        ensures batch { IfOk result (λ found. IfSome found (λ builders. IsNextBatch batch builders.items self.old self.new)) }
+        // There is nothing where no record is left.
+        ensures end { result ≡ Ok None → self.old.records ≡ [] }
+        ensures end_stays { result ≡ Ok None → self.new ≡ self.old }
+        // Which fault it is.
+        ensures fault { IfErr result (λ fault. IsNextFault fault batch self.old) }
+        ensures fault_ends { OnErr result (self.new ≡ at_end self.old) }
+    {
+        if self.ended {
+            return Ok(None);
+        }
+        let mut made = match BodyColumns::new(
+            alloc,
+            self.columns.as_slice(),
+            self.mark.as_slice(),
+        ) {
+            Ok(made) => made,
+            Err(NoMemory) => {
+                self.ended = true;
+                return Err(BodyFault::NoMemory);
+            }
+        };
+        match read_rows(&mut self.reader, &mut self.row, &mut made, batch, self.read) {
+            Ok(more) => {
+                self.ended = !more;
+                self.read += made.rows;
+                if made.rows == 0 {
+                    return Ok(None);
+                }
+                Ok(Some(made.builders))
+            }
+            Err(fault) => {
+                self.ended = true;
+                Err(fault)
+            }
+        }
+    }
+}
