@@ -1,3 +1,4 @@
+// Bodies: the rows of records, each in its column, and the first record that spells none.
 ghost use Rattle.std.specs.Prelude.{◌≤◌, List, length, map, IfOk};
 ghost use Rattle.fmt_string.specs.ColumnView.{column_of};
 ghost use Rattle.fmt_string.specs.Table.{Column, Row};

@@ -1,3 +1,4 @@
+// Headers: the columns that they name, and their first faults.
 use super::{HeaderFault, read_header};
 use fmt_string::ColKind;
 use stage_plan::read_types;

@@ -5,5 +5,4 @@ mod OneAnswer
 pub mod Pieces
 pub mod Runs
 pub mod Schemas
-pub mod Widths
 mod Written

@@ -10,7 +10,7 @@ use Rattle.fmt_string.specs.ColumnView.{column_of}
 use Rattle.unit_pass.specs.Tally.{risen}
 use Rattle.pipe_top.specs.Answer.{Text}
 use Rattle.pipe_top.proofs.Bodies.{blocks-are, nodes-are, text-answer}
-use Rattle.pipe_top.proofs.Widths.{body-widths}
+use Rattle.csv_read.proofs.Widths.{widths-from}
 use Rattle.pipe_top.proofs.answer.answer_input.Goals as goal
 
 pub body_columns-requires-clause-proper : goal.body_columns-requires-clause-proper
@@ -29,14 +29,14 @@ pub table_text-requires-clause-held : goal.table_text-requires-clause-held
 table_text-requires-clause-held c =
     let held = subst (λ columns. HoldsBody c.args.mark.now c.in_ok-builders.builders.items (map column_of columns) (records_of c.args.bytes.now)) c.deref.ensures.value c.in_ok-builders.ensures.held in
     let columns = map column_of c.in_ok-columns.columns.items in
-    let rows : HoldRows c.in_ok-builders.builders.items columns held.rows = record { held = held.held; widths = body-widths c.args.mark.now columns _ held.rows held.spelled } in
+    let rows : HoldRows c.in_ok-builders.builders.items columns held.rows = record { held = held.held; widths = widths-from c.args.mark.now 1 columns _ held.rows held.spelled } in
     (held.rows, subst (λ items. HoldRows c.in_ok-builders.builders.items (map column_of items) held.rows) (sym c.deref-2.ensures.value) rows, held.few)
 
 pub returns-clause-text : goal.returns-clause-text
 returns-clause-text c =
     let held = subst (λ columns. HoldsBody c.args.mark.now c.in_ok-builders.builders.items (map column_of columns) (records_of c.args.bytes.now)) c.deref.ensures.value c.in_ok-builders.ensures.held in
     let columns = map column_of c.in_ok-columns.columns.items in
-    let rows : HoldRows c.in_ok-builders.builders.items columns held.rows = record { held = held.held; widths = body-widths c.args.mark.now columns _ held.rows held.spelled } in
+    let rows : HoldRows c.in_ok-builders.builders.items columns held.rows = record { held = held.held; widths = widths-from c.args.mark.now 1 columns _ held.rows held.spelled } in
     let lent = subst (λ items. HoldRows c.in_ok-builders.builders.items (map column_of items) held.rows) (sym c.deref-2.ensures.value) rows in
     let written = c.in_ok-text.ensures.text held.rows lent held.few in
     let same = ap (λ items. Text (table_text c.args.mark.now (record { columns = map column_of items; rows = held.rows }))) c.deref-2.ensures.value in
@@ -46,7 +46,7 @@ pub returns-clause-blocks : goal.returns-clause-blocks
 returns-clause-blocks c =
     let held = subst (λ columns. HoldsBody c.args.mark.now c.in_ok-builders.builders.items (map column_of columns) (records_of c.args.bytes.now)) c.deref.ensures.value c.in_ok-builders.ensures.held in
     let columns = map column_of c.in_ok-columns.columns.items in
-    let rows : HoldRows c.in_ok-builders.builders.items columns held.rows = record { held = held.held; widths = body-widths c.args.mark.now columns _ held.rows held.spelled } in
+    let rows : HoldRows c.in_ok-builders.builders.items columns held.rows = record { held = held.held; widths = widths-from c.args.mark.now 1 columns _ held.rows held.spelled } in
     let lent = subst (λ items. HoldRows c.in_ok-builders.builders.items (map column_of items) held.rows) (sym c.deref-2.ensures.value) rows in
     c.in_ok-text.ensures.blocks held.rows lent
     ∙ ap (λ items. risen c.args.pass.now.blocks (chunk_blocks_of (map column_of items) held.rows)) c.deref-2.ensures.value
@@ -56,7 +56,7 @@ pub returns-clause-nodes : goal.returns-clause-nodes
 returns-clause-nodes c =
     let held = subst (λ columns. HoldsBody c.args.mark.now c.in_ok-builders.builders.items (map column_of columns) (records_of c.args.bytes.now)) c.deref.ensures.value c.in_ok-builders.ensures.held in
     let columns = map column_of c.in_ok-columns.columns.items in
-    let rows : HoldRows c.in_ok-builders.builders.items columns held.rows = record { held = held.held; widths = body-widths c.args.mark.now columns _ held.rows held.spelled } in
+    let rows : HoldRows c.in_ok-builders.builders.items columns held.rows = record { held = held.held; widths = widths-from c.args.mark.now 1 columns _ held.rows held.spelled } in
     let lent = subst (λ items. HoldRows c.in_ok-builders.builders.items (map column_of items) held.rows) (sym c.deref-2.ensures.value) rows in
     c.in_ok-text.ensures.nodes held.rows lent
     ∙ ap (λ items. risen c.args.pass.now.nodes (schema_nodes (map column_of items) + chunk_nodes_of (map column_of items) held.rows)) c.deref-2.ensures.value
