@@ -16,7 +16,6 @@ ghost use Rattle.arr_import.specs.Shown.{Shows};
 use crate::col::Col;
 use crate::flat::Flat;
 use crate::value_ref::ValueRef;
-use fmt_string::Storage;
 use layout_check::{kinds_of_typed, lawful_has_no_fault, lawful_items_lie_within, lawful_root};
 
 impl<'a> Col<'a> {
@@ -48,16 +47,6 @@ impl<'a> Col<'a> {
         self.entry_flat(i as u64)
     }
 
-    /// The same, of a column that isn't stored as the item that is asked for.
-    #[inline(never)]
-    fn other_flat(&self, i: i64) -> Flat<'a>
-        requires from { pos 0 ≤ℤ i }
-        requires below { i <ℤ pos (window_of self.now).count }
-        ensures { IsFlat result (item_at (window_of self.now) (natural i)) }
-    {
-        self.flat(i)
-    }
-
     /// The same, where a dictionary stands behind the column.
     fn entry_flat(&self, i: u64) -> Flat<'a>
         requires { i < self.now.count }
@@ -75,11 +64,7 @@ impl<'a> Col<'a> {
         ensures some { IfSome result (λ truth. item_at (window_of self.now) (natural i) ≡ Truth truth) }
         ensures none { IfNone result ((truth : Bool) → item_at (window_of self.now) (natural i) ≢ Truth truth) }
     {
-        let item = match self.storage {
-            Storage::Truths => self.flat(i),
-            _ => self.other_flat(i),
-        };
-        match item {
+        match self.flat(i) {
             Flat::Truth(truth) => Some(truth),
             _ => None,
         }
@@ -94,11 +79,7 @@ impl<'a> Col<'a> {
         ensures some { IfSome result (λ number. item_at (window_of self.now) (natural i) ≡ Whole number) }
         ensures none { IfNone result ((number : ℤ) → item_at (window_of self.now) (natural i) ≢ Whole number) }
     {
-        let item = match self.storage {
-            Storage::Wholes { .. } => self.flat(i),
-            _ => self.other_flat(i),
-        };
-        match item {
+        match self.flat(i) {
             Flat::Whole(number) => Some(number),
             _ => None,
         }
@@ -112,11 +93,7 @@ impl<'a> Col<'a> {
         ensures some { IfSome result (λ bits. item_at (window_of self.now) (natural i) ≡ Bits bits) }
         ensures none { IfNone result ((bits : ℕ) → item_at (window_of self.now) (natural i) ≢ Bits bits) }
     {
-        let item = match self.storage {
-            Storage::Floats { .. } => self.flat(i),
-            _ => self.other_flat(i),
-        };
-        match item {
+        match self.flat(i) {
             Flat::Bits(bits) => Some(bits),
             _ => None,
         }
