@@ -9,8 +9,10 @@ use Rattle.holder_core.specs.declared.Reply.{Reply}
 use Rattle.std.specs.Prelude.{sum}
 use Rattle.buf_block.specs.Block.{total, slot_at, IsBlock}
 use Rattle.buf_block.specs.BlockView.{Shows, HoldsAt}
-use Rattle.buf_block.specs.BlockLog.{Scene, made, BlockStep, splits_off, lets_go, takes_deed, reads, HasAmount, Does, Log, taken_by, taken, IsEmptied, event_of, first_holders, after_giving}
-use Rattle.buf_block.specs.BlockLog.{RunsTheMachine, KeepsTheInvariant, DeedTakenAtMostOnce, DeedTakenWhereEmptied, EmptiedAtTheEnd, NoReadBehindTheDeed, DeedTakenOrDue, HoldersCanLetGo}
+use Rattle.buf_block.specs.BlockLog.{Scene, made, BlockStep, splits_off, lets_go, takes_deed, reads, HasAmount, Does, Log, taken_by, taken, IsEmptied, event_of}
+use Rattle.buf_block.specs.BlockLog.{first_holders, after_giving}
+use Rattle.buf_block.specs.BlockLog.{RunsTheMachine, KeepsTheInvariant, DeedTakenAtMostOnce, DeedTakenWhereEmptied, EmptiedAtTheEnd, NoReadBehindTheDeed}
+use Rattle.buf_block.specs.BlockLog.{DeedTakenOrDue, HoldersCanLetGo}
 use Rattle.buf_block.proofs.Keeps.{splits, gives_back}
 use Rattle.buf_block.proofs.Shown.{made_whole, shows_ok, away, home_here, split_is_step, let_go_is_step, exchange_is_step, read_is_step}
 
@@ -53,7 +55,8 @@ module _ (s : Scene) (h : Holders) (rule : IsBlock s.table) (shown : Shows s.tab
   one : (b : BlockStep) (t : Scene) → Does s b t → Followed h b t
   one (splits_off seat) t (amount, has, more, e) =
       let r = split_is_step s.table s.hands h seat amount (held seat amount has) more in
-      subst (Followed h (splits_off seat)) e (record { rule = splits seat amount more s.table rule has.0; next = _; shown = r.1; reply = _; is = r.0; count = zero_more _ })
+      subst (Followed h (splits_off seat)) e
+      (record { rule = splits seat amount more s.table rule has.0; next = _; shown = r.1; reply = _; is = r.0; count = zero_more _ })
   one (lets_go seat) t (amount, view, act, has, valid, kept, told, e) =
       let k = held seat amount has in
       let r = let_go_is_step s.table s.hands h seat amount k view act valid kept told in

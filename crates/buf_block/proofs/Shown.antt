@@ -1,5 +1,6 @@
 -- A block shows a state of the machine of holders, and its steps are the machine's.
-use Rattle.std.proofs.Common.{◌≡◌, ◌≢◌, ℕ, zero, suc, ◌-◌, ◌<◌, ◌≤◌, ◌==◌, Bool, true, false, true≢false, Some, None, List, [], ◌∷◌, ◌++◌, set, get_or, length, sum, inl, refl, sym, ap, ◌∙◌, subst, arith, rules, eq-eqb, ne_eqb}
+use Rattle.std.proofs.Common.{◌≡◌, ◌≢◌, ℕ, zero, suc, ◌-◌, ◌<◌, ◌≤◌, ◌==◌, Bool, true, false, true≢false, Some, None, List, [], ◌∷◌, ◌++◌, set, get_or, length}
+use Rattle.std.proofs.Common.{sum, inl, refl, sym, ap, ◌∙◌, subst, arith, rules, eq-eqb, ne_eqb}
 use Rattle.std.specs.Prelude.{nat_lt, MatchBool, if◌then◌else◌, slice_index}
 use mathlib.Core.Logic.{dite}
 use mathlib.Core.List.{map-append}
@@ -15,12 +16,14 @@ use Rattle.holder_core.specs.declared.Reply.TheVariants.{NewHolder, Kept, Last, 
 use Rattle.holder_core.specs.declared.Reply.TheVariants as reply
 use Rattle.buf_block.specs.declared.rule.Grip.{Grip}
 use Rattle.buf_block.specs.Block.{holding, done, amounts_of, total, SlotState, slot_at, slot_with_deed, slot_without_deed, IsBlock, Back}
-use Rattle.buf_block.specs.BlockView.{Hands, empty_hands, hands_with, WasLast, Shows, HoldsAt, first_state, split_at, less_by, ShowsOk, ShowsOne, MadeWhole, SplitIsTheTables, SplitIsStep, LetGoIsStep, ExchangeIsStep, ReadIsStep}
+use Rattle.buf_block.specs.BlockView.{Hands, empty_hands, hands_with, WasLast, Shows, HoldsAt, first_state, split_at, less_by, ShowsOk, ShowsOne, MadeWhole}
+use Rattle.buf_block.specs.BlockView.{SplitIsTheTables, SplitIsStep, LetGoIsStep, ExchangeIsStep, ReadIsStep}
 use Rattle.buf_block.proofs.Keeps.{begins, splits, total-set, amount_within}
 
 -- ---- amounts
 
-amount_at : (views : List Grip) (seat : ℕ) (g : Grip) → get_elem? views seat ≡ some g → (get_or (amounts_of views) seat 0 ≡ g.amount) × (seat < length (amounts_of views))
+amount_at : (views : List Grip) (seat : ℕ) (g : Grip) → get_elem? views seat ≡ some g
+    → (get_or (amounts_of views) seat 0 ≡ g.amount) × (seat < length (amounts_of views))
 amount_at [] seat g e = absurd (some-ne-none g (sym e))
 amount_at (x ∷ xs) zero g e = (ap (λ (v : Grip). v.amount) (some-injective x g e), omega arith)
 amount_at (x ∷ xs) (suc seat) g e = let r = amount_at xs seat g e in (r.0, let l = r.1 in omega arith)
@@ -71,12 +74,19 @@ hands_here : (hands : Hands) (seat : ℕ) (slots : List (ℕ × SlotState)) → 
 hands_here hands seat slots = ap (λ (b : Bool). if b then slots else hands seat) (eq-eqb seat seat refl)
 
 -- a block that has some amount shows a state whose deed is at home
-shows_home : (s : State SlotState Grip) (hands : Hands) (h : Holders) → IsBlock s → 1 ≤ total s.views → h.amounts ≡ amounts_of s.views → h.deed ≡ Home → Shows s hands h
+shows_home : (s : State SlotState Grip) (hands : Hands) (h : Holders) → IsBlock s → 1 ≤ total s.views → h.amounts ≡ amounts_of s.views
+    → h.deed ≡ Home → Shows s hands h
 shows_home s hands h r more same home = record {
   amounts = same;
   home = ((λ _. at_home s r more), (λ _. home));
-  due = λ seat. ((λ due. absurd (home_is_not_due h.deed seat home due)), (λ (l : WasLast s.views seat × (hands seat ≡ slot_with_deed)). absurd (none_was_last s r more seat l.0)));
-  gone = ((λ gone. absurd (home_is_not_gone h.deed home gone)), (λ (l : (seat : ℕ) × WasLast s.views seat × (hands seat ≡ slot_without_deed)). absurd (none_was_last s r more l.0 l.1)));
+  due = λ seat. (
+    (λ due. absurd (home_is_not_due h.deed seat home due)),
+    (λ (l : WasLast s.views seat × (hands seat ≡ slot_with_deed)). absurd (none_was_last s r more seat l.0)),
+  );
+  gone = (
+    (λ gone. absurd (home_is_not_gone h.deed home gone)),
+    (λ (l : (seat : ℕ) × WasLast s.views seat × (hands seat ≡ slot_without_deed)). absurd (none_was_last s r more l.0 l.1)),
+  );
 }
 
 -- ---- a block between two steps
@@ -87,7 +97,8 @@ shows_ok s hands h r sh =
     let most = r.bound in
     record {
       home = (
-        (λ home. dite (ℕ_discrete (total s.views) 0) (λ e. absurd (away (ap slot_at (sym (eq-eqb (total s.views) 0 e)) ∙ sym r.slot ∙ sh.home.0 home))) (λ (ne : total s.views ≢ 0). let more : total s.views ≢ 0 = ne in omega arith)),
+        (λ home. dite (ℕ_discrete (total s.views) 0) (λ e. absurd (away (ap slot_at (sym (eq-eqb (total s.views) 0 e)) ∙ sym r.slot ∙ sh.home.0 home)))
+            (λ (ne : total s.views ≢ 0). let more : total s.views ≢ 0 = ne in omega arith)),
         (λ more. sh.home.1 (at_home s r (omega arith))),
       );
       due = λ last is. let d = ((sh.due last).0 is).0 in subst (λ (l : List ℕ). last < length l) (sym sh.amounts) (amount_at s.views last d.0 d.1).1;
@@ -138,15 +149,18 @@ module _ (s : State SlotState Grip) (hands : Hands) (h : Holders) (seat amount :
   -- the amounts after the seat gave all of its amount back
   rest_amounts : (w : Grip) → w.amount ≡ 0 → set h.amounts seat 0 ≡ amounts_of (set s.views seat w)
   rest_amounts w none =
-      ap (λ (l : List ℕ). set l seat 0) k.shown.amounts ∙ ap (λ (a : ℕ). set (amounts_of s.views) seat a) (sym none) ∙ sym (map-set (λ (g : Grip). g.amount) s.views seat w)
+      ap (λ (l : List ℕ). set l seat 0) k.shown.amounts ∙ ap (λ (a : ℕ). set (amounts_of s.views) seat a) (sym none)
+      ∙ sym (map-set (λ (g : Grip). g.amount) s.views seat w)
 
   -- the last seat has the slot, and the deed is due to it; where it wasn't the last, the deed stays at home
-  shows_given : (b : Bool) (t : State SlotState Grip) (w : Grip) (slots : List (ℕ × SlotState)) → IsBlock t → t.views ≡ set s.views seat w → (total t.views == 0) ≡ b → Back amount b (w, slots)
+  shows_given : (b : Bool) (t : State SlotState Grip) (w : Grip) (slots : List (ℕ × SlotState)) → IsBlock t → t.views ≡ set s.views seat w
+      → (total t.views == 0) ≡ b → Back amount b (w, slots)
       → Shows t (hands_with hands seat slots) (record { amounts = set h.amounts seat 0; deed = if b then Due seat else h.deed })
   shows_given true t w slots r views none back =
       let w_is : w ≡ done amount true = ap (λ (m : Grip × List (ℕ × SlotState)). m.0) back in
       let slots_are : slots ≡ slot_with_deed = ap (λ (m : Grip × List (ℕ × SlotState)). m.1) back in
-      let mine : WasLast t.views seat = (w, ap (λ (l : List Grip). get_elem? l seat) views ∙ there s.views seat (holding amount) w k.view, ap (λ (v : Grip). v.last) w_is) in
+      let mine : WasLast t.views seat =
+      (w, ap (λ (l : List Grip). get_elem? l seat) views ∙ there s.views seat (holding amount) w k.view, ap (λ (v : Grip). v.last) w_is) in
       let here : hands_with hands seat slots seat ≡ slot_with_deed = hands_here hands seat slots ∙ slots_are in
       record {
         amounts = rest_amounts w (ap (λ (v : Grip). v.amount) w_is) ∙ ap amounts_of (sym views);
@@ -160,13 +174,15 @@ module _ (s : State SlotState Grip) (hands : Hands) (h : Holders) (seat amount :
         );
         gone = (
           (λ e. absurd (due_is_not_gone (Due seat) seat refl e)),
-          (λ (l : (other : ℕ) × WasLast t.views other × (hands_with hands seat slots other ≡ slot_without_deed)). absurd (taken_out (sym here ∙ subst (λ (j : ℕ). hands_with hands seat slots j ≡ slot_without_deed) (one_was_last t r seat l.0 mine l.1) l.2))),
+          (λ (l : (other : ℕ) × WasLast t.views other × (hands_with hands seat slots other ≡ slot_without_deed)). absurd
+              (taken_out (sym here ∙ subst (λ (j : ℕ). hands_with hands seat slots j ≡ slot_without_deed) (one_was_last t r seat l.0 mine l.1) l.2))),
         );
       }
   shows_given false t w slots r views some_left back =
       let w_is : w ≡ done amount false = ap (λ (m : Grip × List (ℕ × SlotState)). m.0) back in
       let left : total t.views ≢ 0 = λ e. true≢false (sym (eq-eqb (total t.views) 0 e) ∙ some_left) in
-      shows_home t (hands_with hands seat slots) (record { amounts = set h.amounts seat 0; deed = h.deed }) r (omega arith) (rest_amounts w (ap (λ (v : Grip). v.amount) w_is) ∙ ap amounts_of (sym views)) home_here
+      shows_home t (hands_with hands seat slots) (record { amounts = set h.amounts seat 0; deed = h.deed }) r (omega arith)
+      (rest_amounts w (ap (λ (v : Grip). v.amount) w_is) ∙ ap amounts_of (sym views)) home_here
 
 pub split_is_the_tables : SplitIsTheTables
 split_is_the_tables seat amount p = p
@@ -181,11 +197,13 @@ split_is_step s hands h seat amount k more =
     let whole_is : total t.views ≡ total s.views = ap (λ (l : List ℕ). get_or l 0 0) (sym same ∙ k.rule.word) in
     let enough : nat_lt 1 (amount_of h seat) ≡ true = search rules in (
       is_true _ _ _ enough (inl (refl, refl)),
-      shows_home t (hands_with hands (length s.views) []) (after_split h seat 1) kept (omega arith) (split_amounts s hands h seat amount k) (home_here s hands h seat amount k),
+      shows_home t (hands_with hands (length s.views) []) (after_split h seat 1) kept (omega arith) (split_amounts s hands h seat amount k)
+          (home_here s hands h seat amount k),
     )
 
 same_test : (n m a b : ℕ) → (n ≡ m → a ≡ b) → (a ≡ b → n ≡ m) → (n == m) ≡ (a == b)
-same_test n m a b to from = dite (ℕ_discrete n m) (λ e. eq-eqb n m e ∙ sym (eq-eqb a b (to e))) (λ (ne : n ≢ m). ne_eqb n m ne ∙ sym (ne_eqb a b (λ e. ne (from e))))
+same_test n m a b to from =
+    dite (ℕ_discrete n m) (λ e. eq-eqb n m e ∙ sym (eq-eqb a b (to e))) (λ (ne : n ≢ m). ne_eqb n m ne ∙ sym (ne_eqb a b (λ e. ne (from e))))
 
 pub let_go_is_step : LetGoIsStep
 let_go_is_step s hands h seat amount k view act valid kept told =
@@ -203,10 +221,12 @@ let_go_is_step s hands h seat amount k view act valid kept told =
     let spent : view.amount ≡ 0 = back_amount (found == amount) amount view (carried_after [] act) told.2 in
     let left' = total-set s.views seat (holding amount) view k.view in
     let whole_is : total t.views ≡ total s.views - amount = omega arith in
-    let same : (found == amount) ≡ (sum (set h.amounts seat 0) == 0) = same_test found amount (sum (set h.amounts seat 0)) 0 (λ e. omega arith) (λ e. omega arith) in
+    let same : (found == amount) ≡ (sum (set h.amounts seat 0) == 0) =
+    same_test found amount (sum (set h.amounts seat 0)) 0 (λ e. omega arith) (λ e. omega arith) in
     let none : (total t.views == 0) ≡ (found == amount) = same_test (total t.views) 0 found amount (λ e. omega arith) (λ e. omega arith) in (
       is_true _ _ _ enough (ap (λ (b : Bool). if b then Last else Kept) same, refl),
-      subst (λ (b : Bool). Shows t (hands_with hands seat (carried_after [] act)) (record { amounts = set h.amounts seat 0; deed = if b then Due seat else h.deed })) same
+      subst (λ (b : Bool). Shows t (hands_with hands seat (carried_after [] act))
+          (record { amounts = set h.amounts seat 0; deed = if b then Due seat else h.deed })) same
           (shows_given s hands h seat amount k (found == amount) t view (carried_after [] act) kept refl none told.2),
     )
   where
@@ -225,7 +245,9 @@ exchange_is_step s hands h seat r sh mine here =
         home = ((λ e. absurd (home_is_not_gone Gone e refl)), (λ e. absurd (home_is_not_due h.deed seat (sh.home.1 e) due)));
         due = λ other. (
           (λ e. absurd (due_is_not_gone Gone other e refl)),
-          (λ (l : WasLast s.views other × (hands_with hands seat slot_without_deed other ≡ slot_with_deed)). absurd (taken_out (sym (subst (λ (j : ℕ). hands_with hands seat slot_without_deed j ≡ slot_with_deed) (one_was_last s r seat other mine l.0) l.1) ∙ out))),
+          (λ (l : WasLast s.views other × (hands_with hands seat slot_without_deed other ≡ slot_with_deed)). absurd
+              (taken_out (sym (subst (λ (j : ℕ). hands_with hands seat slot_without_deed j ≡ slot_with_deed) (one_was_last s r seat other mine l.0) l.1)
+              ∙ out))),
         );
         gone = ((λ _. (seat, mine, out)), (λ _. refl));
       },

@@ -1,14 +1,15 @@
+//! Holds of one block, let go one after the other and in two threads, and the mark of a text.
 ghost use Rattle.std.specs.Prelude.{◌≡◌, ◌+◌, ◌<◌, ◌≤◌, length, IsSome, None, MatchOption};
 ghost use Rattle.unit_pass.specs.declared.pass.TheConstants.{SUPPLY};
 
-use crate::{AMOUNT, BufView, Hold, Left, LetGo, make};
+use crate::{AMOUNT, BufView, Hold, Left, LetGo, make, make_text};
 use std::alloc::Global;
 use std::test::Fail;
 use std::thread;
 use std::thread::Threads;
-use unit_pass::{Pass, open_desk};
+use unit_pass::{NoMemory, Pass, open_desk};
 
-// What two holds of one block tell: their amounts, and what the second still reads once the first has let go.
+/// What two holds of one block tell: their amounts, and what the second still reads once the first has let go.
 #[derive(Debug, PartialEq, Drop)]
 struct Told {
     amounts: [u64; 2],
@@ -19,7 +20,7 @@ struct Told {
     gave: [u64; 2],
 }
 
-// Lets go of the first hold, reads through the second, and lets go of that.
+/// Lets go of the first hold, reads through the second, and lets go of that.
 fn one_after_the_other(first: Hold, second: Hold, pass: &mut Pass) -> Told
     requires bytes { length second.bytes ≡ 3 }
     requires units { pass.old.units + 2 ≤ SUPPLY }
@@ -84,7 +85,7 @@ fn second_hold_reads_on_and_frees(rt: HostRuntime) -> Result<(), Fail> {
     Ok(())
 }
 
-// Ends the hold that lies here.
+/// Ends the hold that lies here.
 fn end(place: &mut Option<Hold>, pass: &mut Pass) -> Option<Left>
     requires { pass.old.units < SUPPLY }
     ensures empty { place.new ≡ None }
@@ -102,7 +103,7 @@ fn nothing(place: Option<Hold>)
     let None = place else { unreachable!() };
 }
 
-// Two holds of one block let go in two threads.
+/// Two holds of one block let go in two threads.
 fn end_both(
     rt: &impl Threads,
     one: Hold,
@@ -134,7 +135,7 @@ fn freed(left: &Option<Left>) -> bool {
     }
 }
 
-// Makes a block, takes a second hold, and tells which of the two frees it.
+/// Makes a block, takes a second hold, and tells which of the two frees it.
 fn who_frees(
     rt: &impl Threads,
     alloc: Global,
@@ -166,5 +167,65 @@ fn one_of_two_threads_frees(rt: HostRuntime) -> Result<(), Fail> {
     pass.join(theirs);
     desk.close(pass);
     assert!(rt; frees.is_some_and(|(one, other)| one != other));
+    Ok(())
+}
+
+/// Whether a second hold, a view of the whole block and one of a part tell that it is marked as text.
+fn marks(mut first: Hold, pass: &mut Pass) -> Option<[bool; 3]>
+    requires bytes { length first.bytes ≡ 3 }
+    requires amount { 2 ≤ first.amount }
+    requires units { (1 ≤ pass.old.units) × (pass.old.units < SUPPLY) }
+    ensures units { pass.new.units ≡ pass.old.units + 1 }
+{
+    let Ok(second) = first.take(pass) else {
+        let _left = first.let_go(pass);
+        return None;
+    };
+    let _left = first.let_go(pass);
+    let marked = second.is_text();
+    let whole = BufView::whole(second);
+    let all = whole.is_text();
+    let BufView {
+        hold,
+        start: _,
+        len: _,
+    } = whole;
+    let part = BufView {
+        hold,
+        start: 1,
+        len: 2,
+    };
+    let some = part.is_text();
+    let _left = part.let_go(pass);
+    Some([marked, all, some])
+}
+
+/// The marks of a text of three bytes that is made a block of as text, or as bytes alone.
+fn marks_of(alloc: Global, text: &str, as_text: bool, pass: &mut Pass) -> Option<[bool; 3]>
+    requires bytes { length text.now ≡ 3 }
+    requires units { pass.old.units ≡ SUPPLY }
+    ensures units { pass.new.units ≡ SUPPLY }
+{
+    let bytes = Vec::from_slice(alloc, text.as_bytes()).ok()?;
+    let made = if as_text {
+        make_text(alloc, bytes, pass)
+    } else {
+        make(alloc, bytes, pass)
+    };
+    match made {
+        Ok(hold) => marks(hold, pass),
+        Err((_bytes, NoMemory)) => None,
+    }
+}
+
+#[test]
+fn whole_of_a_marked_block_is_text(rt: HostRuntime) -> Result<(), Fail> {
+    let (desk, mut pass) = open_desk();
+    let marked = marks_of(rt.alloc(), "あ", true, &mut pass);
+    let unmarked = marks_of(rt.alloc(), "abc", false, &mut pass);
+    let audit = desk.close(pass);
+    assert_eq!(rt; audit.blocks, 2);
+    assert_eq!(rt; marked, Some([true, true, false]));
+    assert_eq!(rt; unmarked, Some([false; 3]));
     Ok(())
 }

@@ -1,5 +1,6 @@
 -- Bits in bytes, with one more bit.
-use Rattle.std.proofs.Common.{◌≡◌, ◌+◌, ◌-◌, ◌*◌, ◌%◌, ◌^◌, ◌<◌, ◌≤◌, ◌++◌, ℕ, zero, suc, Bool, true, false, List, [], ◌∷◌, length, get_or, set, replicate, refl, ap, arith}
+use Rattle.std.proofs.Common.{◌≡◌, ◌+◌, ◌-◌, ◌*◌, ◌%◌, ◌^◌, ◌<◌, ◌≤◌, ◌++◌, ℕ, zero, suc, Bool, true, false, List, [], ◌∷◌, length, get_or, set, replicate}
+use Rattle.std.proofs.Common.{refl, ap, arith}
 use Rattle.std.proofs.Math.Nat.{pow-suc}
 use Rattle.col_build.specs.Encoding.{bit_bytes, bit_value, byte_of}
 

@@ -23,7 +23,8 @@ IsBetween shape = (wide : Bool) × (text : Bool) × (shape ≡ shapes.Between wi
 
 -- ---- the buffers of the encoding
 
-in-place : (wide : Bool) (form : Option Form) (values : List Value) (offsets bytes : List ℕ) → HasForm form → (IsBetween (shape_if wide form) → ⊥) → HasBytes (shape_if wide form) values offsets bytes
+in-place : (wide : Bool) (form : Option Form) (values : List Value) (offsets bytes : List ℕ) → HasForm form → (IsBetween (shape_if wide form) → ⊥)
+    → HasBytes (shape_if wide form) values offsets bytes
     → buffers_if wide form values ≡ validity_of values ∷ if_some bytes ∷ []
 in-place wide None values offsets bytes flat other has = absurd flat
 in-place wide (Some Truths) values offsets bytes flat other has = ap (λ (b : List ℕ). validity_of values ∷ if_some b ∷ []) (sym has)
@@ -34,24 +35,32 @@ in-place wide (Some HexBytes) values offsets bytes flat other has = absurd (othe
 in-place wide (Some (SizedHex size)) values offsets bytes flat other has = ap (λ (b : List ℕ). validity_of values ∷ if_some b ∷ []) (sym has)
 in-place wide (Some (Decimals precision places)) values offsets bytes flat other has = ap (λ (b : List ℕ). validity_of values ∷ if_some b ∷ []) (sym has)
 
-same-text : (wide text : Bool) (values : List Value) (offsets bytes : List ℕ) → offsets ≡ offset_bytes wide (map bytes_of values) → bytes ≡ concat (map bytes_of values)
-    → validity_of values ∷ Some (offset_bytes wide (map bytes_of values)) ∷ if_some (concat (map bytes_of values)) ∷ [] ≡ validity_of values ∷ if_some offsets ∷ if_some bytes ∷ []
+same-text : (wide text : Bool) (values : List Value) (offsets bytes : List ℕ) → offsets ≡ offset_bytes wide (map bytes_of values)
+    → bytes ≡ concat (map bytes_of values)
+    → validity_of values ∷ Some (offset_bytes wide (map bytes_of values)) ∷ if_some (concat (map bytes_of values)) ∷ []
+    ≡ validity_of values ∷ if_some offsets ∷ if_some bytes ∷ []
 same-text wide text values offsets bytes begun are =
-    let there : if_some offsets ≡ Some (offset_bytes wide (map bytes_of values)) = ap if_some begun ∙ shown-some (offset_bytes wide (map bytes_of values)) (offsets-some wide (map bytes_of values)) in
-    ap (λ (o : Option (List ℕ)). validity_of values ∷ o ∷ if_some (concat (map bytes_of values)) ∷ []) (sym there) ∙ ap (λ (b : List ℕ). validity_of values ∷ if_some offsets ∷ if_some b ∷ []) (sym are)
+    let there : if_some offsets ≡ Some (offset_bytes wide (map bytes_of values)) =
+    ap if_some begun ∙ shown-some (offset_bytes wide (map bytes_of values)) (offsets-some wide (map bytes_of values)) in
+    ap (λ (o : Option (List ℕ)). validity_of values ∷ o ∷ if_some (concat (map bytes_of values)) ∷ []) (sym there)
+    ∙ ap (λ (b : List ℕ). validity_of values ∷ if_some offsets ∷ if_some b ∷ []) (sym are)
 
-between : (wide : Bool) (form : Option Form) (values : List Value) (offsets bytes : List ℕ) (w t : Bool) → HasForm form → shape_if wide form ≡ shapes.Between w t
-    → offsets ≡ offset_bytes w (map bytes_of values) → bytes ≡ concat (map bytes_of values) → buffers_if wide form values ≡ validity_of values ∷ if_some offsets ∷ if_some bytes ∷ []
+between : (wide : Bool) (form : Option Form) (values : List Value) (offsets bytes : List ℕ) (w t : Bool) → HasForm form
+    → shape_if wide form ≡ shapes.Between w t
+    → offsets ≡ offset_bytes w (map bytes_of values) → bytes ≡ concat (map bytes_of values)
+    → buffers_if wide form values ≡ validity_of values ∷ if_some offsets ∷ if_some bytes ∷ []
 between wide None values offsets bytes w t flat is begun are = absurd flat
 between wide (Some Truths) values offsets bytes w t flat is begun are = cc
 between wide (Some (Wholes bits signed)) values offsets bytes w t flat is begun are = cc
 between wide (Some (FloatBits bits)) values offsets bytes w t flat is begun are = cc
-between wide (Some Text) values offsets bytes w t flat is begun are = let same : w ≡ wide = cc in same-text wide t values offsets bytes (begun ∙ ap (λ x. offset_bytes x (map bytes_of values)) same) are
-between wide (Some HexBytes) values offsets bytes w t flat is begun are = let same : w ≡ wide = cc in same-text wide t values offsets bytes (begun ∙ ap (λ x. offset_bytes x (map bytes_of values)) same) are
+between wide (Some Text) values offsets bytes w t flat is begun are =
+    let same : w ≡ wide = cc in same-text wide t values offsets bytes (begun ∙ ap (λ x. offset_bytes x (map bytes_of values)) same) are
+between wide (Some HexBytes) values offsets bytes w t flat is begun are =
+    let same : w ≡ wide = cc in same-text wide t values offsets bytes (begun ∙ ap (λ x. offset_bytes x (map bytes_of values)) same) are
 between wide (Some (SizedHex size)) values offsets bytes w t flat is begun are = cc
 between wide (Some (Decimals precision places)) values offsets bytes w t flat is begun are = cc
 
-shaped : (builder : Builder) (kind : DataType) (values : List Value) → Holds builder kind values → builder.shape ≡ shape_if (is_wide kind) (form_of kind)
+pub shaped : (builder : Builder) (kind : DataType) (values : List Value) → Holds builder kind values → builder.shape ≡ shape_if (is_wide kind) (form_of kind)
 shaped builder kind values holds = holds.shape ∙ shape-same kind holds.fits.flat
 
 pub held-in-place : (builder : Builder) (kind : DataType) (values : List Value) → Holds builder kind values → (IsBetween builder.shape → ⊥)
@@ -63,16 +72,20 @@ held-in-place builder kind values holds other =
     in-place (is_wide kind) (form_of kind) values builder.offsets.items builder.bytes.items holds.fits.flat (subst Other is other) (subst Has is holds.bytes)
     ∙ ap (λ v. v ∷ if_some builder.bytes.items ∷ []) (sym holds.validity)
 
-pub held-between : (builder : Builder) (offsets : List ℕ) (kind : DataType) (values : List Value) (wide text : Bool) → Holds builder kind values → builder.shape ≡ shapes.Between wide text
-    → offsets ≡ offset_bytes wide (map bytes_of values) → (encoded kind values).buffers ≡ if_some builder.validity.items ∷ if_some offsets ∷ if_some builder.bytes.items ∷ []
+pub held-between : (builder : Builder) (offsets : List ℕ) (kind : DataType) (values : List Value) (wide text : Bool) → Holds builder kind values
+    → builder.shape ≡ shapes.Between wide text
+    → offsets ≡ offset_bytes wide (map bytes_of values)
+    → (encoded kind values).buffers ≡ if_some builder.validity.items ∷ if_some offsets ∷ if_some builder.bytes.items ∷ []
 held-between builder offsets kind values wide text holds is begun =
     let Has : Shape → Type 0 = λ shape. HasBytes shape values builder.offsets.items builder.bytes.items in
     let bytes = subst Has is holds.bytes in
-    between (is_wide kind) (form_of kind) values offsets builder.bytes.items wide text holds.fits.flat (sym (shaped builder kind values holds) ∙ is) begun bytes.1
+    between (is_wide kind) (form_of kind) values offsets builder.bytes.items wide text holds.fits.flat
+    (sym (shaped builder kind values holds) ∙ is) begun bytes.1
     ∙ ap (λ v. v ∷ if_some offsets ∷ if_some builder.bytes.items ∷ []) (sym holds.validity)
 
 -- the offsets of a builder that holds values
-pub offsets-held : (builder : Builder) (kind : DataType) (values : List Value) (wide text : Bool) → Holds builder kind values → builder.shape ≡ shapes.Between wide text
+pub offsets-held : (builder : Builder) (kind : DataType) (values : List Value) (wide text : Bool) → Holds builder kind values
+    → builder.shape ≡ shapes.Between wide text
     → HasOffsets wide (map bytes_of values) builder.offsets.items
 offsets-held builder kind values wide text holds is =
     let Has : Shape → Type 0 = λ shape. HasBytes shape values builder.offsets.items builder.bytes.items in
@@ -92,7 +105,8 @@ count-three (x ∷ a) b c = omega (arith, count-two b c)
 
 -- ---- what is built and what stays
 
-pub encoded-built : (builder : Builder) (kind : DataType) (values : List Value) (buffers : List (Option (List ℕ))) (built : Built) → Holds builder kind values → (encoded kind values).buffers ≡ buffers
+pub encoded-built : (builder : Builder) (kind : DataType) (values : List Value) (buffers : List (Option (List ℕ))) (built : Built) → Holds builder kind values
+    → (encoded kind values).buffers ≡ buffers
     → IsBuilt builder buffers built → IsEncoded built kind values
 encoded-built builder kind values buffers built holds are is =
     let Made : List (Option (List ℕ)) → Type 0 = λ bs. AreMade built.buffers.items bs in
@@ -118,7 +132,8 @@ same-holds old new kind values same holds =
       fits = holds.fits;
     }
 
-pub same-but-holds : (old new : Builder) (kind : DataType) (values : List Value) (wide text : Bool) → old.shape ≡ shapes.Between wide text → AreSameBut wide (map bytes_of values) old new → Holds old kind values
+pub same-but-holds : (old new : Builder) (kind : DataType) (values : List Value) (wide text : Bool) → old.shape ≡ shapes.Between wide text
+    → AreSameBut wide (map bytes_of values) old new → Holds old kind values
     → Holds new kind values
 same-but-holds old new kind values wide text is same holds =
     let HasShape : Shape → Type 0 = λ shape. HasBytes shape values old.offsets.items old.bytes.items in
@@ -136,9 +151,11 @@ same-but-holds old new kind values wide text is same holds =
 
 pub blocks-in-place : (builder : Builder) (kind : DataType) (values : List Value) → Holds builder kind values → (IsBetween builder.shape → ⊥)
     → count_if builder.validity.items + count_if builder.bytes.items ≡ blocks_of kind values
-blocks-in-place builder kind values holds other = sym (ap present_count (held-in-place builder kind values holds other) ∙ count-two builder.validity.items builder.bytes.items)
+blocks-in-place builder kind values holds other =
+    sym (ap present_count (held-in-place builder kind values holds other) ∙ count-two builder.validity.items builder.bytes.items)
 
-pub blocks-between : (builder : Builder) (kind : DataType) (values : List Value) (wide text : Bool) → Holds builder kind values → builder.shape ≡ shapes.Between wide text
+pub blocks-between : (builder : Builder) (kind : DataType) (values : List Value) (wide text : Bool) → Holds builder kind values
+    → builder.shape ≡ shapes.Between wide text
     → count_if builder.validity.items + count_if (offset_bytes wide (map bytes_of values)) + count_if builder.bytes.items ≡ blocks_of kind values
 blocks-between builder kind values wide text holds is =
     sym (

@@ -28,7 +28,8 @@ total-push values value =
     ∙ ap length (concat-push (map bytes_of values) (bytes_of value)) ∙ length-append (concat (map bytes_of values)) (bytes_of value)
 
 -- what stands between offsets is in memory
-pub total-bounded : (wide : Bool) (form : Option Form) (values : List Value) (offsets bytes : List ℕ) → HasBytes (shape_if wide form) values offsets bytes → length bytes < 2 ^ 63
+pub total-bounded : (wide : Bool) (form : Option Form) (values : List Value) (offsets bytes : List ℕ)
+    → HasBytes (shape_if wide form) values offsets bytes → length bytes < 2 ^ 63
     → are_bounded form (byte_total values) ≡ true
 total-bounded wide None values offsets bytes has small = refl
 total-bounded wide (Some Truths) values offsets bytes has small = refl
@@ -41,7 +42,8 @@ total-bounded wide (Some (Decimals precision places)) values offsets bytes has s
 
 -- ---- what is taken behind others is taken alone
 
-first : (text : Bool) (total : ℕ) (bytes : List ℕ) (reached : Bool) → nat_lt (total + length bytes) (2 ^ 31) ≡ reached → (if reached then text_fault text bytes else Some OutOfRange) ≡ None
+first : (text : Bool) (total : ℕ) (bytes : List ℕ) (reached : Bool) → nat_lt (total + length bytes) (2 ^ 31) ≡ reached
+    → (if reached then text_fault text bytes else Some OutOfRange) ≡ None
     → between_fault false text 0 bytes ≡ None
 first text total bytes true is taken =
     let alone : nat_lt (0 + length bytes) (2 ^ 31) ≡ true = grind (arith, nat_tests) in
@@ -92,29 +94,39 @@ alone (shapes.Between false text) total (Bytes b) taken = first text total b (na
 alone (shapes.Between false text) total (Items vs) taken = taken
 alone (shapes.Between false text) total (Fields vs) taken = taken
 
-taken-alone : (kind : DataType) (values : List Value) (value : Value) → KindOk kind → HasForm (form_of kind) → push_fault kind values value ≡ None → push_fault kind [] value ≡ None
+taken-alone : (kind : DataType) (values : List Value) (value : Value) → KindOk kind → HasForm (form_of kind) → push_fault kind values value ≡ None
+    → push_fault kind [] value ≡ None
 taken-alone kind values value ok flat taken =
     fault-is kind [] value ok flat ∙ alone (shape_in (storage_of kind)) (byte_total values) value (sym (fault-is kind values value ok flat) ∙ taken)
 
 -- ---- the offsets reach
 
-reached : (is storable near text : Bool) → (if not is then Some WrongKind else if not (storable && near) then Some OutOfRange else if not text then Some NotText else None) ≡ None → near ≡ true
+reached : (is storable near text : Bool)
+    → (if not is then Some WrongKind else if not (storable && near) then Some OutOfRange else if not text then Some NotText else None) ≡ None → near ≡ true
 reached false storable near text taken = cc
 reached true false near text taken = cc
 reached true true false text taken = cc
 reached true true true text taken = refl
 
-within-form : (wide : Bool) (form : Form) (values : List Value) (value : Value) → is_within wide form (byte_total values) ≡ true → fault_if wide (Some form) values value ≡ None
+within-form : (wide : Bool) (form : Form) (values : List Value) (value : Value) → is_within wide form (byte_total values) ≡ true
+    → fault_if wide (Some form) values value ≡ None
     → is_within wide form (byte_total values + length (bytes_of value)) ≡ true
 within-form wide form values Null small taken = rw add-zero small
-within-form wide form values (Truth t) small taken = reached (is_form form (Truth t)) (is_storable form (Truth t)) (is_within wide form (byte_total values + 0)) (is_text form (Truth t)) taken
-within-form wide form values (Whole n) small taken = reached (is_form form (Whole n)) (is_storable form (Whole n)) (is_within wide form (byte_total values + 0)) (is_text form (Whole n)) taken
-within-form wide form values (Bits n) small taken = reached (is_form form (Bits n)) (is_storable form (Bits n)) (is_within wide form (byte_total values + 0)) (is_text form (Bits n)) taken
-within-form wide form values (Bytes b) small taken = reached (is_form form (Bytes b)) (is_storable form (Bytes b)) (is_within wide form (byte_total values + length b)) (is_text form (Bytes b)) taken
-within-form wide form values (Items vs) small taken = reached (is_form form (Items vs)) (is_storable form (Items vs)) (is_within wide form (byte_total values + 0)) (is_text form (Items vs)) taken
-within-form wide form values (Fields vs) small taken = reached (is_form form (Fields vs)) (is_storable form (Fields vs)) (is_within wide form (byte_total values + 0)) (is_text form (Fields vs)) taken
+within-form wide form values (Truth t) small taken =
+    reached (is_form form (Truth t)) (is_storable form (Truth t)) (is_within wide form (byte_total values + 0)) (is_text form (Truth t)) taken
+within-form wide form values (Whole n) small taken =
+    reached (is_form form (Whole n)) (is_storable form (Whole n)) (is_within wide form (byte_total values + 0)) (is_text form (Whole n)) taken
+within-form wide form values (Bits n) small taken =
+    reached (is_form form (Bits n)) (is_storable form (Bits n)) (is_within wide form (byte_total values + 0)) (is_text form (Bits n)) taken
+within-form wide form values (Bytes b) small taken =
+    reached (is_form form (Bytes b)) (is_storable form (Bytes b)) (is_within wide form (byte_total values + length b)) (is_text form (Bytes b)) taken
+within-form wide form values (Items vs) small taken =
+    reached (is_form form (Items vs)) (is_storable form (Items vs)) (is_within wide form (byte_total values + 0)) (is_text form (Items vs)) taken
+within-form wide form values (Fields vs) small taken =
+    reached (is_form form (Fields vs)) (is_storable form (Fields vs)) (is_within wide form (byte_total values + 0)) (is_text form (Fields vs)) taken
 
-within-kind : (wide : Bool) (form : Option Form) (values : List Value) (value : Value) → are_within wide form (byte_total values) ≡ true → fault_if wide form values value ≡ None
+within-kind : (wide : Bool) (form : Option Form) (values : List Value) (value : Value) → are_within wide form (byte_total values) ≡ true
+    → fault_if wide form values value ≡ None
     → are_within wide form (byte_total (values ++ value ∷ [])) ≡ true
 within-kind wide None values value small taken = refl
 within-kind wide (Some form) values value small taken = ap (is_within wide form) (total-push values value) ∙ within-form wide form values value small taken
@@ -152,13 +164,16 @@ fits-none kind ok flat = record {
   bounded = bounded-none (form_of kind);
 }
 
-pub fits-more : (kind : DataType) (values : List Value) (value : Value) → Fits kind values → push_fault kind values value ≡ None → length values < 2 ^ 40 → are_bounded (form_of kind) (byte_total (values ++ value ∷ [])) ≡ true
+pub fits-more : (kind : DataType) (values : List Value) (value : Value) → Fits kind values → push_fault kind values value ≡ None → length values < 2 ^ 40
+    → are_bounded (form_of kind) (byte_total (values ++ value ∷ [])) ≡ true
     → Fits kind (values ++ value ∷ [])
 fits-more kind values value fits taken few bounded = record {
   kind_ok = fits.kind_ok;
   flat = fits.flat;
   few = omega (arith, length-append values (value ∷ []));
-  each = All-append (λ v. push_fault kind [] v ≡ None) values (value ∷ []) fits.each (All-cons (λ v. push_fault kind [] v ≡ None) value [] (taken-alone kind values value fits.kind_ok fits.flat taken) (All-nil (λ v. push_fault kind [] v ≡ None)));
+  each = All-append (λ v. push_fault kind [] v ≡ None) values (value ∷ []) fits.each
+      (All-cons (λ v. push_fault kind [] v ≡ None) value [] (taken-alone kind values value fits.kind_ok fits.flat taken)
+      (All-nil (λ v. push_fault kind [] v ≡ None)));
   small = within-kind (is_wide kind) (form_of kind) values value fits.small taken;
   bounded = bounded;
 }

@@ -6,7 +6,8 @@ use Rattle.col_build.specs.declared.shape.Shape.{Shape}
 use Rattle.col_build.specs.declared.shape.Shape.TheVariants as shapes
 
 -- what one shape has, the other has
-pub laid-has : (shape own : Shape) (values : List Value) (offsets bytes : List ℕ) → IsLaidAs shape own → HasBytes own values offsets bytes → HasBytes shape values offsets bytes
+pub laid-has : (shape own : Shape) (values : List Value) (offsets bytes : List ℕ) → IsLaidAs shape own → HasBytes own values offsets bytes
+    → HasBytes shape values offsets bytes
 laid-has shapes.Truths own values offsets bytes laid has = subst (λ s. HasBytes s values offsets bytes) laid has
 laid-has (shapes.Wholes width signed) own values offsets bytes laid has = subst (λ s. HasBytes s values offsets bytes) laid has
 laid-has (shapes.Floats width) own values offsets bytes laid has = subst (λ s. HasBytes s values offsets bytes) laid has
@@ -14,7 +15,8 @@ laid-has (shapes.Sized size) own values offsets bytes laid has = subst (λ s. Ha
 laid-has (shapes.Between wide text) own values offsets bytes laid has = subst (λ s. HasBytes s values offsets bytes) laid.1 has
 
 -- and back
-pub laid-back : (shape own : Shape) (values : List Value) (offsets bytes : List ℕ) → IsLaidAs shape own → HasBytes shape values offsets bytes → HasBytes own values offsets bytes
+pub laid-back : (shape own : Shape) (values : List Value) (offsets bytes : List ℕ) → IsLaidAs shape own → HasBytes shape values offsets bytes
+    → HasBytes own values offsets bytes
 laid-back shapes.Truths own values offsets bytes laid has = subst (λ s. HasBytes s values offsets bytes) (sym laid) has
 laid-back (shapes.Wholes width signed) own values offsets bytes laid has = subst (λ s. HasBytes s values offsets bytes) (sym laid) has
 laid-back (shapes.Floats width) own values offsets bytes laid has = subst (λ s. HasBytes s values offsets bytes) (sym laid) has

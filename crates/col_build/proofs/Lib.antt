@@ -8,3 +8,4 @@ pub mod Laid
 pub mod Pushes
 pub mod FinishFacts
 pub mod Views
+pub mod TextBytes

@@ -11,7 +11,8 @@ use Rattle.col_build.specs.declared.shape.Shape.TheVariants as shapes
 use Rattle.col_build.proofs.ShapeFacts.{fault-is, shape-is}
 
 -- only offsets look at the bytes that are there
-shape-total : (shape : Shape) (values : List Value) (value : Value) (offsets bytes : List ℕ) → HasBytes shape values offsets bytes → shape_fault shape (byte_total values) value ≡ shape_fault shape (length bytes) value
+shape-total : (shape : Shape) (values : List Value) (value : Value) (offsets bytes : List ℕ) → HasBytes shape values offsets bytes
+    → shape_fault shape (byte_total values) value ≡ shape_fault shape (length bytes) value
 shape-total shapes.Truths values Null offsets bytes has = refl
 shape-total shapes.Truths values (Truth t) offsets bytes has = refl
 shape-total shapes.Truths values (Whole n) offsets bytes has = refl
@@ -43,7 +44,8 @@ shape-total (shapes.Sized size) values (Fields vs) offsets bytes has = refl
 shape-total (shapes.Between wide text) values value offsets bytes has = ap (λ n. shape_fault (shapes.Between wide text) n value) (sym (ap length has.1))
 
 -- the fault of a value is that which its shape tells
-pub fault-held : (builder : Builder) (kind : DataType) (values : List Value) (value : Value) → Holds builder kind values → shape_fault builder.shape (length builder.bytes.items) value ≡ push_fault kind values value
+pub fault-held : (builder : Builder) (kind : DataType) (values : List Value) (value : Value) → Holds builder kind values
+    → shape_fault builder.shape (length builder.bytes.items) value ≡ push_fault kind values value
 fault-held builder kind values value holds =
     sym (
     fault-is kind values value holds.fits.kind_ok holds.fits.flat ∙ ap (λ shape. shape_fault shape (byte_total values) value) (sym holds.shape)
@@ -53,5 +55,6 @@ fault-held builder kind values value holds =
 pub shape-held : (builder : Builder) (kind : DataType) (values : List Value) → Holds builder kind values → ShapeOk builder.shape
 shape-held builder kind values holds = rw holds.shape (shape-is kind holds.fits.kind_ok holds.fits.flat)
 
-pub validity-held : (builder : Builder) (kind : DataType) (values : List Value) → Holds builder kind values → HasValidity builder.validity.items builder.count builder.nulls values
+pub validity-held : (builder : Builder) (kind : DataType) (values : List Value) → Holds builder kind values
+    → HasValidity builder.validity.items builder.count builder.nulls values
 validity-held builder kind values holds = record { counted = holds.count; nulls_counted = holds.nulls; shown = holds.validity }

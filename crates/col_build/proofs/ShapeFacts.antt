@@ -86,12 +86,14 @@ near : (reached : Bool) → (if not (true && reached) then Some OutOfRange else 
 near true = refl
 near false = refl
 
-near-text : (reached utf8 : Bool) → (if not (true && reached) then Some OutOfRange else if not utf8 then Some NotText else None) ≡ (if reached then if utf8 then None else Some NotText else Some OutOfRange)
+near-text : (reached utf8 : Bool) → (if not (true && reached) then Some OutOfRange else if not utf8 then Some NotText else None)
+    ≡ (if reached then if utf8 then None else Some NotText else Some OutOfRange)
 near-text true true = refl
 near-text true false = refl
 near-text false utf8 = refl
 
-fault-of-form : (wide : Bool) (form : Form) (values : List Value) (value : Value) → FormOk (Some form) → fault_if wide (Some form) values value ≡ shape_fault (shape_of wide form) (byte_total values) value
+fault-of-form : (wide : Bool) (form : Form) (values : List Value) (value : Value) → FormOk (Some form)
+    → fault_if wide (Some form) values value ≡ shape_fault (shape_of wide form) (byte_total values) value
 fault-of-form wide Truths values Null ok = refl
 fault-of-form true Truths values (Truth t) ok = refl
 fault-of-form false Truths values (Truth t) ok = refl
@@ -149,7 +151,8 @@ fault-of-form wide (Decimals precision places) values (Bytes b) ok = refl
 fault-of-form wide (Decimals precision places) values (Items vs) ok = refl
 fault-of-form wide (Decimals precision places) values (Fields vs) ok = refl
 
-of-kind : (wide : Bool) (form : Option Form) (values : List Value) (value : Value) → HasForm form → FormOk form → fault_if wide form values value ≡ shape_fault (shape_if wide form) (byte_total values) value
+of-kind : (wide : Bool) (form : Option Form) (values : List Value) (value : Value) → HasForm form → FormOk form
+    → fault_if wide form values value ≡ shape_fault (shape_if wide form) (byte_total values) value
 of-kind wide None values value flat ok = absurd flat
 of-kind wide (Some form) values value flat ok = fault-of-form wide form values value ok
 

@@ -6,7 +6,8 @@ use Rattle.col_build.specs.Shapes.{Stored}
 use Rattle.col_build.specs.declared.item.PushFault.{PushFault}
 
 -- a fact that follows where the bytes were appended
-pub where-stored : (r : Result (Unit {0}) PushFault) (old new bytes : List ℕ) (fault : Option PushFault) (P : Type 0) → Stored r old new fault bytes → (new ≡ old ++ bytes → P) → OnOk r P
+pub where-stored : (r : Result (Unit {0}) PushFault) (old new bytes : List ℕ) (fault : Option PushFault) (P : Type 0) → Stored r old new fault bytes
+    → (new ≡ old ++ bytes → P) → OnOk r P
 where-stored (Ok _) old new bytes fault P stored then = then stored.1
 where-stored (Err e) old new bytes fault P stored then = tt
 
@@ -23,6 +24,7 @@ where-ok (Ok _) P Q here then = then here
 where-ok (Err e) P Q here then = tt
 
 -- and from one more
-pub where-both : (r : Result (Unit {0}) PushFault) (old new bytes : List ℕ) (fault : Option PushFault) (P Q : Type 0) → OnOk r P → Stored r old new fault bytes → (P → new ≡ old ++ bytes → Q) → OnOk r Q
+pub where-both : (r : Result (Unit {0}) PushFault) (old new bytes : List ℕ) (fault : Option PushFault) (P Q : Type 0) → OnOk r P → Stored r old new fault bytes
+    → (P → new ≡ old ++ bytes → Q) → OnOk r Q
 where-both (Ok _) old new bytes fault P Q here stored then = then here stored.1
 where-both (Err e) old new bytes fault P Q here stored then = tt

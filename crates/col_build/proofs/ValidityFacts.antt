@@ -86,23 +86,29 @@ pushed-some [] flag = λ none. cc
 pushed-some (f ∷ flags) flag = λ none. cc
 
 -- the bits of one more value, where one is null
-shown-pushed : (new : List ℕ) (values : List Value) (value : Value) (flags : List Bool) (flag : Bool) → null_total (values ++ value ∷ []) ≢ 0 → flags_of values ≡ flags → not (is_null value) ≡ flag
+shown-pushed : (new : List ℕ) (values : List Value) (value : Value) (flags : List Bool) (flag : Bool) → null_total (values ++ value ∷ []) ≢ 0
+    → flags_of values ≡ flags → not (is_null value) ≡ flag
     → new ≡ bit_bytes (flags ++ flag ∷ []) → if_some new ≡ validity_of (values ++ value ∷ [])
 shown-pushed new values value flags flag some are is made =
-    let all : flags_of (values ++ value ∷ []) ≡ flags ++ flag ∷ [] = flags-push values value ∙ ap (λ (xs : List Bool). xs ++ not (is_null value) ∷ []) are ∙ ap (λ x. flags ++ x ∷ []) is in
-    ap if_some made ∙ shown-some (bit_bytes (flags ++ flag ∷ [])) (bits-some (flags ++ flag ∷ []) (pushed-some flags flag)) ∙ ap (λ xs. Some (bit_bytes xs)) (sym all)
+    let all : flags_of (values ++ value ∷ []) ≡ flags ++ flag ∷ [] =
+    flags-push values value ∙ ap (λ (xs : List Bool). xs ++ not (is_null value) ∷ []) are ∙ ap (λ x. flags ++ x ∷ []) is in
+    ap if_some made ∙ shown-some (bit_bytes (flags ++ flag ∷ [])) (bits-some (flags ++ flag ∷ []) (pushed-some flags flag))
+    ∙ ap (λ xs. Some (bit_bytes xs)) (sym all)
     ∙ sym (validity-some (values ++ value ∷ []) some)
 
-pub first-null : (bits new : List ℕ) (count nulls : ℕ) (values : List Value) (value : Value) → nulls ≡ 0 → HasValidity bits count nulls values → is_null value ≡ true
+pub first-null : (bits new : List ℕ) (count nulls : ℕ) (values : List Value) (value : Value) → nulls ≡ 0
+    → HasValidity bits count nulls values → is_null value ≡ true
     → new ≡ bit_bytes (replicate count true ++ false ∷ []) → if_some new ≡ validity_of (values ++ value ∷ [])
 first-null bits new count nulls values value none has null made =
     shown-pushed new values value (replicate count true) false (λ zero_nulls. absurd (omega (arith, nulls-push values value, null-one value null, zero_nulls)))
     (all-valid values (sym has.nulls_counted ∙ none) ∙ ap (λ n. replicate n true) (sym has.counted)) (ap not null) made
 
-pub still-none : (bits : List ℕ) (count nulls : ℕ) (values : List Value) (value : Value) → nulls ≡ 0 → HasValidity bits count nulls values → is_null value ≡ false
+pub still-none : (bits : List ℕ) (count nulls : ℕ) (values : List Value) (value : Value) → nulls ≡ 0
+    → HasValidity bits count nulls values → is_null value ≡ false
     → if_some bits ≡ validity_of (values ++ value ∷ [])
 still-none bits count nulls values value none has valid =
-    has.shown ∙ validity-none values (sym has.nulls_counted ∙ none) ∙ sym (validity-none (values ++ value ∷ []) (omega (arith, nulls-push values value, null-none value valid, has.nulls_counted, none)))
+    has.shown ∙ validity-none values (sym has.nulls_counted ∙ none)
+    ∙ sym (validity-none (values ++ value ∷ []) (omega (arith, nulls-push values value, null-none value valid, has.nulls_counted, none)))
 
 pub bits-shown : (bits : List ℕ) (count nulls : ℕ) (values : List Value) → nulls ≢ 0 → HasValidity bits count nulls values → bits ≡ bit_bytes (flags_of values)
 bits-shown bits count nulls values some has =
@@ -111,10 +117,13 @@ bits-shown bits count nulls values some has =
 pub flags-length : (values : List Value) → length (flags_of values) ≡ length values
 flags-length values = length-map values (λ value. not (is_null value))
 
-pub more-bits : (bits new : List ℕ) (count nulls : ℕ) (values : List Value) (value : Value) (null : Bool) → nulls ≢ 0 → HasValidity bits count nulls values → is_null value ≡ null
-    → ((flags : List Bool) → length flags ≡ count → bits ≡ bit_bytes flags → new ≡ bit_bytes (flags ++ not null ∷ [])) → if_some new ≡ validity_of (values ++ value ∷ [])
+pub more-bits : (bits new : List ℕ) (count nulls : ℕ) (values : List Value) (value : Value) (null : Bool) → nulls ≢ 0
+    → HasValidity bits count nulls values → is_null value ≡ null
+    → ((flags : List Bool) → length flags ≡ count → bits ≡ bit_bytes flags → new ≡ bit_bytes (flags ++ not null ∷ []))
+    → if_some new ≡ validity_of (values ++ value ∷ [])
 more-bits bits new count nulls values value null some has is makes =
-    shown-pushed new values value (flags_of values) (not null) (λ zero_nulls. some (omega (arith, nulls-push values value, has.nulls_counted, zero_nulls))) refl (ap not is)
+    shown-pushed new values value (flags_of values) (not null) (λ zero_nulls. some (omega (arith, nulls-push values value, has.nulls_counted, zero_nulls)))
+    refl (ap not is)
     (makes (flags_of values) (flags-length values ∙ sym has.counted) (bits-shown bits count nulls values some has))
 
 -- the number of a value's nulls, by a test

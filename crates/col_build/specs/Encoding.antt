@@ -1,14 +1,15 @@
 -- The encoding of a flat column: the buffers that its values make ("Arrow Columnar Format", "Validity bitmaps",
 -- "Fixed-Size Primitive Layout", "Variable-size Binary Layout").
-use Rattle.std.specs.Prelude.{◌≡◌, ℕ, ◌+◌, ◌*◌, ◌/◌, ◌^◌, ◌≤◌, Bool, true, false, not, nat_lt, ◌==◌, ◌&&◌, if◌then◌else◌, List, [], ◌∷◌, length, map, replicate, Option, None, Some, All}
+use Rattle.std.specs.Prelude.{◌≡◌, ℕ, ◌+◌, ◌*◌, ◌/◌, ◌^◌, ◌≤◌, Bool, true, false, not, nat_lt, ◌==◌, ◌&&◌, if◌then◌else◌, List, [], ◌∷◌, length, map, replicate}
+use Rattle.std.specs.Prelude.{Option, None, Some, All}
 use Rattle.std.specs.List.{concat, flat_map}
 use Rattle.std.specs.Str.{is_utf8}
 use Rattle.bit_pack.specs.Packed.{le_bytes, stored, offset_width}
 use Rattle.fmt_string.specs.FieldText.{Form, Truths, Wholes, FloatBits, Text, HexBytes, SizedHex, Decimals, form_of, in_range}
 use Rattle.fmt_string.specs.Kinds.{KindOk}
 use Rattle.fmt_string.specs.Value.{Value, Null, Truth, Whole, Bits, Bytes}
--- the bytes that stand between two offsets, and how many there are of a column's values
-pub use Rattle.fmt_string.specs.Value.{bytes_of, byte_total}
+-- whether a value is null, the bytes that stand between two offsets, and how many there are of a column's values
+pub use Rattle.fmt_string.specs.Value.{is_null, bytes_of, byte_total}
 pub use Rattle.fmt_string.specs.ColumnForms.{HasForm}
 use Rattle.fmt_string.specs.declared.kind.DataType.{DataType}
 use Rattle.fmt_string.specs.declared.kind.DataType.TheVariants as kinds
@@ -31,10 +32,6 @@ bit_bytes (a ∷ b ∷ c ∷ d ∷ e ∷ f ∷ g ∷ h ∷ flags) = byte_of (a �
 bit_bytes flags = byte_of flags ∷ []
 
 -- ---- values in their places
-
-abbrev pub is_null : Value → Bool
-is_null Null = true
-is_null _ = false
 
 abbrev pub null_total : List Value → ℕ
 null_total [] = 0

@@ -4,3 +4,4 @@ pub mod Shapes
 pub mod Holding
 pub mod Finished
 pub mod Blocks
+pub mod FaultTexts

@@ -1,14 +1,16 @@
-// Bits, added one by one: eight a byte, the least significant first ("Arrow Columnar Format", "Validity bitmaps").
-ghost use Rattle.std.specs.Prelude.{◌≡◌, ◌+◌, ◌/◌, ◌%◌, ◌<◌, ◌≤◌, ◌++◌, ◌∷◌, [], Bool, true, false, List, length, replicate, IsOk, OnOk, OnErr, vec_len, vec_capacity};
+//! Bits, added one by one: eight a byte, the least significant first ("Arrow Columnar Format", "Validity bitmaps").
+ghost use Rattle.std.specs.Prelude.{◌≡◌, ◌+◌, ◌/◌, ◌%◌, ◌<◌, ◌≤◌, ◌++◌, ◌∷◌, [], Bool, true, false, List, length, replicate, IsOk, OnOk, OnErr, vec_len};
+ghost use Rattle.std.specs.Prelude.{vec_capacity};
 ghost use Rattle.col_build.specs.Encoding.{bit_bytes};
 
 use unit_pass::NoMemory;
 
-// Adds a bit behind so many.
+/// Adds a bit behind so many.
 #[inline(always)]
 pub(crate) fn push_bit(bits: &mut Vec<u8>, count: usize, flag: bool) -> Result<(), NoMemory>
     requires shows { (flags : List Bool) × (length flags ≡ count) × (bits.old.items ≡ bit_bytes flags) }
-    ensures added { OnOk result ((flags : List Bool) → length flags ≡ count → bits.old.items ≡ bit_bytes flags → bits.new.items ≡ bit_bytes (flags ++ flag ∷ [])) }
+    ensures added { OnOk result
+        ((flags : List Bool) → length flags ≡ count → bits.old.items ≡ bit_bytes flags → bits.new.items ≡ bit_bytes (flags ++ flag ∷ [])) }
     ensures same { OnErr result (bits.new.items ≡ bits.old.items) }
     ensures room { (count % 8 ≡ 0 → vec_len bits.old < vec_capacity bits.old) → IsOk result }
 {
@@ -25,7 +27,7 @@ pub(crate) fn push_bit(bits: &mut Vec<u8>, count: usize, flag: bool) -> Result<(
     Ok(())
 }
 
-// Makes so many bits that are set, and a clear one behind them.
+/// Makes so many bits that are set, and a clear one behind them.
 pub(crate) fn fill_to_clear(bits: &mut Vec<u8>, count: usize)
     requires none { bits.old.items ≡ [] }
     requires room { count / 8 + 1 ≤ vec_capacity bits.old }

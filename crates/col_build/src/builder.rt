@@ -1,3 +1,4 @@
+//! A flat column in the making: items pushed one by one, and the column of them.
 ghost use Rattle.std.specs.Prelude.{◌≡◌, ◌≤◌, ◌<◌, ◌^◌, ◌+◌, ◌∷◌, [], List, Bool, true, pos, length, map, if◌then◌else◌, is_ok, IfOk, IfErr, OnOk, OnErr};
 ghost use Rattle.unit_pass.specs.Tally.{risen};
 ghost use Rattle.fmt_string.specs.FieldText.{form_of};
@@ -29,7 +30,7 @@ pub struct Builder {
     pub(crate) bytes: Vec<u8>,
 }
 
-// Whether an item is null.
+/// Whether an item is null.
 #[inline(always)]
 fn is_null(item: &Item<'_>) -> bool
     ensures { result ≡ is_null (value_of item.now) }
@@ -62,12 +63,13 @@ impl Builder {
         }
     }
 
-    // Adds an item, by a shape that lays it out as the builder's own does and takes it where that does.
+    /// Adds an item, by a shape that lays it out as the builder's own does and takes it where that does.
     #[inline(always)]
     fn push_as(&mut self, shape: Shape, item: Item<'_>) -> Result<(), PushFault>
         requires holds { HoldsFew self.old }
         requires laid { IsLaidAs shape self.old.shape }
-        requires same { shape_fault shape (length self.old.bytes.items) (value_of item) ≡ shape_fault self.old.shape (length self.old.bytes.items) (value_of item) }
+        requires same { shape_fault shape (length self.old.bytes.items) (value_of item)
+            ≡ shape_fault self.old.shape (length self.old.bytes.items) (value_of item) }
         ensures added { OnOk result (Adds (value_of item.entry) self.old self.new) }
         ensures kept { OnErr result (Keeps self.old self.new) }
         ensures answer { IsPushed (value_of item.entry) self.old result }
@@ -92,7 +94,7 @@ impl Builder {
         self.push_as(self.shape, item)
     }
 
-    // Adds bytes by a call, so that a push of a text is short where it is laid out.
+    /// Adds bytes by a call, so that a push of a text is short where it is laid out.
     #[inline(never)]
     fn push_bytes(&mut self, bytes: &[u8]) -> Result<(), PushFault>
         requires holds { HoldsFew self.old }
@@ -136,12 +138,14 @@ impl Builder {
         ensures encoded { IfOk result (λ built. (kind : DataType) (values : List Value) → Holds self kind values → IsEncoded built kind values) }
         ensures fits { (kind : DataType) (values : List Value) → Holds self kind values → Fits kind values }
         ensures back { IfErr result (λ e. Keeps self e.0) }
-        ensures units { (kind : DataType) (values : List Value) → Holds self kind values → pass.new.units + (if is_ok result then blocks_of kind values else 0) ≡ pass.old.units }
-        ensures blocks { OnOk result ((kind : DataType) (values : List Value) → Holds self kind values → pass.new.blocks ≡ risen pass.old.blocks (blocks_of kind values)) }
+        ensures units { (kind : DataType) (values : List Value) → Holds self kind values
+            → pass.new.units + (if is_ok result then blocks_of kind values else 0) ≡ pass.old.units }
+        ensures blocks { OnOk result
+            ((kind : DataType) (values : List Value) → Holds self kind values → pass.new.blocks ≡ risen pass.old.blocks (blocks_of kind values)) }
         ensures nodes { pass.new.nodes ≡ pass.old.nodes }
     {
         match self.shape {
-            Shape::Between { wide, text: _ } => finish_offsets(self, wide, alloc, pass),
+            Shape::Between { wide, text } => finish_offsets(self, wide, text, alloc, pass),
             _ => finish_in_place(self, alloc, pass),
         }
     }

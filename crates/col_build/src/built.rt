@@ -1,3 +1,4 @@
+//! A finished column: its type, its counts and the views of its buffers.
 use buf_block::BufView;
 use fmt_string::DataType;
 

@@ -1,5 +1,5 @@
-// The buffers of a builder, moved into blocks, and taken out again where memory runs out.
-ghost use Rattle.std.specs.Prelude.{◌≡◌, ◌+◌, ◌<◌, ◌≤◌, ◌^◌, ◌∷◌, [], ℕ, List, length, pos, if◌then◌else◌, is_ok, IfOk, IfErr, OnOk};
+//! The buffers of a builder, moved into blocks, and taken out again where memory runs out.
+ghost use Rattle.std.specs.Prelude.{◌≡◌, ◌+◌, ◌<◌, ◌≤◌, ◌^◌, ◌∷◌, [], ℕ, List, length, pos, if◌then◌else◌, is_ok, IfOk, IfErr, IsTrue, IsUtf8, OnOk};
 ghost use Rattle.unit_pass.specs.Tally.{risen};
 ghost use Rattle.unit_pass.specs.declared.pass.TheConstants.{SUPPLY};
 ghost use Rattle.col_build.specs.Blocks.{AreSame, AreSameBut, IsBuilt, Keeping, count_if};
@@ -9,20 +9,26 @@ ghost use Rattle.col_build.specs.Finished.{IsMade};
 
 use crate::store::begin_offsets;
 use crate::{Builder, Built};
-use buf_block::{BufView, make};
+use buf_block::{BufView, make, make_text};
 use fmt_string::DataType;
 use std::alloc::Global;
 use unit_pass::{NoMemory, Pass, SUPPLY};
 
-// A view of a block, and room to take its bytes out again.
+/// A view of a block, and room to take its bytes out again.
 pub(crate) struct Kept {
     pub(crate) view: Option<BufView>,
     pub(crate) spare: Vec<u8>,
 }
 
-// A view of a whole block of these bytes, and nothing where there are none.
-fn whole_block(alloc: Global, bytes: Vec<u8>, pass: &mut Pass) -> Result<Option<BufView>, Vec<u8>>
-    requires { 1 ≤ pass.old.units }
+/// A view of a whole block of these bytes, which is marked where they are text, and nothing where there are none.
+fn whole_block(
+    alloc: Global,
+    bytes: Vec<u8>,
+    text: bool,
+    pass: &mut Pass,
+) -> Result<Option<BufView>, Vec<u8>>
+    requires units { 1 ≤ pass.old.units }
+    requires text { IsTrue text → IsUtf8 bytes.items }
     ensures made { IfOk result (λ view. IsMade view (if_some bytes.items)) }
     ensures back { IfErr result (λ same. same.items ≡ bytes.items) }
     ensures units { pass.new.units + (if is_ok result then count_if bytes.items else 0) ≡ pass.old.units }
@@ -32,13 +38,18 @@ fn whole_block(alloc: Global, bytes: Vec<u8>, pass: &mut Pass) -> Result<Option<
     if bytes.is_empty() {
         return Ok(None);
     }
-    match make(alloc, bytes, pass) {
+    let made = if text {
+        make_text(alloc, bytes, pass)
+    } else {
+        make(alloc, bytes, pass)
+    };
+    match made {
         Ok(hold) => Ok(Some(BufView::whole(hold))),
         Err((bytes, NoMemory)) => Err(bytes),
     }
 }
 
-// The same, with room to take the bytes out again.
+/// The same, with room to take the bytes out again.
 fn kept_block(alloc: Global, bytes: Vec<u8>, pass: &mut Pass) -> Result<Kept, Vec<u8>>
     requires { 1 ≤ pass.old.units }
     ensures made { IfOk result (λ kept. Keeping kept bytes.items) }
@@ -50,13 +61,13 @@ fn kept_block(alloc: Global, bytes: Vec<u8>, pass: &mut Pass) -> Result<Kept, Ve
     let Ok(spare) = Vec::with_capacity(alloc, bytes.len()) else {
         return Err(bytes);
     };
-    match whole_block(alloc, bytes, pass) {
+    match whole_block(alloc, bytes, false, pass) {
         Ok(view) => Ok(Kept { view, spare }),
         Err(bytes) => Err(bytes),
     }
 }
 
-// The bytes of a kept block, whose hold is let go.
+/// The bytes of a kept block, whose hold is let go.
 fn take_out(kept: Kept, pass: &mut Pass) -> Vec<u8>
     requires kept { (content : List ℕ) × Keeping kept content × (pass.old.units + count_if content ≤ SUPPLY) }
     ensures bytes { (content : List ℕ) → Keeping kept content → result.items ≡ content }
@@ -75,14 +86,16 @@ fn take_out(kept: Kept, pass: &mut Pass) -> Vec<u8>
     spare
 }
 
-// The validity bits and the bytes in blocks.
+/// The validity bits and the bytes in blocks.
 fn two_blocks(
     alloc: Global,
     validity: Vec<u8>,
     bytes: Vec<u8>,
+    text: bool,
     pass: &mut Pass,
 ) -> Result<(Option<BufView>, Option<BufView>), (Vec<u8>, Vec<u8>)>
-    requires { 2 ≤ pass.old.units }
+    requires units { 2 ≤ pass.old.units }
+    requires text { IsTrue text → IsUtf8 bytes.items }
     ensures validity { IfOk result (λ views. IsMade views.0 (if_some validity.items)) }
     ensures bytes { IfOk result (λ views. IsMade views.1 (if_some bytes.items)) }
     ensures back { IfErr result (λ same. (same.0.items ≡ validity.items) × (same.1.items ≡ bytes.items)) }
@@ -94,7 +107,7 @@ fn two_blocks(
         Ok(validity) => validity,
         Err(validity) => return Err((validity, bytes)),
     };
-    match whole_block(alloc, bytes, pass) {
+    match whole_block(alloc, bytes, text, pass) {
         Ok(bytes) => {
             let Kept { view, spare: _ } = validity;
             Ok((view, bytes))
@@ -103,15 +116,17 @@ fn two_blocks(
     }
 }
 
-// The validity bits, the offsets and the bytes in blocks.
+/// The validity bits, the offsets and the bytes in blocks.
 fn three_blocks(
     alloc: Global,
     validity: Vec<u8>,
     offsets: Vec<u8>,
     bytes: Vec<u8>,
+    text: bool,
     pass: &mut Pass,
 ) -> Result<(Option<BufView>, Option<BufView>, Option<BufView>), (Vec<u8>, Vec<u8>, Vec<u8>)>
-    requires { 3 ≤ pass.old.units }
+    requires units { 3 ≤ pass.old.units }
+    requires text { IsTrue text → IsUtf8 bytes.items }
     ensures validity { IfOk result (λ views. IsMade views.0 (if_some validity.items)) }
     ensures offsets { IfOk result (λ views. IsMade views.1 (if_some offsets.items)) }
     ensures bytes { IfOk result (λ views. IsMade views.2 (if_some bytes.items)) }
@@ -124,7 +139,7 @@ fn three_blocks(
         Ok(validity) => validity,
         Err(validity) => return Err((validity, offsets, bytes)),
     };
-    match two_blocks(alloc, offsets, bytes, pass) {
+    match two_blocks(alloc, offsets, bytes, text, pass) {
         Ok((offsets, bytes)) => {
             let Kept { view, spare: _ } = validity;
             Ok((view, offsets, bytes))
@@ -133,7 +148,7 @@ fn three_blocks(
     }
 }
 
-// The column of these buffers.
+/// The column of these buffers.
 fn built(kind: DataType, count: usize, nulls: usize, buffers: Vec<Option<BufView>>) -> Built
     requires count { count < 2 ^ 63 }
     requires nulls { nulls < 2 ^ 63 }
@@ -150,7 +165,7 @@ fn built(kind: DataType, count: usize, nulls: usize, buffers: Vec<Option<BufView
     }
 }
 
-// The column of a builder whose items lie in place.
+/// The column of a builder whose items lie in place.
 pub(crate) fn finish_in_place(
     builder: Builder,
     alloc: Global,
@@ -177,7 +192,7 @@ pub(crate) fn finish_in_place(
         offsets,
         bytes,
     } = builder;
-    match two_blocks(alloc, validity, bytes, pass) {
+    match two_blocks(alloc, validity, bytes, false, pass) {
         Ok((validity, bytes)) => {
             buffers.push_reserved(validity);
             buffers.push_reserved(bytes);
@@ -199,19 +214,23 @@ pub(crate) fn finish_in_place(
     }
 }
 
-// The column of a builder whose items lie between offsets.
+/// The column of a builder whose items lie between offsets, and are text or not.
 fn finish_between(
     builder: Builder,
+    text: bool,
     alloc: Global,
     pass: &mut Pass,
 ) -> Result<Built, (Builder, NoMemory)>
     requires units { 3 ≤ pass.old.units }
+    requires text { IsTrue text → IsUtf8 builder.bytes.items }
     requires count { builder.count < 2 ^ 63 }
     requires nulls { builder.nulls < 2 ^ 63 }
     ensures built { IfOk result (IsBuilt builder (if_some builder.validity.items ∷ if_some builder.offsets.items ∷ if_some builder.bytes.items ∷ [])) }
     ensures same { IfErr result (λ e. AreSame builder e.0) }
-    ensures units { pass.new.units + (if is_ok result then count_if builder.validity.items + count_if builder.offsets.items + count_if builder.bytes.items else 0) ≡ pass.old.units }
-    ensures blocks { OnOk result (pass.new.blocks ≡ risen pass.old.blocks (count_if builder.validity.items + count_if builder.offsets.items + count_if builder.bytes.items)) }
+    ensures units { pass.new.units
+        + (if is_ok result then count_if builder.validity.items + count_if builder.offsets.items + count_if builder.bytes.items else 0) ≡ pass.old.units }
+    ensures blocks { OnOk result
+        (pass.new.blocks ≡ risen pass.old.blocks (count_if builder.validity.items + count_if builder.offsets.items + count_if builder.bytes.items)) }
     ensures nodes { pass.new.nodes ≡ pass.old.nodes }
 {
     let Ok(mut buffers) = Vec::with_capacity(alloc, 3) else {
@@ -226,7 +245,7 @@ fn finish_between(
         offsets,
         bytes,
     } = builder;
-    match three_blocks(alloc, validity, offsets, bytes, pass) {
+    match three_blocks(alloc, validity, offsets, bytes, text, pass) {
         Ok((validity, offsets, bytes)) => {
             buffers.push_reserved(validity);
             buffers.push_reserved(offsets);
@@ -249,28 +268,31 @@ fn finish_between(
     }
 }
 
-// The same, where there may be no offsets yet.
+/// The same, where there may be no offsets yet.
 pub(crate) fn finish_offsets(
     builder: Builder,
     wide: bool,
+    text: bool,
     alloc: Global,
     pass: &mut Pass,
 ) -> Result<Built, (Builder, NoMemory)>
     requires units { 3 ≤ pass.old.units }
+    requires text { IsTrue text → IsUtf8 builder.bytes.items }
     requires count { builder.count < 2 ^ 63 }
     requires nulls { builder.nulls < 2 ^ 63 }
     ensures built { IfOk result (λ built. (items : List (List ℕ)) → HasOffsets wide items builder.offsets.items
         → IsBuilt builder (if_some builder.validity.items ∷ if_some (offset_bytes wide items) ∷ if_some builder.bytes.items ∷ []) built) }
     ensures same { IfErr result (λ e. (items : List (List ℕ)) → HasOffsets wide items builder.offsets.items → AreSameBut wide items builder e.0) }
     ensures units { (items : List (List ℕ)) → HasOffsets wide items builder.offsets.items
-        → pass.new.units + (if is_ok result then count_if builder.validity.items + count_if (offset_bytes wide items) + count_if builder.bytes.items else 0) ≡ pass.old.units }
+        → pass.new.units + (if is_ok result then count_if builder.validity.items + count_if (offset_bytes wide items) + count_if builder.bytes.items else 0)
+        ≡ pass.old.units }
     ensures blocks { OnOk result ((items : List (List ℕ)) → HasOffsets wide items builder.offsets.items
         → pass.new.blocks ≡ risen pass.old.blocks (count_if builder.validity.items + count_if (offset_bytes wide items) + count_if builder.bytes.items)) }
     ensures nodes { pass.new.nodes ≡ pass.old.nodes }
 {
     let mut builder = builder;
     match begin_offsets(&mut builder.offsets, wide) {
-        Ok(()) => finish_between(builder, alloc, pass),
+        Ok(()) => finish_between(builder, text, alloc, pass),
         Err(_) => Err((builder, NoMemory)),
     }
 }

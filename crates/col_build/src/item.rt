@@ -1,3 +1,6 @@
+//! What a column takes, and why it may not take it.
+use std::fmt;
+
 /// An item of a column: a null, a truth value, a whole number, the bits of a float, or bytes.
 #[derive(Clone, Copy, Debug, PartialEq, Eq)]
 pub enum Item<'a> {
@@ -23,3 +26,21 @@ pub enum PushFault {
     NotText,
     NoMemory,
 }
+
+impl fmt::Display for PushFault {
+    ghost use Rattle.std.specs.Prelude.{Some};
+    ghost use Rattle.col_build.specs.FaultTexts.{fault_text};
+
+    ghost output = { λ fault. Some (fault_text fault) };
+
+    fn fmt<W: fmt::Write>(&self, f: &mut fmt::Formatter<W>) -> fmt::Result {
+        f.write_str(match self {
+            PushFault::WrongKind => "not a value of the column's type",
+            PushFault::OutOfRange => "out of the column's range",
+            PushFault::NotText => "not UTF-8",
+            PushFault::NoMemory => "out of memory",
+        })
+    }
+}
+
+impl std::error::Error for PushFault {}

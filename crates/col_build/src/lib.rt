@@ -4,7 +4,8 @@
 //! A [`Builder`] is made for a flat type and takes [`Item`]s. [`Builder::push`] adds one behind those that are there, or
 //! answers why the column doesn't take it and changes nothing; [`Builder::push_text`] does so with a text that the caller
 //! has tested by [`is_text`]. [`Builder::finish`] moves the buffers into blocks and answers the column as [`Built`]; where
-//! memory runs out it gives the builder back with all its items.
+//! memory runs out it gives the builder back with all its items. The bytes of a column of texts are UTF-8, and their block
+//! is marked as text.
 //!
 //! - What the buffers of a column are is said by `specs/Encoding.antt`, from the values alone: the validity bitmap, the
 //!   offsets and the data, which of them are absent, and what a null has in its place. The same module says which items a

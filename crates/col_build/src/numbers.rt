@@ -1,4 +1,4 @@
-// Numbers of a width in bytes, appended ("Arrow Columnar Format", "Byte order" and "Fixed-size primitive layout").
+//! Numbers of a width in bytes, appended ("Arrow Columnar Format", "Byte order" and "Fixed-size primitive layout").
 ghost use Rattle.std.specs.Prelude.{◌≡◌, ◌≢◌, ◌*◌, ◌^◌, ◌<◌, ℤ, pos, true, IsTrue, Option, None, nat_lt};
 ghost use Rattle.bit_pack.specs.Packed.{IsWidth, le_bytes, stored};
 ghost use Rattle.fmt_string.specs.FieldText.{in_range};
@@ -6,7 +6,7 @@ ghost use Rattle.col_build.specs.Shapes.{Stored, past, range_fault};
 
 use crate::PushFault;
 
-// Appends bytes.
+/// Appends bytes.
 #[inline(always)]
 pub(crate) fn append(bytes: &mut Vec<u8>, more: &[u8]) -> Result<(), PushFault>
     ensures { Stored result bytes.old.items bytes.new.items None more.now }
@@ -17,7 +17,7 @@ pub(crate) fn append(bytes: &mut Vec<u8>, more: &[u8]) -> Result<(), PushFault>
     }
 }
 
-// Appends the lowest bytes of a number, so many of them.
+/// Appends the lowest bytes of a number, so many of them.
 #[inline(always)]
 pub(crate) fn append_number(bytes: &mut Vec<u8>, width: usize, number: u64) -> Result<(), PushFault>
     requires width { IsWidth width }
@@ -32,7 +32,7 @@ pub(crate) fn append_number(bytes: &mut Vec<u8>, width: usize, number: u64) -> R
     }
 }
 
-// Appends the sixteen bytes of a number.
+/// Appends the sixteen bytes of a number.
 #[inline(always)]
 fn append_sixteen(bytes: &mut Vec<u8>, number: u128) -> Result<(), PushFault>
     ensures { Stored result bytes.old.items bytes.new.items None (le_bytes 16 number) }
@@ -40,7 +40,7 @@ fn append_sixteen(bytes: &mut Vec<u8>, number: u128) -> Result<(), PushFault>
     append(bytes, &number.to_le_bytes())
 }
 
-// Two to the power of the bits that a number of a width has beside its sign.
+/// Two to the power of the bits that a number of a width has beside its sign.
 #[inline(always)]
 fn past_largest(width: usize, signed: bool) -> i128
     requires width { IsWidth width }
@@ -59,7 +59,7 @@ fn past_largest(width: usize, signed: bool) -> i128
     }
 }
 
-// Whether a number is in the range of a width.
+/// Whether a number is in the range of a width.
 #[inline(always)]
 fn fits(number: i128, width: usize, signed: bool) -> bool
     requires width { IsWidth width }
@@ -70,7 +70,7 @@ fn fits(number: i128, width: usize, signed: bool) -> bool
     number < past && if signed { -past <= number } else { 0 <= number }
 }
 
-// Appends a whole number that is in the range of its width.
+/// Appends a whole number that is in the range of its width.
 #[inline(always)]
 fn append_fitting(
     bytes: &mut Vec<u8>,
@@ -89,8 +89,8 @@ fn append_fitting(
     append_number(bytes, width, low)
 }
 
-// Appends a whole number that is in the range of its width. Sixteen bytes hold each number. The code of each width stands
-// by itself, so that its bounds are constants.
+/// Appends a whole number that is in the range of its width. Sixteen bytes hold each number. The code of each width stands
+/// by itself, so that its bounds are constants.
 #[inline(always)]
 pub(crate) fn append_whole(
     bytes: &mut Vec<u8>,
@@ -111,7 +111,7 @@ pub(crate) fn append_whole(
     }
 }
 
-// Appends the bits of a float that has no others.
+/// Appends the bits of a float that has no others.
 pub(crate) fn append_bits(bytes: &mut Vec<u8>, width: usize, number: u64) -> Result<(), PushFault>
     requires width { IsWidth width }
     requires narrow { width ≢ 16 }

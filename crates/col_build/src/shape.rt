@@ -1,4 +1,4 @@
-// How the items of a type are laid out ("Arrow Columnar Format", "Physical memory layout").
+//! How the items of a type are laid out ("Arrow Columnar Format", "Physical memory layout").
 ghost use Rattle.std.specs.Prelude.{◌≡◌};
 ghost use Rattle.fmt_string.specs.FieldText.{form_of};
 ghost use Rattle.fmt_string.specs.Storage.{storage_of};
@@ -7,7 +7,7 @@ ghost use Rattle.col_build.specs.Shapes.{shape_in};
 
 use fmt_string::{DataType, Storage, storage_of};
 
-// What an item of a column is, and how it lies in the buffers.
+/// What an item of a column is, and how it lies in the buffers.
 #[derive(Clone, Copy)]
 pub(crate) enum Shape {
     // A truth value, by a bit.
@@ -22,7 +22,7 @@ pub(crate) enum Shape {
     Between { wide: bool, text: bool },
 }
 
-// The shape of a flat type, by how it is stored.
+/// The shape of a flat type, by how it is stored.
 pub(crate) fn shape_of(kind: &DataType) -> Shape
     requires flat { HasForm (form_of kind.now) }
     ensures { result ≡ shape_in (storage_of kind.now) }

@@ -1,5 +1,6 @@
-// Items, each behind the last in the buffers of a shape ("Arrow Columnar Format", "Physical memory layout").
-ghost use Rattle.std.specs.Prelude.{◌≡◌, ◌≢◌, ◌==◌, ◌⊎◌, ◌+◌, ◌^◌, ◌<◌, ◌++◌, ◌∷◌, [], ℕ, Bool, List, None, Some, length, map, replicate, true, IsTrue, OnOk, OnErr, IfErr};
+//! Items, each behind the last in the buffers of a shape ("Arrow Columnar Format", "Physical memory layout").
+ghost use Rattle.std.specs.Prelude.{◌≡◌, ◌≢◌, ◌==◌, ◌⊎◌, ◌+◌, ◌^◌, ◌<◌, ◌++◌, ◌∷◌, [], ℕ, Bool, List, None, Some, length, map, replicate, true, IsTrue, OnOk};
+ghost use Rattle.std.specs.Prelude.{OnErr, IfErr};
 ghost use Rattle.std.specs.List.{concat};
 ghost use Rattle.bit_pack.specs.Packed.{IsWidth, le_bytes, offset_width};
 ghost use Rattle.fmt_string.specs.Value.{Value, bytes_of};
@@ -16,7 +17,7 @@ use crate::shape::Shape;
 use crate::text::is_text;
 use crate::{Item, PushFault};
 
-// Appends so many zeros.
+/// Appends so many zeros.
 #[inline(always)]
 fn append_zeros(bytes: &mut Vec<u8>, count: usize) -> Result<(), PushFault>
     requires { count < 2 ^ 31 }
@@ -37,7 +38,8 @@ fn store_whole(
 ) -> Result<(), PushFault>
     requires width { IsWidth width }
     requires widest { width ≡ 16 → IsTrue signed }
-    ensures { Stored result bytes.old.items bytes.new.items (shape_fault (Wholes width signed) 0 (value_of item.entry)) (stored_item width (value_of item.entry)) }
+    ensures { Stored result bytes.old.items bytes.new.items (shape_fault (Wholes width signed) 0 (value_of item.entry))
+        (stored_item width (value_of item.entry)) }
 {
     match item {
         Item::Null => append_zeros(bytes, width),
@@ -58,7 +60,7 @@ fn store_float(bytes: &mut Vec<u8>, width: usize, item: Item<'_>) -> Result<(), 
     }
 }
 
-// Appends bytes that are so many.
+/// Appends bytes that are so many.
 fn append_sized(bytes: &mut Vec<u8>, size: usize, more: &[u8]) -> Result<(), PushFault>
     ensures { Stored result bytes.old.items bytes.new.items (range_fault (length more.now == size)) more.now }
 {
@@ -79,7 +81,7 @@ fn store_sized(bytes: &mut Vec<u8>, size: usize, item: Item<'_>) -> Result<(), P
     }
 }
 
-// Appends an offset.
+/// Appends an offset.
 #[inline(always)]
 fn append_offset(offsets: &mut Vec<u8>, wide: bool, end: usize) -> Result<(), PushFault>
     ensures { Stored result offsets.old.items offsets.new.items None (le_bytes (offset_width wide) end) }
@@ -91,7 +93,7 @@ fn append_offset(offsets: &mut Vec<u8>, wide: bool, end: usize) -> Result<(), Pu
     }
 }
 
-// Makes the first offset, where there is none yet.
+/// Makes the first offset, where there is none yet.
 #[inline(always)]
 pub(crate) fn begin_offsets(offsets: &mut Vec<u8>, wide: bool) -> Result<(), PushFault>
     ensures begun { OnOk result ((items : List (List ℕ)) → HasOffsets wide items offsets.old.items → offsets.new.items ≡ offset_bytes wide items) }
@@ -104,10 +106,11 @@ pub(crate) fn begin_offsets(offsets: &mut Vec<u8>, wide: bool) -> Result<(), Pus
     Ok(())
 }
 
-// Ends an item at a place in the bytes of all.
+/// Ends an item at a place in the bytes of all.
 #[inline(always)]
 fn end_item(offsets: &mut Vec<u8>, wide: bool, end: usize) -> Result<(), PushFault>
-    ensures added { OnOk result ((items : List (List ℕ)) (item : List ℕ) → HasOffsets wide items offsets.old.items → length (concat items) + length item ≡ end → HasOffsets wide (items ++ item ∷ []) offsets.new.items) }
+    ensures added { OnOk result ((items : List (List ℕ)) (item : List ℕ) → HasOffsets wide items offsets.old.items → length (concat items) + length item ≡ end
+        → HasOffsets wide (items ++ item ∷ []) offsets.new.items) }
     ensures kept { OnErr result ((items : List (List ℕ)) → HasOffsets wide items offsets.old.items → HasOffsets wide items offsets.new.items) }
     ensures why { IfErr result (λ fault. fault ≡ NoMemory) }
 {
@@ -115,7 +118,7 @@ fn end_item(offsets: &mut Vec<u8>, wide: bool, end: usize) -> Result<(), PushFau
     append_offset(offsets, wide, end)
 }
 
-// Whether offsets reach so many bytes.
+/// Whether offsets reach so many bytes.
 #[inline(always)]
 fn is_reached(wide: bool, total: usize) -> bool
     ensures { result ≡ reaches wide total }
@@ -123,7 +126,7 @@ fn is_reached(wide: bool, total: usize) -> bool
     wide || total < 1 << 31
 }
 
-// Why bytes aren't taken behind so many.
+/// Why bytes aren't taken behind so many.
 #[inline(always)]
 fn fault_between(wide: bool, text: bool, start: usize, more: &[u8]) -> Option<PushFault>
     requires { start < 2 ^ 63 }
@@ -138,7 +141,7 @@ fn fault_between(wide: bool, text: bool, start: usize, more: &[u8]) -> Option<Pu
     None
 }
 
-// Adds bytes between offsets.
+/// Adds bytes between offsets.
 #[inline(always)]
 fn append_between(
     offsets: &mut Vec<u8>,
@@ -147,7 +150,8 @@ fn append_between(
     text: bool,
     more: &[u8],
 ) -> Result<(), PushFault>
-    ensures added { OnOk result ((items : List (List ℕ)) → HasOffsets wide items offsets.old.items → bytes.old.items ≡ concat items → HasOffsets wide (items ++ more.now ∷ []) offsets.new.items) }
+    ensures added { OnOk result ((items : List (List ℕ)) → HasOffsets wide items offsets.old.items → bytes.old.items ≡ concat items
+        → HasOffsets wide (items ++ more.now ∷ []) offsets.new.items) }
     ensures kept { OnErr result ((items : List (List ℕ)) → HasOffsets wide items offsets.old.items → HasOffsets wide items offsets.new.items) }
     ensures bytes { Stored result bytes.old.items bytes.new.items (between_fault wide text (length bytes.old.items) more.now) more.now }
 {
@@ -168,7 +172,8 @@ fn append_between(
 #[inline(always)]
 fn store_truth(bits: &mut Vec<u8>, count: usize, item: Item<'_>) -> Result<(), PushFault>
     requires has { (values : List Value) × HasBytes Truths values [] bits.old.items × (length values ≡ count) }
-    ensures added { OnOk result ((values : List Value) → length values ≡ count → HasBytes Truths values [] bits.old.items → HasBytes Truths (values ++ value_of item.entry ∷ []) [] bits.new.items) }
+    ensures added { OnOk result ((values : List Value) → length values ≡ count → HasBytes Truths values [] bits.old.items
+        → HasBytes Truths (values ++ value_of item.entry ∷ []) [] bits.new.items) }
     ensures kept { OnErr result (bits.new.items ≡ bits.old.items) }
     ensures answer { IsAnswer result (shape_fault Truths 0 (value_of item.entry)) }
 {
@@ -191,8 +196,10 @@ fn store_between(
     text: bool,
     item: Item<'_>,
 ) -> Result<(), PushFault>
-    ensures added { OnOk result ((values : List Value) → HasBytes (Between wide text) values offsets.old.items bytes.old.items → HasBytes (Between wide text) (values ++ value_of item.entry ∷ []) offsets.new.items bytes.new.items) }
-    ensures kept { OnErr result ((values : List Value) → HasBytes (Between wide text) values offsets.old.items bytes.old.items → HasBytes (Between wide text) values offsets.new.items bytes.new.items) }
+    ensures added { OnOk result ((values : List Value) → HasBytes (Between wide text) values offsets.old.items bytes.old.items
+        → HasBytes (Between wide text) (values ++ value_of item.entry ∷ []) offsets.new.items bytes.new.items) }
+    ensures kept { OnErr result ((values : List Value) → HasBytes (Between wide text) values offsets.old.items bytes.old.items
+        → HasBytes (Between wide text) values offsets.new.items bytes.new.items) }
     ensures answer { IsAnswer result (shape_fault (Between wide text) (length bytes.old.items) (value_of item.entry)) }
 {
     match item {
@@ -202,7 +209,7 @@ fn store_between(
     }
 }
 
-// Adds an item behind so many. Where it isn't taken the values stay.
+/// Adds an item behind so many. Where it isn't taken the values stay.
 #[inline(always)]
 pub(crate) fn store(
     shape: Shape,
@@ -213,8 +220,10 @@ pub(crate) fn store(
 ) -> Result<(), PushFault>
     requires ok { ShapeOk shape }
     requires has { (values : List Value) × HasBytes shape values offsets.old.items bytes.old.items × (length values ≡ count) }
-    ensures added { OnOk result ((values : List Value) → length values ≡ count → HasBytes shape values offsets.old.items bytes.old.items → HasBytes shape (values ++ value_of item.entry ∷ []) offsets.new.items bytes.new.items) }
-    ensures kept { OnErr result ((values : List Value) → HasBytes shape values offsets.old.items bytes.old.items → HasBytes shape values offsets.new.items bytes.new.items) }
+    ensures added { OnOk result ((values : List Value) → length values ≡ count → HasBytes shape values offsets.old.items bytes.old.items
+        → HasBytes shape (values ++ value_of item.entry ∷ []) offsets.new.items bytes.new.items) }
+    ensures kept { OnErr result
+        ((values : List Value) → HasBytes shape values offsets.old.items bytes.old.items → HasBytes shape values offsets.new.items bytes.new.items) }
     ensures answer { IsAnswer result (shape_fault shape (length bytes.old.items) (value_of item.entry)) }
 {
     match shape {

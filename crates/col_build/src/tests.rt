@@ -1,4 +1,4 @@
-// Columns of a few items, whose buffers were written by hand.
+//! Columns of a few items, whose buffers were written by hand.
 ghost use Rattle.std.specs.Prelude.{◌≡◌, ◌+◌, ◌<◌, ◌≤◌, [], ◌∷◌, List, length, pos, false};
 ghost use Rattle.unit_pass.specs.declared.pass.TheConstants.{SUPPLY};
 ghost use Rattle.fmt_string.specs.FieldText.{form_of};
@@ -21,7 +21,7 @@ use std::process::Abort;
 use std::test::Fail;
 use unit_pass::{Name, Pass, SUPPLY, open_desk};
 
-// Expects these bytes in a buffer, or none.
+/// Expects these bytes in a buffer, or none.
 fn expect_buffer(rt: &impl Abort, view: &Option<BufView>, bytes: Option<&[u8]>) {
     match (view, bytes) {
         (Some(view), Some(bytes)) => {
@@ -34,7 +34,7 @@ fn expect_buffer(rt: &impl Abort, view: &Option<BufView>, bytes: Option<&[u8]>) 
     }
 }
 
-// Pushes items that aren't taken, and expects these faults and the same length.
+/// Pushes items that aren't taken, and expects these faults and the same length.
 fn push_refused(rt: &impl Abort, builder: &mut Builder, items: &[(Item<'_>, PushFault)])
     requires few { HoldsFew builder.old }
     ensures { Keeps builder.old builder.new }
@@ -49,7 +49,7 @@ fn push_refused(rt: &impl Abort, builder: &mut Builder, items: &[(Item<'_>, Push
     }
 }
 
-// Pushes an item that is taken, once more where memory runs out.
+/// Pushes an item that is taken, once more where memory runs out.
 pub(crate) fn push_one(rt: &impl Abort, builder: &mut Builder, item: Item<'_>)
     requires few { HoldsFew builder.old }
     ensures { Adds (value_of item.entry) builder.old builder.new }
@@ -63,7 +63,7 @@ pub(crate) fn push_one(rt: &impl Abort, builder: &mut Builder, item: Item<'_>)
     }
 }
 
-// Pushes items that are taken into a column without items.
+/// Pushes items that are taken into a column without items.
 fn push_taken(rt: &impl Abort, builder: &mut Builder, items: &[Item<'_>])
     requires empty { (kind : DataType) × Holds builder.old kind [] }
     requires few { length items.now ≤ 1000 }
@@ -74,7 +74,7 @@ fn push_taken(rt: &impl Abort, builder: &mut Builder, items: &[Item<'_>])
     }
 }
 
-// Expects these counts and buffers of the column.
+/// Expects these counts and buffers of the column.
 fn expect_built(
     rt: &impl Abort,
     built: Built,
@@ -99,7 +99,7 @@ fn expect_built(
     let_go_all(views, pass);
 }
 
-// Finishes the column, once more where memory runs out, and expects these counts and buffers.
+/// Finishes the column, once more where memory runs out, and expects these counts and buffers.
 pub(crate) fn expect_finish(
     rt: &impl Abort,
     alloc: Global,
@@ -125,7 +125,7 @@ pub(crate) fn expect_finish(
     }
 }
 
-// Builds a column of these items, which takes none of the others, and expects these counts and buffers.
+/// Builds a column of these items, which takes none of the others, and expects these counts and buffers.
 pub(crate) fn expect_column(
     rt: &impl Abort,
     alloc: Global,
@@ -149,7 +149,7 @@ pub(crate) fn expect_column(
     let _audit = desk.close(pass);
 }
 
-// A type of whole numbers.
+/// A type of whole numbers.
 pub(crate) fn int(bits: u8, signed: bool) -> DataType
     ensures { result ≡ Int bits signed }
 {
@@ -755,4 +755,18 @@ fn dates_times_and_durations_have_their_widths(rt: HostRuntime) {
         0,
         &[None, Some(&[254, 255, 255, 255])],
     );
+}
+
+#[test]
+fn faults_have_their_texts(rt: HostRuntime) -> Result<(), Fail> {
+    let faults = [
+        (WrongKind, "not a value of the column's type"),
+        (OutOfRange, "out of the column's range"),
+        (NotText, "not UTF-8"),
+        (PushFault::NoMemory, "out of memory"),
+    ];
+    for (fault, text) in faults {
+        assert_eq!(rt; fault.to_string(rt.alloc())?.as_str(), text);
+    }
+    Ok(())
 }

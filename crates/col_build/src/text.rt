@@ -1,4 +1,4 @@
-// Text: bytes that are UTF-8.
+//! Text: bytes that are UTF-8.
 ghost use Rattle.std.specs.Prelude.{◌≡◌};
 ghost use Rattle.std.specs.Str.{is_utf8};
 

@@ -1,4 +1,4 @@
-// Texts that aren't tested again, beside those that are.
+//! Texts that aren't tested again, beside those that are.
 ghost use Rattle.std.specs.Prelude.{◌≡◌, [], pos, false};
 ghost use Rattle.fmt_string.specs.FieldText.{form_of};
 ghost use Rattle.fmt_string.specs.Kinds.{KindOk};
@@ -17,7 +17,7 @@ use std::process::Abort;
 use std::test::Fail;
 use unit_pass::open_desk;
 
-// Pushes a text that is taken, once more where memory runs out.
+/// Pushes a text that is taken, once more where memory runs out.
 fn push_text(rt: &impl Abort, builder: &mut Builder, text: &str)
     requires few { HoldsFew builder.old }
     ensures { Adds (Bytes text.now) builder.old builder.new }
@@ -31,7 +31,7 @@ fn push_text(rt: &impl Abort, builder: &mut Builder, text: &str)
     }
 }
 
-// Pushes a text, a null and a text into a column without items.
+/// Pushes a text, a null and a text into a column without items.
 fn push_texts(rt: &impl Abort, builder: &mut Builder, first: &str, last: &str)
     requires empty { (kind : DataType) × Holds builder.old kind [] }
     ensures { HoldsFew builder.new }
@@ -41,7 +41,7 @@ fn push_texts(rt: &impl Abort, builder: &mut Builder, first: &str, last: &str)
     push_text(rt, builder, last);
 }
 
-// Builds a column of a text, a null and a text by each push, and expects the same buffers of both.
+/// Builds a column of a text, a null and a text by each push, and expects the same buffers of both.
 fn expect_texts<'x>(
     rt: &impl Abort,
     alloc: Global,
@@ -64,7 +64,7 @@ fn expect_texts<'x>(
     let _audit = desk.close(pass);
 }
 
-// Expects that a column without items takes no such text, for this cause.
+/// Expects that a column without items takes no such text, for this cause.
 fn expect_refused(rt: &impl Abort, alloc: Global, kind: DataType, text: &str, want: PushFault)
     requires kind { KindOk kind }
     requires flat { HasForm (form_of kind) }
@@ -146,7 +146,7 @@ fn text_is_utf8(rt: HostRuntime) {
     }
 }
 
-// Texts about as long as a block of 64 bytes, or with a character across its end.
+/// Texts about as long as a block of 64 bytes, or with a character across its end.
 static LONG_TEXTS: [&[u8]; 4] = [
     b"\xc3\xa9abcdefghijabcdefghijabcdefghijabcdefghijabcdefghijabcdefghija",
     b"abcdefghijabcdefghijabcdefghijabcdefghijabcdefghijabcdefghijab\xc3\xa9",

@@ -1,4 +1,4 @@
-// Validity bits, which begin with the first null ("Arrow Columnar Format", "Validity bitmaps").
+//! Validity bits, which begin with the first null ("Arrow Columnar Format", "Validity bitmaps").
 ghost use Rattle.std.specs.Prelude.{◌≡◌, ◌≢◌, ◌+◌, ◌/◌, ◌≤◌, ◌++◌, ◌∷◌, [], Bool, List, true, OnOk, IfErr, vec_len, vec_capacity};
 ghost use Rattle.fmt_string.specs.Value.{Value};
 ghost use Rattle.col_build.specs.Encoding.{if_some, is_null, validity_of};
@@ -8,7 +8,7 @@ ghost use Rattle.col_build.specs.declared.item.PushFault.TheVariants.{NoMemory};
 use crate::PushFault;
 use crate::bits::{fill_to_clear, push_bit};
 
-// Makes room for the bit of an item behind so many, so many of them nulls.
+/// Makes room for the bit of an item behind so many, so many of them nulls.
 #[inline(always)]
 pub(crate) fn make_room(
     validity: &mut Vec<u8>,
@@ -31,13 +31,14 @@ pub(crate) fn make_room(
     }
 }
 
-// Adds the bit of an item behind so many, for which there is room.
+/// Adds the bit of an item behind so many, for which there is room.
 #[inline(always)]
 pub(crate) fn push_validity(validity: &mut Vec<u8>, count: usize, nulls: usize, null: bool)
     requires has { (values : List Value) × HasValidity validity.old.items count nulls values }
     requires first { nulls ≡ 0 → null ≡ true → vec_len validity.old + (count / 8 + 1) ≤ vec_capacity validity.old }
     requires next { nulls ≢ 0 → vec_len validity.old + 1 ≤ vec_capacity validity.old }
-    ensures { (values : List Value) (value : Value) → HasValidity validity.old.items count nulls values → is_null value ≡ null → if_some validity.new.items ≡ validity_of (values ++ value ∷ []) }
+    ensures { (values : List Value) (value : Value) → HasValidity validity.old.items count nulls values → is_null value ≡ null
+        → if_some validity.new.items ≡ validity_of (values ++ value ∷ []) }
 {
     if nulls == 0 {
         if null {

@@ -7,7 +7,8 @@ use Rattle.raw_array.specs.Members.{ArrayTree}
 use Rattle.layout_check.specs.Rules.{child_short, short_child, live_length}
 
 pub child_short-step : (needed i : ℕ) (children : List ArrayTree) → i < length children
-    → child_short needed i (drop i children) ≡ option_or (short_child needed i (live_length (get_or children i Released))) (child_short needed (i + 1) (drop (i + 1) children))
+    → child_short needed i (drop i children)
+    ≡ option_or (short_child needed i (live_length (get_or children i Released))) (child_short needed (i + 1) (drop (i + 1) children))
 child_short-step needed i children h =
     ap (child_short needed i) (drop_more children i Released (omega arith))
     ∙ ap (λ k. option_or (short_child needed i (live_length (get_or children i Released))) (child_short needed k (drop (i + 1) children))) (omega arith)

@@ -1,6 +1,6 @@
 -- Chunks, and the nulls of an array.
-use Rattle.std.proofs.Common.{◌≡◌, ℕ, zero, suc, ◌<◌, ◌≤◌, ◌&&◌, not, Bool, true, false, ℤ, pos, negsuc, List, [], ◌∷◌, length, drop, Option, Some, None, refl, ap, ◌∙◌, sym, arith}
-use Rattle.std.specs.Prelude.{if◌then◌else◌, is_some, nat_lt, ◌≤ℤ◌}
+use Rattle.std.proofs.Common.{◌≡◌, ℕ, zero, suc, ◌≤◌, ◌&&◌, not, Bool, true, false, pos, length, Option, Some, None, refl, ap, ◌∙◌, arith}
+use Rattle.std.specs.Prelude.{if◌then◌else◌, is_some, nat_lt}
 use Rattle.std.specs.Global.{Box}
 use Rattle.std.specs.Option.{option_or}
 use Rattle.fmt_string.specs.declared.kind.DataType.{DataType}
@@ -9,14 +9,12 @@ use Rattle.raw_array.specs.Members.{ArrayMembers, ArrayTree, members_of}
 use Rattle.layout_check.specs.declared.typed.Typed.{Typed, out-Typed}
 use Rattle.layout_check.specs.declared.layout.Layout.{Layout}
 use Rattle.layout_check.specs.declared.layout.Layout.TheVariants.{NoBuffers, FixedWidth, TruthBits, ByOffsets, ListOffsets, FixedItems, ByChildren, Views}
-use Rattle.layout_check.specs.declared.rule.LayoutRule.{LayoutRule}
 use Rattle.layout_check.specs.declared.rule.LayoutRule.TheVariants as rules
-use Rattle.layout_check.specs.declared.rule.Numbers.{Numbers}
 use Rattle.layout_check.specs.Kinds.{KindTree}
-use Rattle.layout_check.specs.TypedView.{typed_of, live_node, kids_of, kind_of, dict_in}
-use Rattle.layout_check.specs.Layout.{layout_of, buffer_count, items, is_valid, IsLongIfPresent}
-use Rattle.layout_check.specs.Rules.{Node, fails, fault_if, count_wrong, is_negative, in_order, null_total, null_items, first_below, buffer_short}
-use Rattle.layout_check.specs.Walk.{Steps, LayoutOk, ChunkOk, first_fault, first_chunk_fault, top_fault, root_fault, is_struct, is_absent, is_table, nulls_in, fault_from, own_fault, rules_fault, first_some, fault_by, fault_at, visit_fault, walk_below, walks_of, walk_of}
+use Rattle.layout_check.specs.TypedView.{typed_of, kids_of, kind_of, dict_in}
+use Rattle.layout_check.specs.Layout.{layout_of, buffer_count, items, is_valid}
+use Rattle.layout_check.specs.Rules.{null_total, null_items}
+use Rattle.layout_check.specs.Walk.{ChunkOk, first_fault, first_chunk_fault, top_fault, root_fault, is_struct, is_absent, is_table, nulls_in}
 use Rattle.layout_check.proofs.Levels.{typed_out}
 use Rattle.layout_check.proofs.Lawful.{first_fault-lawful, lawful-first_fault, left-none, right-none}
 
@@ -46,7 +44,8 @@ pub ruleset tables = (is_table-typed)
 pub top_fault-live : (typed : KindTree) (array : ArrayTree) → IsLive array
     → top_fault typed array
     ≡ (if not (is_table typed) then Some (root_fault rules.TopKind (pos 0))
-    else if nat_lt 0 (null_total (members_of array) (items (members_of array))) then Some (root_fault rules.TopNulls (pos (null_total (members_of array) (items (members_of array)))))
+    else if nat_lt 0 (null_total (members_of array) (items (members_of array)))
+    then Some (root_fault rules.TopNulls (pos (null_total (members_of array) (items (members_of array)))))
     else None)
 top_fault-live typed Released live = absurd live
 top_fault-live typed (Live own children dictionary) live = refl
@@ -63,12 +62,14 @@ null_total-bound own (suc n) = omega (arith, null_total-bound own n, one (is_val
     one true = omega arith
     one false = omega arith
 
-nulls-live : (kind : DataType) (kids : Trees DataType) (dict : MaybeTree DataType) (array : ArrayTree) → IsLive array → nulls_in (Live kind kids dict) array ≡ null_items (layout_of kind) (members_of array)
+nulls-live : (kind : DataType) (kids : Trees DataType) (dict : MaybeTree DataType) (array : ArrayTree) → IsLive array
+    → nulls_in (Live kind kids dict) array ≡ null_items (layout_of kind) (members_of array)
 nulls-live kind kids dict Released live = absurd live
 nulls-live kind kids dict (Live own children dictionary) live = refl
 
 pub nulls-typed : (t : Typed) (array : ArrayTree) → IsLive array → nulls_in (typed_of t) array ≡ null_items (layout_of (out-Typed t).kind) (members_of array)
-nulls-typed t array live = ap (λ k. nulls_in k array) (typed_out t) ∙ nulls-live (kind_of t) (trees (kids_of t)) (maybe_tree (dict_in (out-Typed t).dict)) array live
+nulls-typed t array live =
+    ap (λ k. nulls_in k array) (typed_out t) ∙ nulls-live (kind_of t) (trees (kids_of t)) (maybe_tree (dict_in (out-Typed t).dict)) array live
 
 pub no_buffers : (layout : Layout) (own : ArrayMembers) → buffer_count layout (length own.buffers) ≡ 0 → null_items layout own ≡ items own
 no_buffers NoBuffers own e = refl
@@ -80,7 +81,8 @@ no_buffers (FixedItems size) own e = absurd (omega (arith, e))
 no_buffers ByChildren own e = absurd (omega (arith, e))
 no_buffers Views own e = absurd (omega (arith, e))
 
-pub some_buffers : (layout : Layout) (own : ArrayMembers) → ¬ (buffer_count layout (length own.buffers) ≡ 0) → null_items layout own ≡ null_total own (items own)
+pub some_buffers : (layout : Layout) (own : ArrayMembers) → ¬ (buffer_count layout (length own.buffers) ≡ 0)
+    → null_items layout own ≡ null_total own (items own)
 some_buffers NoBuffers own e = absurd (e refl)
 some_buffers (FixedWidth width) own e = refl
 some_buffers TruthBits own e = refl

@@ -13,7 +13,8 @@ use Rattle.fmt_string.specs.declared.kind.DataType.{DataType}
 use Rattle.tree_model.specs.Tree.{Tree, Live, Released, trees, maybe_tree, IsLive, children_of, dictionary_of, tree_list, option_tree}
 use Rattle.raw_array.specs.Members.{ArrayTree, members_of}
 use Rattle.layout_check.specs.Kinds.{KindTree}
-use Rattle.layout_check.specs.Walk.{rules_fault, fault_by, Steps, Fault, visits, walks_of, walk_of, walk_children, walk_dictionary, walk_below, first_some, visit_fault, fault_from, own_fault, children_fault, dictionary_fault, fault_at}
+use Rattle.layout_check.specs.Walk.{rules_fault, fault_by, Steps, Fault, visits, walks_of, walk_of, walk_children, walk_dictionary, walk_below, first_some}
+use Rattle.layout_check.specs.Walk.{visit_fault, fault_from, own_fault, children_fault, dictionary_fault, fault_at}
 
 option_or-assoc : {X : Type 0} → (a b c : Option X) → option_or (option_or a b) c ≡ option_or a (option_or b c)
 option_or-assoc None b c = refl
@@ -23,14 +24,16 @@ pub first_some-append : {X Y : Type 0} → (f : X → Option Y) (xs ys : List X)
 first_some-append f [] ys = refl
 first_some-append f (x ∷ xs) ys = ap (option_or (f x)) (first_some-append f xs ys) ∙ sym (option_or-assoc (f x) (first_some f xs) (first_some f ys))
 
-walk_children-fault : (kids : List KindTree) (k : ℕ) (path : Steps) (children : List ArrayTree) → first_some visit_fault (walk_children (walks_of (trees kids)) k path children) ≡ children_fault kids k path children
+walk_children-fault : (kids : List KindTree) (k : ℕ) (path : Steps) (children : List ArrayTree)
+    → first_some visit_fault (walk_children (walks_of (trees kids)) k path children) ≡ children_fault kids k path children
 walk_children-fault [] k path children = refl
 walk_children-fault (kid ∷ kids) k path [] = refl
 walk_children-fault (kid ∷ kids) k path (child ∷ rest) =
     first_some-append visit_fault (visits kid (path ++ k ∷ []) child) (walk_children (walks_of (trees kids)) (suc k) path rest)
     ∙ ap (option_or (fault_from kid (path ++ k ∷ []) child)) (walk_children-fault kids (suc k) path rest)
 
-walk_dictionary-fault : (dict : Option KindTree) (path : Steps) (dictionary : Option ArrayTree) → first_some visit_fault (walk_dictionary (walk_of (maybe_tree dict)) path dictionary) ≡ dictionary_fault dict path dictionary
+walk_dictionary-fault : (dict : Option KindTree) (path : Steps) (dictionary : Option ArrayTree)
+    → first_some visit_fault (walk_dictionary (walk_of (maybe_tree dict)) path dictionary) ≡ dictionary_fault dict path dictionary
 walk_dictionary-fault None path dictionary = refl
 walk_dictionary-fault (Some dict) path None = refl
 walk_dictionary-fault (Some dict) path (Some dictionary) = refl
@@ -38,19 +41,24 @@ walk_dictionary-fault (Some dict) path (Some dictionary) = refl
 -- a live node: its own rules, then its children, then its dictionary
 pub fault_from-live : (kind : DataType) (kids : List KindTree) (dict : Option KindTree) (path : Steps) (array : ArrayTree) → IsLive array
     → fault_from (Live kind (trees kids) (maybe_tree dict)) path array
-    ≡ option_or (own_fault (Live kind (trees kids) (maybe_tree dict)) path array) (option_or (children_fault kids 0 path (children_of array)) (dictionary_fault dict path (dictionary_of array)))
+    ≡ option_or (own_fault (Live kind (trees kids) (maybe_tree dict)) path array)
+    (option_or (children_fault kids 0 path (children_of array)) (dictionary_fault dict path (dictionary_of array)))
 fault_from-live kind kids dict path Released live = absurd live
 fault_from-live kind kids dict path (Live own children dictionary) live =
     ap (option_or (own_fault (Live kind (trees kids) (maybe_tree dict)) path (Live own children dictionary)))
-    (first_some-append visit_fault (walk_children (walks_of (trees kids)) 0 path (children_of (Live own children dictionary))) (walk_dictionary (walk_of (maybe_tree dict)) path (dictionary_of (Live own children dictionary)))
-    ∙ ap (λ a. option_or a (first_some visit_fault (walk_dictionary (walk_of (maybe_tree dict)) path (dictionary_of (Live own children dictionary))))) (walk_children-fault kids 0 path (children_of (Live own children dictionary)))
-    ∙ ap (option_or (children_fault kids 0 path (children_of (Live own children dictionary)))) (walk_dictionary-fault dict path (dictionary_of (Live own children dictionary))))
+    (first_some-append visit_fault (walk_children (walks_of (trees kids)) 0 path (children_of (Live own children dictionary)))
+    (walk_dictionary (walk_of (maybe_tree dict)) path (dictionary_of (Live own children dictionary)))
+    ∙ ap (λ a. option_or a (first_some visit_fault (walk_dictionary (walk_of (maybe_tree dict)) path (dictionary_of (Live own children dictionary)))))
+    (walk_children-fault kids 0 path (children_of (Live own children dictionary)))
+    ∙ ap (option_or (children_fault kids 0 path (children_of (Live own children dictionary))))
+    (walk_dictionary-fault dict path (dictionary_of (Live own children dictionary))))
 
 -- a fault of the node itself is the first
 pub fault_from-own : (kind : DataType) (kids : List KindTree) (dict : Option KindTree) (path : Steps) (array : ArrayTree) (fault : Fault)
     → own_fault (Live kind (trees kids) (maybe_tree dict)) path array ≡ Some fault
     → fault_from (Live kind (trees kids) (maybe_tree dict)) path array ≡ Some fault
-fault_from-own kind kids dict path array fault e = ap (λ a. option_or a (first_some visit_fault (walk_below (walks_of (trees kids)) (walk_of (maybe_tree dict)) path array))) e
+fault_from-own kind kids dict path array fault e =
+    ap (λ a. option_or a (first_some visit_fault (walk_below (walks_of (trees kids)) (walk_of (maybe_tree dict)) path array))) e
 
 -- ---- over the code's kinds
 
@@ -60,30 +68,49 @@ option_tree-maybe_tree (Some t) = refl
 
 pub fault_from-typed : (t : Typed) (path : Steps) (array : ArrayTree) → IsLive array
     → fault_from (typed_of t) path array
-    ≡ option_or (own_fault (typed_of t) path array) (option_or (children_fault (kids_of t) 0 path (children_of array)) (dictionary_fault (dict_in (out-Typed t).dict) path (dictionary_of array)))
+    ≡ option_or (own_fault (typed_of t) path array)
+    (option_or (children_fault (kids_of t) 0 path (children_of array)) (dictionary_fault (dict_in (out-Typed t).dict) path (dictionary_of array)))
 fault_from-typed t path array live =
     let e = typed_out t in
     ap (λ k. fault_from k path array) e
     ∙ fault_from-live (kind_of t) (kids_of t) (dict_in (out-Typed t).dict) path array live
-    ∙ ap (λ k. option_or (own_fault k path array) (option_or (children_fault (kids_of t) 0 path (children_of array)) (dictionary_fault (dict_in (out-Typed t).dict) path (dictionary_of array)))) (sym e)
+    ∙ ap (λ k. option_or (own_fault k path array)
+    (option_or (children_fault (kids_of t) 0 path (children_of array)) (dictionary_fault (dict_in (out-Typed t).dict) path (dictionary_of array)))) (sym e)
 
-pub fault_from-typed_own : (t : Typed) (path : Steps) (array : ArrayTree) (fault : Fault) → own_fault (typed_of t) path array ≡ Some fault → fault_from (typed_of t) path array ≡ Some fault
+pub fault_from-typed_own : (t : Typed) (path : Steps) (array : ArrayTree) (fault : Fault) → own_fault (typed_of t) path array ≡ Some fault
+    → fault_from (typed_of t) path array ≡ Some fault
 fault_from-typed_own t path array fault e =
     ap (λ k. fault_from k path array) (typed_out t)
     ∙ fault_from-own (kind_of t) (kids_of t) (dict_in (out-Typed t).dict) path array fault (ap (λ k. own_fault k path array) (sym (typed_out t)) ∙ e)
 
 -- a live node's own fault is that of its rules
-pub own_fault-node : (t : Typed) (path : Steps) (array : ArrayTree) → IsLive array → own_fault (typed_of t) path array ≡ rules_fault in_order path (live_node t array)
+pub own_fault-node : (t : Typed) (path : Steps) (array : ArrayTree) → IsLive array
+    → own_fault (typed_of t) path array ≡ rules_fault in_order path (live_node t array)
 own_fault-node t path Released live = absurd live
 own_fault-node t path (Live own children dictionary) live =
     ap (λ k. own_fault k path (Live own children dictionary)) (typed_out t)
-    ∙ ap (λ kids. rules_fault in_order path (record { kind = kind_of t; kids = kids; dict = option_tree (maybe_tree (dict_in (out-Typed t).dict)); own = own; children = tree_list children; dictionary = option_tree dictionary })) (tree_list-trees (kids_of t))
-    ∙ ap (λ dict. rules_fault in_order path (record { kind = kind_of t; kids = kids_of t; dict = dict; own = own; children = tree_list children; dictionary = option_tree dictionary })) (option_tree-maybe_tree (dict_in (out-Typed t).dict))
+    ∙ ap (λ kids. rules_fault in_order path (record {
+      kind = kind_of t;
+      kids = kids;
+      dict = option_tree (maybe_tree (dict_in (out-Typed t).dict));
+      own = own;
+      children = tree_list children;
+      dictionary = option_tree dictionary;
+    })) (tree_list-trees (kids_of t))
+    ∙ ap (λ dict. rules_fault in_order path (record {
+      kind = kind_of t;
+      kids = kids_of t;
+      dict = dict;
+      own = own;
+      children = tree_list children;
+      dictionary = option_tree dictionary;
+    })) (option_tree-maybe_tree (dict_in (out-Typed t).dict))
 
 -- the rules of its form, then those of its buffers, then those of its items
 pub own_fault-typed : (t : Typed) (path : Steps) (array : ArrayTree) → IsLive array
     → own_fault (typed_of t) path array
-    ≡ option_or (rules_fault form_rules path (live_node t array)) (option_or (rules_fault buffer_rules path (live_node t array)) (rules_fault item_rules path (live_node t array)))
+    ≡ option_or (rules_fault form_rules path (live_node t array))
+    (option_or (rules_fault buffer_rules path (live_node t array)) (rules_fault item_rules path (live_node t array)))
 own_fault-typed t path array live =
     own_fault-node t path array live
     ∙ first_some-append (fault_by path (live_node t array)) form_rules (buffer_rules ++ item_rules)
@@ -93,7 +120,8 @@ pub form_fault : (t : Typed) (path : Steps) (array : ArrayTree)
     → rules_fault form_rules path (live_node t array)
     ≡ option_or (fault_at path rules.NegativeLength (fault_if (is_negative (members_of array).length) 0 (members_of array).length (pos 0)))
     (option_or (fault_at path rules.NegativeOffset (fault_if (is_negative (members_of array).offset) 0 (members_of array).offset (pos 0)))
-    (option_or (fault_at path rules.BufferCount (count_wrong (length (members_of array).buffers) (buffer_count (layout_of (out-Typed t).kind) (length (members_of array).buffers))))
+    (option_or (fault_at path rules.BufferCount
+    (count_wrong (length (members_of array).buffers) (buffer_count (layout_of (out-Typed t).kind) (length (members_of array).buffers))))
     (option_or (fault_at path rules.ChildCount (count_wrong (length (children_of array)) (length (out-Typed t).kids.items)))
     (option_or (fault_at path rules.Dictionary (count_wrong (one_if (dictionary_of array)) (one_if (out-Typed t).dict))) None))))
 form_fault t path array =
@@ -104,7 +132,8 @@ form_fault t path array =
     by kids dict =
         option_or (fault_at path rules.NegativeLength (fault_if (is_negative (members_of array).length) 0 (members_of array).length (pos 0)))
         (option_or (fault_at path rules.NegativeOffset (fault_if (is_negative (members_of array).offset) 0 (members_of array).offset (pos 0)))
-        (option_or (fault_at path rules.BufferCount (count_wrong (length (members_of array).buffers) (buffer_count (layout_of (out-Typed t).kind) (length (members_of array).buffers))))
+        (option_or (fault_at path rules.BufferCount
+        (count_wrong (length (members_of array).buffers) (buffer_count (layout_of (out-Typed t).kind) (length (members_of array).buffers))))
         (option_or (fault_at path rules.ChildCount (count_wrong (length (children_of array)) kids))
         (option_or (fault_at path rules.Dictionary (count_wrong (one_if (dictionary_of array)) dict)) None))))
 
@@ -112,15 +141,19 @@ form_fault t path array =
 
 pub children_fault-step : (kids : List Typed) (i : ℕ) (d : Typed) (path : Steps) (children : List ArrayTree) → i < length kids → length children ≡ length kids
     → children_fault (drop i (map typed_of kids)) i path (drop i children)
-    ≡ option_or (fault_from (typed_of (get_or kids i d)) (path ++ i ∷ []) (get_or children i Released)) (children_fault (drop (i + 1) (map typed_of kids)) (i + 1) path (drop (i + 1) children))
+    ≡ option_or (fault_from (typed_of (get_or kids i d)) (path ++ i ∷ []) (get_or children i Released))
+    (children_fault (drop (i + 1) (map typed_of kids)) (i + 1) path (drop (i + 1) children))
 children_fault-step kids i d path children h same =
-    ap (λ ks. children_fault ks i path (drop i children)) (drop_more (map typed_of kids) i Released (omega (arith, length-map kids typed_of)) ∙ ap (λ k. k ∷ drop (i + 1) (map typed_of kids)) (get_or-typed kids i d h))
+    ap (λ ks. children_fault ks i path (drop i children)) (drop_more (map typed_of kids) i Released (omega (arith, length-map kids typed_of))
+    ∙ ap (λ k. k ∷ drop (i + 1) (map typed_of kids)) (get_or-typed kids i d h))
     ∙ ap (children_fault (typed_of (get_or kids i d) ∷ drop (i + 1) (map typed_of kids)) i path) (drop_more children i Released (omega arith))
-    ∙ ap (λ n. option_or (fault_from (typed_of (get_or kids i d)) (path ++ i ∷ []) (get_or children i Released)) (children_fault (drop (i + 1) (map typed_of kids)) n path (drop (i + 1) children))) (omega arith)
+    ∙ ap (λ n. option_or (fault_from (typed_of (get_or kids i d)) (path ++ i ∷ []) (get_or children i Released))
+    (children_fault (drop (i + 1) (map typed_of kids)) n path (drop (i + 1) children))) (omega arith)
 
 pub children_fault-end : (kids : List Typed) (i : ℕ) (path : Steps) (children : List ArrayTree) → length kids ≤ i
     → children_fault (drop i (map typed_of kids)) i path (drop i children) ≡ None
-children_fault-end kids i path children h = ap (λ ks. children_fault ks i path (drop i children)) (drop_all i (map typed_of kids) (omega (arith, length-map kids typed_of)))
+children_fault-end kids i path children h =
+    ap (λ ks. children_fault ks i path (drop i children)) (drop_all i (map typed_of kids) (omega (arith, length-map kids typed_of)))
 
 pub ruleset walks = (levels-typed, kind-ok, kids-ok, dict-ok, fault_from-typed, fault_from-typed_own)
 

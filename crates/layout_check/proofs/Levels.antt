@@ -2,8 +2,8 @@
 use Rattle.std.proofs.Common.{◌≡◌, ℕ, zero, suc, ◌+◌, ◌<◌, ◌≤◌, max, List, [], ◌∷◌, length, get_or, map, Option, None, Some, refl, ap, ◌∙◌, subst, arith}
 use Rattle.std.specs.Global.{Box}
 use Rattle.layout_check.specs.Rules.{one_if}
-use Rattle.tree_model.specs.Tree.{Live, Released, trees, maybe_tree}
-use Rattle.layout_check.specs.Kinds.{KindTree, levels, most_levels, dictionary_levels, NodesOk, AllNodesOk, DictNodesOk}
+use Rattle.tree_model.specs.Tree.{Live, Released, trees, maybe_tree, Depth, depth_of_all, depth_of_maybe}
+use Rattle.layout_check.specs.Kinds.{KindTree, NodesOk, AllNodesOk, DictNodesOk}
 use Rattle.fmt_string.specs.Kinds.{KindOk}
 use Rattle.layout_check.specs.declared.typed.Typed.{Typed, out-Typed}
 use Rattle.layout_check.specs.declared.typed.Typed.TheOpen.{Typed-F}
@@ -18,10 +18,11 @@ dict_at x (Some b) e = rw e refl
 pub typed_out : (t : Typed) → typed_of t ≡ Live (out-Typed t).kind (trees (map typed_of (out-Typed t).kids.items)) (maybe_tree (dict_in (out-Typed t).dict))
 typed_out t =
     fold_out-Typed KindTree layer t
-    ∙ ap (λ (d : Option KindTree). Live (out-Typed t).kind (trees (map typed_of (out-Typed t).kids.items)) (maybe_tree d)) (dict_at (out-Typed t) (out-Typed t).dict refl)
+    ∙ ap (λ (d : Option KindTree). Live (out-Typed t).kind (trees (map typed_of (out-Typed t).kids.items)) (maybe_tree d))
+    (dict_at (out-Typed t) (out-Typed t).dict refl)
 
-pub levels-typed : (t : Typed) → levels (typed_of t) ≡ max (most_levels (trees (kids_of t))) (dictionary_levels (maybe_tree (dict_in (out-Typed t).dict))) + 1
-levels-typed t = ap levels (typed_out t)
+pub levels-typed : (t : Typed) → Depth (typed_of t) ≡ 1 + max (depth_of_all (trees (kids_of t))) (depth_of_maybe (maybe_tree (dict_in (out-Typed t).dict)))
+levels-typed t = ap Depth (typed_out t)
 
 -- a kid's tree is that of the kid
 pub get_or-typed : (kids : List Typed) (i : ℕ) (d : Typed) → i < length kids → get_or (map typed_of kids) i Released ≡ typed_of (get_or kids i d)
@@ -30,7 +31,7 @@ get_or-typed (k ∷ kids) zero d h = refl
 get_or-typed (k ∷ kids) (suc i) d h = get_or-typed kids i d (omega arith)
 
 -- the kid at a place, under its list's bounds
-pub levels-kid : (kids : List Typed) (i : ℕ) (d : Typed) → i < length kids → levels (typed_of (get_or kids i d)) ≤ most_levels (trees (map typed_of kids))
+pub levels-kid : (kids : List Typed) (i : ℕ) (d : Typed) → i < length kids → Depth (typed_of (get_or kids i d)) ≤ depth_of_all (trees (map typed_of kids))
 levels-kid [] i d h = absurd (omega arith)
 levels-kid (k ∷ kids) zero d h = omega arith
 levels-kid (k ∷ kids) (suc i) d h = omega (arith, levels-kid kids i d (omega arith))

@@ -21,3 +21,4 @@ pub mod Placed
 pub mod ViewsScanned
 pub mod TextRuns
 pub mod ViewPasses
+pub mod MarkedText

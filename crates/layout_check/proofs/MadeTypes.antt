@@ -7,7 +7,8 @@ use Rattle.layout_check.specs.declared.typed.Typed.{Typed, out-Typed}
 use Rattle.layout_check.specs.TypedView.{typed_of, kids_of, dict_in}
 use Rattle.layout_check.proofs.Levels.{typed_out, levels-typed}
 
-pub nodes-made : (t : Typed) → KindOk (out-Typed t).kind → KidsOk (out-Typed t).kind (trees (kids_of t)) → DictOk (out-Typed t).kind (maybe_tree (dict_in (out-Typed t).dict))
+pub nodes-made : (t : Typed) → KindOk (out-Typed t).kind → KidsOk (out-Typed t).kind (trees (kids_of t))
+    → DictOk (out-Typed t).kind (maybe_tree (dict_in (out-Typed t).dict))
     → AllNodesOk (trees (kids_of t)) → DictNodesOk (maybe_tree (dict_in (out-Typed t).dict)) → NodesOk (typed_of t)
 nodes-made t kind kids dict below behind = subst NodesOk (sym (typed_out t)) (kind, kids, dict, below, behind)
 

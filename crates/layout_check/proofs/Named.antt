@@ -28,15 +28,20 @@ pub negative : (z : ℤ) → ¬ (pos 0 ≤ℤ z) → is_negative z ≡ true
 negative (pos n) h = absurd (h (grind arith))
 negative (negsuc n) h = refl
 
-pub named-no_buffer : (own : ArrayMembers) (i : ℕ) → is_outside (pos (data_buffers own)) (view_buffer own i) ≡ true → named_outside own i ≡ fault i (view_buffer own i) (pos (data_buffers own))
+pub named-no_buffer : (own : ArrayMembers) (i : ℕ) → is_outside (pos (data_buffers own)) (view_buffer own i) ≡ true
+    → named_outside own i ≡ fault i (view_buffer own i) (pos (data_buffers own))
 named-no_buffer own i e = pick_first (is_outside (pos (data_buffers own)) (view_buffer own i)) (fault i (view_buffer own i) (pos (data_buffers own))) _ e
 
-pub named-before : (own : ArrayMembers) (i : ℕ) → is_outside (pos (data_buffers own)) (view_buffer own i) ≡ false → ¬ (pos 0 ≤ℤ view_offset own i) → named_outside own i ≡ fault i (view_offset own i) (pos 0)
-named-before own i e f = pick_second (is_outside (pos (data_buffers own)) (view_buffer own i)) (is_negative (view_offset own i)) _ (fault i (view_offset own i) (pos 0)) _ e (negative (view_offset own i) f)
+pub named-before : (own : ArrayMembers) (i : ℕ) → is_outside (pos (data_buffers own)) (view_buffer own i) ≡ false → ¬ (pos 0 ≤ℤ view_offset own i)
+    → named_outside own i ≡ fault i (view_offset own i) (pos 0)
+named-before own i e f = pick_second (is_outside (pos (data_buffers own)) (view_buffer own i)) (is_negative (view_offset own i)) _
+    (fault i (view_offset own i) (pos 0)) _ e (negative (view_offset own i) f)
 
 pub named-behind : (own : ArrayMembers) (i : ℕ) → is_outside (pos (data_buffers own)) (view_buffer own i) ≡ false → pos 0 ≤ℤ view_offset own i
-    → named_outside own i ≡ fault_if (nat_lt (data_length own (natural (view_buffer own i))) (natural (view_offset own i) + natural (view_length own i))) i (pos (natural (view_offset own i) + natural (view_length own i))) (pos (data_length own (natural (view_buffer own i))))
-named-behind own i e f = pick (is_outside (pos (data_buffers own)) (view_buffer own i)) (is_negative (view_offset own i)) _ _ _ e (not_negative (view_offset own i) f)
+    → named_outside own i ≡ fault_if (nat_lt (data_length own (natural (view_buffer own i))) (natural (view_offset own i) + natural (view_length own i))) i
+    (pos (natural (view_offset own i) + natural (view_length own i))) (pos (data_length own (natural (view_buffer own i))))
+named-behind own i e f =
+    pick (is_outside (pos (data_buffers own)) (view_buffer own i)) (is_negative (view_offset own i)) _ _ _ e (not_negative (view_offset own i) f)
 
 inside_from : (total : ℕ) (z : ℤ) → is_outside (pos total) z ≡ false → pos 0 ≤ℤ z
 inside_from total (pos n) e = grind arith
@@ -49,7 +54,8 @@ inside_below total (negsuc n) e = absurd (true≢false e)
 pub named-from : (own : ArrayMembers) (i : ℕ) → is_outside (pos (data_buffers own)) (view_buffer own i) ≡ false → pos 0 ≤ℤ view_buffer own i
 named-from own i e = inside_from (data_buffers own) (view_buffer own i) e
 
-pub named-below : (own : ArrayMembers) (i : ℕ) → is_outside (pos (data_buffers own)) (view_buffer own i) ≡ false → natural (view_buffer own i) < data_buffers own
+pub named-below : (own : ArrayMembers) (i : ℕ) → is_outside (pos (data_buffers own)) (view_buffer own i) ≡ false
+    → natural (view_buffer own i) < data_buffers own
 named-below own i e = inside_below (data_buffers own) (view_buffer own i) e
 
 pub ruleset named = (named-no_buffer, named-before, named-behind, named-from, named-below)

@@ -41,7 +41,8 @@ no_buffers (FixedItems size) own e = absurd (omega (arith, e))
 no_buffers ByChildren own e = absurd (omega (arith, e))
 no_buffers Views own e = absurd (omega (arith, e))
 
-pub some_buffers : (layout : Layout) (own : ArrayMembers) → ¬ (buffer_count layout (length own.buffers) ≡ 0) → null_count_wrong_in layout own ≡ null_count_wrong own
+pub some_buffers : (layout : Layout) (own : ArrayMembers) → ¬ (buffer_count layout (length own.buffers) ≡ 0)
+    → null_count_wrong_in layout own ≡ null_count_wrong own
 some_buffers NoBuffers own e = absurd (e refl)
 some_buffers (FixedWidth width) own e = refl
 some_buffers TruthBits own e = refl

@@ -14,7 +14,8 @@ if_valid : (valid : Bool) (o : Option Numbers) → (if valid then o else None) �
 if_valid true o e h = e
 if_valid false o e h = absurd (true≢false (sym h))
 
-size_parts : (size : ℤ) (i : ℕ) (rest : Option Numbers) → (if is_negative size then fault i size (pos 0) else if is_long size then rest else None) ≡ None → (pos 0 ≤ℤ size) × (IsTrue (is_long size) → rest ≡ None)
+size_parts : (size : ℤ) (i : ℕ) (rest : Option Numbers) → (if is_negative size then fault i size (pos 0) else if is_long size then rest else None) ≡ None
+    → (pos 0 ≤ℤ size) × (IsTrue (is_long size) → rest ≡ None)
 size_parts (pos n) i rest e = (grind arith, if_valid (is_long (pos n)) rest e)
 size_parts (negsuc n) i rest e = grind arith
 
@@ -42,7 +43,8 @@ named-within own i there e =
       there = omega (arith, parts.2, there (natural buffer) (named-below own i parts.0));
     }
 
-pub view-within : (own : ArrayMembers) (i : ℕ) → AreThere own → first_below (misplaced own) (items own) ≡ None → i < items own → IsTrue (is_valid own i) → DataWithin own i
+pub view-within : (own : ArrayMembers) (i : ℕ) → AreThere own → first_below (misplaced own) (items own) ≡ None → i < items own
+    → IsTrue (is_valid own i) → DataWithin own i
 view-within own i there e l valid =
     let here = if_valid (is_valid own i) (view_outside own i) (first_below-none_at (misplaced own) (items own) i l e) valid in
     let parts = size_parts (view_length own i) i (named_outside own i) here in

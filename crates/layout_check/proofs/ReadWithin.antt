@@ -1,35 +1,39 @@
 -- What is read of a lawful array lies within its parts.
-use Rattle.std.proofs.Common.{◌≡◌, ℕ, zero, suc, ◌+◌, ◌*◌, ◌/◌, ◌<◌, ◌≤◌, ◌==◌, ◌&&◌, Bool, true, false, ℤ, pos, negsuc, List, [], ◌∷◌, ◌++◌, length, map, drop, get_or, Option, None, Some, refl, ap, ◌∙◌, sym, subst, true≢false, arith}
-use Rattle.std.specs.Prelude.{if◌then◌else◌, is_none, nat_lt, int_lt, ◌≤ℤ◌, IsTrue, ◌^◌}
+use Rattle.std.proofs.Common.{◌≡◌, ℕ, zero, suc, ◌+◌, ◌*◌, ◌/◌, ◌<◌, ◌≤◌, ◌==◌, ◌&&◌, Bool, true, false, ℤ, pos, negsuc, List, [], ◌∷◌, ◌++◌, length, map}
+use Rattle.std.proofs.Common.{get_or, Option, None, Some, refl, ap, ◌∙◌, sym, subst, true≢false, arith}
+use Rattle.std.specs.Prelude.{if◌then◌else◌, is_none, int_lt, ◌≤ℤ◌, IsTrue, ◌^◌}
 use Rattle.std.specs.Option.{option_or}
 use Rattle.std.specs.Global.{Box}
 use Rattle.std.proofs.Math.Nat.{mul-le-mul_right}
 use Rattle.fmt_string.specs.declared.kind.DataType.{DataType}
 use Rattle.fmt_string.specs.declared.kind.DataType.TheVariants as kinds
 use Rattle.bit_pack.specs.Packed.{offset_width}
-use Rattle.tree_model.specs.Tree.{Released, Live, IsLive, Trees, no_trees, more_trees, MaybeTree, absent, present, tree_list, option_tree, children_of, dictionary_of, child_at}
+use Rattle.tree_model.specs.Tree.{Released, Live, IsLive, Trees, no_trees, more_trees, MaybeTree, absent, present, tree_list, option_tree, children_of}
+use Rattle.tree_model.specs.Tree.{dictionary_of, child_at}
 use Rattle.raw_array.specs.Members.{ArrayMembers, ArrayTree, members_of}
-use Rattle.layout_check.specs.declared.typed.Typed.{Typed, out-Typed}
+use Rattle.layout_check.specs.declared.typed.Typed.{Typed}
 use Rattle.layout_check.specs.declared.layout.Layout.{Layout}
 use Rattle.layout_check.specs.declared.layout.Layout.TheVariants.{NoBuffers, FixedWidth, TruthBits, ByOffsets, ListOffsets, FixedItems, ByChildren, Views}
 use Rattle.layout_check.specs.declared.rule.LayoutRule.{LayoutRule}
-use Rattle.layout_check.specs.declared.rule.LayoutRule.TheVariants as rules
 use Rattle.layout_check.specs.declared.rule.Numbers.{Numbers}
 use Rattle.layout_check.specs.Kinds.{KindTree}
-use Rattle.layout_check.specs.TypedView.{typed_of, live_node, kids_of, kind_of, dict_in}
-use Rattle.layout_check.specs.Layout.{layout_of, buffer_count, items, first, end, natural, bytes, offset, offsets_need, is_valid, stored_number, IsLongIfPresent, view_width}
-use Rattle.layout_check.specs.Rules.{Node, fails, fault_if, count_wrong, in_order, one_if, window_limit, first_below, buffer_absent, buffer_short, offsets_fall_if, is_behind_offsets, is_outside, items_need, short_child, child_short, live_length, length_if, index_wrong, indices_wrong, views_misplaced}
-use Rattle.layout_check.specs.Walk.{Steps, LayoutOk, first_fault, fault_from, own_fault, children_fault, dictionary_fault, rules_fault, first_some, fault_by, fault_at, node_fault, node_of, visit_fault, visits, walks_of, walk_of, walk_children, walk_dictionary, dictionary_step}
+use Rattle.layout_check.specs.TypedView.{typed_of, dict_in}
+use Rattle.layout_check.specs.Layout.{layout_of, buffer_count, items, first, end, natural, bytes, offset, offsets_need, is_valid, stored_number, view_width}
+use Rattle.layout_check.specs.Rules.{Node, fails, fault_if, in_order, first_below, buffer_absent, buffer_short, offsets_fall_if, is_behind_offsets, is_outside}
+use Rattle.layout_check.specs.Rules.{items_need, short_child, child_short, live_length, length_if, index_wrong, indices_wrong, views_misplaced}
+use Rattle.layout_check.specs.Walk.{Steps, LayoutOk, first_fault, fault_from, own_fault, children_fault, dictionary_fault, rules_fault, first_some, fault_by}
+use Rattle.layout_check.specs.Walk.{fault_at, node_fault, node_of, visit_fault, visits, walks_of, walk_of, walk_children, walk_dictionary, dictionary_step}
 use Rattle.layout_check.specs.Values.{tree_items}
 use Rattle.layout_check.specs.Within.{StoredWithin, ItemsWithin, IndexWithin, ViewWithin}
 use Rattle.layout_check.proofs.Levels.{typed_out}
 use Rattle.layout_check.proofs.Firsts.{first_below-none_at}
-use Rattle.layout_check.proofs.Long.{long-bytes, long-data, long-list, long-fixed, long-truth, long-validity, long-views, long-named}
+use Rattle.layout_check.proofs.Long.{long-bytes, long-data, long-list, long-fixed, long-truth, long-views, long-named}
 use Rattle.layout_check.proofs.Faults.{first_some-append, fault_from-live}
 use Rattle.layout_check.proofs.Lawful.{first_fault-lawful, lawful-first_fault, left-none, right-none}
 use Rattle.layout_check.proofs.TextData.{offsets-from, offsets-rise, offsets-next, offsets-within, offsets-last, natural-rise, not_zero}
 use Rattle.layout_check.proofs.Placed.{view-within}
-use Rattle.layout_check.proofs.Roots.{Level, tree_in, level_in, lawful-level_in, root-live, root-end, root-children, root-short, root-absent, root-falls, root-child_short, root-indices, views-placed, tree_items-items}
+use Rattle.layout_check.proofs.Roots.{Level, tree_in, level_in, lawful-level_in, root-live, root-end, root-children, root-short, root-absent, root-falls}
+use Rattle.layout_check.proofs.Roots.{root-child_short, root-indices, views-placed, tree_items-items}
 
 pub ruleset one_level = (typed_out)
 
@@ -55,7 +59,8 @@ rules-path : (p q : Steps) (node : Node) (some : List LayoutRule) → rules_faul
 rules-path p q node [] e = refl
 rules-path p q node (rule ∷ others) e =
     ap (λ o. option_or o (rules_fault others q node)) (other-path p q rule (fails rule node) (left-none (fault_by p node rule) (rules_fault others p node) e))
-    ∙ rules-path p q node others (right-none (fault_by p node rule) (rules_fault others p node) (left-none (fault_by p node rule) (rules_fault others p node) e) e)
+    ∙ rules-path p q node others
+    (right-none (fault_by p node rule) (rules_fault others p node) (left-none (fault_by p node rule) (rules_fault others p node) e) e)
 
 node-path : (p q : Steps) (node : Option Node) → node_fault p node ≡ None → node_fault q node ≡ None
 node-path p q None e = grind arith
@@ -71,10 +76,14 @@ mutual
       both-none (node_fault q None) None (node-path p q None (left-none (node_fault p None) None e)) refl
   any-path (Live kind kids dict) p q (Live own children dictionary) e =
       let node = node_of kind kids dict (Live own children dictionary) in
-      let below = λ (path : Steps). first_some visit_fault (walk_children (walks_of kids) 0 path (tree_list children) ++ walk_dictionary (walk_of dict) path (option_tree dictionary)) in
+      let below =
+      λ (path : Steps). first_some visit_fault
+      (walk_children (walks_of kids) 0 path (tree_list children) ++ walk_dictionary (walk_of dict) path (option_tree dictionary)) in
       let at : node_fault p node ≡ None = left-none (node_fault p node) (below p) e in
       let rest : below p ≡ None = right-none (node_fault p node) (below p) at e in
-      let split = λ (path : Steps). first_some-append visit_fault (walk_children (walks_of kids) 0 path (tree_list children)) (walk_dictionary (walk_of dict) path (option_tree dictionary)) in
+      let split =
+      λ (path : Steps). first_some-append visit_fault (walk_children (walks_of kids) 0 path (tree_list children))
+      (walk_dictionary (walk_of dict) path (option_tree dictionary)) in
       let kids_fault = λ (path : Steps). first_some visit_fault (walk_children (walks_of kids) 0 path (tree_list children)) in
       let dict_fault = λ (path : Steps). first_some visit_fault (walk_dictionary (walk_of dict) path (option_tree dictionary)) in
       let both : option_or (kids_fault p) (dict_fault p) ≡ None = sym (split p) ∙ rest in
@@ -113,7 +122,8 @@ lawful-from typed path array e = first_fault-lawful typed array (any-path typed 
 
 -- ---- the parts of a lawful array
 
-child-none : (kids : List KindTree) (n : ℕ) (path : Steps) (children : List ArrayTree) (k : ℕ) → children_fault kids n path children ≡ None → length children ≡ length kids → k < length kids
+child-none : (kids : List KindTree) (n : ℕ) (path : Steps) (children : List ArrayTree) (k : ℕ) → children_fault kids n path children ≡ None
+    → length children ≡ length kids → k < length kids
     → LayoutOk (get_or kids k Released) (get_or children k Released)
 child-none [] n path children k e same h = absurd (omega (arith, h))
 child-none (kid ∷ kids) n path [] k e same h = absurd (omega (arith, same))
@@ -124,9 +134,11 @@ child-none (kid ∷ kids) n path (child ∷ rest) (suc k) e same h =
     let others = children_fault kids (suc n) path rest in
     child-none kids (suc n) path rest k (right-none here others (left-none here others e) e) (omega (arith, same)) (omega (arith, h))
 
-dictionary-none : (dict : Option KindTree) (dictionary : Option ArrayTree) (typed : KindTree) (array : ArrayTree) → dictionary_fault dict [] dictionary ≡ None → dict ≡ Some typed → dictionary ≡ Some array → LayoutOk typed array
+dictionary-none : (dict : Option KindTree) (dictionary : Option ArrayTree) (typed : KindTree) (array : ArrayTree) → dictionary_fault dict [] dictionary ≡ None
+    → dict ≡ Some typed → dictionary ≡ Some array → LayoutOk typed array
 dictionary-none dict dictionary typed array e d a =
-    lawful-from typed ([] ++ dictionary_step ∷ []) array (sym (ap (λ o. dictionary_fault o [] dictionary) d ∙ ap (λ o. dictionary_fault (Some typed) [] o) a) ∙ e)
+    lawful-from typed ([] ++ dictionary_step ∷ []) array
+    (sym (ap (λ o. dictionary_fault o [] dictionary) d ∙ ap (λ o. dictionary_fault (Some typed) [] o) a) ∙ e)
 
 -- ---- what the buffers have of an item
 
@@ -139,14 +151,16 @@ some_offsets : (wide : Bool) (n : ℕ) → 0 < n → offsets_need wide n ≡ (n 
 some_offsets wide zero h = absurd (omega (arith, h))
 some_offsets wide (suc n) h = refl
 
-two_offsets : (wide : Bool) (own : ArrayMembers) (i : ℕ) → i < items own → offsets_need wide (end own) ≤ length (bytes own 1) → (first own + i + 1 + 1) * offset_width wide ≤ length (bytes own 1)
+two_offsets : (wide : Bool) (own : ArrayMembers) (i : ℕ) → i < items own → offsets_need wide (end own) ≤ length (bytes own 1)
+    → (first own + i + 1 + 1) * offset_width wide ≤ length (bytes own 1)
 two_offsets wide own i h l =
     let below : first own + i + 1 + 1 ≤ end own + 1 = omega (arith, h) in
     let some : 0 < end own = omega (arith, h) in
     omega (arith, mul-le-mul_right (offset_width wide) below, some_offsets wide (end own) some, l)
 
 stored-within : (layout : Layout) (own : ArrayMembers) (i : ℕ) → i < items own
-    → first_below (buffer_absent layout own) (buffer_count layout (length own.buffers)) ≡ None → first_below (buffer_short layout own) (buffer_count layout (length own.buffers)) ≡ None
+    → first_below (buffer_absent layout own) (buffer_count layout (length own.buffers)) ≡ None
+    → first_below (buffer_short layout own) (buffer_count layout (length own.buffers)) ≡ None
     → offsets_fall_if (is_behind_offsets layout) own ≡ None
     → StoredWithin layout own (first own + i)
 stored-within NoBuffers own i h e f r = tt
@@ -170,7 +184,8 @@ stored-within ByChildren own i h e f r = tt
 stored-within Views own i h e f r = one_more (first own) (items own) i view_width (length (bytes own 1)) h (long-views own e f)
 
 view-there : (layout : Layout) (own : ArrayMembers) (i : ℕ) → i < items own
-    → first_below (buffer_absent layout own) (buffer_count layout (length own.buffers)) ≡ None → first_below (buffer_short layout own) (buffer_count layout (length own.buffers)) ≡ None
+    → first_below (buffer_absent layout own) (buffer_count layout (length own.buffers)) ≡ None
+    → first_below (buffer_short layout own) (buffer_count layout (length own.buffers)) ≡ None
     → views_misplaced layout own ≡ None
     → ViewWithin layout own i
 view-there Views own i h e f p = view-within own i (long-named own e f) p h
@@ -191,10 +206,12 @@ not_short needed k own e = by own.length e
     by (pos n) e = grind arith
     by (negsuc n) e = grind arith
 
-child-long : (needed n : ℕ) (children : List ArrayTree) (k : ℕ) → child_short needed n children ≡ None → IsLive (get_or children k Released) → k < length children → needed ≤ tree_items (get_or children k Released)
+child-long : (needed n : ℕ) (children : List ArrayTree) (k : ℕ) → child_short needed n children ≡ None → IsLive (get_or children k Released)
+    → k < length children → needed ≤ tree_items (get_or children k Released)
 child-long needed n [] k e live h = absurd live
 child-long needed n (Released ∷ rest) zero e live h = absurd live
-child-long needed n (Live own below dictionary ∷ rest) zero e live h = not_short needed n own (left-none (short_child needed n (Some own.length)) (child_short needed (suc n) rest) e)
+child-long needed n (Live own below dictionary ∷ rest) zero e live h =
+    not_short needed n own (left-none (short_child needed n (Some own.length)) (child_short needed (suc n) rest) e)
 child-long needed n (child ∷ rest) (suc k) e live h =
     let here = short_child needed n (live_length child) in
     let others = child_short needed (suc n) rest in
@@ -229,7 +246,8 @@ valid-none : (valid outside : Bool) (i : ℕ) (z total : ℤ) → fault_if (vali
 valid-none true outside i z total e h = e
 valid-none false outside i z total e h = absurd (true≢false (sym h))
 
-index-within : (kind : DataType) (own : ArrayMembers) (i : ℕ) (dictionary : ArrayTree) → i < items own → IsLive dictionary → indices_wrong kind own (live_length dictionary) ≡ None → IndexWithin kind own i dictionary
+index-within : (kind : DataType) (own : ArrayMembers) (i : ℕ) (dictionary : ArrayTree) → i < items own → IsLive dictionary
+    → indices_wrong kind own (live_length dictionary) ≡ None → IndexWithin kind own i dictionary
 index-within kind own i Released h live e = absurd live
 index-within (kinds.Int bits signed) own i (Live members below behind) h live e = λ valid.
     not_outside (stored_number (bits / 8) signed own i) members.length i
@@ -245,7 +263,8 @@ live-of (Live kind kids dict) array live h = root-live (level_in kind kids dict)
 
 pub few-of : (typed : KindTree) (array : ArrayTree) → IsLive typed → LayoutOk typed array → tree_items array ≤ 2 ^ 40
 few-of Released array live h = absurd live
-few-of (Live kind kids dict) array live h = omega (arith, root-end (level_in kind kids dict) array (lawful-level_in kind kids dict array h), tree_items-items array)
+few-of (Live kind kids dict) array live h =
+    omega (arith, root-end (level_in kind kids dict) array (lawful-level_in kind kids dict array h), tree_items-items array)
 
 -- the code's kids and dictionary have types
 
@@ -268,7 +287,8 @@ module _ (t : Level) (array : ArrayTree) (h : LayoutOk (tree_in t) array) where
       let own = own_fault (tree_in t) [] array in
       let kids = children_fault t.kids 0 [] (children_of array) in
       let dict = dictionary_fault t.dict [] (dictionary_of array) in
-      let all : option_or own (option_or kids dict) ≡ None = sym (fault_from-live t.kind t.kids t.dict [] array (root-live t array h)) ∙ lawful-first_fault (tree_in t) array h in
+      let all : option_or own (option_or kids dict) ≡ None =
+      sym (fault_from-live t.kind t.kids t.dict [] array (root-live t array h)) ∙ lawful-first_fault (tree_in t) array h in
       let below : option_or kids dict ≡ None = right-none own (option_or kids dict) (left-none own (option_or kids dict) all) all in
       let first : kids ≡ None = left-none kids dict below in
       (first, right-none kids dict first below)
@@ -281,23 +301,28 @@ module _ (t : Level) (array : ArrayTree) (h : LayoutOk (tree_in t) array) where
 
   pub item-stored : (i : ℕ) → i < tree_items array → StoredWithin (layout_of t.kind) (members_of array) (first (members_of array) + i)
   item-stored i l =
-      stored-within (layout_of t.kind) (members_of array) i (subst (λ n. i < n) (tree_items-items array) l) (root-absent t array h) (root-short t array h) (root-falls t array h)
+      stored-within (layout_of t.kind) (members_of array) i (subst (λ n. i < n) (tree_items-items array) l) (root-absent t array h)
+      (root-short t array h) (root-falls t array h)
 
   pub item-view : (i : ℕ) → i < tree_items array → ViewWithin (layout_of t.kind) (members_of array) i
   item-view i l =
-      view-there (layout_of t.kind) (members_of array) i (subst (λ n. i < n) (tree_items-items array) l) (root-absent t array h) (root-short t array h) (views-placed t array h)
+      view-there (layout_of t.kind) (members_of array) i (subst (λ n. i < n) (tree_items-items array) l) (root-absent t array h) (root-short t array h)
+      (views-placed t array h)
 
   pub child-needed : (k : ℕ) → k < length t.kids → IsLive (child_at array k)
       → items_need (layout_of t.kind) (members_of array) ≤ tree_items (child_at array k)
   child-needed k m live =
-      child-long (items_need (layout_of t.kind) (members_of array)) 0 (children_of array) k (root-child_short t array h) live (omega (arith, m, root-children t array h))
+      child-long (items_need (layout_of t.kind) (members_of array)) 0 (children_of array) k (root-child_short t array h) live
+      (omega (arith, m, root-children t array h))
 
   pub item-children : (i k : ℕ) → i < tree_items array → k < length t.kids → IsLive (child_at array k)
       → ItemsWithin (layout_of t.kind) (members_of array) (first (members_of array) + i) (tree_items (child_at array k))
   item-children i k l m live =
-      items-within (layout_of t.kind) (members_of array) i (tree_items (child_at array k)) (subst (λ n. i < n) (tree_items-items array) l) (root-falls t array h) (child-needed k m live)
+      items-within (layout_of t.kind) (members_of array) i (tree_items (child_at array k)) (subst (λ n. i < n) (tree_items-items array) l)
+      (root-falls t array h) (child-needed k m live)
 
-  pub item-index : (i : ℕ) (dictionary : ArrayTree) → i < tree_items array → dictionary_of array ≡ Some dictionary → IsLive dictionary → IndexWithin t.kind (members_of array) i dictionary
+  pub item-index : (i : ℕ) (dictionary : ArrayTree) → i < tree_items array → dictionary_of array ≡ Some dictionary → IsLive dictionary
+      → IndexWithin t.kind (members_of array) i dictionary
   item-index i dictionary l d live =
       index-within t.kind (members_of array) i dictionary (subst (λ n. i < n) (tree_items-items array) l) live
       (sym (ap (λ o. indices_wrong t.kind (members_of array) (length_if o)) d) ∙ root-indices t array h)

@@ -1,8 +1,9 @@
 -- The root of a lawful array, over one level of a tree of kinds.
-use Rattle.std.proofs.Common.{◌≡◌, ℕ, zero, suc, ◌<◌, ◌≤◌, Bool, true, false, ℤ, pos, negsuc, List, [], ◌∷◌, length, drop, Option, Some, None, refl, ap, ◌∙◌, sym, subst, arith}
+use Rattle.std.proofs.Common.{◌≡◌, ℕ, zero, suc, ◌<◌, ◌≤◌, ℤ, pos, negsuc, List, [], ◌∷◌, length, drop, Option, Some, None, refl, ap, ◌∙◌, sym, subst, arith}
 use Rattle.std.specs.Prelude.{nat_lt, ◌≤ℤ◌, ◌^◌}
 use Rattle.fmt_string.specs.declared.kind.DataType.{DataType}
-use Rattle.tree_model.specs.Tree.{Released, Live, IsLive, Trees, trees, MaybeTree, maybe_tree, absent, present, tree_list, option_tree, children_of, dictionary_of}
+use Rattle.tree_model.specs.Tree.{Released, Live, IsLive, Trees, trees, MaybeTree, maybe_tree, absent, present, tree_list, option_tree, children_of}
+use Rattle.tree_model.specs.Tree.{dictionary_of}
 use Rattle.tree_model.proofs.Lists.{tree_list-trees, trees-tree_list}
 use Rattle.raw_array.specs.Members.{ArrayMembers, ArrayTree, members_of}
 use Rattle.layout_check.specs.declared.typed.Typed.{Typed, out-Typed}
@@ -12,9 +13,11 @@ use Rattle.layout_check.specs.declared.rule.Numbers.{Numbers}
 use Rattle.layout_check.specs.Kinds.{KindTree}
 use Rattle.layout_check.specs.TypedView.{typed_of, kids_of, kind_of, dict_in}
 use Rattle.layout_check.specs.Layout.{layout_of, buffer_count, items, end, IsLongIfPresent}
-use Rattle.layout_check.specs.Rules.{Node, fails, fault_if, count_wrong, is_negative, in_order, one_if, window_limit, first_below, buffer_absent, buffer_short, offsets_fall_if, is_behind_offsets, items_need, child_short, length_if, indices_wrong, views_misplaced}
+use Rattle.layout_check.specs.Rules.{Node, fails, fault_if, count_wrong, is_negative, in_order, one_if, window_limit, first_below, buffer_absent, buffer_short}
+use Rattle.layout_check.specs.Rules.{offsets_fall_if, is_behind_offsets, items_need, child_short, length_if, indices_wrong, views_misplaced}
 use Rattle.layout_check.specs.Values.{tree_items}
-use Rattle.layout_check.specs.Walk.{Steps, LayoutOk, first_fault, fault_from, own_fault, rules_fault, first_some, fault_by, fault_at, visit_fault, walk_below, walks_of, walk_of}
+use Rattle.layout_check.specs.Walk.{Steps, LayoutOk, fault_from, own_fault, rules_fault, first_some, fault_by, fault_at, visit_fault, walk_below, walks_of}
+use Rattle.layout_check.specs.Walk.{walk_of}
 use Rattle.layout_check.proofs.Levels.{typed_out}
 use Rattle.layout_check.proofs.Long.{long-validity}
 use Rattle.layout_check.proofs.Lawful.{lawful-first_fault, left-none, right-none}
@@ -53,7 +56,8 @@ pub tree_in-level_in : (kind : DataType) (kids : Trees DataType) (dict : MaybeTr
 tree_in-level_in kind kids dict =
     sym (ap (λ ks. Live kind ks (maybe_tree (option_tree dict))) (trees-tree_list kids) ∙ ap (Live kind kids) (maybe_tree-option_tree dict))
 
-pub lawful-level_in : (kind : DataType) (kids : Trees DataType) (dict : MaybeTree DataType) (array : ArrayTree) → LayoutOk (Live kind kids dict) array → LayoutOk (tree_in (level_in kind kids dict)) array
+pub lawful-level_in : (kind : DataType) (kids : Trees DataType) (dict : MaybeTree DataType) (array : ArrayTree) → LayoutOk (Live kind kids dict) array
+    → LayoutOk (tree_in (level_in kind kids dict)) array
 lawful-level_in kind kids dict array h = subst (λ k. LayoutOk k array) (tree_in-level_in kind kids dict) h
 
 option_tree-maybe_tree : (d : Option KindTree) → option_tree (maybe_tree d) ≡ d
@@ -64,16 +68,32 @@ option_tree-maybe_tree (Some t) = refl
 own_fault-level : (t : Level) (path : Steps) (array : ArrayTree) → IsLive array → own_fault (tree_in t) path array ≡ rules_fault in_order path (node_in t array)
 own_fault-level t path Released live = absurd live
 own_fault-level t path (Live own children dictionary) live =
-    ap (λ kids. rules_fault in_order path (record { kind = t.kind; kids = kids; dict = option_tree (maybe_tree t.dict); own = own; children = tree_list children; dictionary = option_tree dictionary })) (tree_list-trees t.kids)
-    ∙ ap (λ dict. rules_fault in_order path (record { kind = t.kind; kids = t.kids; dict = dict; own = own; children = tree_list children; dictionary = option_tree dictionary })) (option_tree-maybe_tree t.dict)
+    ap (λ kids. rules_fault in_order path (record {
+      kind = t.kind;
+      kids = kids;
+      dict = option_tree (maybe_tree t.dict);
+      own = own;
+      children = tree_list children;
+      dictionary = option_tree dictionary;
+    })) (tree_list-trees t.kids)
+    ∙ ap (λ dict. rules_fault in_order path (record {
+      kind = t.kind;
+      kids = t.kids;
+      dict = dict;
+      own = own;
+      children = tree_list children;
+      dictionary = option_tree dictionary;
+    })) (option_tree-maybe_tree t.dict)
 
 -- ---- the root of a lawful array
 
 from-own : (kind : DataType) (kids : Trees DataType) (dict : MaybeTree DataType) (path : Steps) (array : ArrayTree)
     → fault_from (Live kind kids dict) path array ≡ None → own_fault (Live kind kids dict) path array ≡ None
-from-own kind kids dict path array e = left-none (own_fault (Live kind kids dict) path array) (first_some visit_fault (walk_below (walks_of kids) (walk_of dict) path array)) e
+from-own kind kids dict path array e =
+    left-none (own_fault (Live kind kids dict) path array) (first_some visit_fault (walk_below (walks_of kids) (walk_of dict) path array)) e
 
-is-live : (kind : DataType) (kids : Trees DataType) (dict : MaybeTree DataType) (array : ArrayTree) → own_fault (Live kind kids dict) [] array ≡ None → IsLive array
+is-live : (kind : DataType) (kids : Trees DataType) (dict : MaybeTree DataType) (array : ArrayTree)
+    → own_fault (Live kind kids dict) [] array ≡ None → IsLive array
 is-live kind kids dict Released e = absurd (grind arith)
 is-live kind kids dict (Live own children dictionary) e = tt
 
@@ -141,12 +161,15 @@ module _ (t : Level) (array : ArrayTree) (h : LayoutOk (tree_in t) array) where
       tail node rules.NegativeOffset (drop 2 in_order) (tail node rules.NegativeLength (drop 1 in_order) root-rules)
 
   pub root-count : length (members_of array).buffers ≡ buffer_count (layout_of t.kind) (length (members_of array).buffers)
-  root-count = same_count (length (members_of array).buffers) (buffer_count (layout_of t.kind) (length (members_of array).buffers)) (head (node_in t array) rules.BufferCount (drop 3 in_order) root-form)
+  root-count = same_count (length (members_of array).buffers) (buffer_count (layout_of t.kind) (length (members_of array).buffers))
+      (head (node_in t array) rules.BufferCount (drop 3 in_order) root-form)
 
   pub root-short : first_below (buffer_short (layout_of t.kind) (members_of array)) (buffer_count (layout_of t.kind) (length (members_of array).buffers)) ≡ None
   root-short =
       let node = node_in t array in
-      head node rules.BufferShort (drop 7 in_order) (tail node rules.BufferAbsent (drop 6 in_order) (tail node rules.Dictionary (drop 5 in_order) (tail node rules.ChildCount (drop 4 in_order) (tail node rules.BufferCount (drop 3 in_order) root-form))))
+      head node rules.BufferShort (drop 7 in_order) (tail node rules.BufferAbsent (drop 6 in_order)
+      (tail node rules.Dictionary (drop 5 in_order)
+      (tail node rules.ChildCount (drop 4 in_order) (tail node rules.BufferCount (drop 3 in_order) root-form))))
 
   pub root-long : 0 < buffer_count (layout_of t.kind) (length (members_of array).buffers) → IsLongIfPresent (members_of array)
   root-long some = long-validity (layout_of t.kind) (members_of array) root-short some
@@ -157,7 +180,8 @@ module _ (t : Level) (array : ArrayTree) (h : LayoutOk (tree_in t) array) where
   root-child_count : count_wrong (length (children_of array)) (length t.kids) ≡ None
   root-child_count = head (node_in t array) rules.ChildCount (drop 4 in_order) (drop-none (node_in t array) 3 in_order root-rules)
 
-  pub root-absent : first_below (buffer_absent (layout_of t.kind) (members_of array)) (buffer_count (layout_of t.kind) (length (members_of array).buffers)) ≡ None
+  pub root-absent : first_below (buffer_absent (layout_of t.kind) (members_of array)) (buffer_count (layout_of t.kind) (length (members_of array).buffers))
+      ≡ None
   root-absent = head (node_in t array) rules.BufferAbsent (drop 6 in_order) (drop-none (node_in t array) 5 in_order root-rules)
 
   pub root-falls : offsets_fall_if (is_behind_offsets (layout_of t.kind)) (members_of array) ≡ None
@@ -181,8 +205,10 @@ module _ (t : Level) (array : ArrayTree) (h : LayoutOk (tree_in t) array) where
   pub root-dictionary : one_if (dictionary_of array) ≡ one_if t.dict
   root-dictionary = same_count (one_if (dictionary_of array)) (one_if t.dict) root-dictionary_count
 
-  pub root-validity : length (members_of array).buffers ≡ buffer_count (layout_of t.kind) (length (members_of array).buffers) → IsLongIfPresent (members_of array)
-  root-validity e = validity-here (members_of array) (buffer_count (layout_of t.kind) (length (members_of array).buffers)) e (long-validity (layout_of t.kind) (members_of array) root-short)
+  pub root-validity : length (members_of array).buffers ≡ buffer_count (layout_of t.kind) (length (members_of array).buffers)
+      → IsLongIfPresent (members_of array)
+  root-validity e = validity-here (members_of array) (buffer_count (layout_of t.kind) (length (members_of array).buffers)) e
+      (long-validity (layout_of t.kind) (members_of array) root-short)
 
   pub views-placed : views_misplaced (layout_of t.kind) (members_of array) ≡ None
   views-placed = head (node_in t array) rules.ViewPlace (drop 11 in_order) (drop-none (node_in t array) 10 in_order root-rules)

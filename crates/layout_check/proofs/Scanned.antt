@@ -1,5 +1,6 @@
 -- What the scans over whole buffers show of each item.
-use Rattle.std.proofs.Common.{◌≡◌, ℕ, zero, suc, ◌+◌, ◌-◌, ◌<◌, ◌≤◌, ◌&&◌, not, Bool, true, false, ℤ, pos, List, length, take, drop, Option, None, refl, ap, ◌∙◌, sym, subst, arith}
+use Rattle.std.proofs.Common.{◌≡◌, ℕ, zero, suc, ◌+◌, ◌-◌, ◌<◌, ◌≤◌, ◌&&◌, not, Bool, true, false, ℤ, pos, List, length, take, drop, Option, None, refl, ap}
+use Rattle.std.proofs.Common.{◌∙◌, sym, subst, arith}
 use Rattle.std.specs.Prelude.{IsUtf8}
 use Rattle.std.specs.Str.{IsAscii, IsCharBoundary, is_utf8}
 use Rattle.std.specs.Str.Lossy.{utf8_valid_len}
@@ -56,35 +57,45 @@ part_of d from here next to a b c =
     ∙ ap (λ n. take (next - here) (drop n d)) place
 
 -- the places of an item's data: from, here, next, to
-pub from-here : (wide : Bool) (own : ArrayMembers) (i : ℕ) → offsets_fall wide own ≡ None → i < items own → natural (offset wide own (first own)) ≤ natural (offset wide own (first own + i))
-from-here wide own i e h = natural-rise (offset wide own (first own)) (offset wide own (first own + i)) (offsets-start wide own i e h).0 (offsets-start wide own i e h).1
+pub from-here : (wide : Bool) (own : ArrayMembers) (i : ℕ) → offsets_fall wide own ≡ None → i < items own
+    → natural (offset wide own (first own)) ≤ natural (offset wide own (first own + i))
+from-here wide own i e h =
+    natural-rise (offset wide own (first own)) (offset wide own (first own + i)) (offsets-start wide own i e h).0 (offsets-start wide own i e h).1
 
-pub here-next : (wide : Bool) (own : ArrayMembers) (i : ℕ) → offsets_fall wide own ≡ None → i < items own → natural (offset wide own (first own + i)) ≤ natural (offset wide own (first own + i + 1))
-here-next wide own i e h = natural-rise (offset wide own (first own + i)) (offset wide own (first own + i + 1)) (offsets-from wide own i e h) (offsets-rise wide own i e h)
+pub here-next : (wide : Bool) (own : ArrayMembers) (i : ℕ) → offsets_fall wide own ≡ None → i < items own
+    → natural (offset wide own (first own + i)) ≤ natural (offset wide own (first own + i + 1))
+here-next wide own i e h =
+    natural-rise (offset wide own (first own + i)) (offset wide own (first own + i + 1)) (offsets-from wide own i e h) (offsets-rise wide own i e h)
 
-pub next-to : (wide : Bool) (own : ArrayMembers) (i : ℕ) → offsets_fall wide own ≡ None → i < items own → natural (offset wide own (first own + i + 1)) ≤ natural (offset wide own (end own))
+pub next-to : (wide : Bool) (own : ArrayMembers) (i : ℕ) → offsets_fall wide own ≡ None → i < items own
+    → natural (offset wide own (first own + i + 1)) ≤ natural (offset wide own (end own))
 next-to wide own i e h =
     natural-rise (offset wide own (first own + i + 1)) (offset wide own (end own))
     (offsets-next wide own i e h) (offsets-last wide own i e h)
 
 pub item-part : (wide : Bool) (own : ArrayMembers) (i : ℕ) → offsets_fall wide own ≡ None → i < items own
-    → take (natural (offset wide own (first own + i + 1)) - natural (offset wide own (first own + i))) (drop (natural (offset wide own (first own + i)) - natural (offset wide own (first own))) (used_data wide own)) ≡ data_of wide own i
+    → take (natural (offset wide own (first own + i + 1)) - natural (offset wide own (first own + i)))
+    (drop (natural (offset wide own (first own + i)) - natural (offset wide own (first own))) (used_data wide own)) ≡ data_of wide own i
 item-part wide own i e h =
-    part_of (bytes own 2) (natural (offset wide own (first own))) (natural (offset wide own (first own + i))) (natural (offset wide own (first own + i + 1))) (natural (offset wide own (end own)))
+    part_of (bytes own 2) (natural (offset wide own (first own))) (natural (offset wide own (first own + i))) (natural (offset wide own (first own + i + 1)))
+    (natural (offset wide own (end own)))
     (from-here wide own i e h) (here-next wide own i e h) (next-to wide own i e h)
 
 -- ---- texts
 
-text-passes : (valid : Bool) (text : List ℕ) (i : ℕ) → IsUtf8 text → fault_if (valid && not (is_utf8 text)) i (pos (utf8_valid_len text)) (pos (length text)) ≡ None
+text-passes : (valid : Bool) (text : List ℕ) (i : ℕ) → IsUtf8 text
+    → fault_if (valid && not (is_utf8 text)) i (pos (utf8_valid_len text)) (pos (length text)) ≡ None
 text-passes true text i h = ap (λ b. fault_if (not b) i (pos (utf8_valid_len text)) (pos (length text))) (is_utf8-from_IsUtf8 text h)
 text-passes false text i h = refl
 
-pub ascii-passes : (wide : Bool) (own : ArrayMembers) → offsets_fall wide own ≡ None → IsAscii (used_data wide own) → first_below (not_text wide own) (items own) ≡ None
+pub ascii-passes : (wide : Bool) (own : ArrayMembers) → offsets_fall wide own ≡ None → IsAscii (used_data wide own)
+    → first_below (not_text wide own) (items own) ≡ None
 ascii-passes wide own e h = first_below-all (not_text wide own) (items own) (λ i l.
     let before = natural (offset wide own (first own + i)) - natural (offset wide own (first own)) in
     let size = natural (offset wide own (first own + i + 1)) - natural (offset wide own (first own + i)) in
     text-passes (is_valid own i) (data_of wide own i) i
-    (subst IsUtf8 (item-part wide own i e l) (IsUtf8-from_ascii (take size (drop before (used_data wide own))) (IsAscii-take (drop before (used_data wide own)) size (IsAscii-drop (used_data wide own) before h)))))
+    (subst IsUtf8 (item-part wide own i e l) (IsUtf8-from_ascii (take size (drop before (used_data wide own)))
+    (IsAscii-take (drop before (used_data wide own)) size (IsAscii-drop (used_data wide own) before h)))))
 
 pub text-between : (wide : Bool) (own : ArrayMembers) (i : ℕ) → offsets_fall wide own ≡ None → i < items own → IsUtf8 (used_data wide own)
     → AreBorders wide (bytes own 1) (first own) (natural (offset wide own (first own))) (used_data wide own) (items own + 1)
@@ -95,14 +106,17 @@ text-between wide own i e l u b =
     let next = natural (offset wide own (first own + i + 1)) in
     let place : first own + (i + 1) ≡ first own + i + 1 = omega arith in
     let size : (next - from) - (here - from) ≡ next - here = omega (arith, from-here wide own i e l, here-next wide own i e l) in
-    let there : IsCharBoundary (used_data wide own) (next - from) = subst (λ p. IsCharBoundary (used_data wide own) (natural (offset wide own p) - from)) place (b.at (i + 1) (omega (arith, l))) in
+    let there : IsCharBoundary (used_data wide own) (next - from) =
+    subst (λ p. IsCharBoundary (used_data wide own) (natural (offset wide own p) - from)) place (b.at (i + 1) (omega (arith, l))) in
     subst IsUtf8 (ap (λ n. take n (drop (here - from) (used_data wide own))) size ∙ item-part wide own i e l)
-    (IsUtf8-between (used_data wide own) (here - from) (next - from) u (omega (arith, from-here wide own i e l, here-next wide own i e l)) (b.at i (omega (arith, l))) there)
+    (IsUtf8-between (used_data wide own) (here - from) (next - from) u (omega (arith, from-here wide own i e l, here-next wide own i e l))
+    (b.at i (omega (arith, l))) there)
 
 pub borders-pass : (wide : Bool) (own : ArrayMembers) → offsets_fall wide own ≡ None → IsUtf8 (used_data wide own)
     → AreBorders wide (bytes own 1) (first own) (natural (offset wide own (first own))) (used_data wide own) (items own + 1)
     → first_below (not_text wide own) (items own) ≡ None
-borders-pass wide own e u b = first_below-all (not_text wide own) (items own) (λ i l. text-passes (is_valid own i) (data_of wide own i) i (text-between wide own i e l u b))
+borders-pass wide own e u b =
+    first_below-all (not_text wide own) (items own) (λ i l. text-passes (is_valid own i) (data_of wide own i) i (text-between wide own i e l u b))
 
 pub no-texts : (wide : Bool) (own : ArrayMembers) → items own ≡ 0 → first_below (not_text wide own) (items own) ≡ None
 no-texts wide own e = ap (first_below (not_text wide own)) e
@@ -115,7 +129,9 @@ index-passes : (valid outside : Bool) (i : ℕ) (index total : ℤ) → fault_if
 index-passes true outside i index total e = e
 index-passes false outside i index total e = refl
 
-pub inside-passes : (width : ℕ) (signed : Bool) (own : ArrayMembers) (total : ℤ) → first_below (outside_in width signed (bytes own 1) (first own) total) (items own) ≡ None → first_below (index_wrong width signed own total) (items own) ≡ None
+pub inside-passes : (width : ℕ) (signed : Bool) (own : ArrayMembers) (total : ℤ)
+    → first_below (outside_in width signed (bytes own 1) (first own) total) (items own) ≡ None
+    → first_below (index_wrong width signed own total) (items own) ≡ None
 inside-passes width signed own total e = first_below-all (index_wrong width signed own total) (items own) (λ i l.
     index-passes (is_valid own i) (is_outside total (stored_number width signed own i)) i (stored_number width signed own i) total
     (first_below-none_at (outside_in width signed (bytes own 1) (first own) total) (items own) i l e))

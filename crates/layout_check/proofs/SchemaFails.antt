@@ -8,7 +8,8 @@ use Rattle.fmt_string.specs.FormatString.{FormatIs, FormatFaultIs}
 use Rattle.schema_meta.specs.declared.fault.MetaFault.{MetaFault}
 use Rattle.schema_meta.specs.declared.fault.MetaFault.TheVariants as meta
 use Rattle.schema_meta.specs.Meta.{MetaFaultIs}
-use Rattle.tree_model.specs.Tree.{Tree, Released, Live, Trees, trees, MaybeTree, maybe_tree, absent, present, IsLive, children_of, dictionary_of, tree_list, option_tree}
+use Rattle.tree_model.specs.Tree.{Tree, Released, Live, Trees, trees, MaybeTree, maybe_tree, absent, present, IsLive, children_of, dictionary_of, tree_list}
+use Rattle.tree_model.specs.Tree.{option_tree}
 use Rattle.tree_model.proofs.Lists.{trees-tree_list}
 use Rattle.raw_schema.specs.Members.{SchemaMembers, SchemaTree, members_of}
 use Rattle.layout_check.specs.declared.rule.SchemaRule.TheVariants as rules
@@ -43,7 +44,8 @@ refused : (m : Option (List ℕ)) (fault : MetaFault) → MetaRefused m fault �
 refused None fault h = absurd h
 refused (Some bytes) fault h = (bytes, refl, h)
 
-fails-meta_live : (level : ℕ) (s : SchemaMembers) (kids : Trees SchemaMembers) (dict : MaybeTree SchemaMembers) (kind : DataType) (fault : MetaFault) → level ≤ 64
+fails-meta_live : (level : ℕ) (s : SchemaMembers) (kids : Trees SchemaMembers) (dict : MaybeTree SchemaMembers) (kind : DataType) (fault : MetaFault)
+    → level ≤ 64
     → FormatIs s.format kind → ((bytes : List ℕ) × (s.metadata ≡ Some bytes) × MetaFaultIs bytes fault) → FailsHere level (Live s kids dict) (rules.Meta fault)
 fails-meta_live level s kids dict kind meta.NoMemory low is b = absurd b.2
 fails-meta_live level s kids dict kind (meta.Short p) low is b = (low, kind, is, b.0, b.1, b.2)
@@ -55,19 +57,29 @@ pub fails-meta : (level : ℕ) (t : SchemaTree) (kind : DataType) (fault : MetaF
 fails-meta level Released kind fault live low is h = absurd live
 fails-meta level (Live s kids dict) kind fault live low is h = fails-meta_live level s kids dict kind fault low is (refused s.metadata fault h)
 
-pub fails-children : (level : ℕ) (t : SchemaTree) (kind : DataType) → IsLive t → level ≤ 64 → FormatIs (members_of t).format kind → MetaFits (members_of t).metadata
+pub fails-children : (level : ℕ) (t : SchemaTree) (kind : DataType) → IsLive t → level ≤ 64 → FormatIs (members_of t).format kind
+    → MetaFits (members_of t).metadata
     → (ChildrenFit kind (trees (children_of t)) → ⊥) → FailsHere level t rules.ChildCount
 fails-children level Released kind live low is fits unmet = absurd live
-fails-children level (Live s kids dict) kind live low is fits unmet = (low, kind, is, fits, λ met. unmet (subst (λ ks. ChildrenFit kind ks) (sym (trees-tree_list kids)) met))
+fails-children level (Live s kids dict) kind live low is fits unmet =
+    (low, kind, is, fits, λ met. unmet (subst (λ ks. ChildrenFit kind ks) (sym (trees-tree_list kids)) met))
 
-pub fails-index : (level : ℕ) (t : SchemaTree) (kind : DataType) → IsLive t → level ≤ 64 → FormatIs (members_of t).format kind → MetaFits (members_of t).metadata
+pub fails-index : (level : ℕ) (t : SchemaTree) (kind : DataType) → IsLive t → level ≤ 64 → FormatIs (members_of t).format kind
+    → MetaFits (members_of t).metadata
     → ChildrenFit kind (trees (children_of t)) → (IndexFits kind (maybe_tree (dictionary_of t)) → ⊥) → FailsHere level t rules.DictIndexType
 fails-index level Released kind live low is fits some unmet = absurd live
-fails-index level (Live s kids dict) kind live low is fits some unmet =
-    (low, kind, is, fits, subst (λ ks. ChildrenFit kind ks) (trees-tree_list kids) some, λ met. unmet (subst (λ d. IndexFits kind d) (sym (same_dictionary dict)) met))
+fails-index level (Live s kids dict) kind live low is fits some unmet = (
+  low,
+  kind,
+  is,
+  fits,
+  subst (λ ks. ChildrenFit kind ks) (trees-tree_list kids) some,
+  λ met. unmet (subst (λ d. IndexFits kind d) (sym (same_dictionary dict)) met),
+)
 
 pub fails-map : (level : ℕ) (t : SchemaTree) (kind : DataType) → IsLive t → level ≤ 64 → FormatIs (members_of t).format kind → MetaFits (members_of t).metadata
-    → ChildrenFit kind (trees (children_of t)) → IndexFits kind (maybe_tree (dictionary_of t)) → (MapFits kind (trees (children_of t)) → ⊥) → FailsHere level t rules.MapShape
+    → ChildrenFit kind (trees (children_of t)) → IndexFits kind (maybe_tree (dictionary_of t)) → (MapFits kind (trees (children_of t)) → ⊥)
+    → FailsHere level t rules.MapShape
 fails-map level Released kind live low is fits some index unmet = absurd live
 fails-map level (Live s kids dict) kind live low is fits some index unmet = (
   low,

@@ -23,7 +23,8 @@ use Rattle.layout_check.specs.Kinds.{KindTree}
 use Rattle.layout_check.specs.TypedView.{typed_of}
 use Rattle.layout_check.specs.Walk.{Steps, dictionary_step}
 use Rattle.layout_check.specs.Found.{steps_of}
-use Rattle.layout_check.specs.Schemas.{MetaFits, ChildrenFit, IndexFits, MapFits, NodeIs, KidsTyped, DictTyped, TypedFrom, TypedOf, FailsHere, FaultFrom, KidFault, DictFault}
+use Rattle.layout_check.specs.Schemas.{MetaFits, ChildrenFit, IndexFits, MapFits, NodeIs, KidsTyped, DictTyped, TypedFrom, TypedOf, FailsHere, FaultFrom}
+use Rattle.layout_check.specs.Schemas.{KidFault, DictFault}
 use Rattle.layout_check.specs.SchemaAnswers.{FirstFault, SchemaReads, Gives, IsFirstFault}
 
 abbrev pub FormatLaw : Type 0
@@ -44,7 +45,8 @@ no_kind law text kind rule place is fails =
     let e : Ok kind ≡ Err (format.At rule place) = law text (Ok kind) (Err (format.At rule place)) is fails in
     absurd cc
 
-one_format_fault : FormatLaw → (text : List ℕ) (a : FormatRule) (p : ℕ) (b : FormatRule) (q : ℕ) → FormatFaultIs text a p → FormatFaultIs text b q → format.At a p ≡ format.At b q
+one_format_fault : FormatLaw → (text : List ℕ) (a : FormatRule) (p : ℕ) (b : FormatRule) (q : ℕ) → FormatFaultIs text a p → FormatFaultIs text b q
+    → format.At a p ≡ format.At b q
 one_format_fault law text a p b q first second =
     let e : Err (format.At a p) ≡ Err (format.At b q) = law text (Err (format.At a p)) (Err (format.At b q)) first second in
     cc
@@ -88,7 +90,8 @@ rank_most rules.ChildCount = omega arith
 rank_most rules.DictIndexType = omega arith
 rank_most rules.MapShape = omega arith
 
-on_level : (level : ℕ) (s : SchemaMembers) (kids : Trees SchemaMembers) (dict : MaybeTree SchemaMembers) (rule : SchemaRule) → FailsHere level (Live s kids dict) rule → 0 < rank rule → level ≤ 64
+on_level : (level : ℕ) (s : SchemaMembers) (kids : Trees SchemaMembers) (dict : MaybeTree SchemaMembers) (rule : SchemaRule)
+    → FailsHere level (Live s kids dict) rule → 0 < rank rule → level ≤ 64
 unfolding rank
 on_level level s kids dict rules.Deep h r = absurd (omega (arith, r))
 on_level level s kids dict rules.Released h r = absurd h
@@ -102,7 +105,8 @@ on_level level s kids dict rules.ChildCount h r = h.0
 on_level level s kids dict rules.DictIndexType h r = h.0
 on_level level s kids dict rules.MapShape h r = h.0
 
-formatted : (level : ℕ) (s : SchemaMembers) (kids : Trees SchemaMembers) (dict : MaybeTree SchemaMembers) (rule : SchemaRule) → FailsHere level (Live s kids dict) rule → 2 < rank rule
+formatted : (level : ℕ) (s : SchemaMembers) (kids : Trees SchemaMembers) (dict : MaybeTree SchemaMembers) (rule : SchemaRule)
+    → FailsHere level (Live s kids dict) rule → 2 < rank rule
     → (kind : DataType) × FormatIs s.format kind
 unfolding rank
 formatted level s kids dict rules.Deep h r = absurd (omega (arith, r))
@@ -116,21 +120,24 @@ formatted level s kids dict rules.ChildCount h r = (h.1, h.2)
 formatted level s kids dict rules.DictIndexType h r = (h.1, h.2)
 formatted level s kids dict rules.MapShape h r = (h.1, h.2)
 
-meta_fits : (level : ℕ) (s : SchemaMembers) (kids : Trees SchemaMembers) (dict : MaybeTree SchemaMembers) (rule : SchemaRule) → FailsHere level (Live s kids dict) rule → 3 < rank rule → MetaFits s.metadata
+meta_fits : (level : ℕ) (s : SchemaMembers) (kids : Trees SchemaMembers) (dict : MaybeTree SchemaMembers) (rule : SchemaRule)
+    → FailsHere level (Live s kids dict) rule → 3 < rank rule → MetaFits s.metadata
 unfolding rank
 meta_fits level s kids dict rules.ChildCount h r = h.3
 meta_fits level s kids dict rules.DictIndexType h r = h.3
 meta_fits level s kids dict rules.MapShape h r = h.3
 meta_fits level s kids dict rule h r = absurd (omega (arith, r))
 
-children_fit : (level : ℕ) (s : SchemaMembers) (kids : Trees SchemaMembers) (dict : MaybeTree SchemaMembers) (rule : SchemaRule) → FailsHere level (Live s kids dict) rule → 4 < rank rule
+children_fit : (level : ℕ) (s : SchemaMembers) (kids : Trees SchemaMembers) (dict : MaybeTree SchemaMembers) (rule : SchemaRule)
+    → FailsHere level (Live s kids dict) rule → 4 < rank rule
     → (kind : DataType) × FormatIs s.format kind × ChildrenFit kind kids
 unfolding rank
 children_fit level s kids dict rules.DictIndexType h r = (h.1, h.2, h.4)
 children_fit level s kids dict rules.MapShape h r = (h.1, h.2, h.4)
 children_fit level s kids dict rule h r = absurd (omega (arith, r))
 
-meta_refused : (level : ℕ) (s : SchemaMembers) (kids : Trees SchemaMembers) (dict : MaybeTree SchemaMembers) (fault : MetaFault) → FailsHere level (Live s kids dict) (rules.Meta fault) → Refused s.metadata fault
+meta_refused : (level : ℕ) (s : SchemaMembers) (kids : Trees SchemaMembers) (dict : MaybeTree SchemaMembers) (fault : MetaFault)
+    → FailsHere level (Live s kids dict) (rules.Meta fault) → Refused s.metadata fault
 meta_refused level s kids dict meta.NoMemory h = absurd h
 meta_refused level s kids dict (meta.Short p) h = (h.3, h.4, h.5)
 meta_refused level s kids dict (meta.Negative p) h = (h.3, h.4, h.5)
@@ -156,7 +163,8 @@ apart formats metas level s kids dict rules.DictIndexType rules.MapShape lt firs
 apart formats metas level s kids dict rules.MapShape b lt first second = absurd (omega (arith, lt, rank_most b))
 apart formats metas level s kids dict a b lt first second = absurd (omega (arith, lt))
 
-level_with : FormatLaw → MetaLaw → (level : ℕ) (s : SchemaMembers) (kids : Trees SchemaMembers) (dict : MaybeTree SchemaMembers) (a b : SchemaRule) → rank a ≡ rank b
+level_with : FormatLaw → MetaLaw → (level : ℕ) (s : SchemaMembers) (kids : Trees SchemaMembers) (dict : MaybeTree SchemaMembers) (a b : SchemaRule)
+    → rank a ≡ rank b
     → FailsHere level (Live s kids dict) a → FailsHere level (Live s kids dict) b → a ≡ b
 unfolding rank
 level_with formats metas level s kids dict rules.Deep rules.Deep e first second = refl
@@ -193,16 +201,20 @@ one_rule-released level rules.Released b first second = absurd second
 one_rule-released level a b first second = absurd first
 
 -- a node that meets each rule fails at none
-no_rule : FormatLaw → MetaLaw → (level : ℕ) (s : SchemaMembers) (kids : Trees SchemaMembers) (dict : MaybeTree SchemaMembers) (kind : DataType) (rule : SchemaRule)
+no_rule : FormatLaw → MetaLaw
+    → (level : ℕ) (s : SchemaMembers) (kids : Trees SchemaMembers) (dict : MaybeTree SchemaMembers) (kind : DataType) (rule : SchemaRule)
     → NodeIs level s kids dict kind → FailsHere level (Live s kids dict) rule → ⊥
 no_rule formats metas level s kids dict kind rules.Deep node h = omega (arith, node.on_level, h)
 no_rule formats metas level s kids dict kind rules.Released node h = h
 no_rule formats metas level s kids dict kind (rules.Format (format.At rule place)) node h = no_kind formats s.format kind rule place node.format h.1
 no_rule formats metas level s kids dict kind (rules.Format format.NoMemory) node h = h
 no_rule formats metas level s kids dict kind (rules.Meta fault) node h = no_pairs metas s.metadata fault (meta_refused level s kids dict fault h) node.meta
-no_rule formats metas level s kids dict kind rules.ChildCount node h = h.4 (subst (λ k. ChildrenFit k kids) (one_kind formats s.format kind h.1 node.format h.2) node.children)
-no_rule formats metas level s kids dict kind rules.DictIndexType node h = h.5 (subst (λ k. IndexFits k dict) (one_kind formats s.format kind h.1 node.format h.2) node.index)
-no_rule formats metas level s kids dict kind rules.MapShape node h = h.6 (subst (λ k. MapFits k kids) (one_kind formats s.format kind h.1 node.format h.2) node.map)
+no_rule formats metas level s kids dict kind rules.ChildCount node h =
+    h.4 (subst (λ k. ChildrenFit k kids) (one_kind formats s.format kind h.1 node.format h.2) node.children)
+no_rule formats metas level s kids dict kind rules.DictIndexType node h =
+    h.5 (subst (λ k. IndexFits k dict) (one_kind formats s.format kind h.1 node.format h.2) node.index)
+no_rule formats metas level s kids dict kind rules.MapShape node h =
+    h.6 (subst (λ k. MapFits k kids) (one_kind formats s.format kind h.1 node.format h.2) node.map)
 
 -- ---- the kinds of a tree
 
@@ -212,7 +224,8 @@ mutual
   typed_once formats level (Live s kids dict) Released b first second = absurd first
   typed_once formats level (Live s kids dict) (Live a us ad) Released first second = absurd second
   typed_once formats level (Live s kids dict) (Live a us ad) (Live b vs bd) first second =
-      λ i. Live (one_kind formats s.format a b first.0.format second.0.format i) (kids_once formats (level + 1) kids us vs first.1 second.1 i) (dict_once formats (level + 1) dict ad bd first.2 second.2 i)
+      λ i. Live (one_kind formats s.format a b first.0.format second.0.format i) (kids_once formats (level + 1) kids us vs first.1 second.1 i)
+      (dict_once formats (level + 1) dict ad bd first.2 second.2 i)
 
   kids_once : FormatLaw → (level : ℕ) (kids : Trees SchemaMembers) (us vs : Trees DataType) → KidsTyped level kids us → KidsTyped level kids vs → us ≡ vs
   kids_once formats level no_trees no_trees no_trees first second = refl
@@ -234,7 +247,8 @@ mutual
 -- ---- a tree of kinds, and a fault
 
 mutual
-  typed_sound : FormatLaw → MetaLaw → (level : ℕ) (t : SchemaTree) (a : KindTree) (path : Steps) (rule : SchemaRule) → TypedFrom level t a → FaultFrom level t path rule → ⊥
+  typed_sound : FormatLaw → MetaLaw → (level : ℕ) (t : SchemaTree) (a : KindTree) (path : Steps) (rule : SchemaRule) → TypedFrom level t a
+      → FaultFrom level t path rule → ⊥
   typed_sound formats metas level Released a path rule typed fails = typed
   typed_sound formats metas level (Live s kids dict) Released path rule typed fails = typed
   typed_sound formats metas level (Live s kids dict) (Live a us ad) [] rule typed fails = no_rule formats metas level s kids dict a rule typed.0 fails
@@ -271,7 +285,8 @@ SameStep s p a t q b = (s ≡ t) × (p ≡ q) × (a ≡ b)
 longer : (s : ℕ) (p : Steps) (a : SchemaRule) (t : ℕ) (q : Steps) (b : SchemaRule) → SameStep s p a t q b → SamePlace (s ∷ p) a (t ∷ q) b
 longer s p a t q b h = ((λ i. h.0 i ∷ h.1 i), h.2)
 
-behind : (s : ℕ) (p : Steps) (a : SchemaRule) (t : ℕ) (q : Steps) (b : SchemaRule) → s ≡ dictionary_step → t ≡ dictionary_step → SamePlace p a q b → SamePlace (s ∷ p) a (t ∷ q) b
+behind : (s : ℕ) (p : Steps) (a : SchemaRule) (t : ℕ) (q : Steps) (b : SchemaRule) → s ≡ dictionary_step → t ≡ dictionary_step → SamePlace p a q b
+    → SamePlace (s ∷ p) a (t ∷ q) b
 behind s p a t q b se te h = ((λ i. (se ∙ sym te) i ∷ h.0 i), h.1)
 
 mutual
@@ -281,8 +296,10 @@ mutual
   fault_once formats metas level Released (step ∷ p) a q b first second = absurd first
   fault_once formats metas level Released [] a (step ∷ q) b first second = absurd second
   fault_once formats metas level (Live s kids dict) [] a [] b first second = (refl, one_rule-live formats metas level s kids dict a b first second)
-  fault_once formats metas level (Live s kids dict) [] a (step ∷ q) b first second = absurd (no_rule formats metas level s kids dict second.0.0 a second.0.1 first)
-  fault_once formats metas level (Live s kids dict) (step ∷ p) a [] b first second = absurd (no_rule formats metas level s kids dict first.0.0 b first.0.1 second)
+  fault_once formats metas level (Live s kids dict) [] a (step ∷ q) b first second =
+      absurd (no_rule formats metas level s kids dict second.0.0 a second.0.1 first)
+  fault_once formats metas level (Live s kids dict) (step ∷ p) a [] b first second =
+      absurd (no_rule formats metas level s kids dict first.0.0 b first.0.1 second)
   fault_once formats metas level (Live s kids dict) (step ∷ p) a (other ∷ q) b first second =
       elim (first.1) [
         | inl f ↦ elim (second.1) [
@@ -301,9 +318,12 @@ mutual
   kid_once formats metas level (more_trees kid kids) k s p a t q b (inl first) (inl second) =
       let same = fault_once formats metas level kid p a q b first.1 second.1 in
       (first.0 ∙ sym second.0, same.0, same.1)
-  kid_once formats metas level (more_trees kid kids) k s p a t q b (inl first) (inr second) = absurd (typed_sound formats metas level kid second.0.0 p a second.0.1 first.1)
-  kid_once formats metas level (more_trees kid kids) k s p a t q b (inr first) (inl second) = absurd (typed_sound formats metas level kid first.0.0 q b first.0.1 second.1)
-  kid_once formats metas level (more_trees kid kids) k s p a t q b (inr first) (inr second) = kid_once formats metas level kids (suc k) s p a t q b first.1 second.1
+  kid_once formats metas level (more_trees kid kids) k s p a t q b (inl first) (inr second) =
+      absurd (typed_sound formats metas level kid second.0.0 p a second.0.1 first.1)
+  kid_once formats metas level (more_trees kid kids) k s p a t q b (inr first) (inl second) =
+      absurd (typed_sound formats metas level kid first.0.0 q b first.0.1 second.1)
+  kid_once formats metas level (more_trees kid kids) k s p a t q b (inr first) (inr second) =
+      kid_once formats metas level kids (suc k) s p a t q b first.1 second.1
 
   dict_fault_once : FormatLaw → MetaLaw → (level : ℕ) (dict : MaybeTree SchemaMembers) (p : Steps) (a : SchemaRule) (q : Steps) (b : SchemaRule)
       → DictFault level dict p a → DictFault level dict q b → SamePlace p a q b
@@ -312,7 +332,8 @@ mutual
 
 -- ---- the whole
 
-pub one_answer : FormatLaw → MetaLaw → (schema : SchemaTree) (first second : Result KindTree FirstFault) → SchemaReads schema first → SchemaReads schema second → first ≡ second
+pub one_answer : FormatLaw → MetaLaw → (schema : SchemaTree) (first second : Result KindTree FirstFault) → SchemaReads schema first
+    → SchemaReads schema second → first ≡ second
 one_answer formats metas schema (Ok a) (Ok b) first second = ap Ok (typed_once formats 1 schema a b first second)
 one_answer formats metas schema (Ok a) (Err g) first second = absurd (typed_sound formats metas 1 schema a g.path g.rule first second)
 one_answer formats metas schema (Err f) (Ok b) first second = absurd (typed_sound formats metas 1 schema b f.path f.rule second first)

@@ -1,5 +1,6 @@
 -- The answers of a schema's node, made of those of its parts.
-use Rattle.std.proofs.Common.{◌≡◌, ℕ, zero, suc, ◌+◌, ◌<◌, List, [], ◌∷◌, ◌++◌, length, get_or, take, map, Option, None, Some, refl, sym, ap, subst, ◌∙◌, append_assoc, inl, inr, arith}
+use Rattle.std.proofs.Common.{◌≡◌, ℕ, zero, suc, ◌+◌, ◌<◌, List, [], ◌∷◌, ◌++◌, length, get_or, take, map, Option, None, Some, refl, sym, ap, subst, ◌∙◌}
+use Rattle.std.proofs.Common.{append_assoc, inl, inr, arith}
 use Rattle.std.proofs.lemmas.List.{append-nil, map-append, take_more}
 use Rattle.std.specs.Global.{Box}
 use Rattle.fmt_string.specs.declared.kind.DataType.{DataType}
@@ -57,8 +58,11 @@ fault-kids level t kind way (At path rule) live node h =
 pub fault-dictionary : (level : ℕ) (t : SchemaTree) (kind : DataType) (typed : Trees DataType) (way : Steps) (f : SchemaFault) → IsLive t → NodeOf level t kind
     → KidsTyped (level + 1) (trees (children_of t)) typed → FaultInDict (level + 1) (dictionary_of t) way f → FaultBelow level t way f
 fault-dictionary level t kind typed way NoMemory live node kids h = tt
-fault-dictionary level t kind typed way (At path rule) live node kids h =
-    (dictionary_step ∷ h.0, h.1, subst (λ u. FaultFrom level u (dictionary_step ∷ h.0) rule) (sym (live_is t live)) ((kind, node), inr (refl, (typed, kids), h.2)))
+fault-dictionary level t kind typed way (At path rule) live node kids h = (
+  dictionary_step ∷ h.0,
+  h.1,
+  subst (λ u. FaultFrom level u (dictionary_step ∷ h.0) rule) (sym (live_is t live)) ((kind, node), inr (refl, (typed, kids), h.2)),
+)
 
 pub ruleset parts = (typed-node, fault-here, fault-kids, fault-dictionary)
 
@@ -78,7 +82,11 @@ kid-fault level (x ∷ xs) zero k ts below rule h typed fails = let e : k + 0 �
 kid-fault level (x ∷ xs) (suc i) k [] below rule h typed fails = absurd typed
 kid-fault level (x ∷ xs) (suc i) k (t ∷ ts) below rule h typed fails =
     let e : suc k + i ≡ k + suc i = omega arith in
-    inr ((t, typed.0), subst (λ s. KidFault level (trees xs) (suc k) s below rule) e (kid-fault level xs i (suc k) ts below rule (omega (arith, h)) typed.1 fails))
+    inr (
+      (t, typed.0),
+      subst (λ s. KidFault level (trees xs) (suc k) s below rule) e
+          (kid-fault level xs i (suc k) ts below rule (omega (arith, h)) typed.1 fails),
+    )
 
 pub fault-kid : (level : ℕ) (xs : List SchemaTree) (i : ℕ) (ts : List KindTree) (way : Steps) (f : SchemaFault) → i < length xs
     → KidsTyped level (trees (take i xs)) (trees ts) → FaultBelow level (get_or xs i Released) (way ++ i ∷ []) f → FaultInKids level xs way f
@@ -87,13 +95,15 @@ fault-kid level xs i ts way (At path rule) inside typed h =
     let e : 0 + i ≡ i = omega arith in
     (i, h.0, h.1 ∙ append_assoc way (i ∷ []) h.0, subst (λ s. KidFault level (trees xs) 0 s h.0 rule) e (kid-fault level xs i 0 ts h.0 rule inside typed h.2))
 
-pub fault-of_dictionary : (level : ℕ) (d : SchemaTree) (way : Steps) (f : SchemaFault) → FaultBelow level d (way ++ dictionary_step ∷ []) f → FaultInDict level (Some d) way f
+pub fault-of_dictionary : (level : ℕ) (d : SchemaTree) (way : Steps) (f : SchemaFault) → FaultBelow level d (way ++ dictionary_step ∷ []) f
+    → FaultInDict level (Some d) way f
 fault-of_dictionary level d way NoMemory h = tt
 fault-of_dictionary level d way (At path rule) h = (h.0, h.1 ∙ append_assoc way (dictionary_step ∷ []) h.0, h.2)
 
 -- ---- the same, by other names
 
-pub fault-renamed : (k level : ℕ) (u t : SchemaTree) (v way : Steps) (f : SchemaFault) → k ≡ level → u ≡ t → v ≡ way → FaultBelow k u v f → FaultBelow level t way f
+pub fault-renamed : (k level : ℕ) (u t : SchemaTree) (v way : Steps) (f : SchemaFault) → k ≡ level → u ≡ t → v ≡ way → FaultBelow k u v f
+    → FaultBelow level t way f
 fault-renamed k level u t v way f ke ue ve h =
     subst (λ x. FaultBelow level t x f) ve (subst (λ x. FaultBelow level x v f) ue (subst (λ x. FaultBelow x u v f) ke h))
 
@@ -107,4 +117,5 @@ kids-step k level xs i kid items more x inside typed ke is here grown =
     let names : map typed_of items ++ typed_of x ∷ [] ≡ map typed_of more = sym (ap (map typed_of) grown ∙ map-append typed_of items (x ∷ [])) in
     subst (λ ys. KidsTyped level (trees ys) (trees (map typed_of more))) (sym (take_more xs i Released inside))
     (subst (λ us. KidsTyped level (trees (take i xs ++ get_or xs i Released ∷ [])) (trees us)) names
-    (kids-more level (take i xs) (get_or xs i Released) (map typed_of items) (typed_of x) typed (kid-renamed k level kid (get_or xs i Released) (typed_of x) ke is here)))
+    (kids-more level (take i xs) (get_or xs i Released) (map typed_of items) (typed_of x) typed
+    (kid-renamed k level kid (get_or xs i Released) (typed_of x) ke is here)))

@@ -5,9 +5,9 @@ use Rattle.fmt_string.specs.declared.kind.DataType.TheVariants as kinds
 use Rattle.fmt_string.specs.FormatString.{FormatIs}
 use Rattle.fmt_string.specs.Kinds.{KindOk}
 use Rattle.fmt_string.specs.Spelling.{spelling_of}
-use Rattle.tree_model.specs.Tree.{Released, Live, Trees, no_trees, more_trees, MaybeTree, absent, present}
+use Rattle.tree_model.specs.Tree.{Released, Live, Trees, no_trees, more_trees, MaybeTree, absent, present, Depth, depth_of_all, depth_of_maybe}
 use Rattle.raw_schema.specs.Members.{SchemaMembers, SchemaTree}
-use Rattle.layout_check.specs.Kinds.{KindTree, levels, most_levels, dictionary_levels, tree_count, IsPairOfColumns, IsOneChild, IsNoChild, KidsOk, DictOk, NodesOk, AllNodesOk, DictNodesOk, TypedOk}
+use Rattle.layout_check.specs.Kinds.{KindTree, tree_count, IsPairOfColumns, IsOneChild, IsNoChild, KidsOk, DictOk, NodesOk, AllNodesOk, DictNodesOk, TypedOk}
 use Rattle.layout_check.specs.Schemas.{ChildrenFit, IndexFits, MapFits, IsPairNode, IsPairSchema, KidsTyped, DictTyped, TypedFrom, TypedOf}
 use Rattle.layout_check.proofs.SchemaOne.{FormatLaw, one_kind}
 
@@ -20,20 +20,20 @@ SpellingLaw = (kind : DataType) → KindOk kind → FormatIs (spelling_of kind) 
 -- ---- levels
 
 mutual
-  typed_levels : (level : ℕ) (t : SchemaTree) (a : KindTree) → TypedFrom level t a → levels a + level ≤ 65
+  typed_levels : (level : ℕ) (t : SchemaTree) (a : KindTree) → TypedFrom level t a → Depth a + level ≤ 65
   typed_levels level Released a h = absurd h
   typed_levels level (Live s kids dict) Released h = absurd h
   typed_levels level (Live s kids dict) (Live a us ad) h =
       let low : level + 1 ≤ 65 = omega (arith, h.0.on_level) in
       omega (arith, kids_levels (level + 1) kids us low h.1, dict_levels (level + 1) dict ad low h.2)
 
-  kids_levels : (level : ℕ) (kids : Trees SchemaMembers) (us : Trees DataType) → level ≤ 65 → KidsTyped level kids us → most_levels us + level ≤ 65
+  kids_levels : (level : ℕ) (kids : Trees SchemaMembers) (us : Trees DataType) → level ≤ 65 → KidsTyped level kids us → depth_of_all us + level ≤ 65
   kids_levels level no_trees no_trees low h = omega (arith, low)
   kids_levels level no_trees (more_trees a us) low h = absurd h
   kids_levels level (more_trees kid kids) no_trees low h = absurd h
   kids_levels level (more_trees kid kids) (more_trees a us) low h = omega (arith, typed_levels level kid a h.0, kids_levels level kids us low h.1)
 
-  dict_levels : (level : ℕ) (dict : MaybeTree SchemaMembers) (a : MaybeTree DataType) → level ≤ 65 → DictTyped level dict a → dictionary_levels a + level ≤ 65
+  dict_levels : (level : ℕ) (dict : MaybeTree SchemaMembers) (a : MaybeTree DataType) → level ≤ 65 → DictTyped level dict a → depth_of_maybe a + level ≤ 65
   dict_levels level absent absent low h = omega (arith, low)
   dict_levels level absent (present a) low h = absurd h
   dict_levels level (present dict) absent low h = absurd h
@@ -70,7 +70,8 @@ pair_of formats spells level (Live s kids dict) (Live kind us ad) h pair =
     let is : kinds.Struct ≡ kind = one_kind formats s.format kinds.Struct kind text h.0.format in
     subst (λ k. IsPairOfColumns (Live k us ad)) is (pair_of_structs us ad (same_count (level + 1) kids us h.1 ∙ pair.1))
 
-map_child : FormatLaw → SpellingLaw → (level : ℕ) (kids : Trees SchemaMembers) (us : Trees DataType) → KidsTyped level kids us → tree_count us ≡ 1 → IsPairSchema kids → IsOneChild us IsPairOfColumns
+map_child : FormatLaw → SpellingLaw → (level : ℕ) (kids : Trees SchemaMembers) (us : Trees DataType) → KidsTyped level kids us → tree_count us ≡ 1
+    → IsPairSchema kids → IsOneChild us IsPairOfColumns
 map_child formats spells level no_trees us h e pair = absurd pair
 map_child formats spells level (more_trees kid kids) no_trees h e pair = absurd h
 map_child formats spells level (more_trees kid kids) (more_trees a no_trees) h e pair = pair_of formats spells level kid a h.0 pair
@@ -84,7 +85,8 @@ children_valid formats spells level kinds.Map kids us h fit pair = map_child for
 children_valid formats spells level kinds.Struct kids us h fit pair = tt
 children_valid formats spells level kind kids us h fit pair = no_child us (same_count level kids us h ∙ fit)
 
-index_valid : (level : ℕ) (kind : DataType) (dict : MaybeTree SchemaMembers) (a : MaybeTree DataType) → DictTyped level dict a → IndexFits kind dict → DictOk kind a
+index_valid : (level : ℕ) (kind : DataType) (dict : MaybeTree SchemaMembers) (a : MaybeTree DataType) → DictTyped level dict a
+    → IndexFits kind dict → DictOk kind a
 index_valid level kind absent absent h fit = tt
 index_valid level kind absent (present a) h fit = absurd h
 index_valid level kind (present dict) absent h fit = absurd h
@@ -108,9 +110,11 @@ mutual
   all_valid : FormatLaw → SpellingLaw → ValidLaw → (level : ℕ) (kids : Trees SchemaMembers) (us : Trees DataType) → KidsTyped level kids us → AllNodesOk us
   all_valid formats spells valid level kids no_trees h = tt
   all_valid formats spells valid level no_trees (more_trees a us) h = absurd h
-  all_valid formats spells valid level (more_trees kid kids) (more_trees a us) h = (nodes_valid formats spells valid level kid a h.0, all_valid formats spells valid level kids us h.1)
+  all_valid formats spells valid level (more_trees kid kids) (more_trees a us) h =
+      (nodes_valid formats spells valid level kid a h.0, all_valid formats spells valid level kids us h.1)
 
-  dict_valid : FormatLaw → SpellingLaw → ValidLaw → (level : ℕ) (dict : MaybeTree SchemaMembers) (a : MaybeTree DataType) → DictTyped level dict a → DictNodesOk a
+  dict_valid : FormatLaw → SpellingLaw → ValidLaw → (level : ℕ) (dict : MaybeTree SchemaMembers) (a : MaybeTree DataType)
+      → DictTyped level dict a → DictNodesOk a
   dict_valid formats spells valid level dict absent h = tt
   dict_valid formats spells valid level absent (present a) h = absurd h
   dict_valid formats spells valid level (present dict) (present a) h = nodes_valid formats spells valid level dict a h

@@ -1,5 +1,6 @@
 -- Where the data of a text's items lies.
-use Rattle.std.proofs.Common.{◌≡◌, ℕ, zero, suc, ◌+◌, ◌-◌, ◌<◌, ◌≤◌, ◌==◌, Bool, true, false, ℤ, pos, negsuc, List, length, Option, None, refl, subst, true≢false, arith}
+use Rattle.std.proofs.Common.{◌≡◌, ℕ, zero, suc, ◌+◌, ◌-◌, ◌<◌, ◌≤◌, ◌==◌, Bool, true, false, ℤ, pos, negsuc, List, length, Option, None, refl, subst}
+use Rattle.std.proofs.Common.{true≢false, arith}
 use Rattle.std.specs.Prelude.{if◌then◌else◌, int_lt, nat_lt, ◌≤ℤ◌, IsUtf8, ◌||◌}
 use Rattle.std.specs.Int.Signed.{≤ℤ_refl}
 use Rattle.std.specs.Str.{is_utf8}
@@ -74,11 +75,13 @@ pub ruleset naturals = (natural-rise, natural-within, not_below)
 
 fall_parts : (wide : Bool) (own : ArrayMembers) (i : ℕ) → offsets_fall wide own ≡ None → i < items own
     → (is_negative (offset wide own (first own)) ≡ false) × (first_below (offset_falls wide own) (items own) ≡ None)
-fall_parts wide own i e h = parts (end own == 0) (offset wide own (first own)) (first_below (offset_falls wide own) (items own)) (not_zero (end own) (omega (arith, h))) e
+fall_parts wide own i e h =
+    parts (end own == 0) (offset wide own (first own)) (first_below (offset_falls wide own) (items own)) (not_zero (end own) (omega (arith, h))) e
 
 steps : (wide : Bool) (own : ArrayMembers) → first_below (offset_falls wide own) (items own) ≡ None
     → (i : ℕ) → i < items own → offset wide own (first own + i) ≤ℤ offset wide own (first own + i + 1)
-steps wide own e i h = no_fall i (offset wide own (first own + i)) (offset wide own (first own + i + 1)) (first_below-none_at (offset_falls wide own) (items own) i h e)
+steps wide own e i h =
+    no_fall i (offset wide own (first own + i)) (offset wide own (first own + i + 1)) (first_below-none_at (offset_falls wide own) (items own) i h e)
 
 -- each offset of an item is at least 0, no more than the next one, and within the data
 pub offsets-from : (wide : Bool) (own : ArrayMembers) (i : ℕ) → offsets_fall wide own ≡ None → i < items own → pos 0 ≤ℤ offset wide own (first own + i)
@@ -88,26 +91,32 @@ offsets-from wide own i e h =
     let place : first own + 0 + i ≡ first own + i = omega arith in
     trans-≤ℤ (pos 0) (offset wide own (first own + 0)) (offset wide own (first own + i))
     (subst (λ k. pos 0 ≤ℤ offset wide own k) start (not_negative (offset wide own (first own)) p.0))
-    (subst (λ k. offset wide own (first own + 0) ≤ℤ offset wide own k) place (rise (offset wide own) (first own) (items own) (steps wide own p.1) 0 i (omega (arith, h))))
+    (subst (λ k. offset wide own (first own + 0) ≤ℤ offset wide own k) place
+    (rise (offset wide own) (first own) (items own) (steps wide own p.1) 0 i (omega (arith, h))))
 
-pub offsets-rise : (wide : Bool) (own : ArrayMembers) (i : ℕ) → offsets_fall wide own ≡ None → i < items own → offset wide own (first own + i) ≤ℤ offset wide own (first own + i + 1)
+pub offsets-rise : (wide : Bool) (own : ArrayMembers) (i : ℕ) → offsets_fall wide own ≡ None → i < items own
+    → offset wide own (first own + i) ≤ℤ offset wide own (first own + i + 1)
 offsets-rise wide own i e h = steps wide own (fall_parts wide own i e h).1 i h
 
 -- the first offset is at least 0, and no more than an item's
-pub offsets-start : (wide : Bool) (own : ArrayMembers) (i : ℕ) → offsets_fall wide own ≡ None → i < items own → (pos 0 ≤ℤ offset wide own (first own)) × (offset wide own (first own) ≤ℤ offset wide own (first own + i))
+pub offsets-start : (wide : Bool) (own : ArrayMembers) (i : ℕ) → offsets_fall wide own ≡ None → i < items own
+    → (pos 0 ≤ℤ offset wide own (first own)) × (offset wide own (first own) ≤ℤ offset wide own (first own + i))
 offsets-start wide own i e h =
     let p = fall_parts wide own i e h in
     let start : first own + 0 ≡ first own = omega arith in
     let place : first own + 0 + i ≡ first own + i = omega arith in (
       not_negative (offset wide own (first own)) p.0,
       subst (λ k. offset wide own k ≤ℤ offset wide own (first own + i)) start
-          (subst (λ k. offset wide own (first own + 0) ≤ℤ offset wide own k) place (rise (offset wide own) (first own) (items own) (steps wide own p.1) 0 i (omega (arith, h)))),
+          (subst (λ k. offset wide own (first own + 0) ≤ℤ offset wide own k) place
+          (rise (offset wide own) (first own) (items own) (steps wide own p.1) 0 i (omega (arith, h)))),
     )
 
 pub offsets-next : (wide : Bool) (own : ArrayMembers) (i : ℕ) → offsets_fall wide own ≡ None → i < items own → pos 0 ≤ℤ offset wide own (first own + i + 1)
-offsets-next wide own i e h = trans-≤ℤ (pos 0) (offset wide own (first own + i)) (offset wide own (first own + i + 1)) (offsets-from wide own i e h) (offsets-rise wide own i e h)
+offsets-next wide own i e h =
+    trans-≤ℤ (pos 0) (offset wide own (first own + i)) (offset wide own (first own + i + 1)) (offsets-from wide own i e h) (offsets-rise wide own i e h)
 
-pub offsets-last : (wide : Bool) (own : ArrayMembers) (i : ℕ) → offsets_fall wide own ≡ None → i < items own → offset wide own (first own + i + 1) ≤ℤ offset wide own (end own)
+pub offsets-last : (wide : Bool) (own : ArrayMembers) (i : ℕ) → offsets_fall wide own ≡ None → i < items own
+    → offset wide own (first own + i + 1) ≤ℤ offset wide own (end own)
 offsets-last wide own i e h =
     let here : first own + (i + 1) ≡ first own + i + 1 = omega arith in
     let last : first own + (i + 1) + (items own - (i + 1)) ≡ end own = omega (arith, h) in
@@ -135,12 +144,14 @@ border-from wide own e h = (offsets-start wide own 0 e h).0
 pub border-rise : (wide : Bool) (own : ArrayMembers) → offsets_fall wide own ≡ None → 0 < items own → offset wide own (first own) ≤ℤ offset wide own (end own)
 border-rise wide own e h =
     trans-≤ℤ (offset wide own (first own)) (offset wide own (first own + 0)) (offset wide own (end own)) (offsets-start wide own 0 e h).1
-    (trans-≤ℤ (offset wide own (first own + 0)) (offset wide own (first own + 0 + 1)) (offset wide own (end own)) (offsets-rise wide own 0 e h) (offsets-last wide own 0 e h))
+    (trans-≤ℤ (offset wide own (first own + 0)) (offset wide own (first own + 0 + 1)) (offset wide own (end own)) (offsets-rise wide own 0 e h)
+    (offsets-last wide own 0 e h))
 
 pub border-within : (wide : Bool) (own : ArrayMembers) → offsets_fall wide own ≡ None → 0 < items own
     → offsets_need wide (end own) ≤ length (bytes own 1) → data_need wide own ≤ length (bytes own 2)
     → offset wide own (end own) ≤ℤ pos (length (bytes own 2))
-border-within wide own e h long stored = within (end own) (length (bytes own 1)) (offsets_need wide (end own)) (length (bytes own 2)) (offset wide own (end own)) (omega (arith, h)) long stored
+border-within wide own e h long stored =
+    within (end own) (length (bytes own 1)) (offsets_need wide (end own)) (length (bytes own 2)) (offset wide own (end own)) (omega (arith, h)) long stored
 
 pub ruleset borders_lie = (border-from, border-rise, border-within)
 

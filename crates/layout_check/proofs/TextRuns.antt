@@ -16,7 +16,8 @@ no_run-is : (bytes : List ℕ) → IsRun bytes no_run
 no_run-is bytes = record { order = omega arith; within = omega arith; text = IsUtf8-nil }
 
 pub no-runs : (bytes : List ℕ) (n : ℕ) → AreRuns bytes (replicate n no_run)
-no-runs bytes n = record { at = λ j l. subst (IsRun bytes) (sym (get_or-replicate n j no_run no_run (omega (arith, l, length-replicate n no_run)))) (no_run-is bytes) }
+no-runs bytes n =
+    record { at = λ j l. subst (IsRun bytes) (sym (get_or-replicate n j no_run no_run (omega (arith, l, length-replicate n no_run)))) (no_run-is bytes) }
 
 pub runs-set : (bytes : List ℕ) (runs : List Run) (k : ℕ) (new : Run) → AreRuns bytes runs → IsRun bytes new → AreRuns bytes (slice_set runs k new)
 runs-set bytes runs k new h is =
@@ -65,7 +66,8 @@ reach-text : (d : List ℕ) (from some more reach : ℕ) → more ≤ reach
 reach-text d from some more reach h a b c =
     let behind = IsUtf8-take (take reach (drop (from + some) d)) more b c in
     let cut = take-take more reach (drop (from + some) d) h ∙ ap (take more) (sym (drop-drop some from d)) in
-    subst IsUtf8 (sym (take-add some more (drop from d))) (IsUtf8-append (take some (drop from d)) (take more (drop some (drop from d))) a (subst IsUtf8 cut behind))
+    subst IsUtf8 (sym (take-add some more (drop from d)))
+    (IsUtf8-append (take some (drop from d)) (take more (drop some (drop from d))) a (subst IsUtf8 cut behind))
 
 pub part-text : (d : List ℕ) (from to at reach : ℕ) → from ≤ at → at ≤ to → to ≤ reach
     → IsUtf8 (take (at - from) (drop from d)) → IsUtf8 (take (reach - at) (drop at d)) → IsCharBoundary (take (reach - at) (drop at d)) (to - at)

@@ -1,19 +1,19 @@
 -- The laws over all trees.
-use Rattle.std.proofs.Common.{◌≡◌, ℕ, zero, suc, ◌+◌, ◌<◌, ◌≤◌, ◌&&◌, not, Bool, true, false, ℤ, pos, negsuc, List, [], ◌∷◌, length, get_or, Option, Some, None, refl, ap, ◌∙◌, sym, arith}
+use Rattle.std.proofs.Common.{◌≡◌, ℕ, zero, suc, ◌<◌, ◌&&◌, not, Bool, true, false, ℤ, pos, negsuc, List, [], ◌∷◌, length, get_or, Some, None, refl, arith}
 use Rattle.std.specs.Prelude.{if◌then◌else◌, nat_lt, ◌≤ℤ◌}
 use Rattle.fmt_string.specs.declared.kind.DataType.{DataType}
 use Rattle.fmt_string.specs.declared.kind.DataType.TheVariants as kinds
-use Rattle.fmt_string.specs.Table.{Row}
-use Rattle.tree_model.specs.Tree.{Tree, Released, Live, IsLive, MaybeTree, absent, present, option_tree, child_at, children_of, dictionary_of}
-use Rattle.raw_array.specs.Members.{ArrayTree, members_of}
+use Rattle.tree_model.specs.Tree.{Tree, Released, Live, IsLive, MaybeTree, absent, present, option_tree, child_at}
+use Rattle.raw_array.specs.Members.{ArrayTree}
 use Rattle.layout_check.specs.Kinds.{KindTree}
 use Rattle.layout_check.specs.Layout.{items, natural}
 use Rattle.layout_check.specs.Rules.{null_total}
-use Rattle.layout_check.specs.Walk.{Fault, LayoutOk, ChunkOk, root_fault, is_struct, is_absent, is_table}
+use Rattle.layout_check.specs.Walk.{LayoutOk, ChunkOk, root_fault, is_struct, is_absent}
 use Rattle.layout_check.specs.declared.rule.LayoutRule.TheVariants as rules
 use Rattle.layout_check.specs.Values.{each, row_items, rows_of, tree_items}
 use Rattle.layout_check.specs.Lawful.{RootHolds, PartsHold, ItemsHold, ChunkHolds}
-use Rattle.layout_check.proofs.Roots.{level_in, lawful-level_in, root-live, root-length, root-offset, root-count, root-end, root-validity, root-children, root-dictionary, tree_items-items}
+use Rattle.layout_check.proofs.Roots.{level_in, lawful-level_in, root-live, root-length, root-offset, root-count, root-end, root-validity, root-children}
+use Rattle.layout_check.proofs.Roots.{root-dictionary, tree_items-items}
 use Rattle.layout_check.proofs.ReadWithin.{item-stored, child-needed, item-children, item-view, item-index, child-lawful, dictionary-lawful, live-of, few-of}
 
 pub root_holds : (typed : KindTree) (array : ArrayTree) → IsLive typed → LayoutOk typed array → RootHolds typed array
@@ -54,19 +54,23 @@ items_hold Released array live h = absurd live
 items_hold (Live kind kids dict) array live h =
     let t = level_in kind kids dict in
     let ok = lawful-level_in kind kids dict array h in
-    let kid = λ (k : ℕ) (typed : IsLive (child_at (Live kind kids dict) k)). live-of (child_at (Live kind kids dict) k) (child_at array k) typed (child-lawful t array ok k (within t.kids k typed)) in
+    let kid =
+    λ (k : ℕ) (typed : IsLive (child_at (Live kind kids dict) k)). live-of (child_at (Live kind kids dict) k) (child_at array k) typed
+    (child-lawful t array ok k (within t.kids k typed)) in
     record {
       stored = item-stored t array ok;
       needed = λ k typed. child-needed t array ok k (within t.kids k typed) (kid k typed);
       kids = λ i k l typed. item-children t array ok i k l (within t.kids k typed) (kid k typed);
       views = item-view t array ok;
-      index = λ i type dictionary l d typed a. item-index t array ok i dictionary l a (live-of type dictionary typed (dictionary-lawful t array ok type dictionary d a));
+      index = λ i type dictionary l d typed a. item-index t array ok i dictionary l a
+          (live-of type dictionary typed (dictionary-lawful t array ok type dictionary d a));
     }
 
 -- ---- chunks
 
 struct-kind : (kind : DataType) (plain : Bool) (nulls : ℕ)
-    → (if not (is_struct kind && plain) then Some (root_fault rules.TopKind (pos 0)) else if nat_lt 0 nulls then Some (root_fault rules.TopNulls (pos nulls)) else None) ≡ None
+    → (if not (is_struct kind && plain) then Some (root_fault rules.TopKind (pos 0)) else if nat_lt 0 nulls
+    then Some (root_fault rules.TopNulls (pos nulls)) else None) ≡ None
     → (kind ≡ kinds.Struct) × (plain ≡ true) × (nulls ≡ 0)
 struct-kind kinds.Struct true nulls e = (refl, refl, grind arith)
 struct-kind kinds.Struct false nulls e = absurd (grind arith)

@@ -1,5 +1,6 @@
 -- What passes over the views say of each, where those of large data buffers are tested a buffer at a time.
-use Rattle.std.proofs.Common.{◌≡◌, ◌≢◌, ℕ, ◌+◌, ◌-◌, ◌<◌, ◌≤◌, ◌&&◌, Bool, true, false, ℤ, pos, negsuc, List, take, drop, None, inl, inr, refl, ap, ◌∙◌, sym, subst, true≢false, arith}
+use Rattle.std.proofs.Common.{◌≡◌, ◌≢◌, ℕ, ◌+◌, ◌-◌, ◌<◌, ◌≤◌, ◌&&◌, Bool, true, false, ℤ, pos, negsuc, List, take, drop, None, inl, inr, refl, ap, ◌∙◌, sym}
+use Rattle.std.proofs.Common.{subst, true≢false, arith}
 use Rattle.std.specs.Prelude.{IsTrue, IsUtf8, nat_lt, ◌≤ℤ◌}
 use Rattle.std.proofs.lemmas.Bool.{cases_eq}
 use Rattle.raw_array.specs.Members.{ArrayMembers}

@@ -1,5 +1,6 @@
 -- What the scans over whole data buffers show of each view.
-use Rattle.std.proofs.Common.{◌≡◌, ℕ, zero, suc, ◌+◌, ◌-◌, ◌<◌, ◌≤◌, ◌&&◌, not, Bool, true, false, pos, List, length, take, drop, None, refl, ap, ◌∙◌, sym, subst, true≢false, arith}
+use Rattle.std.proofs.Common.{◌≡◌, ℕ, zero, suc, ◌+◌, ◌-◌, ◌<◌, ◌≤◌, ◌&&◌, not, Bool, true, false, pos, List, length, take, drop, None, refl, ap, ◌∙◌, sym}
+use Rattle.std.proofs.Common.{subst, true≢false, arith}
 use Rattle.std.specs.Prelude.{if◌then◌else◌, IsTrue, IsUtf8}
 use Rattle.std.specs.Str.{IsCharBoundary, is_utf8}
 use Rattle.std.specs.Str.Lossy.{utf8_valid_len}
@@ -41,7 +42,8 @@ long_data : (long : Bool) (named short : List ℕ) → IsTrue long → (if long 
 long_data true named short h = refl
 long_data false named short h = absurd (true≢false (sym h))
 
-text-passes : (valid : Bool) (text : List ℕ) (i : ℕ) → IsUtf8 text → fault_if (valid && not (is_utf8 text)) i (pos (utf8_valid_len text)) (pos (length text)) ≡ None
+text-passes : (valid : Bool) (text : List ℕ) (i : ℕ) → IsUtf8 text
+    → fault_if (valid && not (is_utf8 text)) i (pos (utf8_valid_len text)) (pos (length text)) ≡ None
 text-passes true text i h = ap (λ b. fault_if (not b) i (pos (utf8_valid_len text)) (pos (length text))) (is_utf8-from_IsUtf8 text h)
 text-passes false text i h = refl
 
@@ -74,7 +76,8 @@ passes-cut own i texts long named from to =
     let is : view_data own i ≡ data_named own i = long_data (is_long (view_length own i)) (data_named own i) (data_in_view own i) long in
     passes-text own i (subst IsUtf8 (sym is) (subst IsUtf8 same whole))
 
-null_passes : (valid : Bool) (text : List ℕ) (i : ℕ) → valid ≡ false → fault_if (valid && not (is_utf8 text)) i (pos (utf8_valid_len text)) (pos (length text)) ≡ None
+null_passes : (valid : Bool) (text : List ℕ) (i : ℕ) → valid ≡ false
+    → fault_if (valid && not (is_utf8 text)) i (pos (utf8_valid_len text)) (pos (length text)) ≡ None
 null_passes true text i h = absurd (true≢false h)
 null_passes false text i h = refl
 

@@ -1,7 +1,8 @@
 -- The schema of columns ("The Arrow C Data Interface", "The ArrowSchema structure").
 use Rattle.std.specs.Prelude.{ℕ, ℤ, pos, List, [], map, codes, Option, None, Some}
 use Rattle.fmt_string.specs.declared.kind.DataType.{DataType}
-use Rattle.fmt_string.specs.Kinds.{KindOk}
+-- the numbers of a column's types are in their ranges
+pub use Rattle.fmt_string.specs.ColumnForms.{KindsOk, MembersOk}
 use Rattle.fmt_string.specs.Spelling.{spelling_of}
 use Rattle.fmt_string.specs.Table.{Column, Kind, Flat, Dict, Columns, Members, no_members, more_members}
 use Rattle.tree_model.specs.Tree.{Live, Trees, no_trees, more_trees, MaybeTree, absent, present, trees}
@@ -44,14 +45,3 @@ schema_of_column c = column_schema c.name c.kind
 -- the schema of a table: a struct of its columns, which has an empty name and is never null
 abbrev pub SchemaOf : List Column → SchemaTree
 SchemaOf columns = node struct_format (Some []) (pos 0) (trees (map schema_of_column columns)) absent
-
-abbrev mutual
-  -- the numbers of a column's types are in their ranges
-  pub KindsOk : Kind → Type 0
-  KindsOk (Flat kind) = KindOk kind
-  KindsOk (Dict kind) = KindOk kind
-  KindsOk (Columns members) = MembersOk members
-
-  pub MembersOk : Members → Type 0
-  MembersOk no_members = Unit {0}
-  MembersOk (more_members name kind rest) = KindsOk kind × MembersOk rest

@@ -1,9 +1,9 @@
 -- The kinds of a schema that is in order, as a tree. No node of it is released.
-use Rattle.std.specs.Prelude.{ℕ, ◌+◌, ◌≤◌, max}
+use Rattle.std.specs.Prelude.{ℕ, ◌+◌, ◌≤◌}
 use Rattle.fmt_string.specs.Kinds.{KindOk}
 use Rattle.fmt_string.specs.declared.kind.DataType.{DataType}
 use Rattle.fmt_string.specs.declared.kind.DataType.TheVariants as kinds
-use Rattle.tree_model.specs.Tree.{Tree, Released, Live, members_or, Trees, no_trees, more_trees, MaybeTree, absent, present}
+use Rattle.tree_model.specs.Tree.{Tree, Released, Live, members_or, Trees, no_trees, more_trees, MaybeTree, absent, present, Depth}
 
 abbrev pub KindTree : Type 0
 KindTree = Tree DataType
@@ -11,20 +11,6 @@ KindTree = Tree DataType
 -- the type at the root, and Null where there is none
 abbrev pub kind_in : KindTree → DataType
 kind_in typed = members_or kinds.Null typed
-
--- how many levels a tree has
-abbrev mutual
-  pub levels : KindTree → ℕ
-  levels Released = 1
-  levels (Live kind kids dict) = max (most_levels kids) (dictionary_levels dict) + 1
-
-  pub most_levels : Trees DataType → ℕ
-  most_levels no_trees = 0
-  most_levels (more_trees t ts) = max (levels t) (most_levels ts)
-
-  pub dictionary_levels : MaybeTree DataType → ℕ
-  dictionary_levels absent = 0
-  dictionary_levels (present t) = levels t
 
 abbrev pub tree_count : {A : Type 0} → Trees A → ℕ
 tree_count no_trees = 0
@@ -72,4 +58,4 @@ abbrev mutual
   DictNodesOk (present dict) = NodesOk dict
 
 abbrev pub TypedOk : KindTree → Type 0
-TypedOk typed = (levels typed ≤ 64) × NodesOk typed
+TypedOk typed = (Depth typed ≤ 64) × NodesOk typed

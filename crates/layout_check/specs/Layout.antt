@@ -1,6 +1,7 @@
 -- The layout of an array, by its type: how many buffers it has, what they need, and what its items are
 -- ("Arrow Columnar Format", "Physical memory layout").
-use Rattle.std.specs.Prelude.{ℕ, zero, suc, ◌+◌, ◌-◌, ◌*◌, ◌≤◌, ◌/◌, ℤ, pos, negsuc, Bool, true, false, nat_lt, max, ◌==◌, ◌||◌, if◌then◌else◌, List, [], length, take, drop, get_or, Option, Some, None}
+use Rattle.std.specs.Prelude.{ℕ, zero, suc, ◌+◌, ◌-◌, ◌*◌, ◌≤◌, ◌/◌, ℤ, pos, negsuc, Bool, true, nat_lt, max, ◌==◌, ◌||◌, if◌then◌else◌, List, [], length, take}
+use Rattle.std.specs.Prelude.{drop, get_or, Option, Some, None}
 use Rattle.fmt_string.specs.declared.kind.DataType.{DataType}
 use Rattle.fmt_string.specs.declared.kind.Tick.{Tick}
 use Rattle.fmt_string.specs.declared.storage.Storage.{Storage}

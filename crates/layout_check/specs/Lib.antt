@@ -16,3 +16,4 @@ pub mod Within
 pub mod ColumnKinds
 pub mod ColumnSchema
 pub mod Lawful
+pub mod FaultTexts

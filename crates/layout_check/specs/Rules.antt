@@ -1,5 +1,6 @@
 -- The rules that an array must meet at a node.
-use Rattle.std.specs.Prelude.{ℕ, ℤ, pos, negsuc, Bool, true, false, not, ◌==◌, ◌&&◌, ◌||◌, nat_lt, int_lt, if◌then◌else◌, ◌+◌, ◌*◌, ◌/◌, ◌^◌, zero, suc, is_some, List, [], ◌∷◌, ◌++◌, length, Option, Some, None}
+use Rattle.std.specs.Prelude.{ℕ, ℤ, pos, negsuc, Bool, true, false, not, ◌==◌, ◌&&◌, ◌||◌, nat_lt, int_lt, if◌then◌else◌, ◌+◌, ◌*◌, ◌/◌, ◌^◌, zero, suc}
+use Rattle.std.specs.Prelude.{is_some, List, [], ◌∷◌, ◌++◌, length, Option, Some, None}
 use Rattle.std.specs.Option.{option_or}
 use Rattle.std.specs.Ordering.{int_eq}
 use Rattle.std.specs.Str.{is_utf8}
@@ -13,7 +14,8 @@ use Rattle.layout_check.specs.declared.rule.LayoutRule.{LayoutRule}
 use Rattle.layout_check.specs.declared.rule.LayoutRule.TheVariants as rules
 use Rattle.layout_check.specs.declared.rule.Numbers.{Numbers}
 use Rattle.layout_check.specs.Kinds.{KindTree}
-use Rattle.layout_check.specs.Layout.{is_valid, layout_of, buffer_count, need, bytes, buffer, offset, offset_in, first, items, end, natural, data_of, data_buffers, data_length, stored_number}
+use Rattle.layout_check.specs.Layout.{is_valid, layout_of, buffer_count, need, bytes, buffer, offset, offset_in, first, items, end, natural, data_of}
+use Rattle.layout_check.specs.Layout.{data_buffers, data_length, stored_number}
 use Rattle.layout_check.specs.Views.{view_length, view_prefix, view_buffer, view_offset, view_data, is_long}
 use Rattle.layout_check.specs.declared.layout.Layout.{Layout}
 use Rattle.layout_check.specs.declared.layout.Layout.TheVariants.{NoBuffers, ByOffsets, ListOffsets, FixedItems, ByChildren, Views}

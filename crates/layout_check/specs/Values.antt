@@ -78,7 +78,8 @@ item kinds.Utf8View kids a children i = Bytes (view_data a i)
 -- the item of an array with a dictionary is the dictionary's item at the stored index
 abbrev pub item_or_entry : Option Reader → DataType → List Reader → ArrayMembers → List ArrayTree → Option ArrayTree → ℕ → Value
 item_or_entry None kind kids a children dictionary i = item kind kids a children i
-item_or_entry (Some read) (kinds.Int width signed) kids a children dictionary i = dictionary_item read dictionary (natural (stored_number (width / 8) signed a i))
+item_or_entry (Some read) (kinds.Int width signed) kids a children dictionary i =
+    dictionary_item read dictionary (natural (stored_number (width / 8) signed a i))
 item_or_entry (Some read) _ kids a children dictionary i = Null
 
 abbrev pub read_item : DataType → List Reader → Option Reader → ArrayTree → ℕ → Value

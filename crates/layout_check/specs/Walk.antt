@@ -43,13 +43,15 @@ node_of kind kids dict (Live own children dictionary) =
 
 abbrev pub walk_below : List Walk → Option Walk → Walk
 walk_below walks walk path Released = []
-walk_below walks walk path (Live own children dictionary) = walk_children walks 0 path (tree_list children) ++ walk_dictionary walk path (option_tree dictionary)
+walk_below walks walk path (Live own children dictionary) =
+    walk_children walks 0 path (tree_list children) ++ walk_dictionary walk path (option_tree dictionary)
 
 abbrev mutual
   -- a node, its children in order, its dictionary
   pub visits : KindTree → Walk
   visits Released = λ path array. []
-  visits (Live kind kids dict) = λ path array. record { path = path; node = node_of kind kids dict array } ∷ walk_below (walks_of kids) (walk_of dict) path array
+  visits (Live kind kids dict) =
+      λ path array. record { path = path; node = node_of kind kids dict array } ∷ walk_below (walks_of kids) (walk_of dict) path array
 
   pub walks_of : Trees DataType → List Walk
   walks_of no_trees = []

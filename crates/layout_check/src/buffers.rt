@@ -6,7 +6,8 @@ ghost use Rattle.tree_model.specs.Tree.{IsLive};
 ghost use Rattle.raw_array.specs.Members.{ArrayTree, members_of};
 ghost use Rattle.layout_check.specs.NodeView.{own_of};
 ghost use Rattle.layout_check.specs.Layout.{natural, items, offset, end, bytes, offsets_need, data_need, named_need, need, buffer_count};
-ghost use Rattle.layout_check.specs.Rules.{missing, too_short, offsets_fall_if, is_behind_offsets, buffer_absent, fault_if, offset_falls, offsets_fall, buffer_short, first_below};
+ghost use Rattle.layout_check.specs.Rules.{missing, too_short, offsets_fall_if, is_behind_offsets, buffer_absent, fault_if, offset_falls, offsets_fall};
+ghost use Rattle.layout_check.specs.Rules.{buffer_short, first_below};
 
 use crate::layout::Layout;
 use crate::node::FormedNode;

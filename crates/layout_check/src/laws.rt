@@ -45,17 +45,22 @@ pub fn lawful_parts(typed: &Typed, array: &RawArray)
     requires { LayoutOk (typed_of typed.now) array.now }
     ensures children { (k : ℕ) → k < length (kids_of typed.now) → LayoutOk (get_or (kids_of typed.now) k Released) (child_at array.now k) }
     ensures few { (k : ℕ) → k < length (kids_of typed.now) → tree_items (child_at array.now k) ≤ 2 ^ 40 }
-    ensures dictionary { (dict : KindTree) (dictionary : ArrayTree) → dict_in (out-Typed typed.now).dict ≡ Some dict → dictionary_of array.now ≡ Some dictionary → LayoutOk dict dictionary }
+    ensures dictionary { (dict : KindTree) (dictionary : ArrayTree) → dict_in (out-Typed typed.now).dict ≡ Some dict → dictionary_of array.now ≡ Some dictionary
+        → LayoutOk dict dictionary }
 {}
 
 /// A law: what is read of an item of a lawful array's window lies within its buffers, its children and its dictionary.
 pub fn lawful_items_lie_within(typed: &Typed, array: &RawArray)
     requires { LayoutOk (typed_of typed.now) array.now }
-    ensures stored { (i : ℕ) → i < tree_items array.now → StoredWithin (layout_of (kind_of typed.now)) (members_of array.now) (first (members_of array.now) + i) }
-    ensures needed { (k : ℕ) → k < length (kids_of typed.now) → items_need (layout_of (kind_of typed.now)) (members_of array.now) ≤ tree_items (child_at array.now k) }
-    ensures children { (i k : ℕ) → i < tree_items array.now → k < length (kids_of typed.now) → ItemsWithin (layout_of (kind_of typed.now)) (members_of array.now) (first (members_of array.now) + i) (tree_items (child_at array.now k)) }
+    ensures stored { (i : ℕ) → i < tree_items array.now
+        → StoredWithin (layout_of (kind_of typed.now)) (members_of array.now) (first (members_of array.now) + i) }
+    ensures needed { (k : ℕ) → k < length (kids_of typed.now)
+        → items_need (layout_of (kind_of typed.now)) (members_of array.now) ≤ tree_items (child_at array.now k) }
+    ensures children { (i k : ℕ) → i < tree_items array.now → k < length (kids_of typed.now)
+        → ItemsWithin (layout_of (kind_of typed.now)) (members_of array.now) (first (members_of array.now) + i) (tree_items (child_at array.now k)) }
     ensures views { (i : ℕ) → i < tree_items array.now → ViewWithin (layout_of (kind_of typed.now)) (members_of array.now) i }
-    ensures index { (i : ℕ) (dict : KindTree) (dictionary : ArrayTree) → i < tree_items array.now → dict_in (out-Typed typed.now).dict ≡ Some dict → dictionary_of array.now ≡ Some dictionary → IndexWithin (kind_of typed.now) (members_of array.now) i dictionary }
+    ensures index { (i : ℕ) (dict : KindTree) (dictionary : ArrayTree) → i < tree_items array.now → dict_in (out-Typed typed.now).dict ≡ Some dict
+        → dictionary_of array.now ≡ Some dictionary → IndexWithin (kind_of typed.now) (members_of array.now) i dictionary }
 {}
 
 /// A law over all trees: what holds of a lawful array whose type is there, at its root, of its parts and of its items.

@@ -1,8 +1,8 @@
 //! Tests of arrays by their layouts: lists and maps, bits, wide offsets, indices, and items without buffers.
 ghost use Rattle.std.specs.Prelude.{◌≡◌, ◌+◌, ◌≤◌, max};
 ghost use Rattle.fmt_string.specs.Kinds.{KindOk};
-ghost use Rattle.tree_model.specs.Tree.{more_trees, no_trees};
-ghost use Rattle.layout_check.specs.Kinds.{KidsOk, NodesOk, levels};
+ghost use Rattle.tree_model.specs.Tree.{more_trees, no_trees, Depth};
+ghost use Rattle.layout_check.specs.Kinds.{KidsOk, NodesOk};
 ghost use Rattle.layout_check.specs.TypedView.{typed_of};
 
 use crate::buffers::{buffers_absent, buffers_short};
@@ -127,7 +127,7 @@ fn listing(rt: &impl Abort, alloc: Global, kind: DataType, kid: Typed) -> Typed
     requires kids_ok { KidsOk kind (more_trees (typed_of kid) no_trees) }
     requires kid { NodesOk (typed_of kid) }
     ensures ok { NodesOk (typed_of result) }
-    ensures levels { levels (typed_of result) ≡ levels (typed_of kid) + 1 }
+    ensures levels { Depth (typed_of result) ≡ Depth (typed_of kid) + 1 }
 {
     let mut kids = Vec::new(alloc);
     match kids.push(kid) {
@@ -141,7 +141,7 @@ fn map_of(rt: &impl Abort, alloc: Global, key: Typed, value: Typed) -> Typed
     requires key { NodesOk (typed_of key) }
     requires value { NodesOk (typed_of value) }
     ensures ok { NodesOk (typed_of result) }
-    ensures levels { levels (typed_of result) ≡ max (levels (typed_of key)) (levels (typed_of value)) + 2 }
+    ensures levels { Depth (typed_of result) ≡ max (Depth (typed_of key)) (Depth (typed_of value)) + 2 }
 {
     let entries = struct_of_two(rt, alloc, key, value);
     let mut kids = Vec::new(alloc);
@@ -154,7 +154,7 @@ fn map_of(rt: &impl Abort, alloc: Global, key: Typed, value: Typed) -> Typed
 /// Two items between these offsets, over three numbers.
 fn listing_found(rt: &impl Abort, alloc: Global, typed: Typed, offsets: &[u8], want: Want)
     requires ok { NodesOk (typed_of typed) }
-    requires few { levels (typed_of typed) ≤ 9 }
+    requires few { Depth (typed_of typed) ≤ 9 }
 {
     let (desk, mut pass) = open_desk();
     let numbers = [None, Some([0u8; 12].as_slice())];

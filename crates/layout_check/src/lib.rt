@@ -24,6 +24,9 @@ mod buffers;
 mod children;
 mod chunk;
 mod counts;
+#[cfg(test)]
+mod fault_tests;
+mod fault_text;
 mod indices;
 mod laws;
 mod layout;

@@ -6,6 +6,7 @@ ghost use Rattle.layout_check.specs.Layout.{natural};
 ghost use Rattle.layout_check.specs.Rules.{first_below, falls_in};
 ghost use Rattle.layout_check.specs.Scans.{outside_in, AreBorders};
 
+use crate::runs;
 use bit_pack::{int_at, offset_at};
 
 fn narrow_rises(offsets: &[u8], start: usize, len: usize) -> bool
@@ -49,14 +50,14 @@ pub fn offsets_rise(wide: bool, offsets: &[u8], start: usize, len: usize) -> boo
     }
 }
 
-fn is_border(offset: i64, base: usize, text: &str) -> bool
+fn is_border(offset: i64, base: usize, text: &[u8]) -> bool
     ensures { IsTrue result → IsCharBoundary text.now (natural offset - base) }
 {
     if offset < 0 {
         return false;
     }
     let place = offset as usize;
-    place >= base && text.is_char_boundary(place - base)
+    place >= base && runs::is_border(text, place - base)
 }
 
 /// Each offset, counted from a base on, is at a border of two characters of a text.
@@ -67,7 +68,7 @@ pub fn cut_between_characters(
     start: usize,
     len: usize,
     base: usize,
-    text: &str,
+    text: &[u8],
 ) -> bool
     requires fits { start + len + 1 < 2 ^ 64 }
     requires long { (start + len + 1) * offset_width wide ≤ length offsets.now }

@@ -8,7 +8,8 @@ ghost use Rattle.layout_check.specs.Kinds.{KindTree, TypedOk};
 ghost use Rattle.layout_check.specs.TypedView.{typed_of, dict_in};
 ghost use Rattle.layout_check.specs.Found.{steps_of};
 ghost use Rattle.layout_check.specs.Schemas.{MetaFits, ChildrenFit, IndexFits, IsPairNode, MapFits, KidsTyped, DictTyped, TypedFrom, TypedOf};
-ghost use Rattle.layout_check.specs.SchemaAnswers.{FirstFault, SchemaReads, Gives, IsFirstFault, NodeOf, MetaRefused, FaultHere, FaultBelow, FaultInKids, FaultInDict};
+ghost use Rattle.layout_check.specs.SchemaAnswers.{FirstFault, SchemaReads, Gives, IsFirstFault, NodeOf, MetaRefused, FaultHere, FaultBelow, FaultInKids};
+ghost use Rattle.layout_check.specs.SchemaAnswers.{FaultInDict};
 
 use crate::rule::{DICTIONARY_STEP, Path, SchemaRule};
 use crate::typed::Typed;

@@ -1,3 +1,4 @@
+//! Schemas that break one rule each, at the root and below it, and the kinds of those that break none.
 ghost use Rattle.std.specs.Prelude.{◌≤◌};
 ghost use Rattle.tree_model.specs.Tree.{trees, maybe_tree, depth_of_all, depth_of_maybe};
 

@@ -2,8 +2,8 @@
 ghost use Rattle.std.specs.Prelude.{◌≡◌, ◌+◌, ◌≤◌, max, map, length, None, Option};
 ghost use Rattle.std.specs.Global.{Box};
 ghost use Rattle.fmt_string.specs.Kinds.{KindOk};
-ghost use Rattle.tree_model.specs.Tree.{IsLive, Live, trees, maybe_tree, no_trees, absent, present, more_trees, depth_of_all, depth_of_maybe};
-ghost use Rattle.layout_check.specs.Kinds.{levels, most_levels, dictionary_levels, KidsOk, DictOk, NodesOk, AllNodesOk, DictNodesOk, IsPairOfColumns};
+ghost use Rattle.tree_model.specs.Tree.{IsLive, Live, trees, maybe_tree, no_trees, absent, present, more_trees, depth_of_all, depth_of_maybe, Depth};
+ghost use Rattle.layout_check.specs.Kinds.{KidsOk, DictOk, NodesOk, AllNodesOk, DictNodesOk, IsPairOfColumns};
 ghost use Rattle.layout_check.specs.TypedView.{typed_of, dict_in};
 
 use crate::buffers::{buffers_absent, buffers_short, first_fall, layout_falls};
@@ -32,7 +32,7 @@ pub(crate) fn node(kind: DataType, kids: Vec<Typed>, dict: Option<Box<Typed>>) -
     requires behind { DictNodesOk (maybe_tree (dict_in dict)) }
     ensures ok { NodesOk (typed_of result) }
     ensures made { typed_of result ≡ Live kind (trees (map typed_of kids.items)) (maybe_tree (dict_in dict)) }
-    ensures levels { levels (typed_of result) ≡ max (most_levels (trees (map typed_of kids.items))) (dictionary_levels (maybe_tree (dict_in dict))) + 1 }
+    ensures levels { Depth (typed_of result) ≡ max (depth_of_all (trees (map typed_of kids.items))) (depth_of_maybe (maybe_tree (dict_in dict))) + 1 }
 {
     Typed { kind, dict, kids }
 }
@@ -41,7 +41,7 @@ pub(crate) fn flat(alloc: Global, kind: DataType) -> Typed
     requires type_ok { KindOk kind }
     requires leaf { KidsOk kind no_trees }
     ensures ok { NodesOk (typed_of result) }
-    ensures levels { levels (typed_of result) ≡ 1 }
+    ensures levels { Depth (typed_of result) ≡ 1 }
 {
     node(kind, Vec::new(alloc), None)
 }
@@ -50,7 +50,7 @@ pub(crate) fn flat(alloc: Global, kind: DataType) -> Typed
 fn struct_of(rt: &impl Abort, alloc: Global, kid: Typed) -> Typed
     requires { NodesOk (typed_of kid) }
     ensures ok { NodesOk (typed_of result) }
-    ensures levels { levels (typed_of result) ≡ levels (typed_of kid) + 1 }
+    ensures levels { Depth (typed_of result) ≡ Depth (typed_of kid) + 1 }
 {
     let mut kids = Vec::new(alloc);
     match kids.push(kid) {
@@ -63,7 +63,7 @@ fn struct_of(rt: &impl Abort, alloc: Global, kid: Typed) -> Typed
 pub(crate) fn indexed(rt: &impl Abort, alloc: Global, dict: Typed) -> Typed
     requires { NodesOk (typed_of dict) }
     ensures ok { NodesOk (typed_of result) }
-    ensures levels { levels (typed_of result) ≡ levels (typed_of dict) + 1 }
+    ensures levels { Depth (typed_of result) ≡ Depth (typed_of dict) + 1 }
 {
     let int32 = DataType::Int {
         bits: 32,
@@ -81,7 +81,7 @@ pub(crate) fn struct_of_two(rt: &impl Abort, alloc: Global, first: Typed, second
     requires second { NodesOk (typed_of second) }
     ensures ok { NodesOk (typed_of result) }
     ensures pair { IsPairOfColumns (typed_of result) }
-    ensures levels { levels (typed_of result) ≡ max (levels (typed_of first)) (levels (typed_of second)) + 1 }
+    ensures levels { Depth (typed_of result) ≡ max (Depth (typed_of first)) (Depth (typed_of second)) + 1 }
 {
     let mut kids = Vec::new(alloc);
     if kids.push(first).is_err() {
@@ -95,7 +95,7 @@ pub(crate) fn struct_of_two(rt: &impl Abort, alloc: Global, first: Typed, second
 
 pub(crate) fn int32(alloc: Global) -> Typed
     ensures ok { NodesOk (typed_of result) }
-    ensures levels { levels (typed_of result) ≡ 1 }
+    ensures levels { Depth (typed_of result) ≡ 1 }
 {
     flat(
         alloc,
@@ -108,7 +108,7 @@ pub(crate) fn int32(alloc: Global) -> Typed
 
 fn text(alloc: Global) -> Typed
     ensures ok { NodesOk (typed_of result) }
-    ensures levels { levels (typed_of result) ≡ 1 }
+    ensures levels { Depth (typed_of result) ≡ 1 }
 {
     flat(alloc, DataType::Utf8 { wide: false })
 }
@@ -285,7 +285,7 @@ pub(crate) fn found_at_each_place(
     pass: &mut Pass,
 )
     requires ok { NodesOk (typed_of typed) }
-    requires few { levels (typed_of typed) ≤ 9 }
+    requires few { Depth (typed_of typed) ≤ 9 }
 {
     found(rt, check_array(&typed, &array), want, &[]);
     let typed = struct_of(rt, alloc, typed);
@@ -299,7 +299,7 @@ pub(crate) fn found_at_each_place(
 
 pub(crate) fn taken(rt: &impl Abort, typed: Typed, array: RawArray, pass: &mut Pass)
     requires ok { NodesOk (typed_of typed) }
-    requires few { levels (typed_of typed) ≤ 9 }
+    requires few { Depth (typed_of typed) ≤ 9 }
 {
     assert!(rt; check_array(&typed, &array).is_ok());
     ended(rt, array, pass);
@@ -320,7 +320,7 @@ pub(crate) fn leaf_found(
     want: Want,
 )
     requires ok { NodesOk (typed_of typed) }
-    requires few { levels (typed_of typed) ≤ 9 }
+    requires few { Depth (typed_of typed) ≤ 9 }
 {
     let (desk, mut pass) = open_desk();
     let a = leaf(rt, alloc, window, bytes, &mut pass);
@@ -441,7 +441,7 @@ pub(crate) fn parts_found(
     ends: (Desk, Pass),
 )
     requires ok { NodesOk (typed_of typed) }
-    requires few { levels (typed_of typed) ≤ 9 }
+    requires few { Depth (typed_of typed) ≤ 9 }
 {
     let (desk, mut pass) = ends;
     found_at_each_place(rt, alloc, typed, array, want, &mut pass);

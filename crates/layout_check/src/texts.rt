@@ -4,14 +4,17 @@ ghost use Rattle.std.specs.Str.{is_utf8};
 ghost use Rattle.std.specs.Str.Lossy.{utf8_valid_len};
 ghost use Rattle.bit_pack.specs.Packed.{offset_width};
 ghost use Rattle.layout_check.specs.NodeView.{own_of};
-ghost use Rattle.layout_check.specs.Layout.{IsLongIfPresent, natural, data_between, layout_of, first, items, offset, end, data_of, bytes, offsets_need, data_need, buffer_count};
+ghost use Rattle.layout_check.specs.Layout.{IsLongIfPresent, natural, data_between, layout_of, first, items, offset, end, data_of, bytes, offsets_need};
+ghost use Rattle.layout_check.specs.Layout.{data_need, buffer_count};
 ghost use Rattle.layout_check.specs.Scans.{used_data};
-ghost use Rattle.layout_check.specs.Rules.{fault_if, buffer_absent, buffer_short, first_below, offsets_fall, offsets_fall_if, is_behind_offsets, not_text, texts_wrong, views_misplaced};
+ghost use Rattle.layout_check.specs.Rules.{fault_if, buffer_absent, buffer_short, first_below, offsets_fall, offsets_fall_if, is_behind_offsets, not_text};
+ghost use Rattle.layout_check.specs.Rules.{texts_wrong, views_misplaced};
 
 use crate::buffers::offset_of;
 use crate::node::FormedNode;
 use crate::nulls::is_valid;
 use crate::rule::Numbers;
+use crate::runs::is_border;
 use crate::scans::cut_between_characters;
 use crate::view_texts::view_text_wrong;
 use fmt_string::DataType;
@@ -141,6 +144,26 @@ fn used_data<'a>(wide: bool, node: &FormedNode<'a>) -> &'a [u8]
     data_between(wide, node, node.start, node.stop)
 }
 
+/// The used data is UTF-8: it lies between characters of a block that is marked as text, or it is read.
+#[tactic(auto, using(crate::proofs::TextData::borders_lie))]
+fn used_is_text(wide: bool, node: &FormedNode, used: &[u8]) -> bool
+    requires buffers { 2 < length (own_of node.now).buffers }
+    requires some { 0 < items (own_of node.now) }
+    requires long { offsets_need wide (end (own_of node.now)) ≤ length (bytes (own_of node.now) 1) }
+    requires data { data_need wide (own_of node.now) ≤ length (bytes (own_of node.now) 2) }
+    requires rise { offsets_fall wide (own_of node.now) ≡ None }
+    requires used { used.now ≡ used_data wide (own_of node.now) }
+    ensures { IsTrue result → IsUtf8 used.now }
+{
+    if !node.array.buffer_is_text(2) {
+        return is_text(used);
+    }
+    let all = node.bytes(2);
+    let from = data_place(wide, node, node.start);
+    let to = data_place(wide, node, node.stop);
+    is_border(all, from) && is_border(all, to)
+}
+
 /// The used data is UTF-8, and each item ends between two characters of it.
 #[tactic(auto, using(crate::proofs::Scanned::texts, crate::proofs::TextData::borders_lie))]
 fn is_text_in_items(wide: bool, node: &FormedNode, used: &[u8]) -> bool
@@ -153,17 +176,15 @@ fn is_text_in_items(wide: bool, node: &FormedNode, used: &[u8]) -> bool
     ensures { IsTrue result → first_below (not_text wide (own_of node.now)) (items (own_of node.now)) ≡ None }
 {
     let base = data_place(wide, node, node.start);
-    match as_text(used) {
-        Ok(text) => cut_between_characters(
+    used_is_text(wide, node, used)
+        && cut_between_characters(
             wide,
             node.bytes(1),
             node.start as usize,
             node.len() as usize,
             base,
-            text,
-        ),
-        Err(_) => false,
-    }
+            used,
+        )
 }
 
 /// The used data passes as a whole: there is none, it is ASCII, or it is UTF-8 that is cut between characters.

@@ -1,6 +1,7 @@
 //! Hostile views, each with its rule, place and numbers, and lawful ones that look like them.
 ghost use Rattle.std.specs.Prelude.{◌≡◌, ◌≤◌};
-ghost use Rattle.layout_check.specs.Kinds.{NodesOk, levels};
+ghost use Rattle.layout_check.specs.Kinds.{NodesOk};
+ghost use Rattle.tree_model.specs.Tree.{Depth};
 ghost use Rattle.layout_check.specs.TypedView.{typed_of};
 
 use crate::rule::LayoutRule;
@@ -14,14 +15,14 @@ use unit_pass::open_desk;
 
 fn texts(alloc: Global) -> Typed
     ensures ok { NodesOk (typed_of result) }
-    ensures levels { levels (typed_of result) ≡ 1 }
+    ensures levels { Depth (typed_of result) ≡ 1 }
 {
     flat(alloc, DataType::Utf8View)
 }
 
 fn bytes(alloc: Global) -> Typed
     ensures ok { NodesOk (typed_of result) }
-    ensures levels { levels (typed_of result) ≡ 1 }
+    ensures levels { Depth (typed_of result) ≡ 1 }
 {
     flat(alloc, DataType::BinaryView)
 }
@@ -72,7 +73,7 @@ fn views_taken<'x>(
     size: &'x [u8],
 )
     requires ok { NodesOk (typed_of typed) }
-    requires few { levels (typed_of typed) ≤ 9 }
+    requires few { Depth (typed_of typed) ≤ 9 }
 {
     let (desk, mut pass) = open_desk();
     let buffers = [validity, Some(views), Some(data), Some(size)];

@@ -2,9 +2,11 @@
 ghost use Rattle.std.specs.Prelude.{◌≡◌, ◌==◌, not, nat_lt, None, IsTrue, true, ◌+◌, ◌*◌, ◌^◌, ◌<◌, ◌≤◌, ◌≤ℤ◌, pos, length, Option};
 ghost use Rattle.bit_pack.specs.Packed.{meant};
 ghost use Rattle.layout_check.specs.NodeView.{own_of};
-ghost use Rattle.layout_check.specs.Layout.{buffer_count, layout_of, items, end, bytes, is_valid, IsLongIfPresent, view_width, data_buffers, data_lengths, lengths_need, data_length};
+ghost use Rattle.layout_check.specs.Layout.{buffer_count, layout_of, items, end, bytes, is_valid, IsLongIfPresent, view_width, data_buffers, data_lengths};
+ghost use Rattle.layout_check.specs.Layout.{lengths_need, data_length};
 ghost use Rattle.layout_check.specs.Views.{view_number, view_length, view_prefix, view_buffer, view_offset, view_data, is_long};
-ghost use Rattle.layout_check.specs.Rules.{fault, fault_if, is_outside, first_below, named_outside, view_outside, misplaced, prefix_wrong, views_misplaced, prefixes_wrong, buffer_absent, buffer_short};
+ghost use Rattle.layout_check.specs.Rules.{fault, fault_if, is_outside, first_below, named_outside, view_outside, misplaced, prefix_wrong, views_misplaced};
+ghost use Rattle.layout_check.specs.Rules.{prefixes_wrong, buffer_absent, buffer_short};
 ghost use Rattle.layout_check.specs.Within.{DataWithin, AreThere};
 
 use crate::layout::Layout;

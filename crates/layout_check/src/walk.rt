@@ -1,9 +1,9 @@
 //! The walk over an array and its kinds: the rules of each node in preorder.
 ghost use Rattle.std.specs.Prelude.{◌≡◌, IsOk, ◌↔◌, ◌≤ℤ◌, pos, ◌+◌, ◌-◌, ◌^◌, ◌<◌, ◌≤◌, length, map, OnOk, [], None, Option};
 ghost use Rattle.std.specs.Global.{Box};
-ghost use Rattle.tree_model.specs.Tree.{IsLive, children_of, dictionary_of, trees, maybe_tree};
+ghost use Rattle.tree_model.specs.Tree.{IsLive, children_of, dictionary_of, trees, maybe_tree, Depth, depth_of_all, depth_of_maybe};
 ghost use Rattle.raw_array.specs.Members.{ArrayTree, members_of};
-ghost use Rattle.layout_check.specs.Kinds.{levels, most_levels, dictionary_levels, NodesOk, AllNodesOk, DictNodesOk, TypedOk};
+ghost use Rattle.layout_check.specs.Kinds.{NodesOk, AllNodesOk, DictNodesOk, TypedOk};
 ghost use Rattle.fmt_string.specs.Kinds.{KindOk};
 ghost use Rattle.layout_check.specs.Rules.{one_if};
 ghost use Rattle.layout_check.specs.declared.typed.Typed.{out-Typed};
@@ -42,7 +42,7 @@ pub fn check_array(typed: &Typed, array: &RawArray) -> Result<(), LayoutFault>
 #[cycle(check)]
 #[tactic(auto, using(crate::proofs::Faults::walks))]
 fn check_from(typed: &Typed, array: &RawArray, path: &Path) -> Result<(), LayoutFault>
-    requires levels { path.now.depth + levels (typed_of typed.now) ≤ 64 }
+    requires levels { path.now.depth + Depth (typed_of typed.now) ≤ 64 }
     requires types { NodesOk (typed_of typed.now) }
     ensures { found result ≡ fault_from (typed_of typed.now) (steps_of path.now) array.now }
 {
@@ -78,8 +78,10 @@ fn check_own(typed: &Typed, array: &RawArray, path: &Path) -> Result<(), LayoutF
 fn check_buffers(typed: &Typed, node: &FormedNode, path: &Path) -> Result<(), LayoutFault>
     requires layout { node.now.layout ≡ layout_of (out-Typed typed.now).kind }
     ensures fault { found result ≡ rules_fault buffer_rules (steps_of path.now) (live_node typed.now node.now.array.now) }
-    ensures there { OnOk result (first_below (buffer_absent node.now.layout (own_of node.now)) (buffer_count node.now.layout (length (own_of node.now).buffers)) ≡ None) }
-    ensures enough { OnOk result (first_below (buffer_short node.now.layout (own_of node.now)) (buffer_count node.now.layout (length (own_of node.now).buffers)) ≡ None) }
+    ensures there { OnOk result
+        (first_below (buffer_absent node.now.layout (own_of node.now)) (buffer_count node.now.layout (length (own_of node.now).buffers)) ≡ None) }
+    ensures enough { OnOk result
+        (first_below (buffer_short node.now.layout (own_of node.now)) (buffer_count node.now.layout (length (own_of node.now).buffers)) ≡ None) }
     ensures rise { OnOk result (offsets_fall_if (is_behind_offsets node.now.layout) (own_of node.now) ≡ None) }
 {
     ruled(path, LayoutRule::BufferAbsent, buffers_absent(node))?;
@@ -116,7 +118,8 @@ fn check_form(typed: &Typed, array: &RawArray, path: &Path) -> Result<(), Layout
     ensures fault { found result ≡ rules_fault form_rules (steps_of path.now) (live_node typed.now array.now) }
     ensures length { OnOk result (pos 0 ≤ℤ (members_of array.now).length) }
     ensures offset { OnOk result (pos 0 ≤ℤ (members_of array.now).offset) }
-    ensures buffers { OnOk result (length (members_of array.now).buffers ≡ buffer_count (layout_of (out-Typed typed.now).kind) (length (members_of array.now).buffers)) }
+    ensures buffers { OnOk result
+        (length (members_of array.now).buffers ≡ buffer_count (layout_of (out-Typed typed.now).kind) (length (members_of array.now).buffers)) }
     ensures children { OnOk result (length (children_of array.now) ≡ length (out-Typed typed.now).kids.items) }
     ensures few { OnOk result (length (out-Typed typed.now).kids.items < 2 ^ 32 - 1) }
 {
@@ -141,7 +144,7 @@ fn check_form(typed: &Typed, array: &RawArray, path: &Path) -> Result<(), Layout
 
 #[cycle(check)]
 fn check_children(kids: &[Typed], array: &RawArray, path: &Path) -> Result<(), LayoutFault>
-    requires levels { path.now.depth + 1 + most_levels (trees (map typed_of kids.now)) ≤ 64 }
+    requires levels { path.now.depth + 1 + depth_of_all (trees (map typed_of kids.now)) ≤ 64 }
     requires types { AllNodesOk (trees (map typed_of kids.now)) }
     requires few { length kids.now < 2 ^ 32 - 1 }
     requires live { IsLive array.now }
@@ -160,7 +163,7 @@ fn check_dictionary(
     array: &RawArray,
     path: &Path,
 ) -> Result<(), LayoutFault>
-    requires levels { path.now.depth + 1 + dictionary_levels (maybe_tree (dict_in dict.now)) ≤ 64 }
+    requires levels { path.now.depth + 1 + depth_of_maybe (maybe_tree (dict_in dict.now)) ≤ 64 }
     requires types { DictNodesOk (maybe_tree (dict_in dict.now)) }
     requires live { IsLive array.now }
     ensures { found result ≡ dictionary_fault (dict_in dict.now) (steps_of path.now) (dictionary_of array.now) }

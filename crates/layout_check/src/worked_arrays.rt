@@ -6,7 +6,8 @@ ghost use Rattle.fmt_string.specs.Value.Value.{Null, Whole, Bytes, Fields};
 ghost use Rattle.layout_check.specs.declared.rule.LayoutRule.TheVariants as rules;
 ghost use Rattle.layout_check.specs.Walk.{first_fault};
 ghost use Rattle.layout_check.specs.Values.{values_of};
-ghost use Rattle.layout_check.specs.WorkedArrays.{faulty, flat, int32, text, row_of, coded, buffer, last_three, window_over_window, no_text, falling_text, index, short_numbers, short_column, far_null};
+ghost use Rattle.layout_check.specs.WorkedArrays.{faulty, flat, int32, text, row_of, coded, buffer, last_three, window_over_window, no_text, falling_text};
+ghost use Rattle.layout_check.specs.WorkedArrays.{index, short_numbers, short_column, far_null};
 
 /// What the definitions say of small arrays: the values of a window, and the first fault ("Arrow Columnar Format").
 pub fn small_arrays()

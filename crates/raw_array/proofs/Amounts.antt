@@ -3,7 +3,9 @@ use Rattle.std.proofs.Common.{◌≡◌, ◌∙◌, ℕ, ◌+◌, ◌-◌, ◌�
 use Rattle.tree_model.specs.Tree.{Released, Live, Trees, no_trees, more_trees, MaybeTree, absent, present, Depth, map_trees, map_maybe, AllAlike, MaybeAlike}
 use Rattle.tree_model.proofs.Likeness.{Alike-refl, Alike-map, Alike-trans, Alike-weaker, Alike-Cost, Alike-Depth, map_tree-same, map_tree-both}
 use Rattle.raw_array.proofs.Shares.{OneLower-lowered}
-use Rattle.raw_array.specs.Members.{Buffer, ArrayMembers, ArrayTree, lowered_buffer, lowered_members, Lowered, buffer_lowered_by, members_lowered_by, LoweredBy, LikeBuffer, LikeBuffers, LikeMembers, Like, OneLowerBuffers, OneLowerMembers, OneLower, AllOneLower, MaybeOneLower, holds_of, holds, Cost, least_of, LeastAmount, least_of_all, least_of_maybe}
+use Rattle.raw_array.specs.Members.{Buffer, ArrayMembers, ArrayTree, lowered_buffer, lowered_members, Lowered, buffer_lowered_by, members_lowered_by, LoweredBy}
+use Rattle.raw_array.specs.Members.{LikeBuffer, LikeBuffers, LikeMembers, Like, OneLowerBuffers, OneLowerMembers, OneLower, AllOneLower, MaybeOneLower}
+use Rattle.raw_array.specs.Members.{holds_of, holds, Cost, least_of, LeastAmount, least_of_all, least_of_maybe}
 
 -- ---- Like is reflexive and transitive
 

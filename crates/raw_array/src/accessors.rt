@@ -1,9 +1,10 @@
 //! The members of a live structure, lent.
-ghost use Rattle.std.specs.Prelude.{◌≡◌, ◌-◌, ◌^◌, ◌<◌, pos, length, None, Some, MatchOption, get_or};
+ghost use Rattle.std.specs.Prelude.{◌≡◌, ◌-◌, ◌^◌, ◌<◌, pos, length, None, Some, IfSome, IsTrue, IsUtf8, MatchOption, get_or};
 ghost use Rattle.tree_model.specs.Tree.{IsLive, children_of, dictionary_of, child_at};
 ghost use Rattle.raw_array.specs.Members.{members_of, bytes_in, kind_of};
 
 use crate::array::{RawArray, ReleaseKind, State};
+use crate::views::is_text;
 
 impl RawArray {
     /// The number of items.
@@ -56,7 +57,8 @@ impl RawArray {
     #[tactic(auto, using(crate::proofs::Buffers::buffer_lists))]
     pub fn buffer(&self, i: usize) -> Option<&[u8]>
         requires { i < length (members_of self.now).buffers }
-        ensures { MatchOption result (get_or (members_of self.now).buffers i None ≡ None) (λ bytes. bytes_in (get_or (members_of self.now).buffers i None) ≡ Some bytes.now) }
+        ensures { MatchOption result (get_or (members_of self.now).buffers i None ≡ None)
+            (λ bytes. bytes_in (get_or (members_of self.now).buffers i None) ≡ Some bytes.now) }
     {
         match &self.state {
             State::Released => unreachable!(),
@@ -64,6 +66,19 @@ impl RawArray {
                 None => None,
                 Some(view) => Some(view.bytes()),
             },
+        }
+    }
+
+    /// Whether the buffer at a place is the whole of a block that is marked as text, so that its bytes are UTF-8. The mark is
+    /// no member of the structure: `false` says nothing of the bytes. A share, a window and a move keep it.
+    #[tactic(auto, using(crate::proofs::Buffers::buffer_lists))]
+    pub fn buffer_is_text(&self, i: usize) -> bool
+        requires { i < length (members_of self.now).buffers }
+        ensures { IsTrue result → IfSome (bytes_in (get_or (members_of self.now).buffers i None)) IsUtf8 }
+    {
+        match &self.state {
+            State::Released => unreachable!(),
+            State::Live(node) => is_text(&node.private.get().buffers[i]),
         }
     }
 

@@ -2,7 +2,9 @@
 ghost use Rattle.std.specs.Prelude.{◌≡◌, ◌+◌, ◌<◌, ◌≤◌, length, map, get_or, slice_set, if◌then◌else◌, is_ok, IfOk, OnOk, OnErr};
 ghost use Rattle.tree_model.specs.Tree.{Released, IsLive, trees, maybe_tree, map_trees, map_maybe};
 ghost use Rattle.raw_place.specs.Kept.{value_of, value_if, values_of};
-ghost use Rattle.raw_array.specs.Members.{Cost, cost_of_all, cost_of_maybe, holds_of, LeastAmount, least_of, least_of_all, least_of_maybe, shared_buffer, lowered_buffer, shared_members, lowered_members, ShareOf, Lowered, Like, OneLowerBuffers, OneLower, AllOneLower, MaybeOneLower};
+ghost use Rattle.raw_array.specs.Members.{Cost, cost_of_all, cost_of_maybe, holds_of, LeastAmount, least_of, least_of_all, least_of_maybe, shared_buffer};
+ghost use Rattle.raw_array.specs.Members.{lowered_buffer, shared_members, lowered_members, ShareOf, Lowered, Like, OneLowerBuffers, OneLower, AllOneLower};
+ghost use Rattle.raw_array.specs.Members.{MaybeOneLower};
 ghost use Rattle.raw_array.specs.View.{buffers_of, tree_of_node};
 
 use crate::array::{Node, RawArray, ReleaseKind, State};

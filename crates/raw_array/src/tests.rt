@@ -1,3 +1,4 @@
+//! Arrays of several levels: shared, windowed, taken apart and released, with the units that come back counted.
 ghost use Rattle.std.specs.Prelude.{◌≡◌, ◌+◌, ◌<◌, ◌≤◌, ◌∷◌, ◌++◌, [], length};
 ghost use Rattle.tree_model.specs.Tree.{IsLive, trees, maybe_tree, depth_of_all, depth_of_maybe, children_of};
 ghost use Rattle.raw_array.specs.Members.{Cost, cost_of_all, members_of};

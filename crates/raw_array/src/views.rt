@@ -1,6 +1,6 @@
 //! The views of a node's buffers, one after another: counted, let go, and shared.
-ghost use Rattle.std.specs.Prelude.{◌≡◌, ◌+◌, ◌≤◌, [], ◌∷◌, map, if◌then◌else◌, is_ok, IfOk, OnOk, OnErr};
-ghost use Rattle.raw_array.specs.Members.{holds_of, least_of, whole, shared_buffer, lowered_buffer, OneLowerBuffers};
+ghost use Rattle.std.specs.Prelude.{◌≡◌, ◌+◌, ◌≤◌, [], ◌∷◌, map, if◌then◌else◌, is_ok, IfOk, IfSome, IsTrue, IsUtf8, OnOk, OnErr};
+ghost use Rattle.raw_array.specs.Members.{bytes_in, holds_of, least_of, whole, shared_buffer, lowered_buffer, OneLowerBuffers};
 ghost use Rattle.raw_array.specs.View.{buffer_if, buffers_of};
 
 use buf_block::{AMOUNT, BufView, let_go_all};
@@ -25,6 +25,16 @@ fn holds_in(buffer: &Option<BufView>) -> u64
     match buffer {
         None => 0,
         Some(_) => 1,
+    }
+}
+
+/// A buffer is the whole of a block that is marked as text.
+pub(crate) fn is_text(buffer: &Option<BufView>) -> bool
+    ensures { IsTrue result → IfSome (bytes_in (buffer_if buffer.now)) IsUtf8 }
+{
+    match buffer {
+        None => false,
+        Some(view) => view.is_text(),
     }
 }
 

@@ -6,7 +6,8 @@ use Rattle.tree_model.proofs.Measures.{Depth-get_or, cost_of_all-before, cost_of
 use Rattle.raw_array.specs.Members.{Bounded, Cost, cost_of_all, LeastAmount, holds, whole, least}
 use Rattle.raw_array.specs.View.{tree_of, tree_of_node}
 use Rattle.raw_array.proofs.Bounds.{Bounded-shared, Bounded-lowered, Bounded-one_lower}
-use Rattle.raw_array.proofs.Children.{same_length, same_child, all_one_lower, child_lowered, child_shared, all_lowered, all_one_lower_at_end, all_shared, cost_of_first}
+use Rattle.raw_array.proofs.Children.{same_length, same_child, all_one_lower, child_lowered, child_shared, all_lowered, all_one_lower_at_end, all_shared}
+use Rattle.raw_array.proofs.Children.{cost_of_first}
 use Rattle.raw_array.proofs.+shared.Goals as goal
 use Rattle.raw_array.proofs.+shared.Goals.{array::RawArray::shared-in-Released, array::RawArray::shared-in-Live+in-Ok, array::RawArray::shared-in-Live+in-Err}
 
@@ -61,12 +62,21 @@ share::shared_all-loop-i-preserved t c =
     let i = c.loop-i.i in
     let inside : i < length ts = omega (arith, c.len-i-end.ensures.exact, c.loop-i-test.true) in
     let lowered = child_lowered ts us i c.loop-i.invariant.0 (values_of c.shared_child.new.children) inside c.in-Ok-shared_child.ensures.lowered in
-    let shared = c.push_reserved.ensures.items ∙ child_shared ts us i c.loop-i.invariant.0 c.loop-i.copies.items c.in-Ok-shared_child.copy inside c.loop-i.invariant.1 c.in-Ok-shared_child.ensures.tree in
+    let shared =
+    c.push_reserved.ensures.items ∙ child_shared ts us i c.loop-i.invariant.0 c.loop-i.copies.items c.in-Ok-shared_child.copy inside c.loop-i.invariant.1
+    c.in-Ok-shared_child.ensures.tree in
     let cost = ap Cost (same_child ts us i c.loop-i.invariant.0) in
     let before = cost_of_first ts c.loop-i.copies.items i c.loop-i.invariant.1 in
     let after = cost_of_first ts c.push_reserved.new.self.items (i + 1) shared in
-    let more = cost_of_all-take holds ts i inside in
-    (lowered, shared, omega (arith, cost, before, after, more, c.in-Ok-shared_child.ensures.units, c.loop-i.invariant.2), search rules, search rules, search rules, search rules)
+    let more = cost_of_all-take holds ts i inside in (
+      lowered,
+      shared,
+      omega (arith, cost, before, after, more, c.in-Ok-shared_child.ensures.units, c.loop-i.invariant.2),
+      search rules,
+      search rules,
+      search rules,
+      search rules,
+    )
 
 pub share::shared_all-returns-clause-trees : goal.share::shared_all-returns-clause-trees
 share::shared_all-returns-clause-trees t c =

@@ -5,7 +5,8 @@ use Rattle.col_build.proofs.BitBytes.{bits-begin, bits-more, ends-within, mask, 
 use Rattle.col_build.proofs.bits.push_bit.Goals as goal
 
 -- the byte of a bit that doesn't begin one
-within : (bytes : List ℕ) (flags : List Bool) (count : ℕ) → length flags ≡ count → bytes ≡ bit_bytes flags → count % 8 ≢ 0 → EndsWithin flags (count / 8) (count % 8)
+within : (bytes : List ℕ) (flags : List Bool) (count : ℕ) → length flags ≡ count → bytes ≡ bit_bytes flags → count % 8 ≢ 0
+    → EndsWithin flags (count / 8) (count % 8)
 within bytes flags count e is some = ends-within flags (count / 8) (count % 8) (omega arith) (omega arith) (omega arith)
 
 pub returns-in-Ok-clause-added : goal.returns-in-Ok-clause-added
@@ -22,7 +23,8 @@ index_mut-requires c =
     omega (arith, end.there, ap length shows.2, c.args.bits.now.ok.0)
 
 -- the byte of a bit that doesn't begin one, as it is read
-byte-read : (bytes : List ℕ) (flags : List Bool) (count byte : ℕ) → length flags ≡ count → bytes ≡ bit_bytes flags → count % 8 ≢ 0 → byte ≡ get_or bytes (count / 8) byte
+byte-read : (bytes : List ℕ) (flags : List Bool) (count byte : ℕ) → length flags ≡ count → bytes ≡ bit_bytes flags → count % 8 ≢ 0
+    → byte ≡ get_or bytes (count / 8) byte
     → byte ≡ get_or (bit_bytes flags) (count / 8) 0
 byte-read bytes flags count byte e is some read =
     let end = within bytes flags count e is some in
@@ -41,7 +43,8 @@ returns-then-flag-clause-added c flags len is =
     let byte = byte-read c.args.bits.now.items flags c.args.count c.index_mut.result.now len is c.if-place-eq0.false c.index_mut.ensures.value in
     let one = mask (c.args.count % 8) (omega arith) in
     let value : bit_value c.args.flag ≡ 1 = ap bit_value c.if-flag.true in
-    let sum : c.index_mut.result.now + 1 * 2 ^ (c.args.count % 8) % 256 ≡ get_or (bit_bytes flags) (c.args.count / 8) 0 + bit_value c.args.flag * 2 ^ (c.args.count % 8) = rw (value, one.one) (omega (arith, byte)) in
+    let sum : c.index_mut.result.now + 1 * 2 ^ (c.args.count % 8) % 256
+    ≡ get_or (bit_bytes flags) (c.args.count / 8) 0 + bit_value c.args.flag * 2 ^ (c.args.count % 8) = rw (value, one.one) (omega (arith, byte)) in
     ap (λ n. set c.args.bits.now.items (c.args.count / 8) n) sum
     ∙ ap (λ (xs : List ℕ). set xs (c.args.count / 8) (get_or (bit_bytes flags) (c.args.count / 8) 0 + bit_value c.args.flag * 2 ^ (c.args.count % 8))) is
     ∙ sym (bits-more flags (c.args.count / 8) (c.args.count % 8) c.args.flag (omega arith) (omega (arith, c.if-place-eq0.false)) (omega arith))
@@ -49,6 +52,7 @@ returns-then-flag-clause-added c flags len is =
 pub returns-else-flag-clause-added : goal.returns-else-flag-clause-added
 returns-else-flag-clause-added c flags len is =
     let value : bit_value c.args.flag ≡ 0 = ap bit_value c.if-flag.false in
-    let sum : get_or (bit_bytes flags) (c.args.count / 8) 0 + bit_value c.args.flag * 2 ^ (c.args.count % 8) ≡ get_or (bit_bytes flags) (c.args.count / 8) 0 = rw value (omega arith) in
+    let sum : get_or (bit_bytes flags) (c.args.count / 8) 0 + bit_value c.args.flag * 2 ^ (c.args.count % 8)
+    ≡ get_or (bit_bytes flags) (c.args.count / 8) 0 = rw value (omega arith) in
     let more = bits-more flags (c.args.count / 8) (c.args.count % 8) c.args.flag (omega arith) (omega (arith, c.if-place-eq0.false)) (omega arith) in
     is ∙ sym (more ∙ ap (λ n. set (bit_bytes flags) (c.args.count / 8) n) sum ∙ set-get_or (bit_bytes flags) (c.args.count / 8) 0)

@@ -6,7 +6,8 @@ use Rattle.col_build.specs.declared.builder.Builder.{Builder}
 use Rattle.col_build.proofs.tests.push_taken.Goals as goal
 
 -- one value more
-added : (value : Value) (old new : Builder) (kind : DataType) (values : List Value) → Adds value old new → Holds old kind values → (k : DataType) × (vs : List Value) × Holds new k vs × (length vs ≤ length values + 1)
+added : (value : Value) (old new : Builder) (kind : DataType) (values : List Value) → Adds value old new → Holds old kind values
+    → (k : DataType) × (vs : List Value) × Holds new k vs × (length vs ≤ length values + 1)
 added value old new kind values adds holds = (kind, _, adds kind values holds, omega (arith, length-append values (value ∷ [])))
 
 pub loop-item-preserved : goal.loop-item-preserved

@@ -10,7 +10,8 @@ returns-in-Some c =
     let own = members_of c.args.node.now.array.now in
     let inside : c.loop-k.k < buffer_count c.args.node.now.layout (length own.buffers) = search rules in
     let is : buffer_absent c.args.node.now.layout own c.loop-k.k ≡ Some c.in-Some.numbers = search rules in
-    sym (first_below-some (buffer_absent c.args.node.now.layout own) (buffer_count c.args.node.now.layout (length own.buffers)) c.loop-k.k c.in-Some.numbers inside c.loop-k.invariant is)
+    sym (first_below-some (buffer_absent c.args.node.now.layout own) (buffer_count c.args.node.now.layout (length own.buffers)) c.loop-k.k c.in-Some.numbers
+    inside c.loop-k.invariant is)
 
 pub loop-k-preserved : goal.loop-k-preserved
 loop-k-preserved c =

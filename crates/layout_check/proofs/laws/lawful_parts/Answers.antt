@@ -14,6 +14,7 @@ returns c =
     let ok = lawful-level typed array c.requires in
     record {
       children = child-lawful t array ok;
-      few = λ (k : ℕ) (h : k < length (kids_of typed)). few-of (get_or (kids_of typed) k Released) (child_at array k) (kid-typed (out-Typed typed).kids.items k h) (child-lawful t array ok k h);
+      few = λ (k : ℕ) (h : k < length (kids_of typed)). few-of (get_or (kids_of typed) k Released) (child_at array k)
+          (kid-typed (out-Typed typed).kids.items k h) (child-lawful t array ok k h);
       dictionary = dictionary-lawful t array ok;
     }

@@ -1,4 +1,5 @@
-use Rattle.layout_check.proofs.Roots.{level_of, lawful-level, root-live, root-length, root-offset, root-count, root-end, root-validity, root-children, root-dictionary, tree_items-items}
+use Rattle.layout_check.proofs.Roots.{level_of, lawful-level, root-live, root-length, root-offset, root-count, root-end, root-validity, root-children}
+use Rattle.layout_check.proofs.Roots.{root-dictionary, tree_items-items}
 use Rattle.layout_check.proofs.laws.lawful_root.Goals as goal
 
 pub returns : goal.returns

@@ -5,4 +5,5 @@ use Rattle.layout_check.specs.Scans.{PassAlone, PassBefore}
 use Rattle.layout_check.proofs.view_texts.passed.Given as goal
 
 abbrev pub invariant-loop-k : goal.invariant-loop-k
-invariant-loop-k l = (l.n ≤ items (members_of l.node.array.now)) × PassAlone (members_of l.node.array.now) l.n × PassBefore (members_of l.node.array.now) l.k l.n
+invariant-loop-k l =
+    (l.n ≤ items (members_of l.node.array.now)) × PassAlone (members_of l.node.array.now) l.n × PassBefore (members_of l.node.array.now) l.k l.n

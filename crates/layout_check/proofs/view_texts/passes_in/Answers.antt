@@ -16,4 +16,5 @@ returns c = λ h.
     let named = (c.requires.within valid).named long in
     let names : natural (view_buffer own i) ≡ c.args.k = search rules in
     let text : IsUtf8 (take (natural (view_length own i)) (drop (natural (view_offset own i)) c.args.bytes.now)) = search rules in
-    part-passes own c.args.k i names long named (subst (λ d. IsUtf8 (take (natural (view_length own i)) (drop (natural (view_offset own i)) d))) c.requires.bytes text)
+    part-passes own c.args.k i names long named
+    (subst (λ d. IsUtf8 (take (natural (view_length own i)) (drop (natural (view_offset own i)) d))) c.requires.bytes text)

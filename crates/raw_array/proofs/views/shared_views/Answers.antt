@@ -44,13 +44,23 @@ loop-i-preserved c =
     let long = length-buffers_of c.args.buffers.now.items in
     let inside : i < length bs = search rules in
     let at = view_at bs c.loop-i.buffers.items i c.loop-i.invariant.0 inside c.index_mut.result.now (search rules) in
-    let lowered = one_lowered bs c.loop-i.buffers.items i c.loop-i.invariant.0 inside c.shared_view.new.buffer (c.in-Ok-shared_view.ensures.lowered ∙ ap lowered_buffer at) in
-    let shared = ap buffers_of c.push_reserved.ensures.items ∙ one_shared bs c.loop-i.views.items i c.in-Ok-shared_view.view inside c.loop-i.invariant.1 (c.in-Ok-shared_view.ensures.shared ∙ ap shared_buffer at) in
+    let lowered =
+    one_lowered bs c.loop-i.buffers.items i c.loop-i.invariant.0 inside c.shared_view.new.buffer (c.in-Ok-shared_view.ensures.lowered ∙ ap lowered_buffer at) in
+    let shared =
+    ap buffers_of c.push_reserved.ensures.items ∙ one_shared bs c.loop-i.views.items i c.in-Ok-shared_view.view inside c.loop-i.invariant.1
+    (c.in-Ok-shared_view.ensures.shared ∙ ap shared_buffer at) in
     let one = ap (λ b. holds_of (b ∷ [])) at in
     let before = holds_of-first bs i (buffers_of c.loop-i.views.items) c.loop-i.invariant.1 in
     let after = holds_of-first bs (i + 1) (buffers_of c.push_reserved.new.self.items) shared in
-    let more = holds_of-more bs i inside in
-    (lowered, shared, omega (arith, one, before, after, more, c.in-Ok-shared_view.ensures.units, c.loop-i.invariant.2), search rules, search rules, search rules, search rules)
+    let more = holds_of-more bs i inside in (
+      lowered,
+      shared,
+      omega (arith, one, before, after, more, c.in-Ok-shared_view.ensures.units, c.loop-i.invariant.2),
+      search rules,
+      search rules,
+      search rules,
+      search rules,
+    )
 
 pub returns-clause-shared : goal.returns-clause-shared
 returns-clause-shared c =

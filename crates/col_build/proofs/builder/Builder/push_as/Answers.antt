@@ -26,23 +26,36 @@ pub overflow_add-self-2 : goal.overflow_add-self-2
 overflow_add-self-2 c =
     let holds = c.requires.holds.2 in
     let value = value_of c.args.item in
-    omega (arith, holds.nulls, c.requires.holds.3, nulls-few c.requires.holds.1, c.from.ensures, null-counted value c.is_null-null.result c.is_null-null.ensures, nulls-few (value ∷ []))
+    omega (
+      arith,
+      holds.nulls,
+      c.requires.holds.3,
+      nulls-few c.requires.holds.1,
+      c.from.ensures,
+      null-counted value c.is_null-null.result c.is_null-null.ensures,
+      nulls-few (value ∷ []),
+    )
 
 pub returns-clause-answer : goal.returns-clause-answer
-returns-clause-answer c kind values holds = sym (c.requires.same ∙ fault-held c.args.self.now kind values (value_of c.args.item) holds) ∙ c.in_ok-store.ensures.answer
+returns-clause-answer c kind values holds =
+    sym (c.requires.same ∙ fault-held c.args.self.now kind values (value_of c.args.item) holds) ∙ c.in_ok-store.ensures.answer
 
 pub returns-clause-added : goal.returns-clause-added
 returns-clause-added c kind values holds =
     let value = value_of c.args.item in
-    let taken : push_fault kind values value ≡ None = sym (c.requires.same ∙ fault-held c.args.self.now kind values value holds) ∙ c.in_ok-store.ensures.answer in
+    let taken : push_fault kind values value ≡ None =
+    sym (c.requires.same ∙ fault-held c.args.self.now kind values value holds) ∙ c.in_ok-store.ensures.answer in
     let shape = c.args.shape in
     let own = c.args.self.now.shape in
     let was = laid-has shape own values c.args.self.now.offsets.items c.args.self.now.bytes.items c.requires.laid holds.bytes in
-    let bytes = laid-back shape own (values ++ value ∷ []) c.store.new.offsets.items c.store.new.bytes.items c.requires.laid (c.in_ok-store.ensures.added values (sym holds.count) was) in
+    let bytes =
+    laid-back shape own (values ++ value ∷ []) c.store.new.offsets.items c.store.new.bytes.items c.requires.laid
+    (c.in_ok-store.ensures.added values (sym holds.count) was) in
     let short : length c.store.new.bytes.items < 2 ^ 63 = omega (arith, c.store.new.bytes.ok, c.store.new.bytes.small) in
     let few : length values < 2 ^ 40 = omega (arith, holds.count, c.requires.holds.2.count, c.requires.holds.3) in
     let HasBits : List ℕ → Type 0 = λ bits. HasValidity bits c.args.self.now.count c.args.self.now.nulls values in
-    let validity : HasValidity c.make_room.new.validity.items c.args.self.now.count c.args.self.now.nulls values = subst HasBits (sym c.make_room.ensures.items) (validity-held c.args.self.now kind values holds) in
+    let validity : HasValidity c.make_room.new.validity.items c.args.self.now.count c.args.self.now.nulls values = subst HasBits (sym c.make_room.ensures.items)
+    (validity-held c.args.self.now kind values holds) in
     let HasShape : Shape → Type 0 = λ s. HasBytes s (values ++ value ∷ []) c.store.new.offsets.items c.store.new.bytes.items in
     let shaped = subst HasShape (holds.shape ∙ shape-same kind holds.fits.flat) bytes in
     let bounded = total-bounded (is_wide kind) (form_of kind) (values ++ value ∷ []) c.store.new.offsets.items c.store.new.bytes.items shaped short in
