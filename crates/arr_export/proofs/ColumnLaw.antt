@@ -20,7 +20,13 @@ use Rattle.arr_export.proofs.Nulls.{own, valid-at}
 
 -- the members of a column's node are made of its values
 pub members-are : (kind : DataType) (values : List Value) (r : Reads kind values) → column_members kind values ≡ own values r.rest
-members-are kind values r = ap (λ (buffers : List (Option Buffer)). record { length = pos (length values); null_count = pos (null_total values); offset = pos 0; buffers = buffers; kind = Exported }) r.is
+members-are kind values r = ap (λ (buffers : List (Option Buffer)). record {
+  length = pos (length values);
+  null_count = pos (null_total values);
+  offset = pos 0;
+  buffers = buffers;
+  kind = Exported;
+}) r.is
 
 null-is : (value : Value) → is_null value ≡ true → value ≡ Null
 null-is Null e = refl
@@ -37,16 +43,22 @@ module _ (kind : DataType) (values : List Value) (fits : Fits kind values) where
   r = reads kind values fits
 
   -- the rules hold at its node, where they hold of its dictionary
-  pub column-node : (dict : Option KindTree) (dictionary : Option ArrayTree) → count_wrong (one_if dictionary) (one_if dict) ≡ None → indices_wrong kind (column_members kind values) (length_if dictionary) ≡ None
-      → (path : Steps) → node_fault path (Some (record { kind = kind; kids = []; dict = dict; own = column_members kind values; children = []; dictionary = dictionary })) ≡ None
+  pub column-node : (dict : Option KindTree) (dictionary : Option ArrayTree) → count_wrong (one_if dictionary) (one_if dict) ≡ None
+      → indices_wrong kind (column_members kind values) (length_if dictionary) ≡ None
+      → (path : Steps) → node_fault path
+      (Some (record { kind = kind; kids = []; dict = dict; own = column_members kind values; children = []; dictionary = dictionary })) ≡ None
   column-node dict dictionary same indices path =
       let is = members-are kind values r in
       ap (λ (m : ArrayMembers). node_fault path (Some (record { kind = kind; kids = []; dict = dict; own = m; children = []; dictionary = dictionary }))) is
-      ∙ node-ok kind dict values r.rest dictionary fits.few r.ok r.texts same (ap (λ (m : ArrayMembers). indices_wrong kind m (length_if dictionary)) (sym is) ∙ indices) path
+      ∙ node-ok kind dict values r.rest dictionary fits.few r.ok r.texts same
+      (ap (λ (m : ArrayMembers). indices_wrong kind m (length_if dictionary)) (sym is) ∙ indices) path
 
   pub column-lawful : LayoutOk (flat_type kind None) (column_tree kind values None)
   column-lawful =
-      All-cons (λ visit. visit_fault visit ≡ None) (record { path = []; node = Some (record { kind = kind; kids = []; dict = None; own = column_members kind values; children = []; dictionary = None }) }) []
+      All-cons (λ visit. visit_fault visit ≡ None) (record {
+        path = [];
+        node = Some (record { kind = kind; kids = []; dict = None; own = column_members kind values; children = []; dictionary = None });
+      }) []
       (column-node None None refl refl []) (All-nil (λ visit. visit_fault visit ≡ None))
 
   item-is : (i : ℕ) → i < length values → value_at (flat_type kind None) (Live (own values r.rest) no_trees absent) i ≡ get_or values i Null

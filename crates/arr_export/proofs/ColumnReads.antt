@@ -1,5 +1,6 @@
 -- The encoding of each type is read back.
-use Rattle.std.proofs.Common.{◌≡◌, ◌∙◌, ℕ, ◌*◌, ◌/◌, ◌^◌, ◌<◌, ◌⊎◌, inl, inr, ℤ, pos, Bool, true, false, not, List, [], ◌∷◌, length, map, get_or, refl, sym, ap, subst, arith, Option, None, Some}
+use Rattle.std.proofs.Common.{◌≡◌, ◌∙◌, ℕ, ◌*◌, ◌/◌, ◌^◌, ◌<◌, ◌⊎◌, inl, inr, ℤ, pos, Bool, true, false, not, List, [], ◌∷◌, length, map, get_or, refl, sym, ap}
+use Rattle.std.proofs.Common.{subst, arith, Option, None, Some}
 use Rattle.std.specs.Prelude.{if◌then◌else◌, nat_lt, ◌&&◌}
 use Rattle.std.specs.List.{All, concat}
 use Rattle.std.specs.Str.{is_utf8}
@@ -12,7 +13,8 @@ use Rattle.fmt_string.specs.Value.{Value, Null, Truth, Whole, Bytes}
 use Rattle.fmt_string.specs.declared.kind.DataType.{DataType}
 use Rattle.fmt_string.specs.declared.kind.DataType.TheVariants as kinds
 use Rattle.fmt_string.specs.declared.kind.Tick.TheVariants as ticks
-use Rattle.col_build.specs.Encoding.{Fits, buffers_if, bytes_of, encoded, fault_if, in_place as in_place_bytes, is_null, is_by_offsets, is_wide, is_within, stored_item}
+use Rattle.col_build.specs.Encoding.{Fits, buffers_if, bytes_of, encoded, fault_if, in_place as in_place_bytes, is_null, is_by_offsets, is_wide, is_within}
+use Rattle.col_build.specs.Encoding.{stored_item}
 use Rattle.layout_check.specs.Layout.{bytes, data_of, is_valid, layout_of, stored_number}
 use Rattle.layout_check.specs.Rules.{not_text, texts_wrong}
 use Rattle.layout_check.specs.Values.{item}
@@ -36,12 +38,15 @@ pub record Reads (kind : DataType) (values : List Value) : Type 0 where
 
 -- ---- whole numbers
 
-module _ (kind : DataType) (bits width : ℕ) (signed : Bool) (values : List Value) (form : form_of kind ≡ Some (Wholes bits signed)) (layout : layout_of kind ≡ FixedWidth width)
-    (exact : bits ≡ 8 * width) (some : IsWidth width) (read : (members : ArrayMembers) (i : ℕ) → item kind [] members [] i ≡ Whole (stored_number width signed members i))
+module _ (kind : DataType) (bits width : ℕ) (signed : Bool) (values : List Value) (form : form_of kind ≡ Some (Wholes bits signed))
+    (layout : layout_of kind ≡ FixedWidth width)
+    (exact : bits ≡ 8 * width) (some : IsWidth width)
+    (read : (members : ArrayMembers) (i : ℕ) → item kind [] members [] i ≡ Whole (stored_number width signed members i))
     (plain : (members : ArrayMembers) → texts_wrong kind members ≡ None) (fits : Fits kind values) where
   each-taken : (k : ℕ) (d : Value) → k < length values → fault_if (is_wide kind) (Some (Wholes (8 * width) signed)) [] (get_or values k d) ≡ None
   each-taken k d lt =
-      subst (λ (f : Option Form). fault_if (is_wide kind) f [] (get_or values k d) ≡ None) (form ∙ ap (λ (n : ℕ). Some (Wholes n signed)) exact) (fits.each k d lt)
+      subst (λ (f : Option Form). fault_if (is_wide kind) f [] (get_or values k d) ≡ None)
+      (form ∙ ap (λ (n : ℕ). Some (Wholes n signed)) exact) (fits.each k d lt)
 
   sized : All (λ value. length (stored_item width value) ≡ width) values
   sized k d lt = sized-number (is_wide kind) (Wholes (8 * width) signed) width (λ _. refl) (get_or values k d) (each-taken k d lt)
@@ -57,7 +62,8 @@ module _ (kind : DataType) (bits width : ℕ) (signed : Bool) (values : List Val
     texts = plain (own values (in_place width values));
     item_is = λ i lt valid.
         read (own values (in_place width values)) i
-        ∙ whole-is width signed (get_or values i Null) _ some (taken (is_wide kind) (Wholes (8 * width) signed) (get_or values i Null) (each-taken i Null lt) valid) (λ number. number-stored width values sized i number lt);
+        ∙ whole-is width signed (get_or values i Null) _ some (taken (is_wide kind) (Wholes (8 * width) signed) (get_or values i Null) (each-taken i Null lt)
+        valid) (λ number. number-stored width values sized i number lt);
   }
 
 int-width : (bits : ℕ) → (bits ≡ 8) ⊎ (bits ≡ 16) ⊎ (bits ≡ 32) ⊎ (bits ≡ 64) → IsWidth (bits / 8) × (bits ≡ 8 * (bits / 8))
@@ -93,7 +99,8 @@ module _ (bits : ℕ) (values : List Value) (fits : Fits (kinds.Float bits) valu
     ok = fixed-ok (bits / 8) values float-sized;
     texts = refl;
     item_is = λ i lt valid.
-        bits-is (bits / 8) (get_or values i Null) _ (taken false (FloatBits (8 * (bits / 8))) (get_or values i Null) (float-taken i Null lt) valid) (λ number. number-stored (bits / 8) values float-sized i number lt);
+        bits-is (bits / 8) (get_or values i Null) _ (taken false (FloatBits (8 * (bits / 8))) (get_or values i Null) (float-taken i Null lt) valid)
+        (λ number. number-stored (bits / 8) values float-sized i number lt);
   }
 
 module _ (size : ℕ) (values : List Value) (fits : Fits (kinds.FixedBinary size) values) where
@@ -107,7 +114,8 @@ module _ (size : ℕ) (values : List Value) (fits : Fits (kinds.FixedBinary size
     ok = fixed-ok size values bytes-sized;
     texts = refl;
     item_is = λ i lt valid.
-        sized-is size (get_or values i Null) _ (taken false (SizedHex size) (get_or values i Null) (fits.each i Null lt) valid) (stored-there size values bytes-sized i lt);
+        sized-is size (get_or values i Null) _ (taken false (SizedHex size) (get_or values i Null) (fits.each i Null lt) valid)
+        (stored-there size values bytes-sized i lt);
   }
 
 -- ---- truth values
@@ -123,7 +131,8 @@ truth-reads values fits = record {
 
 -- ---- bytes and texts between offsets
 
-within : (wide : Bool) (form : Form) (total : ℕ) → is_by_offsets form ≡ true → is_within wide form total ≡ true → (if is_by_offsets form then nat_lt total (2 ^ 63) else true) ≡ true → total < limit wide
+within : (wide : Bool) (form : Form) (total : ℕ) → is_by_offsets form ≡ true → is_within wide form total ≡ true
+    → (if is_by_offsets form then nat_lt total (2 ^ 63) else true) ≡ true → total < limit wide
 within false form total is small bounded = ltb-true total (2 ^ 31) (subst (λ b. (if b then nat_lt total (2 ^ 31) else true) ≡ true) is small)
 within true form total is small bounded = ltb-true total (2 ^ 63) (subst (λ b. (if b then nat_lt total (2 ^ 63) else true) ≡ true) is bounded)
 
@@ -135,7 +144,8 @@ binary-reads wide values fits =
       is = refl;
       ok = offsets-ok wide values small;
       texts = refl;
-      item_is = λ i lt valid. binary-is (get_or values i Null) _ (taken wide HexBytes (get_or values i Null) (fits.each i Null lt) valid) (data-there wide values small i lt);
+      item_is = λ i lt valid. binary-is (get_or values i Null) _ (taken wide HexBytes (get_or values i Null) (fits.each i Null lt) valid)
+          (data-there wide values small i lt);
     }
 
 -- the bytes of a value that a column of texts takes are text where it isn't null
@@ -154,11 +164,13 @@ texts-reads wide values fits =
       is = refl;
       ok = offsets-ok wide values small;
       texts = below-none (not_text wide members) (length values) (λ i lt.
-          no-fault (is_valid members i && not (is_utf8 (data_of wide members i))) i (pos (utf8_valid_len (data_of wide members i))) (pos (length (data_of wide members i)))
+          no-fault (is_valid members i && not (is_utf8 (data_of wide members i))) i (pos (utf8_valid_len (data_of wide members i)))
+          (pos (length (data_of wide members i)))
           (ap (λ (valid : Bool). valid && not (is_utf8 (data_of wide members i))) (valid-at values (by_offsets wide values) i lt)
           ∙ ap (λ (text : List ℕ). not (is_null (get_or values i Null)) && not (is_utf8 text)) (data-there wide values small i lt)
           ∙ text-or-null wide (get_or values i Null) (fits.each i Null lt)));
-      item_is = λ i lt valid. text-is (get_or values i Null) _ (taken wide Text (get_or values i Null) (fits.each i Null lt) valid) (data-there wide values small i lt);
+      item_is = λ i lt valid. text-is (get_or values i Null) _ (taken wide Text (get_or values i Null) (fits.each i Null lt) valid)
+          (data-there wide values small i lt);
     }
 
 module _ (precision : ℕ) (scale : ℤ) (values : List Value) (fits : Fits (kinds.Decimal precision scale false) values) where
@@ -172,7 +184,9 @@ module _ (precision : ℕ) (scale : ℤ) (values : List Value) (fits : Fits (kin
     ok = fixed-ok 16 values decimal-sized;
     texts = refl;
     item_is = λ i lt valid.
-        decimal-is precision (places scale) (get_or values i Null) _ (taken false (Decimals precision (places scale)) (get_or values i Null) (fits.each i Null lt) valid) (λ number. number-stored 16 values decimal-sized i number lt);
+        decimal-is precision (places scale) (get_or values i Null) _
+        (taken false (Decimals precision (places scale)) (get_or values i Null) (fits.each i Null lt) valid)
+        (λ number. number-stored 16 values decimal-sized i number lt);
   }
 
 -- ---- each type
@@ -191,7 +205,8 @@ reads (kinds.Decimal precision scale false) values fits = decimal-reads precisio
 reads (kinds.Decimal precision scale true) values fits = absurd fits.flat
 reads kinds.DateDay values fits = whole-reads kinds.DateDay 32 4 true values refl refl refl four (λ _ _. refl) (λ _. refl) fits
 reads kinds.DateMilli values fits = whole-reads kinds.DateMilli 64 8 true values refl refl refl eight (λ _ _. refl) (λ _. refl) fits
-reads (kinds.TimeOfDay ticks.Second) values fits = whole-reads (kinds.TimeOfDay ticks.Second) 32 4 true values refl refl refl four (λ _ _. refl) (λ _. refl) fits
+reads (kinds.TimeOfDay ticks.Second) values fits =
+    whole-reads (kinds.TimeOfDay ticks.Second) 32 4 true values refl refl refl four (λ _ _. refl) (λ _. refl) fits
 reads (kinds.TimeOfDay ticks.Milli) values fits = whole-reads (kinds.TimeOfDay ticks.Milli) 32 4 true values refl refl refl four (λ _ _. refl) (λ _. refl) fits
 reads (kinds.TimeOfDay ticks.Micro) values fits = whole-reads (kinds.TimeOfDay ticks.Micro) 64 8 true values refl refl refl eight (λ _ _. refl) (λ _. refl) fits
 reads (kinds.TimeOfDay ticks.Nano) values fits = whole-reads (kinds.TimeOfDay ticks.Nano) 64 8 true values refl refl refl eight (λ _ _. refl) (λ _. refl) fits

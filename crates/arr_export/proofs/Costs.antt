@@ -28,7 +28,8 @@ few-columns (c ∷ cs) = omega (arith, few-columns cs, some-nodes c.name (column
 
 module _ {A : Type 0} (f : A → SchemaTree) where
   -- the nodes up to a place and of the tree there are among all
-  pub nodes-here : (xs : List A) (i : ℕ) (d : A) → i < length xs → nodes_of_all (trees (map f (take i xs))) + Nodes (f (get_or xs i d)) ≤ nodes_of_all (trees (map f xs))
+  pub nodes-here : (xs : List A) (i : ℕ) (d : A) → i < length xs
+      → nodes_of_all (trees (map f (take i xs))) + Nodes (f (get_or xs i d)) ≤ nodes_of_all (trees (map f xs))
   nodes-here [] i d within = absurd (omega arith)
   nodes-here (x ∷ xs) zero d within = omega arith
   nodes-here (x ∷ xs) (suc i) d within = omega (arith, nodes-here xs i d (omega arith))

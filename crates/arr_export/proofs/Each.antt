@@ -3,7 +3,8 @@ use Rattle.std.proofs.Common.{◌≡◌, ◌∙◌, ℕ, zero, suc, ◌+◌, ◌
 use Rattle.layout_check.specs.Values.{each}
 
 -- they are those of a list
-pub each-is : {X : Type 0} → (f : ℕ → X) (xs : List X) (from : ℕ) (d : X) → ((i : ℕ) → i < length xs → f (from + i) ≡ get_or xs i d) → each f from (length xs) ≡ xs
+pub each-is : {X : Type 0} → (f : ℕ → X) (xs : List X) (from : ℕ) (d : X) → ((i : ℕ) → i < length xs → f (from + i) ≡ get_or xs i d)
+    → each f from (length xs) ≡ xs
 each-is f [] from d same = refl
 each-is f (x ∷ xs) from d same =
     let start : from + 0 ≡ from = omega arith in

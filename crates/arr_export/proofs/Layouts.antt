@@ -1,5 +1,6 @@
 -- The buffers of values and what they hold, layout by layout.
-use Rattle.std.proofs.Common.{◌≡◌, ◌∙◌, ℕ, zero, suc, ◌+◌, ◌-◌, ◌*◌, ◌/◌, ◌^◌, ◌<◌, ◌≤◌, ℤ, pos, Bool, true, false, List, [], ◌∷◌, length, map, get_or, take, drop, refl, ap, arith, Option, None, Some}
+use Rattle.std.proofs.Common.{◌≡◌, ◌∙◌, ℕ, zero, suc, ◌+◌, ◌-◌, ◌*◌, ◌/◌, ◌^◌, ◌<◌, ◌≤◌, ℤ, pos, Bool, true, false, List, [], ◌∷◌, length, map, get_or, take}
+use Rattle.std.proofs.Common.{drop, refl, ap, arith, Option, None, Some}
 use Rattle.std.specs.Prelude.{if◌then◌else◌, int_lt, nat_lt, ◌==◌, ◌||◌}
 use Rattle.std.proofs.lemmas.List.{get_or-map, length-map}
 use Rattle.std.specs.List.{All, concat, flat_map}
@@ -13,7 +14,8 @@ use Rattle.layout_check.specs.declared.layout.Layout.TheVariants.{ByOffsets, Fix
 use Rattle.layout_check.specs.declared.rule.Numbers.{Numbers}
 use Rattle.arr_export.specs.ArrayTrees.{made_if}
 use Rattle.arr_export.proofs.BitBytes.{bits-of, length-bit_bytes}
-use Rattle.arr_export.proofs.NodeRules.{BuffersOk, absent-none, below-none, both-none, data-back, long-data, long-if, no-fault, nulls-fit, short-none, there-if, validity-fits}
+use Rattle.arr_export.proofs.NodeRules.{BuffersOk, absent-none, below-none, both-none, data-back, long-data, long-if, no-fault, nulls-fit, short-none, there-if}
+use Rattle.arr_export.proofs.NodeRules.{validity-fits}
 use Rattle.arr_export.proofs.Nulls.{own}
 use Rattle.arr_export.proofs.Offsets.{item-between, length-offset_bytes, limit, offset-first, offset-last, offsets-rise}
 use Rattle.arr_export.proofs.Pieces.{length-pieces, number-back, piece-at}
@@ -30,11 +32,13 @@ module _ (width : ℕ) (values : List Value) (sized : All (λ value. length (sto
   pub fixed-ok : BuffersOk (FixedWidth width) (own values (in_place width values))
   fixed-ok =
       let members = own values (in_place width values) in
-      let size : (0 + length values) * width ≤ length (flat_map (stored_item width) values) = omega (arith, length-pieces (stored_item width) width values sized) in
+      let size : (0 + length values) * width ≤ length (flat_map (stored_item width) values) =
+      omega (arith, length-pieces (stored_item width) width values sized) in
       record {
         count = refl;
         there = absent-none (FixedWidth width) members 0 (there-if (flat_map (stored_item width) values) ((0 + length values) * width) size);
-        long = both-none (buffer_short (FixedWidth width) members 0) (buffer_short (FixedWidth width) members 1) (validity-fits (FixedWidth width) values (in_place width values))
+        long = both-none (buffer_short (FixedWidth width) members 0) (buffer_short (FixedWidth width) members 1)
+            (validity-fits (FixedWidth width) values (in_place width values))
             (short-none (FixedWidth width) members 1 (long-data _ (flat_map (stored_item width) values) ((0 + length values) * width) size));
         rise = refl;
         nulls = nulls-fit values (in_place width values);
@@ -60,7 +64,8 @@ as_bits values = made_if (if_some (bit_bytes (map is_set values))) ∷ []
 pub bits-ok : (values : List Value) → BuffersOk TruthBits (own values (as_bits values))
 bits-ok values =
     let members = own values (as_bits values) in
-    let size : (0 + length values + 7) / 8 ≤ length (bit_bytes (map is_set values)) = omega (arith, length-bit_bytes (map is_set values), length-map values is_set) in
+    let size : (0 + length values + 7) / 8 ≤ length (bit_bytes (map is_set values)) =
+    omega (arith, length-bit_bytes (map is_set values), length-map values is_set) in
     record {
       count = refl;
       there = absent-none TruthBits members 0 (there-if (bit_bytes (map is_set values)) ((0 + length values + 7) / 8) size);
@@ -72,7 +77,8 @@ bits-ok values =
       prefixes = refl;
     }
 
-pub bit-there : (values : List Value) (i : ℕ) → i < length values → bit (bytes (own values (as_bits values)) 1) (0 + i) ≡ bit_value (is_set (get_or values i Null))
+pub bit-there : (values : List Value) (i : ℕ) → i < length values
+    → bit (bytes (own values (as_bits values)) 1) (0 + i) ≡ bit_value (is_set (get_or values i Null))
 bit-there values i lt =
     ap (bit (bytes (own values (as_bits values)) 1)) (from-start i)
     ∙ ap (λ (data' : List ℕ). bit data' i) (data-back (bit_bytes (map is_set values)))
@@ -108,14 +114,17 @@ module _ (wide : Bool) (values : List Value) (small : length (concat (map bytes_
   rise-at : (i : ℕ) → i < length values → offset_falls wide (own values (by_offsets wide values)) i ≡ None
   rise-at i lt =
       let offsets = offset_bytes wide (map bytes_of values) in
-      no-fault (int_lt (offset_in wide offsets (0 + i + 1)) (offset_in wide offsets (0 + i))) i (offset_in wide offsets (0 + i)) (offset_in wide offsets (0 + i + 1))
-      (ap (λ (k : ℕ). int_lt (offset_in wide offsets (k + 1)) (offset_in wide offsets k)) (from-start i) ∙ offsets-rise wide (map bytes_of values) small i (omega (arith, count)))
+      no-fault (int_lt (offset_in wide offsets (0 + i + 1)) (offset_in wide offsets (0 + i))) i (offset_in wide offsets (0 + i))
+      (offset_in wide offsets (0 + i + 1))
+      (ap (λ (k : ℕ). int_lt (offset_in wide offsets (k + 1)) (offset_in wide offsets k)) (from-start i)
+      ∙ offsets-rise wide (map bytes_of values) small i (omega (arith, count)))
 
   rise-all : offsets_fall wide (own values (by_offsets wide values)) ≡ None
   rise-all =
       let members = own values (by_offsets wide values) in
       none-or (end members == 0) _
-      (ap (λ (z : ℤ). if is_negative z then fault 0 (pos 0) z else first_below (offset_falls wide members) (length values)) (offset-first wide (map bytes_of values) small)
+      (ap (λ (z : ℤ). if is_negative z then fault 0 (pos 0) z else first_below (offset_falls wide members) (length values))
+      (offset-first wide (map bytes_of values) small)
       ∙ below-none (offset_falls wide members) (length values) rise-at)
 
   pub offsets-ok : BuffersOk (ByOffsets wide) (own values (by_offsets wide values))
@@ -124,7 +133,13 @@ module _ (wide : Bool) (values : List Value) (small : length (concat (map bytes_
       let offsets = offset_bytes wide (map bytes_of values) in
       let all = concat (map bytes_of values) in
       let long : offsets_need wide (0 + length values) ≤ length offsets =
-      omega (arith, offsets-need wide (0 + length values), length-offset_bytes wide (map bytes_of values) small, ap (λ (n : ℕ). (n + 1) * offset_width wide) count, ap (λ (n : ℕ). (n + 1) * offset_width wide) (from-start (length values))) in
+      omega (
+        arith,
+        offsets-need wide (0 + length values),
+        length-offset_bytes wide (map bytes_of values) small,
+        ap (λ (n : ℕ). (n + 1) * offset_width wide) count,
+        ap (λ (n : ℕ). (n + 1) * offset_width wide) (from-start (length values)),
+      ) in
       let last : natural (offset_in wide offsets (0 + length values)) ≤ length all = omega (arith, ap natural last-is) in
       let none = (0 + length values == 0) || nat_lt (length offsets) (offsets_need wide (0 + length values)) in
       let most : (if none then 0 else natural (offset_in wide offsets (0 + length values))) ≤ length all = nothing-or none _ (length all) last in
@@ -132,7 +147,8 @@ module _ (wide : Bool) (values : List Value) (small : length (concat (map bytes_
         count = refl;
         there = absent-none (ByOffsets wide) members 1 (there-if all _ most);
         long = both-none (first_below (buffer_short (ByOffsets wide) members) 2) (buffer_short (ByOffsets wide) members 2)
-            (both-none (buffer_short (ByOffsets wide) members 0) (buffer_short (ByOffsets wide) members 1) (validity-fits (ByOffsets wide) values (by_offsets wide values))
+            (both-none (buffer_short (ByOffsets wide) members 0) (buffer_short (ByOffsets wide) members 1)
+            (validity-fits (ByOffsets wide) values (by_offsets wide values))
             (short-none (ByOffsets wide) members 1 (long-if true (length offsets) (offsets_need wide (0 + length values)) long)))
             (short-none (ByOffsets wide) members 2 (long-data _ all _ most));
         rise = rise-all;
@@ -145,7 +161,9 @@ module _ (wide : Bool) (values : List Value) (small : length (concat (map bytes_
   data-there i lt =
       let offsets = offset_bytes wide (map bytes_of values) in
       let all = concat (map bytes_of values) in
-      let there = λ (data' : List ℕ) (k : ℕ). take (natural (offset_in wide offsets (k + 1)) - natural (offset_in wide offsets k)) (drop (natural (offset_in wide offsets k)) data') in
+      let there =
+      λ (data' : List ℕ) (k : ℕ). take (natural (offset_in wide offsets (k + 1)) - natural (offset_in wide offsets k))
+      (drop (natural (offset_in wide offsets k)) data') in
       ap (there (bytes (own values (by_offsets wide values)) 2)) (from-start i)
       ∙ ap (λ (data' : List ℕ). there data' i) (data-back all)
       ∙ item-between wide (map bytes_of values) small i (omega (arith, count))

@@ -1,5 +1,6 @@
 -- The rules of a node that is made of values, by its layout.
-use Rattle.std.proofs.Common.{◌≡◌, ◌∙◌, ℕ, zero, suc, ◌^◌, ◌<◌, ◌≤◌, ℤ, pos, negsuc, Bool, false, not, ◌&&◌, List, [], ◌∷◌, length, refl, ap, arith, Option, None, Some}
+use Rattle.std.proofs.Common.{◌≡◌, ◌∙◌, ℕ, zero, suc, ◌^◌, ◌<◌, ◌≤◌, ℤ, pos, negsuc, Bool, false, not, ◌&&◌, List, [], ◌∷◌, length, refl, ap, arith, Option}
+use Rattle.std.proofs.Common.{None, Some}
 use Rattle.std.specs.Prelude.{is_some, nat_lt}
 use Rattle.std.proofs.lemmas.Bool.{and_right, le-ltb}
 use Rattle.std.proofs.lemmas.Bool.Decides.{Decides-int_eq}
@@ -11,7 +12,8 @@ use Rattle.fmt_string.specs.declared.kind.DataType.{DataType}
 use Rattle.col_build.specs.Encoding.{if_some, null_total, validity_of}
 use Rattle.layout_check.specs.Kinds.{KindTree}
 use Rattle.layout_check.specs.Layout.{bits_need, buffer, buffer_count, bytes, bytes_or_none, end, layout_of, need}
-use Rattle.layout_check.specs.Rules.{Node, buffer_absent, buffer_short, count_wrong, fails, fault_if, first_below, in_order, indices_wrong, is_behind_offsets, length_if, null_count_wrong, null_count_wrong_in, offsets_fall_if, one_if, prefixes_wrong, texts_wrong, views_misplaced}
+use Rattle.layout_check.specs.Rules.{Node, buffer_absent, buffer_short, count_wrong, fails, fault_if, first_below, in_order, indices_wrong, is_behind_offsets}
+use Rattle.layout_check.specs.Rules.{length_if, null_count_wrong, null_count_wrong_in, offsets_fall_if, one_if, prefixes_wrong, texts_wrong, views_misplaced}
 use Rattle.layout_check.specs.Rules.{null_total as null_items}
 use Rattle.layout_check.specs.Walk.{Steps, fault_at, fault_by, first_some, node_fault}
 use Rattle.layout_check.specs.declared.layout.Layout.{Layout}
@@ -46,7 +48,8 @@ there-if (byte ∷ rest) needed le = refl
 pub long-if : (present : Bool) (found needed : ℕ) → needed ≤ found → (present && nat_lt found needed) ≡ false
 long-if present found needed le = and_right present (nat_lt found needed) (le-ltb found needed le)
 
-pub long-data : (present : Bool) (data' : List ℕ) (needed : ℕ) → needed ≤ length data' → (present && nat_lt (length (bytes_or_none (bytes_in (made_if (if_some data'))))) needed) ≡ false
+pub long-data : (present : Bool) (data' : List ℕ) (needed : ℕ) → needed ≤ length data'
+    → (present && nat_lt (length (bytes_or_none (bytes_in (made_if (if_some data'))))) needed) ≡ false
 long-data present data' needed le = long-if present _ needed (omega (arith, ap length (data-back data')))
 
 validity-if : (o : Option (List ℕ)) (needed : ℕ) → ((validity : List ℕ) → o ≡ Some validity → needed ≤ length validity)
@@ -66,8 +69,10 @@ same-int z = ap not ((Decides-int_eq z z).1 refl)
 pub nulls-fit : (values : List Value) (rest : List (Option Buffer)) → null_count_wrong (own values rest) ≡ None
 nulls-fit values rest =
     let same : pos (null_items (own values rest) (length values)) ≡ pos (null_total values) = ap pos (nulls-are values rest) in
-    no-fault (not (int_eq (pos (null_total values)) (negsuc 0)) && not (int_eq (pos (null_total values)) (pos (null_items (own values rest) (length values))))) 0 (pos (null_total values)) (pos (null_items (own values rest) (length values)))
-    (and_right (not (int_eq (pos (null_total values)) (negsuc 0))) _ (ap (λ n. not (int_eq (pos (null_total values)) n)) same ∙ same-int (pos (null_total values))))
+    no-fault (not (int_eq (pos (null_total values)) (negsuc 0)) && not (int_eq (pos (null_total values)) (pos (null_items (own values rest) (length values)))))
+    0 (pos (null_total values)) (pos (null_items (own values rest) (length values)))
+    (and_right (not (int_eq (pos (null_total values)) (negsuc 0))) _
+    (ap (λ n. not (int_eq (pos (null_total values)) n)) same ∙ same-int (pos (null_total values))))
 
 -- ---- a whole node
 
@@ -91,22 +96,35 @@ Passes n (rule ∷ others) = (fails rule n ≡ None) × Passes n others
 
 pub passes : (path : Steps) (n : Node) (others : List LayoutRule) → Passes n others → first_some (fault_by path n) others ≡ None
 passes path n [] all = refl
-passes path n (rule ∷ others) all = both-none (fault_by path n rule) (first_some (fault_by path n) others) (ap (fault_at path rule) all.0) (passes path n others all.1)
+passes path n (rule ∷ others) all =
+    both-none (fault_by path n rule) (first_some (fault_by path n) others) (ap (fault_at path rule) all.0) (passes path n others all.1)
 
-pub node-ok : (kind : DataType) (dict : Option KindTree) (values : List Value) (rest : List (Option Buffer)) (dictionary : Option ArrayTree) → length values ≤ 2 ^ 40
+pub node-ok : (kind : DataType) (dict : Option KindTree) (values : List Value) (rest : List (Option Buffer)) (dictionary : Option ArrayTree)
+    → length values ≤ 2 ^ 40
     → BuffersOk (layout_of kind) (own values rest) → texts_wrong kind (own values rest) ≡ None
     → count_wrong (one_if dictionary) (one_if dict) ≡ None → indices_wrong kind (own values rest) (length_if dictionary) ≡ None
     → (path : Steps) → node_fault path (Some (node kind dict values rest dictionary)) ≡ None
 node-ok kind dict values rest dictionary few ok texts same indices path =
     let short : nat_lt (2 ^ 40) (end (own values rest)) ≡ false = le-ltb (2 ^ 40) (end (own values rest)) (omega arith) in
-    let window : fails rules.WindowTooLong (node kind dict values rest dictionary) ≡ None = no-fault (nat_lt (2 ^ 40) (end (own values rest))) 0 (pos (end (own values rest))) (pos (2 ^ 40)) short in
-    passes path (node kind dict values rest dictionary) in_order
-    (refl, (refl, (ok.count, (refl, (same, (ok.there, (ok.long, (ok.rise, (refl, (ok.nulls, (ok.views, (ok.prefixes, (texts, (indices, (window, tt)))))))))))))))
+    let window : fails rules.WindowTooLong (node kind dict values rest dictionary) ≡ None =
+    no-fault (nat_lt (2 ^ 40) (end (own values rest))) 0 (pos (end (own values rest))) (pos (2 ^ 40)) short in
+    passes path (node kind dict values rest dictionary) in_order (
+      refl,
+      (
+        refl,
+        (
+          ok.count,
+          (refl, (same, (ok.there, (ok.long, (ok.rise, (refl, (ok.nulls, (ok.views, (ok.prefixes, (texts, (indices, (window, tt)))))))))))),
+        ),
+      ),
+    )
 
 -- ---- the rules of one buffer
 
-pub absent-none : (layout : Layout) (members : ArrayMembers) (k : ℕ) → (not (is_some (buffer members (suc k))) && nat_lt 0 (need layout members (suc k))) ≡ false → buffer_absent layout members (suc k) ≡ None
+pub absent-none : (layout : Layout) (members : ArrayMembers) (k : ℕ)
+    → (not (is_some (buffer members (suc k))) && nat_lt 0 (need layout members (suc k))) ≡ false → buffer_absent layout members (suc k) ≡ None
 absent-none layout members k e = ap (λ t. fault_if t (suc k) (pos 0) (pos (need layout members (suc k)))) e
 
-pub short-none : (layout : Layout) (members : ArrayMembers) (k : ℕ) → (is_some (buffer members k) && nat_lt (length (bytes members k)) (need layout members k)) ≡ false → buffer_short layout members k ≡ None
+pub short-none : (layout : Layout) (members : ArrayMembers) (k : ℕ)
+    → (is_some (buffer members k) && nat_lt (length (bytes members k)) (need layout members k)) ≡ false → buffer_short layout members k ≡ None
 short-none layout members k e = ap (λ t. fault_if t k (pos (length (bytes members k))) (pos (need layout members k))) e

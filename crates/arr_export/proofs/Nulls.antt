@@ -1,5 +1,6 @@
 -- The validity bitmap of values, and how many of them are null.
-use Rattle.std.proofs.Common.{◌≡◌, ◌∙◌, ℕ, zero, suc, ◌+◌, ◌/◌, ◌<◌, ◌≤◌, pos, Bool, true, false, not, List, [], ◌∷◌, ◌++◌, length, map, get_or, take, refl, sym, ap, arith, Option, None, Some}
+use Rattle.std.proofs.Common.{◌≡◌, ◌∙◌, ℕ, zero, suc, ◌+◌, ◌/◌, ◌<◌, ◌≤◌, pos, Bool, true, false, not, List, [], ◌∷◌, ◌++◌, length, map, get_or, take, refl}
+use Rattle.std.proofs.Common.{sym, ap, arith, Option, None, Some}
 use Rattle.std.specs.Prelude.{if◌then◌else◌, ◌==◌}
 use Rattle.std.proofs.lemmas.Bool.{eqb-true}
 use Rattle.std.proofs.lemmas.List.{get_or-map, length-map, take_more, take_all}
@@ -14,7 +15,13 @@ use Rattle.arr_export.proofs.BitBytes.{bits-of, length-bit_bytes}
 
 -- the members of a column with these values, whatever stands behind the validity bitmap
 abbrev pub own : List Value → List (Option Buffer) → ArrayMembers
-own values rest = record { length = pos (length values); null_count = pos (null_total values); offset = pos 0; buffers = made_if (validity_of values) ∷ rest; kind = Exported }
+own values rest = record {
+  length = pos (length values);
+  null_count = pos (null_total values);
+  offset = pos 0;
+  buffers = made_if (validity_of values) ∷ rest;
+  kind = Exported;
+}
 
 pub made-back : (bytes : Option (List ℕ)) → bytes_in (made_if bytes) ≡ bytes
 made-back None = refl
@@ -38,10 +45,12 @@ valid-if true values i lt all = sym (no-null values i lt (all refl))
 valid-if false values i lt all =
     let flags = map (λ (value : Value). not (is_null value)) values in
     let size : i < length flags = omega (arith, length-map values (λ (value : Value). not (is_null value))) in
-    ap (λ n. n == 1) (bits-of flags i size ∙ ap bit_value (get_or-map (λ (value : Value). not (is_null value)) values i Null false lt)) ∙ flag-back (not (is_null (get_or values i Null)))
+    ap (λ n. n == 1) (bits-of flags i size ∙ ap bit_value (get_or-map (λ (value : Value). not (is_null value)) values i Null false lt))
+    ∙ flag-back (not (is_null (get_or values i Null)))
 
 -- an item is valid where it isn't null
-pub valid-at : (values : List Value) (rest : List (Option Buffer)) (i : ℕ) → i < length values → is_valid (own values rest) i ≡ not (is_null (get_or values i Null))
+pub valid-at : (values : List Value) (rest : List (Option Buffer)) (i : ℕ) → i < length values
+    → is_valid (own values rest) i ≡ not (is_null (get_or values i Null))
 valid-at values rest i lt =
     let place : 0 + i ≡ i = omega arith in
     ap (λ (validity : Option (List ℕ)). is_valid_by validity (0 + i)) (made-back (validity_of values))
@@ -72,8 +81,14 @@ nulls-are values rest = nulls-upto values rest (length values) (omega arith) ∙
 pub validity-long : (values : List Value) (validity : List ℕ) → validity_of values ≡ Some validity → (0 + length values + 7) / 8 ≤ length validity
 validity-long values validity is = go (null_total values == 0) is
   where
-    go : (none : Bool) → (if none then None else Some (bit_bytes (map (λ (value : Value). not (is_null value)) values))) ≡ Some validity → (0 + length values + 7) / 8 ≤ length validity
+    go : (none : Bool) → (if none then None else Some (bit_bytes (map (λ (value : Value). not (is_null value)) values))) ≡ Some validity
+        → (0 + length values + 7) / 8 ≤ length validity
     go true e = cc
     go false e =
         let same : bit_bytes (map (λ (value : Value). not (is_null value)) values) ≡ validity = cc in
-        omega (arith, ap length same, length-bit_bytes (map (λ (value : Value). not (is_null value)) values), length-map values (λ (value : Value). not (is_null value)))
+        omega (
+          arith,
+          ap length same,
+          length-bit_bytes (map (λ (value : Value). not (is_null value)) values),
+          length-map values (λ (value : Value). not (is_null value)),
+        )

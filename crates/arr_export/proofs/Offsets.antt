@@ -1,5 +1,6 @@
 -- Items that stand one behind the other, between offsets.
-use Rattle.std.proofs.Common.{◌≡◌, ◌∙◌, ℕ, zero, suc, ◌+◌, ◌-◌, ◌*◌, ◌^◌, ◌<◌, ◌≤◌, pos, Bool, true, false, List, [], ◌∷◌, ◌++◌, length, get_or, take, drop, refl, ap, arith, length-append, append_assoc}
+use Rattle.std.proofs.Common.{◌≡◌, ◌∙◌, ℕ, zero, suc, ◌+◌, ◌-◌, ◌*◌, ◌^◌, ◌<◌, ◌≤◌, pos, Bool, true, false, List, [], ◌∷◌, ◌++◌, length, get_or, take, drop}
+use Rattle.std.proofs.Common.{refl, ap, arith, length-append, append_assoc}
 use Rattle.std.proofs.lemmas.Bool.{le-ltb, lt-ltb}
 use Rattle.std.proofs.Math.Seq.{drop-append_seam, take-append_seam}
 use Rattle.std.specs.List.{All, concat}
@@ -45,7 +46,8 @@ ends-rise at (item ∷ items) (suc i) lt = ends-rise (at + length item) items i 
 
 -- the bytes between two ends
 item-there : (before : List ℕ) (items : List (List ℕ)) (i : ℕ) → i < length items
-    → take (get_or (ends (length before) items) (suc i) 0 - get_or (ends (length before) items) i 0) (drop (get_or (ends (length before) items) i 0) (before ++ concat items)) ≡ get_or items i []
+    → take (get_or (ends (length before) items) (suc i) 0 - get_or (ends (length before) items) i 0)
+    (drop (get_or (ends (length before) items) i 0) (before ++ concat items)) ≡ get_or items i []
 item-there before [] i lt = absurd (omega arith)
 item-there before (item ∷ items) zero lt =
     let next = first-end (length before + length item) items in
@@ -64,14 +66,16 @@ module _ (wide : Bool) (items : List (List ℕ)) (small : length (concat items) 
   all-wide k d lt = length-le_bytes (offset_width wide) _
 
   pub length-offset_bytes : length (offset_bytes wide items) ≡ (length items + 1) * offset_width wide
-  length-offset_bytes = length-pieces (le_bytes (offset_width wide)) (offset_width wide) (ends 0 items) all-wide ∙ ap (λ n. n * offset_width wide) (length-ends 0 items)
+  length-offset_bytes =
+      length-pieces (le_bytes (offset_width wide)) (offset_width wide) (ends 0 items) all-wide ∙ ap (λ n. n * offset_width wide) (length-ends 0 items)
 
   offset-is : (i : ℕ) → i < length items + 1 → offset_in wide (offset_bytes wide items) i ≡ pos (get_or (ends 0 items) i 0)
   offset-is i lt =
       let within = ends-within 0 items i lt in
       let below : get_or (ends 0 items) i 0 < limit wide = omega (arith, within.1) in
       let number : number_at (offset_bytes wide items) (i * offset_width wide) (offset_width wide) ≡ get_or (ends 0 items) i 0 =
-      number-there (le_bytes (offset_width wide)) (offset_width wide) (ends 0 items) i 0 (get_or (ends 0 items) i 0) all-wide (omega (arith, length-ends 0 items)) refl (limit-fits wide _ below) in
+      number-there (le_bytes (offset_width wide)) (offset_width wide) (ends 0 items) i 0 (get_or (ends 0 items) i 0) all-wide
+      (omega (arith, length-ends 0 items)) refl (limit-fits wide _ below) in
       ap (meant (offset_width wide) true) number ∙ signed-small (offset_width wide) (get_or (ends 0 items) i 0) below
 
   -- the first one is 0, none is above the next one, and the last one is the end of all bytes
@@ -88,7 +92,8 @@ module _ (wide : Bool) (items : List (List ℕ)) (small : length (concat items) 
 
   -- the bytes between two of them are an item
   pub item-between : (i : ℕ) → i < length items
-      → take (natural (offset_in wide (offset_bytes wide items) (i + 1)) - natural (offset_in wide (offset_bytes wide items) i)) (drop (natural (offset_in wide (offset_bytes wide items) i)) (concat items)) ≡ get_or items i []
+      → take (natural (offset_in wide (offset_bytes wide items) (i + 1)) - natural (offset_in wide (offset_bytes wide items) i))
+      (drop (natural (offset_in wide (offset_bytes wide items) i)) (concat items)) ≡ get_or items i []
   item-between i lt =
       let next : i + 1 ≡ suc i = omega arith in
       rw (offset-is (i + 1) (omega arith), offset-is i (omega arith), next) (item-there [] items i lt)

@@ -68,10 +68,12 @@ made-holds (None ∷ contents) = omega (arith, made-holds contents)
 made-holds (Some content ∷ contents) = omega (arith, made-holds contents)
 
 -- a column costs its node, its holds and its dictionary
-pub column-cost : (kind : DataType) (values : List Value) (dictionary : Option ArrayTree) → Cost (column_tree kind values dictionary) ≤ 4 + cost_of_maybe holds (maybe_tree dictionary)
+pub column-cost : (kind : DataType) (values : List Value) (dictionary : Option ArrayTree)
+    → Cost (column_tree kind values dictionary) ≤ 4 + cost_of_maybe holds (maybe_tree dictionary)
 column-cost kind values dictionary = omega (arith, made-holds (encoded kind values).buffers, three (is_wide kind) (form_of kind) values)
 
-pub dictionary-depth : (kind : DataType) (values : List Value) (dictionary : Option ArrayTree) → AreIndicesIf kind values dictionary → depth_of_maybe (maybe_tree dictionary) ≤ 127
+pub dictionary-depth : (kind : DataType) (values : List Value) (dictionary : Option ArrayTree) → AreIndicesIf kind values dictionary
+    → depth_of_maybe (maybe_tree dictionary) ≤ 127
 dictionary-depth kind values None are = omega arith
 dictionary-depth kind values (Some dictionary) are = are.not_deep
 
@@ -82,11 +84,27 @@ columns-depth rows (column ∷ columns) all =
     omega (arith, here.not_deep, columns-depth rows columns (All-tail (IsColumn rows) column columns all))
 
 -- the parts of a finished column are those of its tree
-pub column-made : (built : Built) (kind : DataType) (values : List Value) (children : List ArrayTree) (dictionary : Option ArrayTree) → children ≡ [] → IsEncoded built kind values
-    → Live (record { length = built.length; null_count = built.null_count; offset = pos 0; buffers = buffers_of built.buffers.items; kind = Exported }) (trees children) (maybe_tree dictionary) ≡ column_tree kind values dictionary
+pub column-made : (built : Built) (kind : DataType) (values : List Value) (children : List ArrayTree) (dictionary : Option ArrayTree) → children ≡ []
+    → IsEncoded built kind values
+    → Live (record { length = built.length; null_count = built.null_count; offset = pos 0; buffers = buffers_of built.buffers.items; kind = Exported })
+    (trees children) (maybe_tree dictionary) ≡ column_tree kind values dictionary
 column-made built kind values children dictionary none is =
     let made = all-made built.buffers.items (encoded kind values).buffers is.buffers in
-    ap (λ (ts : List ArrayTree). Live (record { length = built.length; null_count = built.null_count; offset = pos 0; buffers = buffers_of built.buffers.items; kind = Exported }) (trees ts) (maybe_tree dictionary)) none
-    ∙ ap (λ (n : ℤ). Live (record { length = n; null_count = built.null_count; offset = pos 0; buffers = buffers_of built.buffers.items; kind = Exported }) no_trees (maybe_tree dictionary)) is.length
-    ∙ ap (λ (n : ℤ). Live (record { length = pos (length values); null_count = n; offset = pos 0; buffers = buffers_of built.buffers.items; kind = Exported }) no_trees (maybe_tree dictionary)) is.null_count
-    ∙ ap (λ (bs : List (Option Buffer)). Live (record { length = pos (length values); null_count = pos (null_total values); offset = pos 0; buffers = bs; kind = Exported }) no_trees (maybe_tree dictionary)) made
+    ap (λ (ts : List ArrayTree). Live (record {
+      length = built.length;
+      null_count = built.null_count;
+      offset = pos 0;
+      buffers = buffers_of built.buffers.items;
+      kind = Exported;
+    }) (trees ts) (maybe_tree dictionary)) none
+    ∙ ap (λ (n : ℤ). Live (record { length = n; null_count = built.null_count; offset = pos 0; buffers = buffers_of built.buffers.items; kind = Exported })
+    no_trees (maybe_tree dictionary)) is.length
+    ∙ ap (λ (n : ℤ). Live (record { length = pos (length values); null_count = n; offset = pos 0; buffers = buffers_of built.buffers.items; kind = Exported })
+    no_trees (maybe_tree dictionary)) is.null_count
+    ∙ ap (λ (bs : List (Option Buffer)). Live (record {
+      length = pos (length values);
+      null_count = pos (null_total values);
+      offset = pos 0;
+      buffers = bs;
+      kind = Exported;
+    }) no_trees (maybe_tree dictionary)) made

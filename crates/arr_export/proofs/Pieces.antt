@@ -15,7 +15,8 @@ module _ {X : Type 0} (f : X → List ℕ) (width : ℕ) where
       let rest = length-pieces xs (All-tail (λ x. length (f x) ≡ width) x xs all) in
       omega (arith, length-append (f x) (flat_map f xs))
 
-  pub piece-at : (xs : List X) (i : ℕ) (d : X) → All (λ x. length (f x) ≡ width) xs → i < length xs → take width (drop (i * width) (flat_map f xs)) ≡ f (get_or xs i d)
+  pub piece-at : (xs : List X) (i : ℕ) (d : X) → All (λ x. length (f x) ≡ width) xs → i < length xs
+      → take width (drop (i * width) (flat_map f xs)) ≡ f (get_or xs i d)
   piece-at [] i d all lt = absurd (omega arith)
   piece-at (x ∷ xs) zero d all lt =
       let none : zero * width ≡ 0 = omega arith in
@@ -41,7 +42,8 @@ number-back (suc width) number small =
     omega (arith, number-back width (number / 256) (omega (arith, power)))
 
 module _ {X : Type 0} (f : X → List ℕ) (width : ℕ) where
-  pub number-there : (xs : List X) (i : ℕ) (d : X) (number : ℕ) → All (λ x. length (f x) ≡ width) xs → i < length xs → f (get_or xs i d) ≡ le_bytes width number → number < 2 ^ (8 * width)
+  pub number-there : (xs : List X) (i : ℕ) (d : X) (number : ℕ) → All (λ x. length (f x) ≡ width) xs → i < length xs → f (get_or xs i d) ≡ le_bytes width number
+      → number < 2 ^ (8 * width)
       → number_at (flat_map f xs) (i * width) width ≡ number
   number-there xs i d number all lt is small =
       ap le_number (piece-at f width xs i d all lt ∙ is) ∙ number-back width number small

@@ -21,10 +21,12 @@ schemas-are : (cs : List Column) → member_schemas (members cs) ≡ trees (map 
 schemas-are [] = refl
 schemas-are (c ∷ cs) = ap (λ (ts : Trees SchemaMembers). more_trees (schema_of_column c) ts) (schemas-are cs)
 
-pub struct-schema : (name : List ℕ) (v : Vec ColumnType Global) → column_schema name (kind_of (Columns v)) ≡ node struct_format (Some name) nullable (code_schemas v.items) absent
+pub struct-schema : (name : List ℕ) (v : Vec ColumnType Global)
+    → column_schema name (kind_of (Columns v)) ≡ node struct_format (Some name) nullable (code_schemas v.items) absent
 struct-schema name v =
     ap (λ (k : Kind). column_schema name k) (view v)
-    ∙ ap (λ (ts : Trees SchemaMembers). node struct_format (Some name) nullable ts absent) (schemas-are (map column_of v.items) ∙ ap trees (schemas-mapped v.items))
+    ∙ ap (λ (ts : Trees SchemaMembers). node struct_format (Some name) nullable ts absent)
+    (schemas-are (map column_of v.items) ∙ ap trees (schemas-mapped v.items))
 
 kinds-are : (cs : List ColumnType) → MembersOk (members (map column_of cs)) → ColumnsOk cs
 kinds-are [] ok k d within = absurd (omega arith)

@@ -28,7 +28,8 @@ no-map : (kind : DataType) → HasForm (form_of kind) → MapFits kind no_trees
 no-map kinds.Map has = absurd has
 no-map kind has = tt
 
-values : Spelled → (level : ℕ) (name : Option (List ℕ)) (kind : DataType) → IsColumnKind kind → level ≤ 64 → TypedFrom level (values_schema name kind) (Live kind no_trees absent)
+values : Spelled → (level : ℕ) (name : Option (List ℕ)) (kind : DataType) → IsColumnKind kind → level ≤ 64
+    → TypedFrom level (values_schema name kind) (Live kind no_trees absent)
 values spelled level name kind ok small = (
   record {
     on_level = small;
@@ -43,7 +44,8 @@ values spelled level name kind ok small = (
 )
 
 mutual
-  column : Spelled → (level : ℕ) (name : List ℕ) (kind : Kind) → AreColumnKinds kind → level + Depth (column_schema name kind) ≤ 65 → TypedFrom level (column_schema name kind) (type_of_kind kind)
+  column : Spelled → (level : ℕ) (name : List ℕ) (kind : Kind) → AreColumnKinds kind → level + Depth (column_schema name kind) ≤ 65
+      → TypedFrom level (column_schema name kind) (type_of_kind kind)
   column spelled level name (Flat kind) ok fits = values spelled level (Some name) kind ok (omega (arith, fits))
   column spelled level name (Dict kind) ok fits = (
     record {
@@ -70,18 +72,24 @@ mutual
     tt,
   )
 
-  columns-of : Spelled → (level : ℕ) (members : Members) → MembersAreColumns members → level + depth_of_all (member_schemas members) ≤ 65 → KidsTyped level (member_schemas members) (types_of_members members)
+  columns-of : Spelled → (level : ℕ) (members : Members) → MembersAreColumns members → level + depth_of_all (member_schemas members) ≤ 65
+      → KidsTyped level (member_schemas members) (types_of_members members)
   columns-of spelled level no_members ok fits = tt
   columns-of spelled level (more_members name kind rest) ok fits =
       (column spelled level name kind ok.0 (omega (arith, fits)), columns-of spelled level rest ok.1 (omega (arith, fits)))
 
-all-columns : Spelled → (level : ℕ) (columns : List Column) → All (λ c. AreColumnKinds c.kind) columns → level + depth_of_all (trees (map schema_of_column columns)) ≤ 65
+all-columns : Spelled → (level : ℕ) (columns : List Column) → All (λ c. AreColumnKinds c.kind) columns
+    → level + depth_of_all (trees (map schema_of_column columns)) ≤ 65
     → KidsTyped level (trees (map schema_of_column columns)) (trees (types_of_columns columns))
 all-columns spelled level [] ok fits = tt
-all-columns spelled level (c ∷ cs) ok fits =
-    (column spelled level c.name c.kind (ok 0 c (omega (arith))) (omega (arith, fits)), all-columns spelled level cs (λ k d small. ok (suc k) d (omega (arith, small))) (omega (arith, fits)))
+all-columns spelled level (c ∷ cs) ok fits = (
+  column spelled level c.name c.kind (ok 0 c (omega (arith))) (omega (arith, fits)),
+  all-columns spelled level cs
+      (λ k d small. ok (suc k) d (omega (arith, small))) (omega (arith, fits)),
+)
 
-pub schema-typed : Spelled → (columns : List Column) → All (λ c. AreColumnKinds c.kind) columns → Depth (SchemaOf columns) ≤ 64 → TypedOf (SchemaOf columns) (type_of_columns columns)
+pub schema-typed : Spelled → (columns : List Column) → All (λ c. AreColumnKinds c.kind) columns → Depth (SchemaOf columns) ≤ 64
+    → TypedOf (SchemaOf columns) (type_of_columns columns)
 schema-typed spelled columns ok fits = (
   record {
     on_level = omega (arith);

@@ -26,7 +26,8 @@ schema-nodes columns = omega (arith, all-nodes columns)
 flat-levels : (columns : List Column) → AreFlat columns → depth_of_all (trees (map schema_of_column columns)) ≤ 1
 flat-levels [] flat = omega arith
 flat-levels (c ∷ cs) flat =
-    let one : Depth (schema_of_column c) ≡ Depth (column_schema c.name (Flat (flat zero c (omega arith)).0)) = ap (λ (k : Kind). Depth (column_schema c.name k)) (flat zero c (omega arith)).1 in
+    let one : Depth (schema_of_column c)
+    ≡ Depth (column_schema c.name (Flat (flat zero c (omega arith)).0)) = ap (λ (k : Kind). Depth (column_schema c.name k)) (flat zero c (omega arith)).1 in
     omega (arith, one, flat-levels cs (λ k d within. flat (suc k) d (omega arith)))
 
 pub flat-depth : (columns : List Column) → AreFlat columns → Depth (SchemaOf columns) ≤ 2

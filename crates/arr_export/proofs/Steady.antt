@@ -5,7 +5,8 @@ use Rattle.raw_array.specs.Members.{ArrayTree}
 use Rattle.fmt_string.specs.declared.kind.DataType.{DataType}
 use Rattle.layout_check.specs.Kinds.{KindTree}
 use Rattle.layout_check.specs.Rules.{Node, fails, in_order}
-use Rattle.layout_check.specs.Walk.{Steps, Walk, dictionary_step, fault_at, fault_by, first_some, node_fault, node_of, visit_fault, visits, walk_below, walk_children, walk_dictionary, walk_of, walks_of}
+use Rattle.layout_check.specs.Walk.{Steps, Walk, dictionary_step, fault_at, fault_by, first_some, node_fault, node_of, visit_fault, visits, walk_below}
+use Rattle.layout_check.specs.Walk.{walk_children, walk_dictionary, walk_of, walks_of}
 use Rattle.layout_check.specs.declared.rule.LayoutRule.{LayoutRule}
 use Rattle.layout_check.specs.declared.rule.Numbers.{Numbers}
 use Rattle.layout_check.proofs.Lawful.{left-none, right-none}
@@ -50,14 +51,17 @@ abbrev SteadyIf : Option Walk → Type 0
 SteadyIf None = Unit {0}
 SteadyIf (Some walk) = Steady walk
 
-children-steady : (walks : List Walk) → AllSteady walks → (k : ℕ) (p q : Steps) (children : List ArrayTree) → first_some visit_fault (walk_children walks k p children) ≡ None → first_some visit_fault (walk_children walks k q children) ≡ None
+children-steady : (walks : List Walk) → AllSteady walks → (k : ℕ) (p q : Steps) (children : List ArrayTree)
+    → first_some visit_fault (walk_children walks k p children) ≡ None → first_some visit_fault (walk_children walks k q children) ≡ None
 children-steady [] all k p q children e = refl
 children-steady (walk ∷ walks) all k p q [] e = refl
 children-steady (walk ∷ walks) all k p q (child ∷ rest) e =
     let parts = first_some-parts visit_fault (walk (p ++ k ∷ []) child) (walk_children walks (suc k) p rest) e in
-    first_some-append visit_fault (walk (q ++ k ∷ []) child) (walk_children walks (suc k) q rest) (all.0 (p ++ k ∷ []) (q ++ k ∷ []) child parts.0) (children-steady walks all.1 (suc k) p q rest parts.1)
+    first_some-append visit_fault (walk (q ++ k ∷ []) child) (walk_children walks (suc k) q rest) (all.0 (p ++ k ∷ []) (q ++ k ∷ []) child parts.0)
+    (children-steady walks all.1 (suc k) p q rest parts.1)
 
-dictionary-steady : (walk : Option Walk) → SteadyIf walk → (p q : Steps) (dictionary : Option ArrayTree) → first_some visit_fault (walk_dictionary walk p dictionary) ≡ None → first_some visit_fault (walk_dictionary walk q dictionary) ≡ None
+dictionary-steady : (walk : Option Walk) → SteadyIf walk → (p q : Steps) (dictionary : Option ArrayTree)
+    → first_some visit_fault (walk_dictionary walk p dictionary) ≡ None → first_some visit_fault (walk_dictionary walk q dictionary) ≡ None
 dictionary-steady None steady p q dictionary e = refl
 dictionary-steady (Some walk) steady p q None e = refl
 dictionary-steady (Some walk) steady p q (Some dictionary) e = steady (p ++ dictionary_step ∷ []) (q ++ dictionary_step ∷ []) dictionary e
@@ -69,7 +73,8 @@ below-steady walks walk all steady p q (Live own children dictionary) e =
     first_some-append visit_fault (walk_children walks 0 q (tree_list children)) (walk_dictionary walk q (option_tree dictionary))
     (children-steady walks all 0 p q (tree_list children) parts.0) (dictionary-steady walk steady p q (option_tree dictionary) parts.1)
 
-live-steady : (kind : DataType) (kids : Trees DataType) (dict : MaybeTree DataType) → AllSteady (walks_of kids) → SteadyIf (walk_of dict) → Steady (visits (Live kind kids dict))
+live-steady : (kind : DataType) (kids : Trees DataType) (dict : MaybeTree DataType) → AllSteady (walks_of kids) → SteadyIf (walk_of dict)
+    → Steady (visits (Live kind kids dict))
 live-steady kind kids dict all steady p q array e =
     let head = left-none (node_fault p (node_of kind kids dict array)) (first_some visit_fault (walk_below (walks_of kids) (walk_of dict) p array)) e in
     let rest = right-none (node_fault p (node_of kind kids dict array)) (first_some visit_fault (walk_below (walks_of kids) (walk_of dict) p array)) head e in

@@ -1,5 +1,6 @@
 -- A struct of lawful columns is a chunk, and its rows are the first items of the columns.
-use Rattle.std.proofs.Common.{◌≡◌, ◌∙◌, ℕ, zero, suc, ◌+◌, ◌^◌, ◌<◌, ◌≤◌, ℤ, pos, negsuc, not, List, [], ◌∷◌, ◌++◌, length, map, get_or, refl, sym, ap, arith, Option, None, Some}
+use Rattle.std.proofs.Common.{◌≡◌, ◌∙◌, ℕ, zero, suc, ◌+◌, ◌^◌, ◌<◌, ◌≤◌, ℤ, pos, negsuc, not, List, [], ◌∷◌, ◌++◌, length, map, get_or, refl, sym, ap, arith}
+use Rattle.std.proofs.Common.{Option, None, Some}
 use Rattle.std.specs.Prelude.{if◌then◌else◌, int_lt, nat_lt, ◌==◌, ◌&&◌}
 use Rattle.std.specs.Ordering.{int_eq}
 use Rattle.std.specs.List.{All}
@@ -14,7 +15,8 @@ use Rattle.layout_check.specs.Kinds.{KindTree}
 use Rattle.layout_check.specs.Layout.{natural}
 use Rattle.layout_check.specs.Rules.{child_short, count_wrong, fault_if, in_order, is_negative, live_length, null_count_wrong, null_total, short_child}
 use Rattle.layout_check.specs.Values.{field_items, readers, row_items, rows_of, tree_items, value_at}
-use Rattle.layout_check.specs.Walk.{ChunkOk, LayoutOk, Steps, fault_at, first_some, node_fault, node_of, top_fault, visit_fault, visits, walk_below, walk_children, walk_of, walks_of}
+use Rattle.layout_check.specs.Walk.{ChunkOk, LayoutOk, Steps, fault_at, first_some, node_fault, node_of, top_fault, visit_fault, visits, walk_below}
+use Rattle.layout_check.specs.Walk.{walk_children, walk_of, walks_of}
 use Rattle.layout_check.specs.declared.rule.LayoutRule.TheVariants as rules
 use Rattle.layout_check.specs.declared.rule.Numbers.{Numbers}
 use Rattle.layout_check.proofs.Lawful.{first_fault-lawful, lawful-first_fault, left-none}
@@ -35,16 +37,20 @@ no-rule path None e = refl
 no-rule path (Some numbers) e = cc
 
 -- the length of a lawful array isn't negative
-pub long-enough : (type : KindTree) (column : ArrayTree) (needed k : ℕ) → IsLive type → LayoutOk type column → needed ≤ tree_items column → short_child needed k (live_length column) ≡ None
+pub long-enough : (type : KindTree) (column : ArrayTree) (needed k : ℕ) → IsLive type → LayoutOk type column → needed ≤ tree_items column
+    → short_child needed k (live_length column) ≡ None
 long-enough Released column needed k live lawful le = absurd live
 long-enough (Live kind kids dict) Released needed k live lawful le = refl
 long-enough (Live kind kids dict) (Live own children dictionary) needed k live lawful le =
     let all = lawful-first_fault (Live kind kids dict) (Live own children dictionary) lawful in
-    let here = left-none (node_fault [] (node_of kind kids dict (Live own children dictionary))) (first_some visit_fault (walk_below (walks_of kids) (walk_of dict) [] (Live own children dictionary))) all in
+    let here =
+    left-none (node_fault [] (node_of kind kids dict (Live own children dictionary)))
+    (first_some visit_fault (walk_below (walks_of kids) (walk_of dict) [] (Live own children dictionary))) all in
     let length_rule : fault_at [] rules.NegativeLength (fault_if (is_negative own.length) 0 own.length (pos 0)) ≡ None = left-none _ _ here in
     long-by own.length needed k (no-rule [] (fault_if (is_negative own.length) 0 own.length (pos 0)) length_rule) le
 
-all-long : (types : List KindTree) (columns : List ArrayTree) (needed k : ℕ) → AreLawful types columns → All (λ column. needed ≤ tree_items column) columns → child_short needed k columns ≡ None
+all-long : (types : List KindTree) (columns : List ArrayTree) (needed k : ℕ) → AreLawful types columns → All (λ column. needed ≤ tree_items column) columns
+    → child_short needed k columns ≡ None
 all-long [] [] needed k are long = refl
 all-long [] (column ∷ columns) needed k are long = absurd are
 all-long (type ∷ types) [] needed k are long = absurd are
@@ -70,23 +76,34 @@ null-count n e = ap (λ (m : ℕ). fault_if (not (int_eq (pos 0) (negsuc 0)) && 
 
 -- ---- the node of a table, and what stands below it
 
-module _ (types : List KindTree) (columns : List ArrayTree) (rows : ℕ) (are : AreLawful types columns) (long : All (λ column. rows ≤ tree_items column) columns) (few : rows ≤ 2 ^ 40) where
+module _ (types : List KindTree) (columns : List ArrayTree) (rows : ℕ) (are : AreLawful types columns) (long : All (λ column. rows ≤ tree_items column) columns)
+    (few : rows ≤ 2 ^ 40) where
   node-passes : (path : Steps) → node_fault path (node_of kinds.Struct (trees types) absent (table_tree rows columns)) ≡ None
   node-passes path =
       let kids = tree_list-trees types in
       let children = tree_list-trees columns in
       let count : count_wrong (length (tree_list (trees columns))) (length (tree_list (trees types))) ≡ None =
-      no-fault (not (length (tree_list (trees columns)) == length (tree_list (trees types)))) 0 (pos (length (tree_list (trees columns)))) (pos (length (tree_list (trees types))))
+      no-fault (not (length (tree_list (trees columns)) == length (tree_list (trees types)))) 0 (pos (length (tree_list (trees columns))))
+      (pos (length (tree_list (trees types))))
       (ap not (eq-eqb _ _ (ap length children ∙ same-number types columns are ∙ sym (ap length kids)))) in
       let start : 0 + rows ≡ rows = omega arith in
       let short : child_short (0 + rows) 0 (tree_list (trees columns)) ≡ None =
       ap (λ (n : ℕ). child_short n 0 (tree_list (trees columns))) start ∙ ap (child_short rows 0) children ∙ all-long types columns rows 0 are long in
       let nulls : null_count_wrong (table_members rows) ≡ None = null-count (null_total (table_members rows) rows) (no-nulls rows rows) in
-      let window : fault_if (nat_lt (2 ^ 40) (0 + rows)) 0 (pos (0 + rows)) (pos (2 ^ 40)) ≡ None = no-fault (nat_lt (2 ^ 40) (0 + rows)) 0 (pos (0 + rows)) (pos (2 ^ 40)) (le-ltb (2 ^ 40) (0 + rows) (omega arith)) in
-      passes path (record { kind = kinds.Struct; kids = tree_list (trees types); dict = None; own = table_members rows; children = tree_list (trees columns); dictionary = None }) in_order
+      let window : fault_if (nat_lt (2 ^ 40) (0 + rows)) 0 (pos (0 + rows)) (pos (2 ^ 40)) ≡ None =
+      no-fault (nat_lt (2 ^ 40) (0 + rows)) 0 (pos (0 + rows)) (pos (2 ^ 40)) (le-ltb (2 ^ 40) (0 + rows) (omega arith)) in
+      passes path (record {
+        kind = kinds.Struct;
+        kids = tree_list (trees types);
+        dict = None;
+        own = table_members rows;
+        children = tree_list (trees columns);
+        dictionary = None;
+      }) in_order
       (refl, (refl, (refl, (count, (refl, (refl, (refl, (refl, (short, (nulls, (refl, (refl, (refl, (refl, (window, tt)))))))))))))))
 
-children-pass : (types : List KindTree) (columns : List ArrayTree) → AreLawful types columns → (k : ℕ) (path : Steps) → first_some visit_fault (walk_children (walks_of (trees types)) k path (tree_list (trees columns))) ≡ None
+children-pass : (types : List KindTree) (columns : List ArrayTree) → AreLawful types columns → (k : ℕ) (path : Steps)
+    → first_some visit_fault (walk_children (walks_of (trees types)) k path (tree_list (trees columns))) ≡ None
 children-pass [] [] are k path = refl
 children-pass [] (column ∷ columns) are k path = absurd are
 children-pass (type ∷ types) [] are k path = absurd are
@@ -95,17 +112,20 @@ children-pass (type ∷ types) (column ∷ columns) are k path =
     (steady type [] (path ++ k ∷ []) column (lawful-first_fault type column are.1))
     (children-pass types columns are.2 (suc k) path)
 
-pub table-chunk : (types : List KindTree) (columns : List ArrayTree) (rows : ℕ) → AreLawful types columns → All (λ column. rows ≤ tree_items column) columns → rows ≤ 2 ^ 40 → ChunkOk (table_type types) (table_tree rows columns)
+pub table-chunk : (types : List KindTree) (columns : List ArrayTree) (rows : ℕ) → AreLawful types columns → All (λ column. rows ≤ tree_items column) columns
+    → rows ≤ 2 ^ 40 → ChunkOk (table_type types) (table_tree rows columns)
 table-chunk types columns rows are long few = (
   first_fault-lawful (table_type types) (table_tree rows columns)
-      (both-none (node_fault [] (node_of kinds.Struct (trees types) absent (table_tree rows columns))) (first_some visit_fault (walk_children (walks_of (trees types)) 0 [] (tree_list (trees columns)) ++ []))
+      (both-none (node_fault [] (node_of kinds.Struct (trees types) absent (table_tree rows columns)))
+      (first_some visit_fault (walk_children (walks_of (trees types)) 0 [] (tree_list (trees columns)) ++ []))
       (node-passes types columns rows are long few [])
       (first_some-append visit_fault (walk_children (walks_of (trees types)) 0 [] (tree_list (trees columns))) [] (children-pass types columns are 0 []) refl)),
   top,
 )
   where
     top : top_fault (table_type types) (table_tree rows columns) ≡ None
-    top = ap (λ (n : ℕ). if nat_lt 0 n then Some (record { path = []; rule = rules.TopNulls; numbers = record { place = 0; left = pos n; right = pos 0 } }) else None) (no-nulls rows rows)
+    top = ap (λ (n : ℕ). if nat_lt 0 n then Some (record { path = []; rule = rules.TopNulls; numbers = record { place = 0; left = pos n; right = pos 0 } })
+        else None) (no-nulls rows rows)
 
 -- ---- the rows
 
@@ -113,7 +133,8 @@ readers-are : (types : List KindTree) → readers (trees types) ≡ map value_at
 readers-are [] = refl
 readers-are (type ∷ types) = ap (λ others. value_at type ∷ others) (readers-are types)
 
-pub table-rows : (types : List KindTree) (columns : List ArrayTree) (rows : ℕ) → rows_of (table_type types) (table_tree rows columns) ≡ rows_of_columns types columns rows
+pub table-rows : (types : List KindTree) (columns : List ArrayTree) (rows : ℕ)
+    → rows_of (table_type types) (table_tree rows columns) ≡ rows_of_columns types columns rows
 table-rows types columns rows =
     each-same (row_items (table_type types) (table_tree rows columns)) (field_items (map value_at types) columns) 0 rows (λ i lt.
     let place : 0 + (0 + i) ≡ 0 + i = omega arith in
@@ -121,7 +142,8 @@ table-rows types columns rows =
     ∙ ap (λ rs. field_items rs (tree_list (trees columns)) (0 + i)) (readers-are types)
     ∙ ap (λ cs. field_items (map value_at types) cs (0 + i)) (tree_list-trees columns))
 
-row-is : (types : List KindTree) (columns : List ArrayTree) (values : List (List Value)) (rows i : ℕ) → HaveValues types columns values → All (λ items. rows ≤ length items) values → i < rows
+row-is : (types : List KindTree) (columns : List ArrayTree) (values : List (List Value)) (rows i : ℕ) → HaveValues types columns values
+    → All (λ items. rows ≤ length items) values → i < rows
     → field_items (map value_at types) columns i ≡ map (λ items. get_or items i Null) values
 row-is [] [] [] rows i have long lt = refl
 row-is [] [] (items ∷ values) rows i have long lt = absurd have
@@ -133,11 +155,13 @@ row-is (type ∷ types) (column ∷ columns) (items ∷ values) rows i have long
     let count : tree_items column ≡ length items = sym (length-each (value_at type column) 0 (tree_items column)) ∙ ap length have.0 in
     let start : i ≡ 0 + i = omega arith in
     let here : value_at type column i ≡ get_or items i Null =
-    ap (value_at type column) start ∙ sym (value-there (value_at type column) 0 (tree_items column) i Null (omega (arith, count, enough))) ∙ ap (λ (vs : List Value). get_or vs i Null) have.0 in
+    ap (value_at type column) start ∙ sym (value-there (value_at type column) 0 (tree_items column) i Null (omega (arith, count, enough)))
+    ∙ ap (λ (vs : List Value). get_or vs i Null) have.0 in
     ap (λ v. v ∷ field_items (map value_at types) columns i) here
     ∙ ap (λ vs. get_or items i Null ∷ vs) (row-is types columns values rows i have.1 (All-tail (λ (vs : List Value). rows ≤ length vs) items values long) lt)
 
-pub table-values : (types : List KindTree) (columns : List ArrayTree) (values : List (List Value)) (rows : ℕ) → HaveValues types columns values → All (λ items. rows ≤ length items) values
+pub table-values : (types : List KindTree) (columns : List ArrayTree) (values : List (List Value)) (rows : ℕ) → HaveValues types columns values
+    → All (λ items. rows ≤ length items) values
     → rows_of (table_type types) (table_tree rows columns) ≡ rows_of_values values rows
 table-values types columns values rows have long =
     table-rows types columns rows

@@ -1,5 +1,6 @@
 -- What it says that a column takes a value, and that the value is back from where it is stored.
-use Rattle.std.proofs.Common.{◌≡◌, ◌∙◌, ℕ, ◌+◌, ◌-◌, ◌*◌, ◌^◌, ◌<◌, ◌≤◌, inr, ℤ, pos, negsuc, Bool, true, false, not, ◌&&◌, List, [], length, refl, sym, ap, arith, Option, None, Some}
+use Rattle.std.proofs.Common.{◌≡◌, ◌∙◌, ℕ, ◌+◌, ◌-◌, ◌*◌, ◌^◌, ◌<◌, ◌≤◌, inr, ℤ, pos, negsuc, Bool, true, false, not, ◌&&◌, List, [], length, refl, sym, ap}
+use Rattle.std.proofs.Common.{arith, Option, None, Some}
 use Rattle.std.specs.Prelude.{if◌then◌else◌, ◌==◌}
 use Rattle.std.proofs.lemmas.Bool.{and_parts, eqb-true, false≢true, ltb-true, true≢false}
 use Rattle.std.proofs.lemmas.List.{length-replicate}
@@ -47,7 +48,8 @@ taken wide form value e some = by-tests wide form value e
 
 -- ---- the size of what is stored
 
-pub sized-number : (wide : Bool) (form : Form) (width : ℕ) → ((bytes : List ℕ) → is_form form (Bytes bytes) ≡ false) → (value : Value) → fault_if wide (Some form) [] value ≡ None → length (stored_item width value) ≡ width
+pub sized-number : (wide : Bool) (form : Form) (width : ℕ) → ((bytes : List ℕ) → is_form form (Bytes bytes) ≡ false) → (value : Value)
+    → fault_if wide (Some form) [] value ≡ None → length (stored_item width value) ≡ width
 sized-number wide form width none (Whole number) e = length-le_bytes width (stored width number)
 sized-number wide form width none (Bits number) e = length-le_bytes width number
 sized-number wide form width none (Bytes bytes) e = absurd (false≢true (sym (none bytes) ∙ (by-tests wide form (Bytes bytes) e).form_ok))
@@ -88,13 +90,15 @@ back width false (negsuc n) is range = absurd (false≢true range)
 abbrev pub Finds : ℕ → Value → ℕ → Type 0
 Finds width value found = (number : ℕ) → stored_item width value ≡ le_bytes width number → number < 2 ^ (8 * width) → found ≡ number
 
-pub whole-is : (width : ℕ) (signed : Bool) (value : Value) (found : ℕ) → IsWidth width → IsTaken (Wholes (8 * width) signed) value → Finds width value found → Whole (meant width signed found) ≡ value
+pub whole-is : (width : ℕ) (signed : Bool) (value : Value) (found : ℕ) → IsWidth width → IsTaken (Wholes (8 * width) signed) value → Finds width value found
+    → Whole (meant width signed found) ≡ value
 whole-is width signed (Whole number) found is ok finds =
     let b = back width signed number is ok.storable in
     ap Whole (ap (meant width signed) (finds (stored width number) refl b.small) ∙ b.meant_is)
 whole-is width signed value found is ok finds = absurd (false≢true ok.form_ok)
 
-pub decimal-is : (precision places : ℕ) (value : Value) (found : ℕ) → IsTaken (Decimals precision places) value → Finds 16 value found → Whole (meant 16 true found) ≡ value
+pub decimal-is : (precision places : ℕ) (value : Value) (found : ℕ) → IsTaken (Decimals precision places) value → Finds 16 value found
+    → Whole (meant 16 true found) ≡ value
 decimal-is precision places (Whole number) found ok finds =
     let b = back 16 true number (inr (inr (inr (inr refl)))) ok.storable in
     ap Whole (ap (meant 16 true) (finds (stored 16 number) refl b.small) ∙ b.meant_is)

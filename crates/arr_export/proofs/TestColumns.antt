@@ -33,7 +33,8 @@ bounded-by : (form : Option Form) (total : ℕ) → total < 2 ^ 63 → are_bound
 bounded-by None total small = refl
 bounded-by (Some form) total small = bounded-if (is_by_offsets form) total small
 
-pub fitting : (kind : DataType) (values : List Value) → KindOk kind → HasForm (form_of kind) → length values ≤ 2 ^ 40 → AllByRecursion (λ value. push_fault kind [] value ≡ None) values → byte_total values < 2 ^ 31 → Fits kind values
+pub fitting : (kind : DataType) (values : List Value) → KindOk kind → HasForm (form_of kind) → length values ≤ 2 ^ 40
+    → AllByRecursion (λ value. push_fault kind [] value ≡ None) values → byte_total values < 2 ^ 31 → Fits kind values
 fitting kind values ok form few each small = record {
   kind_ok = ok;
   flat = form;

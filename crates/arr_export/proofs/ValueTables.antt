@@ -21,10 +21,12 @@ lawful : (own : TypedValues) (dictionary : Option TypedValues) → Fits own.kind
     → LayoutOk (type_of (record { own = own; dictionary = dictionary })) (tree_of (record { own = own; dictionary = dictionary }))
 lawful own None fits has = column-lawful own.kind own.values fits
 lawful own (Some entries) fits has =
-    indices-lawful own.kind own.values (plain_type entries) (plain_tree entries) fits (entries-are own entries has) (column-lawful entries.kind entries.values has.1)
+    indices-lawful own.kind own.values (plain_type entries) (plain_tree entries) fits (entries-are own entries has)
+    (column-lawful entries.kind entries.values has.1)
 
 values-are : (own : TypedValues) (dictionary : Option TypedValues) → Fits own.kind own.values → HasEntries own dictionary
-    → values_of (type_of (record { own = own; dictionary = dictionary })) (tree_of (record { own = own; dictionary = dictionary })) ≡ values_by dictionary own.values
+    → values_of (type_of (record { own = own; dictionary = dictionary })) (tree_of (record { own = own; dictionary = dictionary }))
+    ≡ values_by dictionary own.values
 values-are own None fits has = column-values own.kind own.values fits
 values-are own (Some entries) fits has =
     indices-values own.kind own.values (plain_type entries) (plain_tree entries) fits (entries-are own entries has)
@@ -40,18 +42,22 @@ all-lawful rows (c ∷ cs) all =
     let here = All-head (IsValueColumn rows) c cs all in
     (tt, lawful c.own c.dictionary here.fits here.entries, all-lawful rows cs (All-tail (IsValueColumn rows) c cs all))
 
-all-values : (rows : ℕ) (columns : List ValueColumn) → All (IsValueColumn rows) columns → HaveValues (map type_of columns) (map tree_of columns) (map items_of columns)
+all-values : (rows : ℕ) (columns : List ValueColumn) → All (IsValueColumn rows) columns
+    → HaveValues (map type_of columns) (map tree_of columns) (map items_of columns)
 all-values rows [] all = tt
 all-values rows (c ∷ cs) all =
     let here = All-head (IsValueColumn rows) c cs all in
     (values-are c.own c.dictionary here.fits here.entries, all-values rows cs (All-tail (IsValueColumn rows) c cs all))
 
-pub value-chunk : (columns : List ValueColumn) (rows : ℕ) → All (IsValueColumn rows) columns → rows ≤ 2 ^ 40 → ChunkOk (table_type (map type_of columns)) (table_tree rows (map tree_of columns))
+pub value-chunk : (columns : List ValueColumn) (rows : ℕ) → All (IsValueColumn rows) columns → rows ≤ 2 ^ 40
+    → ChunkOk (table_type (map type_of columns)) (table_tree rows (map tree_of columns))
 value-chunk columns rows all few =
     table-chunk (map type_of columns) (map tree_of columns) rows (all-lawful rows columns all)
-    (All-map (λ column. rows ≤ tree_items column) tree_of columns (All-weaker (IsValueColumn rows) (λ c. rows ≤ length c.own.values) (λ c is. is.long) columns all)) few
+    (All-map (λ column. rows ≤ tree_items column) tree_of columns
+    (All-weaker (IsValueColumn rows) (λ c. rows ≤ length c.own.values) (λ c is. is.long) columns all)) few
 
-pub value-rows : (columns : List ValueColumn) (rows : ℕ) → All (IsValueColumn rows) columns → rows_of (table_type (map type_of columns)) (table_tree rows (map tree_of columns)) ≡ rows_of_values (map items_of columns) rows
+pub value-rows : (columns : List ValueColumn) (rows : ℕ) → All (IsValueColumn rows) columns
+    → rows_of (table_type (map type_of columns)) (table_tree rows (map tree_of columns)) ≡ rows_of_values (map items_of columns) rows
 value-rows columns rows all =
     table-values (map type_of columns) (map tree_of columns) (map items_of columns) rows (all-values rows columns all)
     (All-map (λ (vs : List Value). rows ≤ length vs) items_of columns

@@ -1,3 +1,4 @@
+//! Columns, dictionaries and a table as arrays, against the layouts that the standard shows.
 ghost use Rattle.std.specs.Prelude.{◌≡◌, ◌≤ℤ◌, ◌++◌, pos, List, [], ◌∷◌, Some};
 ghost use Rattle.layout_check.specs.Layout.{natural};
 ghost use Rattle.fmt_string.specs.Value.{Value};

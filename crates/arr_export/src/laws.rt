@@ -8,7 +8,8 @@ ghost use Rattle.layout_check.specs.Kinds.{KindTree};
 ghost use Rattle.layout_check.specs.Values.{rows_of, tree_items, values_of};
 ghost use Rattle.layout_check.specs.Walk.{ChunkOk, LayoutOk};
 ghost use Rattle.layout_check.specs.ColumnKinds.{table_type};
-ghost use Rattle.arr_export.specs.ArrayTrees.{AreIndices, AreLawful, HaveValues, column_tree, flat_type, looked_up, rows_of_columns, rows_of_values, table_tree};
+ghost use Rattle.arr_export.specs.ArrayTrees.{AreIndices, AreLawful, HaveValues, column_tree, flat_type, looked_up, rows_of_columns, rows_of_values};
+ghost use Rattle.arr_export.specs.ArrayTrees.{table_tree};
 ghost use Rattle.arr_export.specs.ValueColumns.{IsValueColumn, ValueColumn, items_of, tree_of, type_of};
 
 /// A law: a column's tree meets the layout rules, and its items are the values that it was made of ("Arrow Columnar
@@ -21,7 +22,8 @@ pub fn encoded_columns_are_lawful()
 /// A law: so does a column of indices into a lawful dictionary that has an item at each of them, and its items are those
 /// of the dictionary ("Arrow Columnar Format", "Dictionary-encoded Layout").
 pub fn indexed_columns_are_lawful()
-    ensures lawful { (kind : DataType) (values : List Value) (type : KindTree) (dictionary : ArrayTree) → Fits kind values → AreIndices kind values dictionary → LayoutOk type dictionary
+    ensures lawful { (kind : DataType) (values : List Value) (type : KindTree) (dictionary : ArrayTree) → Fits kind values → AreIndices kind values dictionary
+        → LayoutOk type dictionary
         → LayoutOk (flat_type kind (Some type)) (column_tree kind values (Some dictionary)) }
     ensures values { (kind : DataType) (values : List Value) (type : KindTree) (dictionary : ArrayTree) → Fits kind values → AreIndices kind values dictionary
         → values_of (flat_type kind (Some type)) (column_tree kind values (Some dictionary)) ≡ map (looked_up (values_of type dictionary)) values }
@@ -30,16 +32,21 @@ pub fn indexed_columns_are_lawful()
 /// A law: a table of lawful columns that are long enough meets the rules of a chunk, and its rows are the first items of
 /// the columns ("Arrow Columnar Format", "Struct Layout").
 pub fn lawful_columns_make_a_chunk()
-    ensures chunk { (types : List KindTree) (columns : List ArrayTree) (rows : ℕ) → AreLawful types columns → All (λ column. rows ≤ tree_items column) columns → rows ≤ 2 ^ 40
+    ensures chunk { (types : List KindTree) (columns : List ArrayTree) (rows : ℕ) → AreLawful types columns
+        → All (λ column. rows ≤ tree_items column) columns → rows ≤ 2 ^ 40
         → ChunkOk (table_type types) (table_tree rows columns) }
-    ensures rows { (types : List KindTree) (columns : List ArrayTree) (rows : ℕ) → rows_of (table_type types) (table_tree rows columns) ≡ rows_of_columns types columns rows }
-    ensures values { (types : List KindTree) (columns : List ArrayTree) (values : List (List Value)) (rows : ℕ) → HaveValues types columns values → All (λ items. rows ≤ length items) values
+    ensures rows { (types : List KindTree) (columns : List ArrayTree) (rows : ℕ)
+        → rows_of (table_type types) (table_tree rows columns) ≡ rows_of_columns types columns rows }
+    ensures values { (types : List KindTree) (columns : List ArrayTree) (values : List (List Value)) (rows : ℕ) → HaveValues types columns values
+        → All (λ items. rows ≤ length items) values
         → rows_of (table_type types) (table_tree rows columns) ≡ rows_of_values values rows }
 {}
 
 /// A law: a table of columns that are made of values, some through dictionaries, is a chunk, and its rows are these
 /// values.
 pub fn columns_of_values_make_a_chunk()
-    ensures chunk { (columns : List ValueColumn) (rows : ℕ) → All (IsValueColumn rows) columns → rows ≤ 2 ^ 40 → ChunkOk (table_type (map type_of columns)) (table_tree rows (map tree_of columns)) }
-    ensures rows { (columns : List ValueColumn) (rows : ℕ) → All (IsValueColumn rows) columns → rows_of (table_type (map type_of columns)) (table_tree rows (map tree_of columns)) ≡ rows_of_values (map items_of columns) rows }
+    ensures chunk { (columns : List ValueColumn) (rows : ℕ) → All (IsValueColumn rows) columns → rows ≤ 2 ^ 40
+        → ChunkOk (table_type (map type_of columns)) (table_tree rows (map tree_of columns)) }
+    ensures rows { (columns : List ValueColumn) (rows : ℕ) → All (IsValueColumn rows) columns
+        → rows_of (table_type (map type_of columns)) (table_tree rows (map tree_of columns)) ≡ rows_of_values (map items_of columns) rows }
 {}

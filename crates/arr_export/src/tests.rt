@@ -1,3 +1,4 @@
+//! The schema of a table, node by node: formats, names and flags.
 use super::export_schema;
 use fmt_string::{ColKind, ColumnType, DataType};
 use raw_schema::RawSchema;
@@ -6,21 +7,21 @@ use std::process::Abort;
 use std::test::Fail;
 use unit_pass::{Name, SUPPLY, open_desk};
 
-// A node's format, name and flags, as text.
+/// A node's format, name and flags, as text.
 fn shown(rt: &impl Abort, alloc: Global, tree: &RawSchema) -> Result<String, Fail> {
     assert!(rt; !tree.is_released());
     let text = format!(in alloc; "{:?} {:?} {}", tree.format(), tree.name(), tree.flags())?;
     Ok(text)
 }
 
-// A child, which must be there.
+/// A child, which must be there.
 fn child<'a>(rt: &impl Abort, tree: &'a RawSchema, i: u32) -> &'a RawSchema {
     assert!(rt; !tree.is_released());
     assert!(rt; i64::from(i) < tree.n_children());
     tree.child(i as usize)
 }
 
-// The dictionary, which must be there.
+/// The dictionary, which must be there.
 fn dictionary<'a>(rt: &impl Abort, tree: &'a RawSchema) -> &'a RawSchema {
     assert!(rt; !tree.is_released());
     match tree.dictionary() {

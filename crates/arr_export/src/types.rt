@@ -12,7 +12,8 @@ use fmt_string::spelling_reads_back;
 /// A law: the schema of columns meets the schema rules, and its types are those of the columns ("The Arrow C Data
 /// Interface", "The ArrowSchema structure").
 pub fn column_schemas_are_lawful()
-    ensures { (columns : List Column) → All (λ c. AreColumnKinds c.kind) columns → Depth (SchemaOf columns) ≤ 64 → TypedOf (SchemaOf columns) (type_of_columns columns) }
+    ensures { (columns : List Column) → All (λ c. AreColumnKinds c.kind) columns → Depth (SchemaOf columns) ≤ 64
+        → TypedOf (SchemaOf columns) (type_of_columns columns) }
 {
     spelling_reads_back();
 }

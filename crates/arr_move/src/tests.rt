@@ -1,3 +1,4 @@
+//! Columns and fields picked out of order, and a slice, against what their parents held.
 use crate::columns::{self, slice, take_columns};
 use crate::fields::{self, take_fields};
 use buf_block::{BufView, make};

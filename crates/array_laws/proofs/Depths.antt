@@ -1,11 +1,13 @@
 -- A lawful array is no deeper than its type.
 use Rattle.std.proofs.Common.{◌≡◌, ℕ, suc, ◌≤◌, [], ◌∷◌, ◌++◌, length, None, Some, ◌∙◌, Option, sym, List, arith}
 use Rattle.fmt_string.specs.declared.kind.DataType.{DataType}
-use Rattle.tree_model.specs.Tree.{Released, Live, Trees, no_trees, more_trees, MaybeTree, absent, present, tree_list, option_tree, Depth, depth_of_all, depth_of_maybe}
+use Rattle.tree_model.specs.Tree.{Released, Live, Trees, no_trees, more_trees, MaybeTree, absent, present, tree_list, option_tree, Depth, depth_of_all}
+use Rattle.tree_model.specs.Tree.{depth_of_maybe}
 use Rattle.raw_array.specs.Members.{ArrayMembers, ArrayTree}
-use Rattle.layout_check.specs.Kinds.{AllNodesOk, DictNodesOk, KindTree, NodesOk, dictionary_levels, levels, most_levels}
+use Rattle.layout_check.specs.Kinds.{AllNodesOk, DictNodesOk, KindTree, NodesOk}
 use Rattle.layout_check.specs.Rules.{count_wrong, one_if}
-use Rattle.layout_check.specs.Walk.{LayoutOk, Steps, dictionary_step, fault_from, first_some, node_fault, visit_fault, visits, walk_below, walk_children, walk_dictionary, walk_of, walks_of}
+use Rattle.layout_check.specs.Walk.{LayoutOk, Steps, dictionary_step, fault_from, first_some, node_fault, visit_fault, visits, walk_below, walk_children}
+use Rattle.layout_check.specs.Walk.{walk_dictionary, walk_of, walks_of}
 use Rattle.layout_check.proofs.Lawful.{lawful-first_fault, left-none, right-none}
 use Rattle.layout_check.proofs.Faults.{first_some-append}
 use Rattle.array_laws.proofs.NodeParts.{node-ok}
@@ -21,7 +23,7 @@ counted : (found needed : ℕ) → count_wrong found needed ≡ None → found �
 counted found needed e = grind arith
 
 mutual
-  depth-at : (typed : KindTree) → NodesOk typed → (path : Steps) (t : ArrayTree) → fault_from typed path t ≡ None → Depth t ≤ levels typed
+  depth-at : (typed : KindTree) → NodesOk typed → (path : Steps) (t : ArrayTree) → fault_from typed path t ≡ None → Depth t ≤ Depth typed
   depth-at Released ok path t e = absurd ok
   depth-at (Live kind kids dict) ok path Released e = omega arith
   depth-at (Live kind kids dict) ok path (Live m ts d) e =
@@ -41,7 +43,7 @@ mutual
       omega (arith, a, b)
 
   all-depth : (kids : Trees DataType) → AllNodesOk kids → (k : ℕ) (path : Steps) (ts : Trees ArrayMembers) → length (tree_list ts) ≡ length (tree_list kids)
-      → first_some visit_fault (walk_children (walks_of kids) k path (tree_list ts)) ≡ None → depth_of_all ts ≤ most_levels kids
+      → first_some visit_fault (walk_children (walks_of kids) k path (tree_list ts)) ≡ None → depth_of_all ts ≤ depth_of_all kids
   all-depth no_trees ok k path no_trees same e = omega arith
   all-depth no_trees ok k path (more_trees t ts) same e = absurd (omega (arith, same))
   all-depth (more_trees kid kids) ok k path no_trees same e = omega arith
@@ -56,11 +58,11 @@ mutual
 
   dict-depth : (dict : MaybeTree DataType) → DictNodesOk dict → (path : Steps) (d : MaybeTree ArrayMembers)
       → one_if (option_tree d) ≡ one_if (option_tree dict)
-      → first_some visit_fault (walk_dictionary (walk_of dict) path (option_tree d)) ≡ None → depth_of_maybe d ≤ dictionary_levels dict
+      → first_some visit_fault (walk_dictionary (walk_of dict) path (option_tree d)) ≡ None → depth_of_maybe d ≤ depth_of_maybe dict
   dict-depth absent ok path absent same e = omega arith
   dict-depth absent ok path (present t) same e = absurd (omega (arith, same))
   dict-depth (present kinds) ok path absent same e = omega arith
   dict-depth (present kinds) ok path (present t) same e = depth-at kinds ok (path ++ dictionary_step ∷ []) t e
 
-pub depth-lawful : (typed : KindTree) (t : ArrayTree) → NodesOk typed → LayoutOk typed t → Depth t ≤ levels typed
+pub depth-lawful : (typed : KindTree) (t : ArrayTree) → NodesOk typed → LayoutOk typed t → Depth t ≤ Depth typed
 depth-lawful typed t ok lawful = depth-at typed ok [] t (lawful-first_fault typed t lawful)

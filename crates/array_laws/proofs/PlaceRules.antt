@@ -1,5 +1,6 @@
 -- The rules that say something of each item by the buffers' bytes, their number and the item's place alone.
-use Rattle.std.proofs.Common.{◌≡◌, ◌∙◌, ℕ, ◌+◌, ◌-◌, ◌*◌, ◌/◌, ◌≤◌, ℤ, pos, Bool, true, false, not, ◌&&◌, ◌==◌, List, length, take, drop, Option, None, Some, refl, sym, arith}
+use Rattle.std.proofs.Common.{◌≡◌, ◌∙◌, ℕ, ◌+◌, ◌-◌, ◌*◌, ◌/◌, ◌≤◌, ℤ, pos, Bool, true, false, not, ◌&&◌, ◌==◌, List, length, take, drop, Option, None, Some}
+use Rattle.std.proofs.Common.{refl, sym, arith}
 use Rattle.std.specs.Prelude.{if◌then◌else◌, int_lt, nat_lt}
 use Rattle.std.specs.Str.{is_utf8}
 use Rattle.std.specs.Str.Lossy.{utf8_valid_len}
@@ -12,7 +13,8 @@ use Rattle.layout_check.specs.declared.layout.Layout.TheVariants.{NoBuffers, Fix
 use Rattle.layout_check.specs.declared.rule.Numbers.{Numbers}
 use Rattle.layout_check.specs.Layout.{buffer, bytes_or_none, data_place, first, is_valid_by, items, natural, offset_in, view_width}
 use Rattle.layout_check.specs.Views.{is_long}
-use Rattle.layout_check.specs.Rules.{fault, fault_if, first_below, index_wrong, indices_wrong, is_negative, is_outside, misplaced, not_text, offset_falls, prefix_wrong, prefixes_wrong, texts_wrong, view_not_text, views_misplaced}
+use Rattle.layout_check.specs.Rules.{fault, fault_if, first_below, index_wrong, indices_wrong, is_negative, is_outside, misplaced, not_text, offset_falls}
+use Rattle.layout_check.specs.Rules.{prefix_wrong, prefixes_wrong, texts_wrong, view_not_text, views_misplaced}
 use Rattle.array_laws.specs.Shown.{shown_members}
 use Rattle.array_laws.proofs.NodeParts.{below-part, other-numbers}
 use Rattle.array_laws.proofs.ShownParts.{SameBytes, funext, shown-bytes}

@@ -1,8 +1,10 @@
 -- What is shown of a tree's parts, and which trees show the same.
 use Rattle.std.proofs.Common.{◌≡◌, ℕ, zero, suc, List, [], ◌∷◌, length, map, get_or, Option, None, Some, refl, ap, sym}
 use Rattle.std.proofs.lemmas.List.{length-map}
-use Rattle.tree_model.specs.Tree.{Released, Live, Trees, no_trees, more_trees, MaybeTree, absent, present, map_tree, map_trees, map_maybe, Alike, AllAlike, MaybeAlike}
-use Rattle.raw_array.specs.Members.{Buffer, ArrayMembers, ArrayTree, bytes_in, shared_buffer, lowered_buffer, shared_members, lowered_members, ShareOf, Lowered, LoweredBy, buffer_lowered_by, members_lowered_by, LikeBuffers, LikeMembers, Like}
+use Rattle.tree_model.specs.Tree.{Released, Live, Trees, no_trees, more_trees, MaybeTree, absent, present, map_tree, map_trees, map_maybe, Alike, AllAlike}
+use Rattle.tree_model.specs.Tree.{MaybeAlike}
+use Rattle.raw_array.specs.Members.{Buffer, ArrayMembers, ArrayTree, bytes_in, shared_buffer, lowered_buffer, shared_members, lowered_members, ShareOf, Lowered}
+use Rattle.raw_array.specs.Members.{LoweredBy, buffer_lowered_by, members_lowered_by, LikeBuffers, LikeMembers, Like}
 use Rattle.raw_array.specs.declared.array.ReleaseKind.TheVariants.{Assembled}
 use Rattle.layout_check.specs.Layout.{buffer}
 use Rattle.array_laws.specs.Shown.{shown_buffer, shown_members, SameShown}

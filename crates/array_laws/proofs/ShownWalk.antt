@@ -8,7 +8,8 @@ use Rattle.raw_array.specs.Members.{ArrayMembers, ArrayTree}
 use Rattle.layout_check.specs.declared.rule.LayoutRule.TheVariants as rules
 use Rattle.layout_check.specs.Kinds.{KindTree}
 use Rattle.layout_check.specs.Layout.{items}
-use Rattle.layout_check.specs.Walk.{ChunkOk, LayoutOk, Steps, Walk, dictionary_step, first_chunk_fault, first_fault, first_some, is_table, root_fault, top_fault, visit_fault, visits, walk_below, walk_children, walk_dictionary, walk_of, walks_of}
+use Rattle.layout_check.specs.Walk.{ChunkOk, LayoutOk, Steps, Walk, dictionary_step, first_chunk_fault, first_fault, first_some, is_table, root_fault}
+use Rattle.layout_check.specs.Walk.{top_fault, visit_fault, visits, walk_below, walk_children, walk_dictionary, walk_of, walks_of}
 use Rattle.layout_check.proofs.Faults.{first_some-append}
 use Rattle.layout_check.proofs.Lawful.{first_fault-lawful, lawful-first_fault}
 use Rattle.array_laws.specs.Shown.{SameShown, shown, shown_members}

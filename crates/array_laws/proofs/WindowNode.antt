@@ -1,5 +1,6 @@
 -- A part of a lawful node's window is lawful.
-use Rattle.std.proofs.Common.{◌≡◌, ◌∙◌, ℕ, zero, suc, ◌+◌, ◌-◌, ◌*◌, ◌<◌, ◌≤◌, ℤ, pos, negsuc, Bool, true, false, not, ◌&&◌, ◌==◌, List, [], ◌∷◌, length, Option, None, Some, refl, ap, sym, arith}
+use Rattle.std.proofs.Common.{◌≡◌, ◌∙◌, ℕ, zero, suc, ◌+◌, ◌-◌, ◌*◌, ◌<◌, ◌≤◌, ℤ, pos, negsuc, Bool, true, false, not, ◌&&◌, ◌==◌, List, [], ◌∷◌, length}
+use Rattle.std.proofs.Common.{Option, None, Some, refl, ap, sym, arith}
 use Rattle.std.specs.Prelude.{if◌then◌else◌, is_some, nat_lt, ◌||◌}
 use Rattle.std.specs.Ordering.{int_eq}
 use Rattle.std.proofs.lemmas.Bool.{le-ltb}
@@ -7,8 +8,11 @@ use Rattle.raw_array.specs.Members.{ArrayMembers, ArrayTree, nulls_in_part}
 use Rattle.layout_check.specs.declared.layout.Layout.{Layout}
 use Rattle.layout_check.specs.declared.layout.Layout.TheVariants.{NoBuffers, FixedWidth, TruthBits, ByOffsets, ListOffsets, FixedItems, ByChildren, Views}
 use Rattle.layout_check.specs.declared.rule.Numbers.{Numbers}
-use Rattle.layout_check.specs.Layout.{buffer, bytes, bytes_or_none, data_need, end, first, is_valid, is_valid_by, items, layout_of, natural, need, offset, view_width, offsets_need}
-use Rattle.layout_check.specs.Rules.{Node, buffer_absent, buffer_short, child_short, fault, fault_if, first_below, indices_wrong, is_behind_offsets, is_negative, items_need, live_length, null_count_wrong, null_count_wrong_in, null_total, offset_falls, offsets_fall, offsets_fall_if, prefixes_wrong, views_misplaced, short_child, texts_wrong, count_wrong, length_if, window_limit}
+use Rattle.layout_check.specs.Layout.{buffer, bytes, bytes_or_none, data_need, end, first, is_valid, is_valid_by, items, layout_of, natural, need, offset}
+use Rattle.layout_check.specs.Layout.{view_width, offsets_need}
+use Rattle.layout_check.specs.Rules.{Node, buffer_absent, buffer_short, child_short, fault, fault_if, first_below, indices_wrong, is_behind_offsets}
+use Rattle.layout_check.specs.Rules.{is_negative, items_need, live_length, null_count_wrong, null_count_wrong_in, null_total, offset_falls, offsets_fall}
+use Rattle.layout_check.specs.Rules.{offsets_fall_if, prefixes_wrong, views_misplaced, short_child, texts_wrong, count_wrong, length_if, window_limit}
 use Rattle.layout_check.proofs.Lawful.{left-none, right-none}
 use Rattle.layout_check.proofs.Long.{long-bytes}
 use Rattle.layout_check.proofs.TextData.{not_zero}

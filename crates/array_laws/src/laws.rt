@@ -1,9 +1,9 @@
-// Laws on trees of arrays: what a reader sees of them, and windows on them.
+//! Laws on trees of arrays: what a reader sees of them, and windows on them.
 ghost use Rattle.std.specs.Prelude.{◌≡◌, ◌≤◌, ◌<◌, ◌≤ℤ◌, ◌+◌, ◌-◌, ◌^◌, ℕ, pos, List, take, drop, length, get_or, ◌++◌};
 ghost use Rattle.fmt_string.specs.Table.{Row};
 ghost use Rattle.tree_model.specs.Tree.{Depth, IsLive, Released, child_at, children_of};
 ghost use Rattle.raw_array.specs.Members.{ArrayTree, Like, Lowered, LoweredBy, ShareOf, members_of};
-ghost use Rattle.layout_check.specs.Kinds.{KindTree, NodesOk, levels};
+ghost use Rattle.layout_check.specs.Kinds.{KindTree, NodesOk};
 ghost use Rattle.layout_check.specs.Layout.{end};
 ghost use Rattle.layout_check.specs.Values.{rows_of, tree_items, values_of};
 ghost use Rattle.layout_check.specs.Walk.{ChunkOk, LayoutOk, first_chunk_fault, first_fault};
@@ -75,7 +75,7 @@ pub fn lawful_structs_have_columns()
 
 /// A law: a lawful array is no deeper than its type.
 pub fn lawful_arrays_are_not_deep()
-    ensures { (typed : KindTree) (t : ArrayTree) → NodesOk typed → LayoutOk typed t → Depth t ≤ levels typed }
+    ensures { (typed : KindTree) (t : ArrayTree) → NodesOk typed → LayoutOk typed t → Depth t ≤ Depth typed }
 {}
 
 /// A law: a worker's window on its share of a chunk, of which k shares were made before, is a chunk with the part of the

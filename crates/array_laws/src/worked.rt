@@ -1,4 +1,4 @@
-// The laws' trees at small arrays, computed.
+//! The laws' trees at small arrays, computed, so that a wrong definition shows in numbers.
 ghost use Rattle.std.specs.Prelude.{◌≡◌, List, [], ◌∷◌, None, pos};
 ghost use Rattle.fmt_string.specs.Value.{Null};
 ghost use Rattle.raw_array.specs.Members.{Lowered, LoweredBy, ShareOf};

@@ -18,7 +18,8 @@ count_parts bytes first a (suc b) =
 
 -- three parts, of which the middle one is whole bytes
 pub three_parts : (bytes : List ℕ) (from len first end : ℕ) → from ≤ 8 * first → first ≤ end → 8 * end ≤ from + len
-    → clear_count bytes from len ≡ clear_count bytes from (8 * first - from) + clear_count bytes (8 * first) (8 * (end - first)) + clear_count bytes (8 * end) (from + len - 8 * end)
+    → clear_count bytes from len
+    ≡ clear_count bytes from (8 * first - from) + clear_count bytes (8 * first) (8 * (end - first)) + clear_count bytes (8 * end) (from + len - 8 * end)
 three_parts bytes from len first end low mid high =
     let whole : len ≡ (8 * first - from) + (8 * (end - first) + (from + len - 8 * end)) = omega arith in
     let one : from + (8 * first - from) ≡ 8 * first = omega arith in
@@ -26,7 +27,13 @@ three_parts bytes from len first end low mid high =
     let at_one = ap (λ (p : ℕ). clear_count bytes p (8 * (end - first) + (from + len - 8 * end))) one in
     let at_two = ap (λ (p : ℕ). clear_count bytes p (from + len - 8 * end)) two in
     ap (clear_count bytes from) whole
-    ∙ omega (arith, count_parts bytes from (8 * first - from) (8 * (end - first) + (from + len - 8 * end)), at_one, count_parts bytes (8 * first) (8 * (end - first)) (from + len - 8 * end), at_two)
+    ∙ omega (
+      arith,
+      count_parts bytes from (8 * first - from) (8 * (end - first) + (from + len - 8 * end)),
+      at_one,
+      count_parts bytes (8 * first) (8 * (end - first)) (from + len - 8 * end),
+      at_two,
+    )
 
 -- how many of the bits are set
 abbrev set_count : List ℕ → ℕ → ℕ → ℕ

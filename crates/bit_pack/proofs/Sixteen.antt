@@ -6,7 +6,8 @@ use Rattle.bit_pack.specs.Packed.{number_at, le_bytes}
 use Rattle.bit_pack.proofs.NumberFacts.{number_grows}
 
 -- a number's lowest bytes and the rest
-pub number_parts : (bytes : List ℕ) (at a k : ℕ) → at + a ≤ length bytes → number_at bytes at (a + k) ≡ number_at bytes at a + 256 ^ a * number_at bytes (at + a) k
+pub number_parts : (bytes : List ℕ) (at a k : ℕ) → at + a ≤ length bytes
+    → number_at bytes at (a + k) ≡ number_at bytes at a + 256 ^ a * number_at bytes (at + a) k
 number_parts bytes at zero k within =
     let here : at + 0 ≡ at = omega arith in
     let e = ap (λ (p : ℕ). number_at bytes p k) here in

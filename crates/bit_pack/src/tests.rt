@@ -1,3 +1,4 @@
+//! The least and the greatest number of each width as its bytes, both ways, and bits and counts across bytes.
 ghost use Rattle.std.specs.Prelude.{◌≡◌, length, IsTrue};
 ghost use Rattle.bit_pack.specs.Packed.{IsWidth, FitsWidth};
 

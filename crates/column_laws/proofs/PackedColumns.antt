@@ -1,5 +1,6 @@
 -- Columns that are packed into a struct, and a struct's columns in its place.
-use Rattle.std.proofs.Common.{◌≡◌, ◌∙◌, ℕ, zero, suc, ◌+◌, ◌^◌, ◌<◌, ◌≤◌, ℤ, pos, List, [], ◌∷◌, ◌++◌, length, map, get_or, take, drop, refl, ap, sym, subst, arith}
+use Rattle.std.proofs.Common.{◌≡◌, ◌∙◌, ℕ, zero, suc, ◌+◌, ◌^◌, ◌<◌, ◌≤◌, ℤ, pos, List, [], ◌∷◌, ◌++◌, length, map, get_or, take, drop, refl, ap, sym, subst}
+use Rattle.std.proofs.Common.{arith}
 use Rattle.std.specs.List.{All}
 use Rattle.std.proofs.lemmas.List.Elements.{All-nil, All-cons, All-head, All-tail}
 use Rattle.fmt_string.specs.Value.{Value, Null, Fields, values}
@@ -15,7 +16,8 @@ use Rattle.raw_array.specs.Windows.{Window}
 use Rattle.arr_move.specs.TreeActs.{struct_members}
 use Rattle.array_laws.proofs.ChunkParts.{StructFacts, struct-facts}
 use Rattle.column_laws.proofs.PickedColumns.{cut-lawful, cut-long, cut-row, cut_at, cuts-are, facts-cut, map-each, picked-chunk, row-picked}
-use Rattle.column_laws.proofs.StructRows.{CutFacts, all-append, all-drop, all-take, cut-facts, lawful-append, lawful-drop, lawful-take, row-append, row-drop, row-take, struct-item}
+use Rattle.column_laws.proofs.StructRows.{CutFacts, all-append, all-drop, all-take, cut-facts, lawful-append, lawful-drop, lawful-take, row-append, row-drop}
+use Rattle.column_laws.proofs.StructRows.{row-take, struct-item}
 use Rattle.array_laws.proofs.WindowItems.{each-same}
 use Rattle.fmt_string.specs.Parts.{AreWithin, IsFields, fields_of, packed, picked, unpacked}
 use Rattle.column_laws.specs.Picking.{AreLive, Packed, Unpacked, cut_children, packed_types, struct_like, unpacked_types}

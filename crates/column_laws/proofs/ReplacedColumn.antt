@@ -10,7 +10,8 @@ use Rattle.layout_check.specs.Walk.{ChunkOk, LayoutOk}
 use Rattle.layout_check.specs.ColumnKinds.{table_type}
 use Rattle.column_laws.proofs.PackedColumns.{like-chunk, like-rows}
 use Rattle.column_laws.proofs.PickedColumns.{map-each}
-use Rattle.column_laws.proofs.StructRows.{CutFacts, all-append, all-drop, all-take, cut-facts, lawful-append, lawful-drop, lawful-take, row-append, row-drop, row-take}
+use Rattle.column_laws.proofs.StructRows.{CutFacts, all-append, all-drop, all-take, cut-facts, lawful-append, lawful-drop, lawful-take, row-append, row-drop}
+use Rattle.column_laws.proofs.StructRows.{row-take}
 use Rattle.array_laws.proofs.WindowItems.{each-same, length-each}
 use Rattle.fmt_string.specs.Parts.{replaced}
 use Rattle.column_laws.specs.Picking.{AreLive, Replaced, cut_children}

@@ -1,4 +1,4 @@
-// Laws on the columns of trees: picked, packed, unpacked and replaced.
+//! Laws on the columns of trees: picked, packed, unpacked and replaced.
 ghost use Rattle.std.specs.Prelude.{◌≡◌, ◌≤◌, ◌<◌, ◌+◌, ℕ, List, map, length, get_or, All, ◌++◌};
 ghost use Rattle.fmt_string.specs.ColumnView.{members};
 ghost use Rattle.fmt_string.specs.Parts.{AreWithin, IsFields, member_columns, packed, packed_columns, picked, replaced, unpacked, unpacked_columns};

@@ -1,4 +1,4 @@
-// The laws' trees at a small chunk, computed.
+//! The laws' trees at a small chunk, computed, so that a wrong definition shows in numbers.
 ghost use Rattle.std.specs.Prelude.{◌≡◌, [], ◌∷◌};
 ghost use Rattle.fmt_string.specs.Parts.{picked};
 ghost use Rattle.fmt_string.specs.Value.{Null};

@@ -1,5 +1,6 @@
 -- The text of a value reads back as the value, form by form.
-use Rattle.std.proofs.Common.{◌≡◌, ◌≢◌, ℕ, zero, suc, ◌+◌, ◌-◌, ◌*◌, ◌/◌, ◌%◌, ◌^◌, ◌<◌, ◌≤◌, true, false, List, [], ◌∷◌, ◌++◌, length, replicate, Option, Some, None, refl, sym, ap, ◌∙◌, subst, append_assoc, arith, rules, length-append, inl, inr, lt-ltb, eq-eqb}
+use Rattle.std.proofs.Common.{◌≡◌, ◌≢◌, ℕ, zero, suc, ◌+◌, ◌-◌, ◌*◌, ◌/◌, ◌%◌, ◌^◌, ◌<◌, ◌≤◌, true, false, List, [], ◌∷◌, ◌++◌, length, replicate, Option, Some}
+use Rattle.std.proofs.Common.{None, refl, sym, ap, ◌∙◌, subst, append_assoc, arith, rules, length-append, inl, inr, lt-ltb, eq-eqb}
 use Rattle.std.specs.Prelude.{ℤ, pos, negsuc, nat_abs, Bool, nat_lt, nat_le, ◌==◌, ◌&&◌, ◌⊎◌, if◌then◌else◌, IsTrue}
 use Rattle.std.specs.List.{list_all, prefix_len, AllByRecursion}
 use Rattle.std.specs.Char.{is_ascii_digit, is_ascii_hexdigit, digit_value}
@@ -17,7 +18,9 @@ use Rattle.std.proofs.lemmas.Str.Parse.{IsNumeralModel, numerals_by_value}
 use Rattle.std.proofs.Math.Nat.{div-div-eq-div-mul, div-le_self, pow-succ', pow-zero, pow-le-pow_right}
 use Rattle.fmt_string.specs.declared.kind.DataType.{DataType}
 use Rattle.fmt_string.specs.Value.{Value, Null, Truth, Whole, Bits, Bytes, Items, Fields}
-use Rattle.fmt_string.specs.FieldText.{Form, is_numeral, in_range, read_whole, read_bits, hex_bytes, fraction_of, unscaled, read_unscaled, read_decimal, read_form, read_text, read_field, last_digits, hex_text, point_text, decimal_text, written_form, written_if, written_text, IsFlatForm, IsSomeFlat, IsFlatKind, IsOfForm, IsOfSome, IsValueOf, form_of}
+use Rattle.fmt_string.specs.FieldText.{Form, is_numeral, in_range, read_whole, read_bits, hex_bytes, fraction_of, unscaled, read_unscaled, read_decimal}
+use Rattle.fmt_string.specs.FieldText.{read_form, read_text, read_field, last_digits, hex_text, point_text, decimal_text, written_form, written_if}
+use Rattle.fmt_string.specs.FieldText.{written_text, IsFlatForm, IsSomeFlat, IsFlatKind, IsOfForm, IsOfSome, IsValueOf, form_of}
 use Rattle.fmt_string.specs.FieldText.Form.{Truths, Wholes, FloatBits, Text, HexBytes, SizedHex, Decimals}
 
 -- ---- digits
@@ -36,7 +39,8 @@ glyph_digit d small = grind arith
 
 length-last_digits : (base count n : ℕ) → length (last_digits base count n) ≡ count
 length-last_digits base zero n = refl
-length-last_digits base (suc count) n = omega (arith, length-append (last_digits base count (n / base)) (digit_glyph false (n % base) ∷ []), length-last_digits base count (n / base))
+length-last_digits base (suc count) n =
+    omega (arith, length-append (last_digits base count (n / base)) (digit_glyph false (n % base) ∷ []), length-last_digits base count (n / base))
 
 hex_digits : (count n : ℕ) → list_all is_ascii_hexdigit (last_digits 16 count n) ≡ true
 hex_digits zero n = refl
@@ -51,11 +55,14 @@ decimal_digits (suc count) n =
     ∙ rw (decimal_digits count (n / 10), glyph_digit (n % 10) (omega arith)) refl
 
 -- digits in front of the lowest ones
-value_after : (base count n : ℕ) (front : List ℕ) → 0 < base → base ≤ 16 → digits_value base front ≡ n / base ^ count → digits_value base (front ++ last_digits base count n) ≡ n
-value_after base zero n front some few is = let one : n / 1 ≡ n = omega arith in ap (digits_value base) (append-nil front) ∙ is ∙ ap (λ (x : ℕ). n / x) (pow-zero base) ∙ one
+value_after : (base count n : ℕ) (front : List ℕ) → 0 < base → base ≤ 16 → digits_value base front ≡ n / base ^ count
+    → digits_value base (front ++ last_digits base count n) ≡ n
+value_after base zero n front some few is =
+    let one : n / 1 ≡ n = omega arith in ap (digits_value base) (append-nil front) ∙ is ∙ ap (λ (x : ℕ). n / x) (pow-zero base) ∙ one
 value_after base (suc count) n front some few is =
     let small : n % base < base = mod_below n base some in
-    let next : digits_value base front ≡ n / base / base ^ count = is ∙ ap (λ (x : ℕ). n / x) (pow-succ' base count) ∙ sym (div-div-eq-div-mul n base (base ^ count)) in
+    let next : digits_value base front ≡ n / base / base ^ count =
+    is ∙ ap (λ (x : ℕ). n / x) (pow-succ' base count) ∙ sym (div-div-eq-div-mul n base (base ^ count)) in
     ap (digits_value base) (sym (append_assoc front (last_digits base count (n / base)) (digit_glyph false (n % base) ∷ [])))
     ∙ digits_value_push base (front ++ last_digits base count (n / base)) (digit_glyph false (n % base))
     ∙ ap (λ (x : ℕ). x * base + digit_value (digit_glyph false (n % base))) (value_after base count (n / base) front some few next)
@@ -116,7 +123,8 @@ decimal_unsigned n small = subst (λ (t : List ℕ). Unsigned t) (append-nil (de
 few_bits : (bits : ℕ) (signed : Bool) → IsFlatForm (Wholes bits signed) → bits ≤ 64
 few_bits bits signed flat = omega (arith, flat)
 
-whole_back : (bits : ℕ) (signed : Bool) (z : ℤ) → IsFlatForm (Wholes bits signed) → IsTrue (in_range bits signed z) → read_whole bits signed (signed_decimal z) ≡ Some (Whole z)
+whole_back : (bits : ℕ) (signed : Bool) (z : ℤ) → IsFlatForm (Wholes bits signed) → IsTrue (in_range bits signed z)
+    → read_whole bits signed (signed_decimal z) ≡ Some (Whole z)
 whole_back bits signed (pos n) flat of =
     let small = in_range_small bits signed n (few_bits bits signed flat) of in
     let text = decimal_unsigned n small in
@@ -129,7 +137,8 @@ whole_back bits signed (negsuc n) flat of =
 -- ---- hexadecimal digits
 
 bits_back : (digits n : ℕ) → n < 16 ^ digits → read_bits digits (last_digits 16 digits n) ≡ Some (Bits n)
-bits_back digits n small = rw (eq-eqb (length (last_digits 16 digits n)) digits (length-last_digits 16 digits n), hex_digits digits n, hex_value digits n small) refl
+bits_back digits n small =
+    rw (eq-eqb (length (last_digits 16 digits n)) digits (length-last_digits 16 digits n), hex_digits digits n, hex_value digits n small) refl
 
 pub record FloatWidth (bits : ℕ) : Type 0 where
   pub some : 0 < bits / 4
@@ -163,7 +172,8 @@ front_len (c ∷ cs) rest is stops =
     let more = front_len cs rest parts.1 stops in
     rw parts.0 (omega (arith, more))
 
-parts_read : (places : ℕ) (ds rest fs : List ℕ) → is_numeral ds ≡ true → prefix_len is_ascii_digit rest ≡ 0 → fraction_of places rest ≡ Some fs → read_unscaled places (ds ++ rest) ≡ Some (unscaled places ds fs)
+parts_read : (places : ℕ) (ds rest fs : List ℕ) → is_numeral ds ≡ true → prefix_len is_ascii_digit rest ≡ 0 → fraction_of places rest ≡ Some fs
+    → read_unscaled places (ds ++ rest) ≡ Some (unscaled places ds fs)
 parts_read places ds rest fs is stops fraction =
     let parts = and_parts (nat_lt 0 (length ds)) (all_ascii_digits ds) is in
     rw (front_len ds rest parts.1 stops, parts.0, take_at ds rest (length ds) refl, drop_at ds rest (length ds) refl, fraction) refl
@@ -190,7 +200,8 @@ point_read (suc more) n small =
     let len = length-last_digits 10 (suc more) n in
     let digits = same_test fs ∙ decimal_digits (suc more) n in
     parts_read (suc more) (decimal (n / 10 ^ suc more)) (46 ∷ fs) fs number.is refl (fraction_read (suc more) fs (omega arith) len digits)
-    ∙ ap Some (unscaled_full (suc more) (decimal (n / 10 ^ suc more)) fs len ∙ value_after 10 (suc more) n (decimal (n / 10 ^ suc more)) (omega arith) (omega arith) number.value)
+    ∙ ap Some (unscaled_full (suc more) (decimal (n / 10 ^ suc more)) fs len
+    ∙ value_after 10 (suc more) n (decimal (n / 10 ^ suc more)) (omega arith) (omega arith) number.value)
 
 point_unsigned : (places n : ℕ) → n < 10 ^ 64 → Unsigned (point_text places n)
 point_unsigned zero n small = decimal_unsigned n small
@@ -209,7 +220,8 @@ size_small n precision few small =
     let most : 10 ^ precision ≤ 10 ^ 64 = pow-le-pow_right {n = 10} (omega arith) {i = precision} {j = 64} (omega (arith, few)) in
     omega (arith, most, small)
 
-decimal_back : (precision places : ℕ) (z : ℤ) → precision ≤ 38 → nat_abs z < 10 ^ precision → read_decimal precision places (decimal_text places z) ≡ Some (Whole z)
+decimal_back : (precision places : ℕ) (z : ℤ) → precision ≤ 38 → nat_abs z < 10 ^ precision
+    → read_decimal precision places (decimal_text places z) ≡ Some (Whole z)
 decimal_back precision places (pos n) few of =
     let small = size_small n precision few of in
     let text = point_unsigned places n small in
@@ -267,7 +279,8 @@ with_form mark type (Some form) value is flat of null =
 pub mark_is_null : (mark : List ℕ) (type : DataType) → read_field mark type mark ≡ Some Null
 mark_is_null mark type = rw ((bytes_eq-Decides mark mark).1 refl) refl
 
-pub reads_back : (type : DataType) (mark : List ℕ) (value : Value) → IsFlatKind type → IsValueOf type value → (written_text mark type value ≡ mark → value ≡ Null)
+pub reads_back : (type : DataType) (mark : List ℕ) (value : Value) → IsFlatKind type → IsValueOf type value
+    → (written_text mark type value ≡ mark → value ≡ Null)
     → read_field mark type (written_text mark type value) ≡ Some value
 reads_back type mark Null flat of null = mark_is_null mark type
 reads_back type mark (Truth truth) flat of null = with_form mark type (form_of type) (Truth truth) refl flat of null
@@ -286,7 +299,8 @@ some_form (Some form) value flat of some = written_some form value flat of some
 not_empty : (text : List ℕ) → 0 < length text → text ≡ [] → ⊥
 not_empty text some is = let none : length text ≡ 0 = ap length is in omega (arith, some, none)
 
-pub empty_texts : (type : DataType) (value : Value) → IsFlatKind type → IsValueOf type value → written_text [] type value ≡ [] → (value ≡ Null) ⊎ (value ≡ Bytes [])
+pub empty_texts : (type : DataType) (value : Value) → IsFlatKind type → IsValueOf type value → written_text [] type value ≡ []
+    → (value ≡ Null) ⊎ (value ≡ Bytes [])
 empty_texts type Null flat of is = inl refl
 empty_texts type (Bytes []) flat of is = inr refl
 empty_texts type (Bytes (b ∷ bs)) flat of is = absurd (not_empty _ (some_form (form_of type) (Bytes (b ∷ bs)) flat of (λ e. cc)) is)

@@ -1,5 +1,6 @@
 -- What is read is a value of its kind, form by form.
-use Rattle.std.proofs.Common.{◌≡◌, ℕ, zero, suc, ◌*◌, ◌/◌, ◌^◌, ◌<◌, ◌≤◌, inl, inr, true, false, List, [], ◌∷◌, length, Option, Some, None, refl, sym, ap, subst, arith}
+use Rattle.std.proofs.Common.{◌≡◌, ℕ, zero, suc, ◌*◌, ◌/◌, ◌^◌, ◌<◌, ◌≤◌, inl, inr, true, false, List, [], ◌∷◌, length, Option, Some, None, refl, sym, ap}
+use Rattle.std.proofs.Common.{subst, arith}
 use Rattle.std.specs.Prelude.{pos, neg_ℤ, nat_abs, Bool, nat_lt, nat_le, ◌==◌, ◌&&◌, ◌||◌, if◌then◌else◌}
 use Rattle.std.specs.List.{list_all, AllByRecursion}
 use Rattle.std.specs.Option.{option_map, option_and_then}
@@ -11,7 +12,8 @@ use Rattle.std.specs.Int.{is_in_range}
 use Rattle.std.proofs.lemmas.Int.Digits.{digits_value-lt}
 use Rattle.fmt_string.specs.declared.kind.DataType.{DataType}
 use Rattle.fmt_string.specs.Value.{Value, Null, Truth, Whole, Bits, Bytes, Items, Fields}
-use Rattle.fmt_string.specs.FieldText.{Form, is_numeral, in_range, hex_bytes, read_unscaled, read_form, read_field, read_text, IsFlatForm, IsSomeFlat, IsFlatKind, IsOfForm, IsOfSome, IsValueOf, form_of}
+use Rattle.fmt_string.specs.FieldText.{Form, is_numeral, in_range, hex_bytes, read_unscaled, read_form, read_field, read_text, IsFlatForm, IsSomeFlat}
+use Rattle.fmt_string.specs.FieldText.{IsFlatKind, IsOfForm, IsOfSome, IsValueOf, form_of}
 use Rattle.fmt_string.specs.FieldText.Form.{Truths, Wholes, FloatBits, Text, HexBytes, SizedHex, Decimals}
 use Rattle.fmt_string.proofs.FieldLaws.{float_width}
 
@@ -38,7 +40,8 @@ then_some f (Some x) v e = (x, refl, e)
 
 -- ---- forms
 
-truth_read : (yes other : Bool) (v : Value) → ◌≡◌ {A = Option Value} (if yes then Some (Truth true) else if other then Some (Truth false) else None) (Some v) → IsOfForm Truths v
+truth_read : (yes other : Bool) (v : Value) → ◌≡◌ {A = Option Value} (if yes then Some (Truth true) else if other then Some (Truth false) else None) (Some v)
+    → IsOfForm Truths v
 truth_read true other v e = subst (λ (x : Value). IsOfForm Truths x) (same_some (Truth true) v e) tt
 truth_read false true v e = subst (λ (x : Value). IsOfForm Truths x) (same_some (Truth false) v e) tt
 truth_read false false v e = absurd cc
@@ -51,7 +54,8 @@ upper_below c low high = rw (le-ltb c 48 (omega arith), le-ltb c 58 (omega arith
 
 lower_below : (c : ℕ) → 97 ≤ c → c ≤ 102 → digit_value c < 16
 lower_below c low high =
-    rw (le-ltb c 48 (omega arith), le-ltb c 58 (omega arith), le-ltb c 65 (omega arith), le-ltb c 91 (omega arith), le-ltb c 97 low, lt-ltb c 123 (omega arith)) (omega arith)
+    rw (le-ltb c 48 (omega arith), le-ltb c 58 (omega arith), le-ltb c 65 (omega arith), le-ltb c 91 (omega arith), le-ltb c 97 low, lt-ltb c 123 (omega arith))
+    (omega arith)
 
 bounds : (low high c : ℕ) → is_in_range low high c ≡ true → (low ≤ c) × (c ≤ high)
 bounds low high c is = let parts = and_parts (nat_le low c) (nat_le c high) is in (leb-true low c parts.0, leb-true c high parts.1)
@@ -71,7 +75,8 @@ hex_digits (c ∷ cs) is =
     let parts = and_parts (is_ascii_hexdigit c) (list_all is_ascii_hexdigit cs) is in
     (hex_below c parts.0, hex_digits cs parts.1)
 
-bits_below : (bits : ℕ) (text : List ℕ) → IsFlatForm (FloatBits bits) → ((length text == bits / 4) && list_all is_ascii_hexdigit text) ≡ true → digits_value 16 text < 2 ^ bits
+bits_below : (bits : ℕ) (text : List ℕ) → IsFlatForm (FloatBits bits) → ((length text == bits / 4) && list_all is_ascii_hexdigit text) ≡ true
+    → digits_value 16 text < 2 ^ bits
 bits_below bits text flat is =
     let parts = and_parts (length text == bits / 4) (list_all is_ascii_hexdigit text) is in
     let len : 16 ^ length text ≡ 16 ^ (bits / 4) = ap (λ (k : ℕ). 16 ^ k) (eqb-true (length text) (bits / 4) parts.0) in
@@ -100,8 +105,10 @@ size_of false n = refl
 form_read : (form : Form) (text : List ℕ) (v : Value) → IsFlatForm form → read_form form text ≡ Some v → IsOfForm form v
 form_read Truths text v flat e = truth_read _ _ v e
 form_read (Wholes bits signed) text v flat e =
-    let taken = if_some (is_numeral (without_leading_sign text) && in_range bits signed (signed_digits_value 10 text)) (Whole (signed_digits_value 10 text)) v e in
-    subst (λ (x : Value). IsOfForm (Wholes bits signed) x) taken.1 (and_parts (is_numeral (without_leading_sign text)) (in_range bits signed (signed_digits_value 10 text)) taken.0).1
+    let taken =
+    if_some (is_numeral (without_leading_sign text) && in_range bits signed (signed_digits_value 10 text)) (Whole (signed_digits_value 10 text)) v e in
+    subst (λ (x : Value). IsOfForm (Wholes bits signed) x) taken.1
+    (and_parts (is_numeral (without_leading_sign text)) (in_range bits signed (signed_digits_value 10 text)) taken.0).1
 form_read (FloatBits bits) text v flat e =
     let taken = if_some ((length text == bits / 4) && list_all is_ascii_hexdigit text) (Bits (digits_value 16 text)) v e in
     subst (λ (x : Value). IsOfForm (FloatBits bits) x) taken.1 (bits_below bits text flat taken.0)
@@ -117,9 +124,12 @@ form_read (SizedHex size) text v flat e =
     let read = hex_read text mapped.0 mapped.1 in
     subst (λ (x : Value). IsOfForm (SizedHex size) x) mapped.2 (omega (arith, read.len, eqb-true (length text) (2 * size) taken.0), read.small)
 form_read (Decimals precision places) text v flat e =
-    let taken = then_some (λ (n : ℕ). if nat_lt n (10 ^ precision) then Some (Whole (if starts_with_minus text then neg_ℤ (pos n) else pos n)) else None) (read_unscaled places (without_leading_sign text)) v e in
+    let taken =
+    then_some (λ (n : ℕ). if nat_lt n (10 ^ precision) then Some (Whole (if starts_with_minus text then neg_ℤ (pos n) else pos n)) else None)
+    (read_unscaled places (without_leading_sign text)) v e in
     let fits = if_some (nat_lt taken.0 (10 ^ precision)) (Whole (if starts_with_minus text then neg_ℤ (pos taken.0) else pos taken.0)) v taken.2 in
-    subst (λ (x : Value). IsOfForm (Decimals precision places) x) fits.1 (omega (arith, size_of (starts_with_minus text) taken.0, ltb-true taken.0 (10 ^ precision) fits.0))
+    subst (λ (x : Value). IsOfForm (Decimals precision places) x) fits.1
+    (omega (arith, size_of (starts_with_minus text) taken.0, ltb-true taken.0 (10 ^ precision) fits.0))
 
 -- ---- all kinds
 
@@ -132,7 +142,8 @@ value_of type (Bytes bytes) of = of
 value_of type (Items items) of = of
 value_of type (Fields fields) of = of
 
-read_value : (is : Bool) (type : DataType) (text : List ℕ) (v : Value) → IsFlatKind type → ◌≡◌ {A = Option Value} (if is then Some Null else read_text type text) (Some v) → IsValueOf type v
+read_value : (is : Bool) (type : DataType) (text : List ℕ) (v : Value) → IsFlatKind type
+    → ◌≡◌ {A = Option Value} (if is then Some Null else read_text type text) (Some v) → IsValueOf type v
 read_value true type text v flat e = subst (λ (x : Value). IsValueOf type x) (same_some Null v e) tt
 read_value false type text v flat e =
     let taken = then_some (λ (form : Form). read_form form text) (form_of type) v e in

@@ -39,13 +39,23 @@ between_letters c low high =
 is_lower : (c : ℕ) → 97 ≤ c → c ≤ 102 → DigitIs c
 unfolding DigitIs
 is_lower c low high =
-    rw (le-leb 65 c (omega arith), lt-leb c 70 (omega arith), le-leb 97 c low, le-leb c 102 high, le-leb 48 c (omega arith), lt-leb c 57 (omega arith))
-    (refl, rw (le-ltb c 48 (omega arith), le-ltb c 58 (omega arith), le-ltb c 65 (omega arith), le-ltb c 91 (omega arith), le-ltb c 97 low, lt-ltb c 123 (omega arith)) refl)
+    rw (le-leb 65 c (omega arith), lt-leb c 70 (omega arith), le-leb 97 c low, le-leb c 102 high, le-leb 48 c (omega arith), lt-leb c 57 (omega arith)) (
+      refl,
+      rw (
+        le-ltb c 48 (omega arith),
+        le-ltb c 58 (omega arith),
+        le-ltb c 65 (omega arith),
+        le-ltb c 91 (omega arith),
+        le-ltb c 97 low,
+        lt-ltb c 123 (omega arith),
+      ) refl,
+    )
 
 above_letters : (c : ℕ) → 102 < c → DigitIs c
 unfolding DigitIs
 above_letters c low =
-    rw (le-leb 65 c (omega arith), lt-leb c 70 (omega arith), le-leb 97 c (omega arith), lt-leb c 102 low, le-leb 48 c (omega arith), lt-leb c 57 (omega arith)) refl
+    rw (le-leb 65 c (omega arith), lt-leb c 70 (omega arith), le-leb 97 c (omega arith), lt-leb c 102 low, le-leb 48 c (omega arith), lt-leb c 57 (omega arith))
+    refl
 
 digit_cases : (c : ℕ) → DigitIs c
 digit_cases c = elim (cases_lt c 48) [
@@ -72,7 +82,8 @@ digit_cases c = elim (cases_lt c 48) [
 abbrev DecodesAs : Result (List ℕ) FromHexError → Option (List ℕ) → Type 0
 DecodesAs decoded bytes = MatchResult decoded (λ bs. bytes ≡ Some bs) (λ e. bytes ≡ None)
 
-behind_byte : (v : ℕ) (decoded : Result (List ℕ) FromHexError) (bytes : Option (List ℕ)) → DecodesAs decoded bytes → DecodesAs (decoded >>= (λ bs. Ok (v ∷ bs))) (option_map (λ bs. v ∷ bs) bytes)
+behind_byte : (v : ℕ) (decoded : Result (List ℕ) FromHexError) (bytes : Option (List ℕ)) → DecodesAs decoded bytes
+    → DecodesAs (decoded >>= (λ bs. Ok (v ∷ bs))) (option_map (λ bs. v ∷ bs) bytes)
 behind_byte v (Ok bs) bytes e = ap (option_map (λ bs. v ∷ bs)) e
 behind_byte v (Err e) bytes none = ap (option_map (λ bs. v ∷ bs)) none
 
@@ -91,7 +102,8 @@ pub decoded_is : (i : ℕ) (text : List ℕ) → DecodesAs (decode_pairs i text)
 unfolding decode_pairs DigitIs
 decoded_is i [] = refl
 decoded_is i (digit ∷ []) = refl
-decoded_is i (high ∷ low ∷ rest) = pair_is i high low rest (hex_digit_value high) (hex_digit_value low) refl refl (digit_cases high) (digit_cases low) (decoded_is (i + 2) rest)
+decoded_is i (high ∷ low ∷ rest) =
+    pair_is i high low rest (hex_digit_value high) (hex_digit_value low) refl refl (digit_cases high) (digit_cases low) (decoded_is (i + 2) rest)
 
 odd_text : (text : List ℕ) → (length text % 2 == 1) ≡ true → hex_bytes text ≡ None
 odd_text [] odd = absurd (false≢true odd)
@@ -110,12 +122,15 @@ sized_is text size e = elim (cases_Bool (length text % 2 == 1)) [
   | inr even ↦ rw (even, eq-eqb (length text / 2) size (sym e)) (decoded_is 0 text)
 ]
 
-pub decoded_ok : (decoded : Result (List ℕ) FromHexError) (bytes : Option (List ℕ)) (out : List ℕ) (result : Result (Unit {0}) FromHexError) → result ≡ Ok tt → DecodesAs decoded bytes
+pub decoded_ok : (decoded : Result (List ℕ) FromHexError) (bytes : Option (List ℕ)) (out : List ℕ) (result : Result (Unit {0}) FromHexError) → result ≡ Ok tt
+    → DecodesAs decoded bytes
     → MatchResult decoded (λ bs. (result ≡ Ok tt) × (out ≡ bs)) (λ e. result ≡ Err e) → bytes ≡ Some out
 decoded_ok (Ok bs) bytes out result ok same told = same ∙ ap (λ (xs : List ℕ). Some xs) (sym told.1)
 decoded_ok (Err e) bytes out result ok same told = let clash : ◌≡◌ {A = Result (Unit {0}) FromHexError} (Ok tt) (Err e) = sym ok ∙ told in absurd cc
 
-pub decoded_err : (decoded : Result (List ℕ) FromHexError) (bytes : Option (List ℕ)) (out : List ℕ) (result : Result (Unit {0}) FromHexError) (fault : FromHexError) → result ≡ Err fault → DecodesAs decoded bytes
+pub decoded_err : (decoded : Result (List ℕ) FromHexError) (bytes : Option (List ℕ)) (out : List ℕ) (result : Result (Unit {0}) FromHexError)
+    (fault : FromHexError) → result ≡ Err fault → DecodesAs decoded bytes
     → MatchResult decoded (λ bs. (result ≡ Ok tt) × (out ≡ bs)) (λ e. result ≡ Err e) → bytes ≡ None
-decoded_err (Ok bs) bytes out result fault err same told = let clash : ◌≡◌ {A = Result (Unit {0}) FromHexError} (Ok tt) (Err fault) = sym told.0 ∙ err in absurd cc
+decoded_err (Ok bs) bytes out result fault err same told =
+    let clash : ◌≡◌ {A = Result (Unit {0}) FromHexError} (Ok tt) (Err fault) = sym told.0 ∙ err in absurd cc
 decoded_err (Err e) bytes out result fault err same told = same

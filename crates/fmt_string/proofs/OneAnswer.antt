@@ -1,5 +1,6 @@
 -- A text has one reading: one kind or one fault.
-use Rattle.std.proofs.Common.{◌≡◌, ℕ, zero, suc, ◌+◌, ◌<◌, ◌^◌, Bool, true, false, cond, ltb, nat_eq, List, [], ◌∷◌, ◌++◌, length, get_or, drop, map, Option, Some, None, Ok, Err, refl, sym, ap, subst, ◌∙◌, inl, inr, arith}
+use Rattle.std.proofs.Common.{◌≡◌, ℕ, zero, suc, ◌+◌, ◌<◌, ◌^◌, Bool, true, false, cond, ltb, nat_eq, List, [], ◌∷◌, ◌++◌, length, get_or, drop, map, Option}
+use Rattle.std.proofs.Common.{Some, None, Ok, Err, refl, sym, ap, subst, ◌∙◌, inl, inr, arith}
 use Rattle.std.specs.Prelude.{IfOk, IfErr, Contains, All, ◌⊎◌, not}
 use Rattle.std.specs.List.{starts_with, list_all}
 use Rattle.std.specs.Str.Parse.{digits_value}
@@ -40,12 +41,14 @@ size_is make start text n is small =
     let yes : ltb n (2 ^ 31) ≡ true = lt-ltb n (2 ^ 31) small in
     rw (number_again text text [] n (whole text n is), is.value, yes) refl
 
-sized_more : (make : ℕ → DataType) (start : ℕ) (text digits more : List ℕ) (n : ℕ) → NumberThen text digits more n → 0 < length more → sized make start (number_of text) ≡ fault rules.Trailing (start + length digits)
+sized_more : (make : ℕ → DataType) (start : ℕ) (text digits more : List ℕ) (n : ℕ) → NumberThen text digits more n → 0 < length more
+    → sized make start (number_of text) ≡ fault rules.Trailing (start + length digits)
 unfolding sized
 sized_more make start text digits [] n then some = absurd (omega arith)
 sized_more make start text digits (c ∷ cs) n then some = rw (number_again text digits (c ∷ cs) n then) refl
 
-size_fails : (make : ℕ → DataType) (start : ℕ) (text : List ℕ) (rule : FormatRule) (p : ℕ) → SizeFails text rule p → sized make start (number_of text) ≡ fault rule (start + p)
+size_fails : (make : ℕ → DataType) (start : ℕ) (text : List ℕ) (rule : FormatRule) (p : ℕ) → SizeFails text rule p
+    → sized make start (number_of text) ≡ fault rule (start + p)
 unfolding sized
 size_fails make start text rules.BadNumber p h =
     let place : start ≡ start + p = omega (arith, h.1) in
@@ -142,12 +145,14 @@ not_both text v w rest h split true is =
       | inr n ↦ let yes : starts_with nat_eq w v ≡ true = begins w v n.0 n.1 in absurd cc
     ]
 
-apart_from : (w : List ℕ) (ks : List Keyword) (i : ℕ) (d : Keyword) → list_all (apart w) (map (λ k. k.word) ks) ≡ true → i < length ks → apart w (get_or ks i d).word ≡ true
+apart_from : (w : List ℕ) (ks : List Keyword) (i : ℕ) (d : Keyword) → list_all (apart w) (map (λ k. k.word) ks) ≡ true → i < length ks
+    → apart w (get_or ks i d).word ≡ true
 apart_from w [] i d all lt = absurd (omega arith)
 apart_from w (k ∷ ks) zero d all lt = and_left (apart w k.word) (list_all (apart w) (map (λ k. k.word) ks)) all
 apart_from w (k ∷ ks) (suc i) d all lt = apart_from w ks i d (and_right (apart w k.word) (list_all (apart w) (map (λ k. k.word) ks)) all) (omega arith)
 
-found_at : (ks : List Keyword) (text rest : List ℕ) (other : Answer) (i : ℕ) (d : Keyword) → is_prefix_free (map (λ k. k.word) ks) ≡ true → i < length ks → text ≡ (get_or ks i d).word ++ rest → in_table ks text other ≡ behind (get_or ks i d).behind (length (get_or ks i d).word) rest
+found_at : (ks : List Keyword) (text rest : List ℕ) (other : Answer) (i : ℕ) (d : Keyword) → is_prefix_free (map (λ k. k.word) ks) ≡ true → i < length ks
+    → text ≡ (get_or ks i d).word ++ rest → in_table ks text other ≡ behind (get_or ks i d).behind (length (get_or ks i d).word) rest
 unfolding in_table
 found_at [] text rest other i d free lt split = absurd (omega arith)
 found_at (k ∷ ks) text rest other zero d free lt split =
@@ -157,10 +162,12 @@ found_at (k ∷ ks) text rest other zero d free lt split =
 found_at (k ∷ ks) text rest other (suc i) d free lt split =
     let all = and_left (list_all (apart k.word) (map (λ k. k.word) ks)) (is_prefix_free (map (λ k. k.word) ks)) free in
     let more = and_right (list_all (apart k.word) (map (λ k. k.word) ks)) (is_prefix_free (map (λ k. k.word) ks)) free in
-    let no : starts_with nat_eq text k.word ≡ false = not_both text k.word (get_or ks i d).word rest (apart_from k.word ks i d all (omega arith)) split (starts_with nat_eq text k.word) refl in
+    let no : starts_with nat_eq text k.word ≡ false =
+    not_both text k.word (get_or ks i d).word rest (apart_from k.word ks i d all (omega arith)) split (starts_with nat_eq text k.word) refl in
     rw no (found_at ks text rest other i d more (omega arith) split)
 
-found : (ks : List Keyword) (text rest : List ℕ) (other : Answer) (key : Keyword) → is_prefix_free (map (λ k. k.word) ks) ≡ true → Contains ks key → text ≡ key.word ++ rest → in_table ks text other ≡ behind key.behind (length key.word) rest
+found : (ks : List Keyword) (text rest : List ℕ) (other : Answer) (key : Keyword) → is_prefix_free (map (λ k. k.word) ks) ≡ true → Contains ks key
+    → text ≡ key.word ++ rest → in_table ks text other ≡ behind key.behind (length key.word) rest
 found ks text rest other key free in_ks split =
     found_at ks text rest other in_ks.0 key free in_ks.1 (split ∙ ap (λ (k : Keyword). k.word ++ rest) (sym in_ks.2))
     ∙ ap (λ (k : Keyword). behind k.behind (length k.word) rest) in_ks.2
@@ -173,7 +180,8 @@ not_found : (ks : List Keyword) (text : List ℕ) (other : Answer) → All (λ k
 unfolding in_table
 not_found [] text other none = refl
 not_found (k ∷ ks) text other none =
-    let no : starts_with nat_eq text k.word ≡ false = not_begun text k.word (starts_with nat_eq text k.word) refl (All-head (λ k. IsPrefix k.word text → ⊥) k ks none) in
+    let no : starts_with nat_eq text k.word ≡ false =
+    not_begun text k.word (starts_with nat_eq text k.word) refl (All-head (λ k. IsPrefix k.word text → ⊥) k ks none) in
     rw no (not_found ks text other (All-tail (λ k. IsPrefix k.word text → ⊥) k ks none))
 
 -- ---- one answer
@@ -185,7 +193,8 @@ data Place (text : List ℕ) (read : Answer) : Type 0 where
   Unknown : (p : ℕ) → 0 < length text → UnknownAt text p → read ≡ fault rules.Unknown p → Place text read
 
 place_of_kind : (text : List ℕ) (kind : DataType) → FormatIs text kind → Place text (Ok kind)
-place_of_kind text kind is = Known (λ other. found keywords text is.rest other is.key keywords_apart is.known is.split ∙ rest_is is.key.behind (length is.key.word) is.rest kind is.completed)
+place_of_kind text kind is = Known
+    (λ other. found keywords text is.rest other is.key keywords_apart is.known is.split ∙ rest_is is.key.behind (length is.key.word) is.rest kind is.completed)
 
 place_of_fault : (text : List ℕ) (rule : FormatRule) (place : ℕ) → FormatFaultIs text rule place → Place text (fault rule place)
 unfolding behind
@@ -207,7 +216,8 @@ place_of text (Err (At rule place)) reads = place_of_fault text rule place reads
 place_of text (Err NoMemory) reads = absurd reads
 
 -- a text that begins with no keyword isn't at a known place
-no_place : (text : List ℕ) (read : Answer) → ((other : Answer) → in_table keywords text other ≡ read) → ((other : Answer) → in_table keywords text other ≡ other) → ⊥
+no_place : (text : List ℕ) (read : Answer) → ((other : Answer) → in_table keywords text other ≡ read)
+    → ((other : Answer) → in_table keywords text other ≡ other) → ⊥
 no_place text read known none =
     let a : read ≡ Ok kinds.Null = sym (known (Ok kinds.Null)) ∙ none (Ok kinds.Null) in
     let b : read ≡ Err NoMemory = sym (known (Err NoMemory)) ∙ none (Err NoMemory) in
@@ -233,12 +243,14 @@ same text a b (Unknown p some u is) (Unknown q some2 v is2) =
 pub one_reading : (text : List ℕ) (a b : Answer) → Reads text a → Reads text b → a ≡ b
 one_reading text a b ra rb = same text a b (place_of text a ra) (place_of text b rb)
 
-pub one_answer : (text : List ℕ) (result : Answer) → IfOk result (FormatIs text) → IfErr result (FaultIs text) → (read : Answer) → Reads text read → (result ≡ read) ⊎ (result ≡ Err NoMemory)
+pub one_answer : (text : List ℕ) (result : Answer) → IfOk result (FormatIs text) → IfErr result (FaultIs text) → (read : Answer) → Reads text read
+    → (result ≡ read) ⊎ (result ≡ Err NoMemory)
 one_answer text (Ok kind) found fault read reads = inl (one_reading text (Ok kind) read found reads)
 one_answer text (Err (At rule place)) found fault read reads = inl (one_reading text (Err (At rule place)) read fault reads)
 one_answer text (Err NoMemory) found fault read reads = inr refl
 
 pub one_spelling : (kind other : DataType) → KindOk kind → KindOk other → spelling_of kind ≡ spelling_of other → kind ≡ other
 one_spelling kind other kind_ok other_ok same =
-    let e : Ok kind ≡ Ok other = one_reading (spelling_of kind) (Ok kind) (Ok other) (spelled kind kind_ok) (subst (λ (t : List ℕ). FormatIs t other) (sym same) (spelled other other_ok)) in
+    let e : Ok kind ≡ Ok other =
+    one_reading (spelling_of kind) (Ok kind) (Ok other) (spelled kind kind_ok) (subst (λ (t : List ℕ). FormatIs t other) (sym same) (spelled other other_ok)) in
     cc

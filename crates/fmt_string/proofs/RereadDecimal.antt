@@ -1,5 +1,6 @@
 -- A decimal's numbers read by a function of the text.
-use Rattle.std.proofs.Common.{◌≡◌, ℕ, ℤ, pos, negsuc, ◌+◌, ◌<◌, ◌≤◌, ◌^◌, Bool, true, false, cond, nat_eq, ltb, List, [], ◌∷◌, ◌++◌, length, length-append, append_assoc, Option, Some, None, Result, Ok, Err, refl, sym, ap, subst, ◌∙◌, inl, inr, arith}
+use Rattle.std.proofs.Common.{◌≡◌, ℕ, ℤ, pos, negsuc, ◌+◌, ◌<◌, ◌≤◌, ◌^◌, Bool, true, false, cond, nat_eq, ltb, List, [], ◌∷◌, ◌++◌, length, length-append}
+use Rattle.std.proofs.Common.{append_assoc, Option, Some, None, Result, Ok, Err, refl, sym, ap, subst, ◌∙◌, inl, inr, arith}
 use Rattle.std.specs.Prelude.{FitsSigned, ◌⊎◌, ◌||◌}
 use Rattle.std.specs.Int.{w32}
 use Rattle.std.specs.Str.Parse.{digits_value}
@@ -11,7 +12,9 @@ use Rattle.fmt_string.specs.declared.fault.FormatFault.{FormatFault}
 use Rattle.fmt_string.specs.declared.fault.FormatFault.TheVariants.{At}
 use Rattle.fmt_string.specs.declared.kind.DataType.{DataType}
 use Rattle.fmt_string.specs.declared.kind.DataType.TheVariants as kinds
-use Rattle.fmt_string.specs.FormatString.{IsDigit, IsNumber, IsSigned, IsWidth, NoNumber, NumberThen, StartsWith, StartsWithDigit, comma, Parts, parts_text, PartsAre, Ends, width_of, most_precise, DecimalIs, NumberPlace, numbers_before, IsNumberPlace, Misses, KnownWidth, most_at, WidthFails, RangeFails, NumbersFail}
+use Rattle.fmt_string.specs.FormatString.{IsDigit, IsNumber, IsSigned, IsWidth, NoNumber, NumberThen, StartsWith, StartsWithDigit, comma, Parts, parts_text}
+use Rattle.fmt_string.specs.FormatString.{PartsAre, Ends, width_of, most_precise, DecimalIs, NumberPlace, numbers_before, IsNumberPlace, Misses, KnownWidth}
+use Rattle.fmt_string.specs.FormatString.{most_at, WidthFails, RangeFails, NumbersFail}
 use Rattle.fmt_string.specs.FormatString.NumberPlace.{AtPrecision, AtScale, AtWidth}
 use Rattle.fmt_string.specs.Decimal.{signed_value, width_value}
 use Rattle.fmt_string.proofs.Rereading.{number_of, number_again, no_number, signed_of, signed_again, no_signed, signed_is, other_byte}
@@ -31,7 +34,8 @@ of_scale : ℕ → ℕ → ℕ → ℤ → Bool → Answer
 of_scale start lp n z wide = cond (fits z) (Ok (kinds.Decimal n z wide)) (fault rules.OutOfRange (start + (lp + 1)))
 
 of_precision : ℕ → ℕ → ℕ → ℤ → Bool → Answer
-of_precision start lp n z wide = cond (ltb n 1) (fault rules.OutOfRange start) (cond (ltb (most_precise wide) n) (fault rules.OutOfRange start) (of_scale start lp n z wide))
+of_precision start lp n z wide =
+    cond (ltb n 1) (fault rules.OutOfRange start) (cond (ltb (most_precise wide) n) (fault rules.OutOfRange start) (of_scale start lp n z wide))
 
 of_width : ℕ → ℕ → ℕ → ℕ → ℤ → ℕ → Answer
 of_width start lp ls n z width =
@@ -68,18 +72,22 @@ numbers_of start text = with_precision start (number_of text)
 
 -- ---- texts that go on
 
-precision_again : (start : ℕ) (text p more : List ℕ) (n : ℕ) → IsNumber p n → text ≡ p ++ (44 ∷ more) → numbers_of start text ≡ with_scale start p (signed_of more)
+precision_again : (start : ℕ) (text p more : List ℕ) (n : ℕ) → IsNumber p n → text ≡ p ++ (44 ∷ more)
+    → numbers_of start text ≡ with_scale start p (signed_of more)
 unfolding numbers_of with_precision with_comma
 precision_again start text p more n is split =
     let then : NumberThen text p (44 ∷ more) n = record { is = is; split = split; ends = λ d. absurd (omega (arith, d)) } in
     rw (number_again text p (44 ∷ more) n then) refl
 
-scale_again : (start : ℕ) (p text s more : List ℕ) (z : ℤ) → IsSigned s z → text ≡ s ++ more → (StartsWithDigit more → ⊥) → with_scale start p (signed_of text) ≡ with_more start p s more
+scale_again : (start : ℕ) (p text s more : List ℕ) (z : ℤ) → IsSigned s z → text ≡ s ++ more → (StartsWithDigit more → ⊥)
+    → with_scale start p (signed_of text) ≡ with_more start p s more
 unfolding with_scale
 scale_again start p text s more z is split ends = rw (signed_again text s more z is split ends) refl
 
-both_again : (start : ℕ) (text p s more : List ℕ) (n : ℕ) (z : ℤ) → IsNumber p n → IsSigned s z → text ≡ p ++ (44 ∷ (s ++ more)) → (StartsWithDigit more → ⊥) → numbers_of start text ≡ with_more start p s more
-both_again start text p s more n z p_is s_is split ends = precision_again start text p (s ++ more) n p_is split ∙ scale_again start p (s ++ more) s more z s_is refl ends
+both_again : (start : ℕ) (text p s more : List ℕ) (n : ℕ) (z : ℤ) → IsNumber p n → IsSigned s z → text ≡ p ++ (44 ∷ (s ++ more)) → (StartsWithDigit more → ⊥)
+    → numbers_of start text ≡ with_more start p s more
+both_again start text p s more n z p_is s_is split ends =
+    precision_again start text p (s ++ more) n p_is split ∙ scale_again start p (s ++ more) s more z s_is refl ends
 
 pub regroup : (p s w more : List ℕ) → (((p ++ comma) ++ s) ++ w) ++ more ≡ p ++ (44 ∷ (s ++ (w ++ more)))
 regroup p s w more = simp append_assoc
@@ -92,29 +100,34 @@ at_end start parts (c ∷ cs) = fault rules.Trailing (start + length (parts_text
 text_length : (p s w : List ℕ) → length (((p ++ comma) ++ s) ++ w) ≡ length p + 1 + length s + length w
 text_length p s w = omega (arith, length-append ((p ++ comma) ++ s) w, length-append (p ++ comma) s, length-append p comma)
 
-more_again : (start : ℕ) (p s more : List ℕ) (w : List ℕ) → w ≡ [] → (StartsWith 44 more → ⊥) → with_more start p s more ≡ at_end start (record { precision = p; scale = s; width = w }) more
+more_again : (start : ℕ) (p s more : List ℕ) (w : List ℕ) → w ≡ [] → (StartsWith 44 more → ⊥)
+    → with_more start p s more ≡ at_end start (record { precision = p; scale = s; width = w }) more
 unfolding with_more at_end
 more_again start p s [] w none no_comma = ap (in_range start p s) (sym none)
 more_again start p s (c ∷ cs) w none no_comma =
     let place : length p + 1 + length s ≡ length (((p ++ comma) ++ s) ++ w) = omega (arith, text_length p s w, ap length none) in
     rw (other_byte c 44 no_comma) (ap (λ (k : ℕ). fault rules.Trailing (start + k)) place)
 
-width_again : (start : ℕ) (p s digits more : List ℕ) (n : ℕ) (w : List ℕ) → w ≡ 44 ∷ digits → IsNumber digits n → (StartsWithDigit more → ⊥) → with_more start p s (w ++ more) ≡ at_end start (record { precision = p; scale = s; width = w }) more
+width_again : (start : ℕ) (p s digits more : List ℕ) (n : ℕ) (w : List ℕ) → w ≡ 44 ∷ digits → IsNumber digits n → (StartsWithDigit more → ⊥)
+    → with_more start p s (w ++ more) ≡ at_end start (record { precision = p; scale = s; width = w }) more
 unfolding with_more with_width at_end
 width_again start p s digits [] n w is number ends =
     let then : NumberThen (digits ++ []) digits [] n = record { is = number; split = refl; ends = ends } in
-    ap (λ (t : List ℕ). with_more start p s (t ++ [])) is ∙ ap (with_width start p s) (number_again (digits ++ []) digits [] n then) ∙ ap (in_range start p s) (sym is)
+    ap (λ (t : List ℕ). with_more start p s (t ++ [])) is ∙ ap (with_width start p s) (number_again (digits ++ []) digits [] n then)
+    ∙ ap (in_range start p s) (sym is)
 width_again start p s digits (c ∷ cs) n w is number ends =
     let then : NumberThen (digits ++ (c ∷ cs)) digits (c ∷ cs) n = record { is = number; split = refl; ends = ends } in
     let place : length p + 1 + length s + 1 + length digits ≡ length (((p ++ comma) ++ s) ++ w) = omega (arith, text_length p s w, ap length is) in
-    ap (λ (t : List ℕ). with_more start p s (t ++ (c ∷ cs))) is ∙ ap (with_width start p s) (number_again (digits ++ (c ∷ cs)) digits (c ∷ cs) n then) ∙ ap (λ (k : ℕ). fault rules.Trailing (start + k)) place
+    ap (λ (t : List ℕ). with_more start p s (t ++ (c ∷ cs))) is ∙ ap (with_width start p s) (number_again (digits ++ (c ∷ cs)) digits (c ∷ cs) n then)
+    ∙ ap (λ (k : ℕ). fault rules.Trailing (start + k)) place
 
 not_digit : (w digits more : List ℕ) → w ≡ 44 ∷ digits → StartsWithDigit (w ++ more) → ⊥
 not_digit w digits more is starts =
     let d : IsDigit 44 = subst (λ (t : List ℕ). StartsWithDigit (t ++ more)) is starts in
     absurd (omega (arith, d))
 
-parts_again : (start : ℕ) (text : List ℕ) (parts : Parts) (more : List ℕ) (n : ℕ) (z : ℤ) (b : ℕ) → PartsAre parts n z b → text ≡ parts_text parts ++ more → Ends parts more → numbers_of start text ≡ at_end start parts more
+parts_again : (start : ℕ) (text : List ℕ) (parts : Parts) (more : List ℕ) (n : ℕ) (z : ℤ) (b : ℕ) → PartsAre parts n z b → text ≡ parts_text parts ++ more
+    → Ends parts more → numbers_of start text ≡ at_end start parts more
 parts_again start text parts more n z b are split ends =
     let whole : text ≡ parts.precision ++ (44 ∷ (parts.scale ++ (parts.width ++ more))) = split ∙ regroup parts.precision parts.scale parts.width more in
     elim are.width_is [
@@ -125,7 +138,8 @@ parts_again start text parts more n z b are split ends =
           ∙ ap (with_more start parts.precision parts.scale) same
           ∙ more_again start parts.precision parts.scale more parts.width none.0 (ends.1 none.0)
       | inr given ↦
-          both_again start text parts.precision parts.scale (parts.width ++ more) n z are.precision_is are.scale_is whole (not_digit parts.width given.0 more given.1)
+          both_again start text parts.precision parts.scale (parts.width ++ more) n z are.precision_is are.scale_is whole
+          (not_digit parts.width given.0 more given.1)
           ∙ width_again start parts.precision parts.scale given.0 more b parts.width given.1 given.2 ends.0
     ]
 
@@ -135,7 +149,8 @@ width_is : (w : List ℕ) (b : ℕ) → IsWidth w b → width_value w ≡ b
 width_is w b (inl none) = ap width_value none.0 ∙ sym none.1
 width_is w b (inr given) = ap width_value given.1 ∙ given.2.value
 
-range_again : (start : ℕ) (parts : Parts) (n : ℕ) (z : ℤ) (b : ℕ) → PartsAre parts n z b → in_range start parts.precision parts.scale parts.width ≡ of_width start (length parts.precision) (length parts.scale) n z b
+range_again : (start : ℕ) (parts : Parts) (n : ℕ) (z : ℤ) (b : ℕ) → PartsAre parts n z b
+    → in_range start parts.precision parts.scale parts.width ≡ of_width start (length parts.precision) (length parts.scale) n z b
 unfolding in_range
 range_again start parts n z b are = rw (are.precision_is.value, signed_is parts.scale z are.scale_is, width_is parts.width b are.width_is) refl
 
@@ -184,7 +199,8 @@ known : (width : ℕ) → KnownWidth width → (wide : Bool) × (width ≡ width
 known width (inl narrow) = (false, narrow, ap most_at narrow)
 known width (inr wide) = (true, wide, ap most_at wide)
 
-width_fails : (start lp ls n : ℕ) (z : ℤ) (width : ℕ) (rule : FormatRule) → WidthFails rule width → of_width start lp ls n z width ≡ fault rule (start + (lp + 1 + ls + 1))
+width_fails : (start lp ls n : ℕ) (z : ℤ) (width : ℕ) (rule : FormatRule) → WidthFails rule width
+    → of_width start lp ls n z width ≡ fault rule (start + (lp + 1 + ls + 1))
 unfolding of_width
 width_fails start lp ls n z width rules.Unsupported (inl is) = ap (of_width start lp ls n z) is
 width_fails start lp ls n z width rules.Unsupported (inr is) = ap (of_width start lp ls n z) is
@@ -199,7 +215,8 @@ width_fails start lp ls n z width rules.Unknown h = absurd h
 width_fails start lp ls n z width rules.BadNumber h = absurd h
 width_fails start lp ls n z width rules.Trailing h = absurd h
 
-range_fails : (start : ℕ) (parts : Parts) (n : ℕ) (z : ℤ) (b : ℕ) (rule : FormatRule) (p : ℕ) → RangeFails rule parts n z b p → of_width start (length parts.precision) (length parts.scale) n z b ≡ fault rule (start + p)
+range_fails : (start : ℕ) (parts : Parts) (n : ℕ) (z : ℤ) (b : ℕ) (rule : FormatRule) (p : ℕ) → RangeFails rule parts n z b p
+    → of_width start (length parts.precision) (length parts.scale) n z b ≡ fault rule (start + p)
 range_fails start parts n z b rule p (inl h) =
     width_fails start (length parts.precision) (length parts.scale) n z b rule h.0 ∙ ap (λ (k : ℕ). fault rule (start + k)) (sym h.1)
 range_fails start parts n z b rule p (inr (inl h)) =
@@ -224,7 +241,8 @@ range_fails start parts n z b rule p (inr (inr h)) =
 no_more : (parts : Parts) → Ends parts []
 no_more parts = (λ h. h, λ _ h. h)
 
-whole_again : (start : ℕ) (text : List ℕ) (parts : Parts) (n : ℕ) (z : ℤ) (b : ℕ) → PartsAre parts n z b → text ≡ parts_text parts → numbers_of start text ≡ of_width start (length parts.precision) (length parts.scale) n z b
+whole_again : (start : ℕ) (text : List ℕ) (parts : Parts) (n : ℕ) (z : ℤ) (b : ℕ) → PartsAre parts n z b → text ≡ parts_text parts
+    → numbers_of start text ≡ of_width start (length parts.precision) (length parts.scale) n z b
 unfolding at_end
 whole_again start text parts n z b are split =
     parts_again start text parts [] n z b are (split ∙ sym (append-nil (parts_text parts))) (no_more parts) ∙ range_again start parts n z b are
@@ -245,11 +263,13 @@ starts_scale : (start : ℕ) (p text : List ℕ) → signed_of text ≡ None →
 unfolding with_scale
 starts_scale start p text none = rw none refl
 
-starts_width : (start : ℕ) (p s text : List ℕ) → number_of text ≡ None → with_more start p s (44 ∷ text) ≡ fault rules.BadNumber (start + (length p + 1 + length s + 1))
+starts_width : (start : ℕ) (p s text : List ℕ) → number_of text ≡ None
+    → with_more start p s (44 ∷ text) ≡ fault rules.BadNumber (start + (length p + 1 + length s + 1))
 unfolding with_more with_width
 starts_width start p s text none = rw none refl
 
-missing : (start : ℕ) (text : List ℕ) (here : NumberPlace) (more : List ℕ) → IsNumberPlace here → text ≡ numbers_before here ++ more → Misses here more → numbers_of start text ≡ fault rules.BadNumber (start + length (numbers_before here))
+missing : (start : ℕ) (text : List ℕ) (here : NumberPlace) (more : List ℕ) → IsNumberPlace here → text ≡ numbers_before here ++ more → Misses here more
+    → numbers_of start text ≡ fault rules.BadNumber (start + length (numbers_before here))
 missing start text AtPrecision more is split misses =
     starts_precision start text (no_number text (subst NoNumber (sym split) misses)) ∙ ap (fault rules.BadNumber) (omega arith)
 missing start text (AtScale p) more is split misses =
@@ -267,7 +287,8 @@ unfolding with_comma
 no_comma start p [] h = refl
 no_comma start p (c ∷ cs) h = rw (other_byte c 44 h) refl
 
-comma_missing : (start : ℕ) (text p more : List ℕ) (n : ℕ) → NumberThen text p more n → (StartsWith 44 more → ⊥) → numbers_of start text ≡ fault rules.BadNumber (start + length p)
+comma_missing : (start : ℕ) (text p more : List ℕ) (n : ℕ) → NumberThen text p more n → (StartsWith 44 more → ⊥)
+    → numbers_of start text ≡ fault rules.BadNumber (start + length p)
 unfolding numbers_of with_precision
 comma_missing start text p more n then h = rw (number_again text p more n then) (no_comma start p more h)
 
@@ -276,8 +297,10 @@ unfolding at_end
 trailing start parts [] some = absurd (omega arith)
 trailing start parts (c ∷ cs) some = refl
 
-at_fault : (text : List ℕ) (start : ℕ) (rule known_rule : FormatRule) (p place : ℕ) → rule ≡ known_rule → p ≡ place → numbers_of start text ≡ fault known_rule (start + place) → numbers_of start text ≡ fault rule (start + p)
-at_fault text start rule known_rule p place same here is = is ∙ ap (λ (r : FormatRule). fault r (start + place)) (sym same) ∙ ap (λ (k : ℕ). fault rule (start + k)) (sym here)
+at_fault : (text : List ℕ) (start : ℕ) (rule known_rule : FormatRule) (p place : ℕ) → rule ≡ known_rule → p ≡ place
+    → numbers_of start text ≡ fault known_rule (start + place) → numbers_of start text ≡ fault rule (start + p)
+at_fault text start rule known_rule p place same here is =
+    is ∙ ap (λ (r : FormatRule). fault r (start + place)) (sym same) ∙ ap (λ (k : ℕ). fault rule (start + k)) (sym here)
 
 pub numbers_fail : (start : ℕ) (text : List ℕ) (rule : FormatRule) (p : ℕ) → NumbersFail text rule p → numbers_of start text ≡ fault rule (start + p)
 numbers_fail start text rule p (inl h) =

@@ -1,5 +1,6 @@
 -- Numbers read by a function of the text, to show that a text has one reading.
-use Rattle.std.proofs.Common.{◌≡◌, ◌≢◌, ℕ, suc, ℤ, pos, negsuc, neg_ℤ, ◌+◌, ◌<◌, Bool, true, false, cond, nat_eq, List, [], ◌∷◌, ◌++◌, Option, Some, None, refl, ap, subst, ◌∙◌, inl, inr, arith}
+use Rattle.std.proofs.Common.{◌≡◌, ◌≢◌, ℕ, suc, ℤ, pos, negsuc, neg_ℤ, ◌+◌, ◌<◌, Bool, true, false, cond, nat_eq, List, [], ◌∷◌, ◌++◌, Option, Some, None, refl}
+use Rattle.std.proofs.Common.{ap, subst, ◌∙◌, inl, inr, arith}
 use Rattle.std.specs.Char.{is_ascii_digit, digit_value}
 use Rattle.std.specs.Str.Parse.{AllDigits, digits_value}
 use Rattle.std.proofs.lemmas.Bool.Decides.{nat_tests}
@@ -95,7 +96,8 @@ not_zero [] n is = refl
 not_zero (c ∷ []) n is = other_byte c 48 (λ h. absurd (zero_alone c n h is.value))
 not_zero (c ∷ d ∷ ds) n is = other_byte c 48 (λ h. absurd (omega (arith, is.no_zero h)))
 
-pub signed_again : (text scale more : List ℕ) (z : ℤ) → IsSigned scale z → text ≡ scale ++ more → (StartsWithDigit more → ⊥) → signed_of text ≡ Some (scale, more)
+pub signed_again : (text scale more : List ℕ) (z : ℤ) → IsSigned scale z → text ≡ scale ++ more → (StartsWithDigit more → ⊥)
+    → signed_of text ≡ Some (scale, more)
 unfolding signed_of behind_minus
 signed_again text [] more (pos n) is split ends = absurd (omega (arith, is.some))
 signed_again text (c ∷ cs) more (pos n) is split ends =

@@ -1,5 +1,6 @@
 -- Each text has a reading: a kind or a first fault.
-use Rattle.std.proofs.Common.{◌≡◌, ◌≢◌, ℕ, zero, suc, ℤ, pos, negsuc, neg_ℤ, ◌+◌, ◌<◌, ◌≤◌, ◌^◌, Bool, true, false, nat_eq, List, [], ◌∷◌, ◌++◌, length, take, drop}
+use Rattle.std.proofs.Common.{◌≡◌, ◌≢◌, ℕ, zero, suc, ℤ, pos, negsuc, neg_ℤ, ◌+◌, ◌<◌, ◌≤◌, ◌^◌, Bool, true, false, nat_eq, List, [], ◌∷◌, ◌++◌, length, take}
+use Rattle.std.proofs.Common.{drop}
 use Rattle.std.proofs.Common.{Ok, refl, sym, ap, subst, ◌∙◌, inl, inr, arith, append_assoc}
 use Rattle.std.specs.Prelude.{◌⊎◌, All, Any, Contains, FitsSigned, codes}
 use Rattle.std.specs.Int.{w32}
@@ -16,8 +17,10 @@ use Rattle.fmt_string.specs.declared.kind.DataType.{DataType}
 use Rattle.fmt_string.specs.declared.kind.DataType.TheVariants as kinds
 use Rattle.fmt_string.specs.Keywords.{Keyword, keywords, Behind}
 use Rattle.fmt_string.specs.Keywords.Behind.{Alone, Zone, BinarySize, ListSize, Numbers, Refused}
-use Rattle.fmt_string.specs.FormatString.{IsDigit, IsNumber, IsSigned, NoNumber, NoSigned, NumberThen, StartsWith, StartsWithDigit, SizeFails, comma, Parts, parts_text}
-use Rattle.fmt_string.specs.FormatString.{PartsAre, width_of, most_precise, DecimalIs, KnownWidth, most_at, RangeFails, NumbersFail, RestIs, RestFails, IsPrefix, UnknownAt}
+use Rattle.fmt_string.specs.FormatString.{IsDigit, IsNumber, IsSigned, NoNumber, NoSigned, NumberThen, StartsWith, StartsWithDigit, SizeFails, comma, Parts}
+use Rattle.fmt_string.specs.FormatString.{parts_text}
+use Rattle.fmt_string.specs.FormatString.{PartsAre, width_of, most_precise, DecimalIs, KnownWidth, most_at, RangeFails, NumbersFail, RestIs, RestFails}
+use Rattle.fmt_string.specs.FormatString.{IsPrefix, UnknownAt}
 use Rattle.fmt_string.specs.FormatString.NumberPlace.{AtPrecision, AtScale, AtWidth}
 use Rattle.fmt_string.specs.Decimal.{parts}
 use Rattle.fmt_string.specs.Answer.{Reads}

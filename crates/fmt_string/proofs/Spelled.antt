@@ -1,5 +1,6 @@
 -- The canonical spelling of a type spells it.
-use Rattle.std.proofs.Common.{◌≡◌, ℕ, zero, suc, ℤ, pos, negsuc, ◌+◌, ◌<◌, ◌≤◌, ◌^◌, Bool, true, false, List, [], ◌++◌, length, get_or, codes, refl, sym, ap, subst, inl, inr, arith, lit<}
+use Rattle.std.proofs.Common.{◌≡◌, ℕ, zero, suc, ℤ, pos, negsuc, ◌+◌, ◌<◌, ◌≤◌, ◌^◌, Bool, true, false, List, [], ◌++◌, length, get_or, codes, refl, sym, ap}
+use Rattle.std.proofs.Common.{subst, inl, inr, arith, lit<}
 use Rattle.std.specs.Prelude.{Contains, FitsSigned, ◌⊎◌, decimal}
 use Rattle.std.specs.Int.{w32}
 use Rattle.std.specs.Fmt.{signed_decimal}
@@ -33,25 +34,37 @@ signed_spelled (negsuc n) fits =
 
 width_spelled : (wide : Bool) → IsWidth (width_text wide) (width_of wide)
 width_spelled false = inl (refl, refl)
-width_spelled true = inr (codes "256", refl, record { digits = (omega arith, (omega arith, (omega arith, tt))); some = omega arith; no_zero = λ h. absurd (omega arith); value = refl })
+width_spelled true = inr (
+  codes "256",
+  refl,
+  record { digits = (omega arith, (omega arith, (omega arith, tt))); some = omega arith; no_zero = λ h. absurd (omega arith); value = refl },
+)
 
 -- ---- types
 
 alone : (word : List ℕ) (kind : DataType) → Contains keywords (record { word = word; behind = Alone kind }) → FormatIs (word ++ []) kind
 alone word kind known = record { key = record { word = word; behind = Alone kind }; rest = []; known = known; split = refl; completed = (refl, refl) }
 
-zone : (word : List ℕ) (tick : Tick) (name : List ℕ) → Contains keywords (record { word = word; behind = Zone tick }) → FormatIs (word ++ name) (kinds.Timestamp tick name)
+zone : (word : List ℕ) (tick : Tick) (name : List ℕ) → Contains keywords (record { word = word; behind = Zone tick })
+    → FormatIs (word ++ name) (kinds.Timestamp tick name)
 zone word tick name known = record { key = record { word = word; behind = Zone tick }; rest = name; known = known; split = refl; completed = refl }
 
 int : (bits : ℕ) (signed : Bool) → (bits ≡ 8) ⊎ (bits ≡ 16) ⊎ (bits ≡ 32) ⊎ (bits ≡ 64) → FormatIs (int_word bits signed ++ []) (kinds.Int bits signed)
 int bits true (inl e) = subst (λ (b : ℕ). FormatIs (int_word b true ++ []) (kinds.Int b true)) (sym e) (alone (codes "c") (kinds.Int 8 true) (2, lit< tt, refl))
-int bits true (inr (inl e)) = subst (λ (b : ℕ). FormatIs (int_word b true ++ []) (kinds.Int b true)) (sym e) (alone (codes "s") (kinds.Int 16 true) (3, lit< tt, refl))
-int bits true (inr (inr (inl e))) = subst (λ (b : ℕ). FormatIs (int_word b true ++ []) (kinds.Int b true)) (sym e) (alone (codes "i") (kinds.Int 32 true) (4, lit< tt, refl))
-int bits true (inr (inr (inr e))) = subst (λ (b : ℕ). FormatIs (int_word b true ++ []) (kinds.Int b true)) (sym e) (alone (codes "l") (kinds.Int 64 true) (5, lit< tt, refl))
-int bits false (inl e) = subst (λ (b : ℕ). FormatIs (int_word b false ++ []) (kinds.Int b false)) (sym e) (alone (codes "C") (kinds.Int 8 false) (6, lit< tt, refl))
-int bits false (inr (inl e)) = subst (λ (b : ℕ). FormatIs (int_word b false ++ []) (kinds.Int b false)) (sym e) (alone (codes "S") (kinds.Int 16 false) (7, lit< tt, refl))
-int bits false (inr (inr (inl e))) = subst (λ (b : ℕ). FormatIs (int_word b false ++ []) (kinds.Int b false)) (sym e) (alone (codes "I") (kinds.Int 32 false) (8, lit< tt, refl))
-int bits false (inr (inr (inr e))) = subst (λ (b : ℕ). FormatIs (int_word b false ++ []) (kinds.Int b false)) (sym e) (alone (codes "L") (kinds.Int 64 false) (9, lit< tt, refl))
+int bits true (inr (inl e)) =
+    subst (λ (b : ℕ). FormatIs (int_word b true ++ []) (kinds.Int b true)) (sym e) (alone (codes "s") (kinds.Int 16 true) (3, lit< tt, refl))
+int bits true (inr (inr (inl e))) =
+    subst (λ (b : ℕ). FormatIs (int_word b true ++ []) (kinds.Int b true)) (sym e) (alone (codes "i") (kinds.Int 32 true) (4, lit< tt, refl))
+int bits true (inr (inr (inr e))) =
+    subst (λ (b : ℕ). FormatIs (int_word b true ++ []) (kinds.Int b true)) (sym e) (alone (codes "l") (kinds.Int 64 true) (5, lit< tt, refl))
+int bits false (inl e) =
+    subst (λ (b : ℕ). FormatIs (int_word b false ++ []) (kinds.Int b false)) (sym e) (alone (codes "C") (kinds.Int 8 false) (6, lit< tt, refl))
+int bits false (inr (inl e)) =
+    subst (λ (b : ℕ). FormatIs (int_word b false ++ []) (kinds.Int b false)) (sym e) (alone (codes "S") (kinds.Int 16 false) (7, lit< tt, refl))
+int bits false (inr (inr (inl e))) =
+    subst (λ (b : ℕ). FormatIs (int_word b false ++ []) (kinds.Int b false)) (sym e) (alone (codes "I") (kinds.Int 32 false) (8, lit< tt, refl))
+int bits false (inr (inr (inr e))) =
+    subst (λ (b : ℕ). FormatIs (int_word b false ++ []) (kinds.Int b false)) (sym e) (alone (codes "L") (kinds.Int 64 false) (9, lit< tt, refl))
 
 float : (bits : ℕ) → (bits ≡ 16) ⊎ (bits ≡ 32) ⊎ (bits ≡ 64) → FormatIs (float_word bits ++ []) (kinds.Float bits)
 float bits (inl e) = subst (λ (b : ℕ). FormatIs (float_word b ++ []) (kinds.Float b)) (sym e) (alone (codes "e") (kinds.Float 16) (10, lit< tt, refl))
@@ -62,13 +75,18 @@ number_of_digits : (precision : ℕ) (wide : Bool) → precision ≤ most_precis
 number_of_digits precision false most = omega arith
 number_of_digits precision true most = omega arith
 
-numbers : (precision : ℕ) (scale : ℤ) (wide : Bool) → 1 ≤ precision → precision ≤ most_precise wide → FitsSigned w32 scale → DecimalIs (decimal precision ++ comma ++ signed_decimal scale ++ width_text wide) (kinds.Decimal precision scale wide)
+numbers : (precision : ℕ) (scale : ℤ) (wide : Bool) → 1 ≤ precision → precision ≤ most_precise wide → FitsSigned w32 scale
+    → DecimalIs (decimal precision ++ comma ++ signed_decimal scale ++ width_text wide) (kinds.Decimal precision scale wide)
 numbers precision scale wide least most fits = record {
   parts = record { precision = decimal precision; scale = signed_decimal scale; width = width_text wide };
   precision = precision;
   scale = scale;
   wide = wide;
-  are = record { precision_is = number_spelled precision (number_of_digits precision wide most); scale_is = signed_spelled scale fits; width_is = width_spelled wide };
+  are = record {
+    precision_is = number_spelled precision (number_of_digits precision wide most);
+    scale_is = signed_spelled scale fits;
+    width_is = width_spelled wide;
+  };
   at_least = least;
   at_most = most;
   fits = fits;

@@ -74,7 +74,8 @@ alone_valid word kind known =
 
 -- ---- any type
 
-rest_valid : (word : List ℕ) (behind : Behind) (rest : List ℕ) (kind : DataType) → Contains keywords (record { word = word; behind = behind }) → RestIs behind rest kind → KindOk kind
+rest_valid : (word : List ℕ) (behind : Behind) (rest : List ℕ) (kind : DataType) → Contains keywords (record { word = word; behind = behind })
+    → RestIs behind rest kind → KindOk kind
 rest_valid word (Alone own) rest kind known is = subst KindOk (sym is.1) (alone_valid word own known)
 rest_valid word (Zone tick) rest kind known is = subst KindOk (sym is) tt
 rest_valid word BinarySize rest kind known is = subst KindOk (sym is.3) is.1

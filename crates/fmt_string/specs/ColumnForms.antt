@@ -13,6 +13,17 @@ HasForm (Some form) = Unit {0}
 abbrev pub IsColumnKind : DataType → Type 0
 IsColumnKind kind = KindOk kind × HasForm (form_of kind)
 
+abbrev mutual
+  -- the numbers of a column's types are in their ranges, at all depths
+  pub KindsOk : Kind → Type 0
+  KindsOk (Flat kind) = KindOk kind
+  KindsOk (Dict kind) = KindOk kind
+  KindsOk (Columns members) = MembersOk members
+
+  pub MembersOk : Members → Type 0
+  MembersOk no_members = Unit {0}
+  MembersOk (more_members name kind rest) = KindsOk kind × MembersOk rest
+
 -- the types of a column, at all depths
 abbrev mutual
   pub AreColumnKinds : Kind → Type 0

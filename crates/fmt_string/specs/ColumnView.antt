@@ -1,6 +1,7 @@
 -- The columns that the code keeps, as columns of a table.
 use Rattle.std.specs.Prelude.{List, [], ◌∷◌}
-use Rattle.fmt_string.specs.declared.kind.ColKind.{ColKind, Flat as CodeFlat, Dict as CodeDict, Columns', Row_of-ColumnType, end_of-ColumnType, more_of-ColumnType}
+use Rattle.fmt_string.specs.declared.kind.ColKind.{ColKind, Flat as CodeFlat, Dict as CodeDict, Columns', Row_of-ColumnType, end_of-ColumnType}
+use Rattle.fmt_string.specs.declared.kind.ColKind.{more_of-ColumnType}
 use Rattle.fmt_string.specs.declared.kind.ColumnType.{ColumnType}
 use Rattle.fmt_string.specs.Table.{Kind, Flat, Dict, Columns, Members, no_members, more_members, Column}
 

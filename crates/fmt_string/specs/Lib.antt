@@ -12,3 +12,4 @@ pub mod FieldText
 pub mod ColumnView
 pub mod ColumnForms
 pub mod Parts
+pub mod FaultTexts

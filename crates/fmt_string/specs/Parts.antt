@@ -1,5 +1,6 @@
 -- Parts of columns and rows by their numbers, from 0.
 use Rattle.std.specs.Prelude.{ℕ, ◌+◌, ◌<◌, List, [], ◌∷◌, ◌++◌, drop, get_or, length, map, take}
+use Rattle.std.specs.List.{flat_map}
 use Rattle.fmt_string.specs.ColumnView.{members}
 use Rattle.fmt_string.specs.Table.{Column, Columns, Members, no_members, more_members, Row}
 use Rattle.fmt_string.specs.Value.{Value, Null, Fields, Values, no_values, more_values, values}
@@ -17,6 +18,14 @@ abbrev pub replaced : {X : Type 0} → ℕ → X → List X → List X
 replaced place item items = take place items ++ item ∷ drop (place + 1) items
 
 -- ---- rows
+
+-- the rows of chunks, one chunk behind the other
+abbrev pub joined_rows : List (List Row) → List Row
+joined_rows chunks = flat_map (λ rows. rows) chunks
+
+-- the values of a column
+abbrev pub column_values : ℕ → List Row → List Value
+column_values place rows = map (λ row. get_or row place Null) rows
 
 abbrev pub value_list : Values → List Value
 value_list no_values = []

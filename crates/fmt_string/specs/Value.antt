@@ -1,5 +1,5 @@
 -- Values of the columnar format (Arrow Columnar Format, "Physical memory layout").
-use Rattle.std.specs.Prelude.{ℕ, ℤ, Bool, List, [], ◌∷◌, length, map}
+use Rattle.std.specs.Prelude.{ℕ, ℤ, Bool, true, false, List, [], ◌∷◌, length, map}
 use Rattle.std.specs.List.{concat}
 
 mutual
@@ -21,6 +21,10 @@ mutual
 abbrev pub values : List Value → Values
 values [] = no_values
 values (v ∷ vs) = more_values v (values vs)
+
+abbrev pub is_null : Value → Bool
+is_null Null = true
+is_null _ = false
 
 -- the bytes of a value; any other has none
 abbrev pub bytes_of : Value → List ℕ

@@ -1,3 +1,4 @@
+//! A struct of columns as a kind: the one call that makes it, so that contracts above can name what it holds.
 ghost use Rattle.std.specs.Prelude.{◌≡◌, map};
 ghost use Rattle.fmt_string.specs.Table.{Columns};
 ghost use Rattle.fmt_string.specs.ColumnView.{kind_of, column_of, members};

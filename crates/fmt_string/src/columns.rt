@@ -1,3 +1,4 @@
+//! Which types a column may have, which of them a field can spell, and a type copied.
 ghost use Rattle.std.specs.Prelude.{◌≡◌, IfOk, IfErr, is_some};
 ghost use Rattle.fmt_string.specs.FieldText.{stored_form};
 ghost use Rattle.fmt_string.specs.Kinds.{KindOk, HasZone, is_flat, is_within, is_column_type};

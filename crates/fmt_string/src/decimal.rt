@@ -1,7 +1,9 @@
+//! What stands behind `d:`: a precision, a scale and perhaps a width, or their first fault.
 ghost use Rattle.std.specs.Prelude.{◌≡◌, ◌+◌, ◌<◌, ◌≤◌, ◌^◌, ◌++◌, ◌∷◌, min, neg_ℤ, pos, length, take, drop, FitsSigned, IfOk, IfErr, IfSome, IfNone};
 ghost use Rattle.std.specs.Int.{w32};
 ghost use Rattle.std.specs.Str.Parse.{digits_value};
-ghost use Rattle.fmt_string.specs.FormatString.{IsNumber, StartsWith, IsSigned, NoSigned, StartsWithDigit, comma, IsWidth, width_of, most_precise, DecimalIs, NumbersFail};
+ghost use Rattle.fmt_string.specs.FormatString.{IsNumber, StartsWith, IsSigned, NoSigned, StartsWithDigit, comma, IsWidth, width_of, most_precise, DecimalIs};
+ghost use Rattle.fmt_string.specs.FormatString.{NumbersFail};
 ghost use Rattle.fmt_string.specs.Decimal.{signed_value, width_value, AreParts};
 
 use crate::number::{LARGEST, number_len, number_value};

@@ -65,7 +65,8 @@ pub fn written_texts_read_back(kind: &DataType)
         → read_field mark kind.now (written_text mark kind.now value) ≡ Some value }
     ensures null_is_the_mark { (mark : List ℕ) → written_text mark kind.now Null ≡ mark }
     ensures the_mark_is_null { (mark : List ℕ) → read_field mark kind.now mark ≡ Some Null }
-    ensures empty_texts { (value : Value) → IsFlatKind kind.now → IsValueOf kind.now value → written_text [] kind.now value ≡ [] → (value ≡ Null) ⊎ (value ≡ Bytes []) }
+    ensures empty_texts { (value : Value) → IsFlatKind kind.now → IsValueOf kind.now value → written_text [] kind.now value ≡ []
+        → (value ≡ Null) ⊎ (value ≡ Bytes []) }
 {}
 
 /// What a field of a flat column kind spells is a value of the kind: of its form, range and size.

@@ -1,3 +1,4 @@
+//! Why reading may be trusted: one answer for each text, one text for each type, and numbers in their ranges.
 ghost use Rattle.std.specs.Prelude.{◌≡◌, ℕ, List, Result};
 ghost use Rattle.fmt_string.specs.declared.kind.DataType.{DataType};
 ghost use Rattle.fmt_string.specs.declared.fault.FormatFault.{FormatFault};

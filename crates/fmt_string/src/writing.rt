@@ -1,3 +1,4 @@
+//! The canonical spelling of a type: its keyword, and the numbers or the zone behind it.
 ghost use Rattle.std.specs.Prelude.{◌≡◌, ◌++◌, decimal, codes, IfOk};
 ghost use Rattle.std.specs.Fmt.{signed_decimal};
 ghost use Rattle.fmt_string.specs.FormatString.{comma, FormatIs};

@@ -1,7 +1,8 @@
+//! One block's events from the first holder to the last, with each reply and where the deed is after it.
 use crate::{Deed, Event, HolderState, Reply};
 use std::test::Fail;
 
-// The events that are sent in turn to the state that `make(4)` gives, and the reply and the deed after each.
+/// The events that are sent in turn to the state that `make(4)` gives, and the reply and the deed after each.
 const STEPS: [(Event, Reply, Deed); 7] = [
     (
         Event::Split {

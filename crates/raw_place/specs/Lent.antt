@@ -22,7 +22,15 @@ spot_follows T A g s lent = follows (spot.the_row T A g) T s.ghost_name lent.gho
 
 -- the row with another value at the place i
 abbrev pub changed : {X Z : Type 0} → Row X Z → ℕ → X → Row X Z
-changed row i other = record { at = row.at; len = row.len; room = row.room; heap = row.heap; items = set row.items i other; counted = (row.counted.0 ∙ sym (length-set row.items i other), row.counted.1); small = row.small }
+changed row i other = record {
+  at = row.at;
+  len = row.len;
+  room = row.room;
+  heap = row.heap;
+  items = set row.items i other;
+  counted = (row.counted.0 ∙ sym (length-set row.items i other), row.counted.1);
+  small = row.small;
+}
 
 -- when the borrow `lent` ends, the row has at i what was last written through it
 abbrev pub row_follows : (T A : RattleType) (g : Ghosts A.Denot) → MutBor (Row T.Denot A.Denot) → ℕ → MutBor T.Denot → Fml

@@ -1,3 +1,4 @@
+//! Values that come back from their places, and rows of none.
 use crate::{Kids, Place, put_if, take_if};
 use std::test::Fail;
 use unit_pass::NoMemory;

@@ -41,7 +41,8 @@ one_place ps i j first second = elim (cases_lt i j) [
   ]
 ]
 
-pub one_spelling : (ps : List Pair) (result : Result (Vec ℕ Global) MetaWriteFault) → IfOk result (λ v. MetaIs v.items ps) → IfErr result (λ f. f ≢ NoMemory → MetaWriteFaultIs ps f)
+pub one_spelling : (ps : List Pair) (result : Result (Vec ℕ Global) MetaWriteFault) → IfOk result (λ v. MetaIs v.items ps)
+    → IfErr result (λ f. f ≢ NoMemory → MetaWriteFaultIs ps f)
     → (written : Result (List ℕ) MetaWriteFault) → Writes ps written → GivesBytes result written
 one_spelling ps (Ok v) found fault (Ok bytes) is = ap Ok (is.spelled ∙ sym found.spelled)
 one_spelling ps (Ok v) found fault (Err (TooLong i)) is = absurd (not_both ps v.items i found is)

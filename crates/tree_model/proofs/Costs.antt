@@ -20,12 +20,14 @@ mutual
   cost_of_maybe_is M holds (present t) = cost_is M holds t
 
 -- a tree taken out of a list, and another put in its place
-taken_of_all : {M : Type 0} (holds : M → ℕ) (xs : List (Tree M)) (i : ℕ) → cost_of_all holds (trees (set xs i Released)) + Cost holds (get_or xs i Released) ≡ cost_of_all holds (trees xs)
+taken_of_all : {M : Type 0} (holds : M → ℕ) (xs : List (Tree M)) (i : ℕ)
+    → cost_of_all holds (trees (set xs i Released)) + Cost holds (get_or xs i Released) ≡ cost_of_all holds (trees xs)
 taken_of_all holds [] i = refl
 taken_of_all holds (x ∷ xs) zero = omega arith
 taken_of_all holds (x ∷ xs) (suc i) = omega (arith, taken_of_all holds xs i)
 
-put_in_all : {M : Type 0} (holds : M → ℕ) (xs : List (Tree M)) (c : Tree M) (i : ℕ) → i < length xs → cost_of_all holds (trees (set xs i c)) + Cost holds (get_or xs i Released) ≡ cost_of_all holds (trees xs) + Cost holds c
+put_in_all : {M : Type 0} (holds : M → ℕ) (xs : List (Tree M)) (c : Tree M) (i : ℕ) → i < length xs
+    → cost_of_all holds (trees (set xs i c)) + Cost holds (get_or xs i Released) ≡ cost_of_all holds (trees xs) + Cost holds c
 put_in_all holds [] c i h = absurd (omega arith)
 put_in_all holds (x ∷ xs) c zero h = omega arith
 put_in_all holds (x ∷ xs) c (suc i) h = omega (arith, put_in_all holds xs c i (omega arith))

@@ -1,7 +1,8 @@
 -- The cost and the number of children of a tree that a part was put into or taken out of.
 use Rattle.std.proofs.Common.{◌≡◌, ℕ, ◌+◌, ◌<◌, List, [], ◌∷◌, length, get_or, set, refl, ap, ◌∙◌, arith, suc, zero}
 use Rattle.std.proofs.lemmas.List.{length-set}
-use Rattle.tree_model.specs.Tree.{Tree, Released, Live, trees, tree_list, MaybeTree, absent, present, Cost, cost_of_all, children_of, child_at, dictionary_at, with_child, without_dictionary}
+use Rattle.tree_model.specs.Tree.{Tree, Released, Live, trees, tree_list, MaybeTree, absent, present, Cost, cost_of_all, children_of, child_at, dictionary_at}
+use Rattle.tree_model.specs.Tree.{with_child, without_dictionary}
 use Rattle.tree_model.proofs.Lists.{trees-tree_list, tree_list-trees}
 
 pub cost_of_all-set : {M : Type 0} → (holds : M → ℕ) (xs : List (Tree M)) (i : ℕ) (c : Tree M) → i < length xs

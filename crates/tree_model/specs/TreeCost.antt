@@ -2,20 +2,6 @@
 use Rattle.std.specs.Prelude.{ℕ, ◌+◌, max, min}
 use Rattle.tree_model.specs.TreeData.{Tree, Released, Live, Trees, no_trees, more_trees, MaybeTree, absent, present}
 
--- the number of live nodes
-abbrev mutual
-  pub Nodes : {M : Type 0} → Tree M → ℕ
-  Nodes Released = 0
-  Nodes (Live members children dictionary) = 1 + (nodes_of_all children + nodes_of_maybe dictionary)
-
-  pub nodes_of_all : {M : Type 0} → Trees M → ℕ
-  nodes_of_all no_trees = 0
-  nodes_of_all (more_trees t ts) = Nodes t + nodes_of_all ts
-
-  pub nodes_of_maybe : {M : Type 0} → MaybeTree M → ℕ
-  nodes_of_maybe absent = 0
-  nodes_of_maybe (present t) = Nodes t
-
 -- the number of the live nodes' holds, where `holds` says how many a node's members have
 abbrev mutual
   pub Holds : {M : Type 0} → (M → ℕ) → Tree M → ℕ
@@ -43,6 +29,19 @@ abbrev mutual
   pub cost_of_maybe : {M : Type 0} → (M → ℕ) → MaybeTree M → ℕ
   cost_of_maybe holds absent = 0
   cost_of_maybe holds (present t) = Cost holds t
+
+-- the number of live nodes: the cost where no node has a hold
+abbrev pub no_holds : {M : Type 0} → M → ℕ
+no_holds members = 0
+
+abbrev pub Nodes : {M : Type 0} → Tree M → ℕ
+Nodes t = Cost no_holds t
+
+abbrev pub nodes_of_all : {M : Type 0} → Trees M → ℕ
+nodes_of_all ts = cost_of_all no_holds ts
+
+abbrev pub nodes_of_maybe : {M : Type 0} → MaybeTree M → ℕ
+nodes_of_maybe d = cost_of_maybe no_holds d
 
 -- 0 for a released tree, else one more than the deepest child or dictionary
 abbrev mutual

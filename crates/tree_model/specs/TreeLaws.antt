@@ -17,7 +17,8 @@ TakenDictionaryCost M = (holds : M → ℕ) (t : Tree M) → Cost holds (without
 
 -- a child that is put in the place of a released one adds its cost
 abbrev pub PutChildCost : Type 0 → Type 0
-PutChildCost M = (holds : M → ℕ) (t c : Tree M) (i : ℕ) → i < length (children_of t) → child_at t i ≡ Released → Cost holds (with_child t i c) ≡ Cost holds t + Cost holds c
+PutChildCost M =
+    (holds : M → ℕ) (t c : Tree M) (i : ℕ) → i < length (children_of t) → child_at t i ≡ Released → Cost holds (with_child t i c) ≡ Cost holds t + Cost holds c
 
 -- a change of members that keeps each node's holds keeps the cost, and any change keeps the depth
 abbrev pub ChangedCost : Type 0 → Type 0

@@ -1,5 +1,5 @@
-//! A desk that closes once all its units are back, and names that give their bytes back.
-use crate::{Audit, Name, SUPPLY, open_desk};
+//! A desk that closes once all its units are back, names that give their bytes back, and the text of want of memory.
+use crate::{Audit, Name, NoMemory, SUPPLY, open_desk};
 use std::test::Fail;
 
 #[test]
@@ -38,5 +38,11 @@ fn name_gives_its_bytes_back(rt: HostRuntime) -> Result<(), Fail> {
         let moved = Name::from_vec(name.into_vec());
         assert_eq!(rt; moved.as_slice(), bytes);
     }
+    Ok(())
+}
+
+#[test]
+fn want_of_memory_has_its_text(rt: HostRuntime) -> Result<(), Fail> {
+    assert_eq!(rt; NoMemory.to_string(rt.alloc())?.as_str(), "out of memory");
     Ok(())
 }

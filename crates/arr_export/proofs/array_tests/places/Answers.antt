@@ -17,12 +17,14 @@ exported-requires g c =
       Whole (pos 1) ∷ Whole (pos 0) ∷ Whole (pos 1) ∷ Whole (pos 3) ∷ [],
       record {
         is_encoded = record { is_kind = refl; length = refl; null_count = refl; buffers = rw c.two.ensures (tt, (c.block-data.ensures, tt)) };
-        fits = fitting (kinds.Int 8 false) (Whole (pos 1) ∷ Whole (pos 0) ∷ Whole (pos 1) ∷ Whole (pos 3) ∷ []) (inl refl) tt (omega arith) (refl, (refl, (refl, (refl, tt)))) (omega arith);
+        fits = fitting (kinds.Int 8 false) (Whole (pos 1) ∷ Whole (pos 0) ∷ Whole (pos 1) ∷ Whole (pos 3) ∷ []) (inl refl) tt (omega arith)
+            (refl, (refl, (refl, (refl, tt)))) (omega arith);
         indices = record {
           kind_ok = tt;
           live = live;
           not_deep = search rules;
-          places = All-from_recursion (IsPlaceOf (tree_items dictionary)) (Whole (pos 1) ∷ Whole (pos 0) ∷ Whole (pos 1) ∷ Whole (pos 3) ∷ []) (omega arith, (omega arith, (omega arith, (omega arith, tt))));
+          places = All-from_recursion (IsPlaceOf (tree_items dictionary)) (Whole (pos 1) ∷ Whole (pos 0) ∷ Whole (pos 1) ∷ Whole (pos 3) ∷ [])
+              (omega arith, (omega arith, (omega arith, (omega arith, tt))));
         };
       },
     )

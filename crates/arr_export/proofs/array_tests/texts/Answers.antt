@@ -12,8 +12,14 @@ exported-requires g c = (
   kinds.Utf8 false,
   Bytes (106 ∷ 111 ∷ 101 ∷ []) ∷ Null ∷ Null ∷ Bytes (109 ∷ 97 ∷ 114 ∷ 107 ∷ []) ∷ [],
   record {
-    is_encoded = record { is_kind = refl; length = refl; null_count = refl; buffers = rw c.three.ensures (c.block-validity.ensures, (c.block-offsets.ensures, (c.block-data.ensures, tt))) };
-    fits = fitting (kinds.Utf8 false) (Bytes (106 ∷ 111 ∷ 101 ∷ []) ∷ Null ∷ Null ∷ Bytes (109 ∷ 97 ∷ 114 ∷ 107 ∷ []) ∷ []) tt tt (omega arith) (refl, (refl, (refl, (refl, tt)))) (omega arith);
+    is_encoded = record {
+      is_kind = refl;
+      length = refl;
+      null_count = refl;
+      buffers = rw c.three.ensures (c.block-validity.ensures, (c.block-offsets.ensures, (c.block-data.ensures, tt)));
+    };
+    fits = fitting (kinds.Utf8 false) (Bytes (106 ∷ 111 ∷ 101 ∷ []) ∷ Null ∷ Null ∷ Bytes (109 ∷ 97 ∷ 114 ∷ 107 ∷ []) ∷ []) tt tt (omega arith)
+        (refl, (refl, (refl, (refl, tt)))) (omega arith);
     indices = tt;
   },
 )

@@ -14,18 +14,21 @@ use Rattle.arr_export.proofs.columns.+schema.Goals as goal
 
 pub column_schema-struct_schema-requires : goal.column_schema-struct_schema-requires
 column_schema-struct_schema-requires t c =
-    let is : column_schema c.args.name.now (kind_of c.args.kind.now) ≡ node struct_format (Some c.args.name.now) nullable (code_schemas c.as_slice.result.now) absent =
+    let is : column_schema c.args.name.now (kind_of c.args.kind.now)
+    ≡ node struct_format (Some c.args.name.now) nullable (code_schemas c.as_slice.result.now) absent =
     ap (λ (k : ColKind). column_schema c.args.name.now (kind_of k)) c.in-Columns.is ∙ struct-schema c.args.name.now c.in-Columns.columns
     ∙ ap (λ (cs : List ColumnType). node struct_format (Some c.args.name.now) nullable (code_schemas cs) absent) (sym c.as_slice.ensures.value) in
     let nodes = ap Nodes is in
     let depth = ap Depth is in
     let kinds : ColumnsOk c.as_slice.result.now =
-    subst ColumnsOk (sym c.as_slice.ensures.value) (struct-kinds c.in-Columns.columns (subst (λ (k : ColKind). KindsOk (kind_of k)) c.in-Columns.is c.requires.kinds)) in
+    subst ColumnsOk (sym c.as_slice.ensures.value)
+    (struct-kinds c.in-Columns.columns (subst (λ (k : ColKind). KindsOk (kind_of k)) c.in-Columns.is c.requires.kinds)) in
     search rules
 
 pub column_schema-returns-in_ok-name-in-Columns-clause-tree : goal.column_schema-returns-in_ok-name-in-Columns-clause-tree
 column_schema-returns-in_ok-name-in-Columns-clause-tree t c =
-    let is : column_schema c.args.name.now (kind_of c.args.kind.now) ≡ node struct_format (Some c.args.name.now) nullable (code_schemas c.as_slice.result.now) absent =
+    let is : column_schema c.args.name.now (kind_of c.args.kind.now)
+    ≡ node struct_format (Some c.args.name.now) nullable (code_schemas c.as_slice.result.now) absent =
     ap (λ (k : ColKind). column_schema c.args.name.now (kind_of k)) c.in-Columns.is ∙ struct-schema c.args.name.now c.in-Columns.columns
     ∙ ap (λ (cs : List ColumnType). node struct_format (Some c.args.name.now) nullable (code_schemas cs) absent) (sym c.as_slice.ensures.value) in
     subst (λ (x : SchemaTree). IfOk c.struct_schema.result (λ tree. tree ≡ x))
@@ -34,23 +37,28 @@ column_schema-returns-in_ok-name-in-Columns-clause-tree t c =
 
 pub column_schema-returns-in_ok-name-in-Columns-clause-units : goal.column_schema-returns-in_ok-name-in-Columns-clause-units
 column_schema-returns-in_ok-name-in-Columns-clause-units t c =
-    let is : column_schema c.args.name.now (kind_of c.args.kind.now) ≡ node struct_format (Some c.args.name.now) nullable (code_schemas c.as_slice.result.now) absent =
+    let is : column_schema c.args.name.now (kind_of c.args.kind.now)
+    ≡ node struct_format (Some c.args.name.now) nullable (code_schemas c.as_slice.result.now) absent =
     ap (λ (k : ColKind). column_schema c.args.name.now (kind_of k)) c.in-Columns.is ∙ struct-schema c.args.name.now c.in-Columns.columns
     ∙ ap (λ (cs : List ColumnType). node struct_format (Some c.args.name.now) nullable (code_schemas cs) absent) (sym c.as_slice.ensures.value) in
-    let nodes : Nodes (column_schema c.args.name.now (kind_of c.args.kind.now)) ≡ 1 + nodes_of_all (code_schemas c.as_slice.result.now) = omega (arith, ap Nodes is) in
+    let nodes : Nodes (column_schema c.args.name.now (kind_of c.args.kind.now))
+    ≡ 1 + nodes_of_all (code_schemas c.as_slice.result.now) = omega (arith, ap Nodes is) in
     rw nodes c.struct_schema.ensures.units
 
 pub column_schema-returns-in_ok-name-in-Columns-clause-nodes : goal.column_schema-returns-in_ok-name-in-Columns-clause-nodes
 column_schema-returns-in_ok-name-in-Columns-clause-nodes t c =
-    let is : column_schema c.args.name.now (kind_of c.args.kind.now) ≡ node struct_format (Some c.args.name.now) nullable (code_schemas c.as_slice.result.now) absent =
+    let is : column_schema c.args.name.now (kind_of c.args.kind.now)
+    ≡ node struct_format (Some c.args.name.now) nullable (code_schemas c.as_slice.result.now) absent =
     ap (λ (k : ColKind). column_schema c.args.name.now (kind_of k)) c.in-Columns.is ∙ struct-schema c.args.name.now c.in-Columns.columns
     ∙ ap (λ (cs : List ColumnType). node struct_format (Some c.args.name.now) nullable (code_schemas cs) absent) (sym c.as_slice.ensures.value) in
-    let nodes : Nodes (column_schema c.args.name.now (kind_of c.args.kind.now)) ≡ 1 + nodes_of_all (code_schemas c.as_slice.result.now) = omega (arith, ap Nodes is) in
+    let nodes : Nodes (column_schema c.args.name.now (kind_of c.args.kind.now))
+    ≡ 1 + nodes_of_all (code_schemas c.as_slice.result.now) = omega (arith, ap Nodes is) in
     rw nodes c.struct_schema.ensures.nodes
 
 pub struct_schema-built-requires-clause-few_children : goal.struct_schema-built-requires-clause-few_children
 struct_schema-built-requires-clause-few_children t c =
-    let count : length c.in_ok-children.children.items ≡ length c.args.columns.now = ap length c.in_ok-children.ensures.trees ∙ length-map c.args.columns.now code_schema in
+    let count : length c.in_ok-children.children.items ≡ length c.args.columns.now =
+    ap length c.in_ok-children.ensures.trees ∙ length-map c.args.columns.now code_schema in
     omega (arith, count, few-columns c.args.columns.now, c.requires.small)
 
 pub column_schemas-column_schema-requires : goal.column_schemas-column_schema-requires
@@ -81,7 +89,11 @@ column_schemas-loop-column-preserved t c =
     let tree = c.in-Ok-column_schema.ensures.tree in
     let cost = ap Nodes tree in
     let pushed : nodes_of_all (trees c.push_reserved.new.self.items) ≡ nodes_of_all (trees c.loop-column.children.items) + Nodes child =
-    omega (arith, ap (λ (ts : List SchemaTree). nodes_of_all (trees ts)) c.push_reserved.ensures.items, cost_of_all-append no_holds c.loop-column.children.items (child ∷ [])) in
+    omega (
+      arith,
+      ap (λ (ts : List SchemaTree). nodes_of_all (trees ts)) c.push_reserved.ensures.items,
+      cost_of_all-append no_holds c.loop-column.children.items (child ∷ []),
+    ) in
     record {
       children = c.push_reserved.ensures.items
           ∙ ap (λ (ts : List SchemaTree). ts ++ child ∷ []) c.loop-column.invariant.children

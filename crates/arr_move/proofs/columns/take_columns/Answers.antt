@@ -12,7 +12,8 @@ returns-in-Ok-clause-units c =
     let len : to_z w64 (of_z w64 c.length-len.result) ≡ (members_of c.args.array).length = omega (arith, ints, c.length-len.ensures) in
     let is : c.fill_struct.result ≡ Columns c.args.array c.args.picks.now =
     c.fill_struct.ensures.top
-    ∙ ap (λ top. with_children top (map (cut c.args.array (to_z w64 (of_z w64 c.offset-off.result)) (to_z w64 (of_z w64 c.length-len.result))) c.args.picks.now)) c.in-Ok.ensures.top
+    ∙ ap (λ top. with_children top
+    (map (cut c.args.array (to_z w64 (of_z w64 c.offset-off.result)) (to_z w64 (of_z w64 c.length-len.result))) c.args.picks.now)) c.in-Ok.ensures.top
     ∙ (λ j. Live (struct_members (len j)) (trees (map (cut c.args.array (off j) (len j)) c.args.picks.now)) absent) in
     omega (arith, ap Cost is, c.fill_struct.ensures.units, c.in-Ok.ensures.units, c.in-Ok.ensures.cost)
 

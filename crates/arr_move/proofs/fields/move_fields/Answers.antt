@@ -27,7 +27,8 @@ move_field-requires-clause-place c =
 pub move_field-requires-clause-vacant : goal.move_field-requires-clause-vacant
 move_field-requires-clause-vacant c =
     let inside : c.loop-place.place < length c.args.picks.now = omega (arith, c.loop-place-test.true) in
-    place_vacant c.args.top.now c.loop-place.top c.args.picks.now _ c.loop-place.place c.loop-place.invariant.0 c.requires.places inside ∙ c.requires.vacant c.loop-place.place
+    place_vacant c.args.top.now c.loop-place.top c.args.picks.now _ c.loop-place.place c.loop-place.invariant.0 c.requires.places inside
+    ∙ c.requires.vacant c.loop-place.place
 
 pub loop-place-preserved : goal.loop-place-preserved
 loop-place-preserved c =

@@ -14,4 +14,5 @@ pub returns-in-Err-clause-none : goal.returns-in-Err-clause-none
 returns-in-Err-clause-none c =
     let text = c.args.text.now in
     let size = length c.args.room.now in
-    decoded_err (decode_sized text size) (hex_bytes text) c.decode_to_slice.new.out (Err c.in-Err.field-0) c.in-Err.field-0 refl (sized_is text size c.requires) c.in-Err.ensures.value
+    decoded_err (decode_sized text size) (hex_bytes text) c.decode_to_slice.new.out (Err c.in-Err.field-0) c.in-Err.field-0 refl
+    (sized_is text size c.requires) c.in-Err.ensures.value

@@ -8,7 +8,8 @@ use Rattle.std.proofs.CrossingOver.{crosses}
 use Rattle.std.specs.contracts.vec.Vec as vec
 use Rattle.std.specs.declared.alloc.Allocator.{Ghosts}
 
-as_handle : {Row At Len Room Heap : Type 0} (fields : Row → At × (Len × (Room × (Heap × Unit {0})))) (e : Exit Heap) → Quiet e → Quiet (hidden (under fields (pair unchanged (pair unchanged (pair unchanged (pair e unchanged))))))
+as_handle : {Row At Len Room Heap : Type 0} (fields : Row → At × (Len × (Room × (Heap × Unit {0})))) (e : Exit Heap) → Quiet e
+    → Quiet (hidden (under fields (pair unchanged (pair unchanged (pair unchanged (pair e unchanged))))))
 as_handle fields unchanged calm = λ row last. tt
 as_handle fields (leaves Last left Seen seen first) calm = λ row last. (tt, (tt, (tt, (calm (fields row).1.1.1.0 last.1.1.1.0, tt))))
 

@@ -1,5 +1,8 @@
 -- A `&` to a row holds a `&` to its values. The walk reads where they begin and how many they are.
-use Rattle.raw_place.proofs.Steps.{refl, ap, List, [], ◌∷◌, ftrue, fhide, flft, id⊢, fact, tables, yes, bounded, owns, plain, types_at, heard, nothing, Stays, walk_of, stay_dropped, ends_at, inst_fn, a_type, dcons, dnil, Val, vptr, alloc_all, env, free_all, get, look_at, pass_all, sets, sets_last, through, ‵, raw, ◌⊛◌, at_ret, ◌$◌, ◌∵◌, !, qed, done, move, keep, drop, use1, split, join, fsplit, fjoin, feq_i, suffices, agg, and_then, no_more, blocks, enter, exec, first, fld, of_opd, returns, stop, proved}
+use Rattle.raw_place.proofs.Steps.{refl, ap, List, [], ◌∷◌, ftrue, fhide, flft, id⊢, fact, tables, yes, bounded, owns, plain, types_at, heard, nothing, Stays}
+use Rattle.raw_place.proofs.Steps.{walk_of, stay_dropped, ends_at, inst_fn, a_type, dcons, dnil, Val, vptr, alloc_all, env, free_all, get, look_at, pass_all}
+use Rattle.raw_place.proofs.Steps.{sets, sets_last, through, ‵, raw, ◌⊛◌, at_ret, ◌$◌, ◌∵◌, !, qed, done, move, keep, drop, use1, split, join, fsplit, fjoin}
+use Rattle.raw_place.proofs.Steps.{feq_i, suffices, agg, and_then, no_more, blocks, enter, exec, first, fld, of_opd, returns, stop, proved}
 use Prim.Native.Nat.{ℕ, ◌+◌, ◌*◌, ◌<◌, ◌≤◌, ◌^◌}
 use denote.Builtin.{RefOf}
 use denote.Memory.{hidden_shr, mem}
@@ -42,10 +45,13 @@ as_slice_spec 𝓤 𝓛 𝓜 𝓡 wired T A of_value of_heap g d drops allocates
     let v : el_d E = record { ptr = r.at; len = r.len; cap = r.room; alloc = r.heap; items = r.items; ok = r.counted; small = r.small } in
     let to : ℕ × ℕ = (block_of r.at, count_of r.at) in
     let short : length r.items < 2 ^ 63 = let same = r.counted.0 in let fits = r.counted.1 in let few = r.small in omega arith in
-    qed 𝓛 (((‵ (flft κ qs.0) ⊛ (‵ (flft κs.1.0 qs.1.0) ⊛ ‵ (flft κs.1.1.0 qs.1.1.0) ⊛ ‵ ftrue)) ⊛ ‵ (owns (types_at En.signature.params κs) a y.0.4)) ∷ raw ((c κs a).requires n) ∷ []) ∵
+    qed 𝓛 (((‵ (flft κ qs.0) ⊛ (‵ (flft κs.1.0 qs.1.0) ⊛ ‵ (flft κs.1.1.0 qs.1.1.0) ⊛ ‵ ftrue)) ⊛ ‵ (owns (types_at En.signature.params κs) a y.0.4))
+    ∷ raw ((c κs a).requires n) ∷ []) ∵
     split ! $ split ! $ move ! (2 ∷ []) $ fsplit ! $ fsplit ! $ drop ! $
-    use1 𝓛 (‵ (hidden_shr (Struct (shape (owning E))) κ (r.at, (r.len, (r.room, (r.heap, tt)))) b o) ⊛ ‵ (fhide (the_lent (R E) (P E) g r r.at κ))) (id⊢ 𝓤 _) $ split ! $
-    move ! (1 ∷ []) $ unhide ! $ fsplit ! $ flt_l ! (λ fit. fsplit ! $ use1 𝓛 (raw (fact 𝓤 (InBlock r.at))) (in_block_says 𝓛 r.at) $ heard ! (InBlock r.at) (λ lies.
+    use1 𝓛 (‵ (hidden_shr (Struct (shape (owning E))) κ (r.at, (r.len, (r.room, (r.heap, tt)))) b o) ⊛ ‵ (fhide (the_lent (R E) (P E) g r r.at κ))) (id⊢ 𝓤 _) $
+    split ! $
+    move ! (1 ∷ []) $ unhide ! $ fsplit ! $
+    flt_l ! (λ fit. fsplit ! $ use1 𝓛 (raw (fact 𝓤 (InBlock r.at))) (in_block_says 𝓛 r.at) $ heard ! (InBlock r.at) (λ lies.
     fsplit ! $ drop ! $ hide ! $ move ! (1 ∷ 3 ∷ 0 ∷ 4 ∷ []) $
     -- [a `&` to the fields; the token; a `&` to the values; the other tokens]
     enter ! _ _ _ _ _ $ alloc_all ! (λ l. pass_all ! refl ((tt, tt), tt) $
@@ -57,7 +63,8 @@ as_slice_spec 𝓤 𝓛 𝓜 𝓡 wired T A of_value of_heap g d drops allocates
     sets_last ! (agg ! (and_then ! (get ! refl) (and_then ! (get ! refl) (no_more !)))) refl (tt, (tt, (record { fits = few }, tt))) $
     exec ! 𝓣.C 𝓣.Λ (env fn.locals l) (after 1 fn.body) (at_ret _ Post) $ sets ! (of_opd ! (get ! refl)) refl (tt, (tt, (record { fits = few }, tt))) $
     returns ! (look_at ! 0 refl) $ free_all ! refl $ keep ! (2 ∷ 0 ∷ 3 ∷ []) $
-    let within : length r.items * (mem (R E)).size < 2 ^ 63 = lt_of_le_of_lt (mul-le-mul_right (mem (R E)).size (subst (λ (k : ℕ). k ≤ r.room) r.counted.0 r.counted.1)) fit in
+    let within : length r.items * (mem (R E)).size < 2 ^ 63 =
+    lt_of_le_of_lt (mul-le-mul_right (mem (R E)).size (subst (λ (k : ℕ). k ≤ r.room) r.counted.0 r.counted.1)) fit in
     flt_i ! _ (2 ^ 63) within $ flt_i ! (length r.items) (2 ^ 64) (subst (λ (k : ℕ). k < 2 ^ 64) r.counted.0 few) $ fjoin ! $
     feq_i ! (List Val) (slice_val to r.len ∷ []) (slice_val to (length r.items) ∷ []) (ap (λ (k : ℕ). slice_val to k ∷ []) r.counted.0) $ fjoin ! $ fjoin ! $
     suffices ! _ (ends_at 𝓛 En hs c y (slice_val to r.len) (record { ref_ptr = to; now = r.items }) (tt, tt) (tt, tt)) $ says_two ! (refl, short) $

@@ -1,5 +1,10 @@
 -- The handle is lent for the call that asks for a block, and goes on with the block or comes back alone.
-use Rattle.raw_place.proofs.Steps.{refl, ap, [], ◌∷◌, ◌++◌, Fml, fat, ftrue, flft, full_share, id⊢, SProp, fact, tables, no, part_at, bounded, RattleType, owns, block_ptr, plain, types_at, heard, nothing, calls_at, framed, Stays, walk_of, says, stay_dropped, ends_at, Goes-dropped, inst_fn, bare, a_type, dcons, dnil, Val, WpFn, alloc_all, env, free_all, get, get_in, lands_as, look_at, pass_all, sets, sets_last, ‵, raw, ◌⊛◌, given, learn, later, prop, some, at_ret, ◌$◌, ◌∵◌, !, qed, done, move, keep, use1, use2, split, split3, join, fsplit, fjoin, await, pick, regoal, suffices, agg, whole, addr, and_then, enter, exec, first, fld, no_more, of_opd, returns, stop, Bx, P, R, box_ty, box_typed, word, τ, after, proved_at}
+use Rattle.raw_place.proofs.Steps.{refl, ap, [], ◌∷◌, ◌++◌, Fml, fat, ftrue, flft, full_share, id⊢, SProp, fact, tables, no, part_at, bounded, RattleType, owns}
+use Rattle.raw_place.proofs.Steps.{block_ptr, plain, types_at, heard, nothing, calls_at, framed, Stays, walk_of, says, stay_dropped, ends_at, Goes-dropped}
+use Rattle.raw_place.proofs.Steps.{inst_fn, bare, a_type, dcons, dnil, Val, WpFn, alloc_all, env, free_all, get, get_in, lands_as, look_at, pass_all, sets}
+use Rattle.raw_place.proofs.Steps.{sets_last, ‵, raw, ◌⊛◌, given, learn, later, prop, some, at_ret, ◌$◌, ◌∵◌, !, qed, done, move, keep, use1, use2, split}
+use Rattle.raw_place.proofs.Steps.{split3, join, fsplit, fjoin, await, pick, regoal, suffices, agg, whole, addr, and_then, enter, exec, first, fld, no_more}
+use Rattle.raw_place.proofs.Steps.{of_opd, returns, stop, Bx, P, R, box_ty, box_typed, word, τ, after, proved_at}
 use base.Fml.{Incl-trans, Lft, Share}
 use base.Logic.{apply∗, sep, wand}
 use borrow.Table.OneValue.{part_in, part_out}
@@ -38,17 +43,21 @@ take_spec 𝓤 𝓛 𝓜 𝓡 wired T A of_value of_heap g d drops allocates des
     let inst = bounded (a_type ∷ a_type ∷ []) (T, (A, tt)) (dcons d (dcons drops dnil)) in let fn = inst_fn inst code.function in
     let handles : Slot 2 = plain (λ _. P E) in let rooms : RattleType = room.the_row (R E) (P E) g in let out : RattleType = result.the_row rooms (P E) in
     let hs : Stays En.signature.params En.kept = (stay_dropped handles no, tt) in
-    proved_at 𝓛 En hs c 𝓜 𝓡 (Goes-dropped 𝓛 2 handles no (λ κs x last. refl), tt) (f.Key.name inst) fn (code.unfolded 𝓤 𝓛.H 𝓜 𝓡 wired (T, (A, tt)) d drops) (λ y are.
+    proved_at 𝓛 En hs c 𝓜 𝓡 (Goes-dropped 𝓛 2 handles no (λ κs x last. refl), tt) (f.Key.name inst) fn
+    (code.unfolded 𝓤 𝓛.H 𝓜 𝓡 wired (T, (A, tt)) d drops) (λ y are.
     let κs = y.0.0 in let qs = y.0.1 in let ρ = κs.1.0 in let qρ = qs.1.0 in let heap = y.0.3.0 in let Post = (walk_of 𝓛 En hs c).post y in
     let bytes : ℕ = capped (size (τ E)) in let even : ℕ = capped (align (τ E)) in
-    qed 𝓛 (((‵ (flft κs.0 qs.0) ⊛ ‵ (flft ρ qρ) ⊛ ‵ ftrue) ⊛ ‵ (owns (types_at En.signature.params κs) y.0.3 y.0.4)) ∷ raw (fact 𝓤 (κs.0 ⊑ T.lives)) ∷ raw (fact 𝓤 (ρ ⊑ A.lives)) ∷ ‵ ftrue ∷ []) ∵
+    qed 𝓛 (((‵ (flft κs.0 qs.0) ⊛ ‵ (flft ρ qρ) ⊛ ‵ ftrue) ⊛ ‵ (owns (types_at En.signature.params κs) y.0.3 y.0.4)) ∷ raw (fact 𝓤 (κs.0 ⊑ T.lives))
+    ∷ raw (fact 𝓤 (ρ ⊑ A.lives)) ∷ ‵ ftrue ∷ []) ∵
     move ! (2 ∷ []) $ heard ! (ρ ⊑ A.lives) (λ within. split ! $ move ! (1 ∷ []) $ fsplit ! $ handle_tells E.al ! heap y.0.4.0 (λ hv hs' fits.
     move ! (2 ∷ []) $ split3 ! $ keep ! (3 ∷ 1 ∷ 0 ∷ []) $
     -- [the handle; the handle's token; the value's token]
     regoal ! (λ us. prop (WpFn 𝓤 𝓛.H 𝓣.C 𝓣.Λ fn (us ++ []) Post)) hs' refl $
     enter ! _ _ _ _ _ $ alloc_all ! (λ l. pass_all ! refl (fits, tt) $
     let place : ℕ × ℕ = (l 2, 0) in let lies : Fml = part_at (param 0 A) full_share heap (l 2) 0 in let both : Body = head (after 3 fn.body) in
-    let Then : After 𝓤 𝓛.H = any_q (after_seq 𝓤 𝓛.H (Wp 𝓤 𝓛.H 𝓣.C 𝓣.Λ (env fn.locals l) (after 4 fn.body) (at_return 𝓤 𝓛.H (env fn.locals l) Post)) (at_return 𝓤 𝓛.H (env fn.locals l) Post)) in
+    let Then : After 𝓤 𝓛.H =
+    any_q (after_seq 𝓤 𝓛.H (Wp 𝓤 𝓛.H 𝓣.C 𝓣.Λ (env fn.locals l) (after 4 fn.body) (at_return 𝓤 𝓛.H (env fn.locals l) Post))
+    (at_return 𝓤 𝓛.H (env fn.locals l) Post)) in
     sets ! (of_opd ! (get ! refl)) refl fits $ sets ! (addr ! (from ! (stop !))) refl (tt, tt) $ take_at ! 2 $
     use2 𝓛 (‵ lies) (part_in 𝓛 (param 0 A) refl full_share heap (l 2) 0 hv) $
     use2 𝓛 (later (some (λ (m : ℕ × Share). raw (Lent E.al 𝓛 ρ qρ place heap m)))) (lends E.al 𝓛 ρ qρ within place heap) $ await ! tt $ pick ! (λ m.
@@ -56,26 +65,38 @@ take_spec 𝓤 𝓛 𝓜 𝓡 wired T A of_value of_heap g d drops allocates des
     let asked = at_takes E.al 𝓛 𝓜.mem 𝓡.returns κ m.1 place heap bytes even (bare (τ E)) in
     use1 𝓛 (‵ (seen E.al κ place heap) ⊛ ‵ (flft κ m.1) ⊛ raw (wand 𝓤 (𝓛.A.lft κ m.1) Home)) (id⊢ 𝓤 _) $ split3 ! $
     use2 𝓛 (raw ((Takes E.al 𝓛 𝓜.mem 𝓡.returns).pre asked))
-    (Takes-goes E.al 𝓛 𝓜.mem 𝓡.returns κ m.1 place heap (Incl-trans (meet_⊑_right (m.0 ∷ []) ρ) within) bytes even (bare (τ E)) (ap capped (size-raw (τ E))) (ap capped (align-raw (τ E))) (capped_fits (size (τ E))) (capped_fits (align (τ E)))) $
-    calls_at ! (framed 𝓤 𝓛.H 𝓜 𝓣) (Takes E.al 𝓛 𝓜.mem 𝓡.returns) (allocates.allocate drops) asked (and_then ! (get ! refl) (and_then ! (size_word !) (and_then ! (align_word !) (no_more !)))) (λ u.
-    use1 𝓛 (later (raw (Answered E.al 𝓛 𝓜.mem 𝓡.returns heap (bare (τ E)) u) ⊛ ‵ (flft κ m.1))) (Takes-gives E.al 𝓛 𝓜.mem 𝓡.returns κ m.1 place heap bytes even (bare (τ E)) u) $ await ! tt $ split ! $ move ! (1 ∷ 2 ∷ []) $
+    (Takes-goes E.al 𝓛 𝓜.mem 𝓡.returns κ m.1 place heap (Incl-trans (meet_⊑_right (m.0 ∷ []) ρ) within) bytes even (bare (τ E)) (ap capped (size-raw (τ E)))
+    (ap capped (align-raw (τ E))) (capped_fits (size (τ E))) (capped_fits (align (τ E)))) $
+    calls_at ! (framed 𝓤 𝓛.H 𝓜 𝓣) (Takes E.al 𝓛 𝓜.mem 𝓡.returns) (allocates.allocate drops) asked
+    (and_then ! (get ! refl) (and_then ! (size_word !) (and_then ! (align_word !) (no_more !)))) (λ u.
+    use1 𝓛 (later (raw (Answered E.al 𝓛 𝓜.mem 𝓡.returns heap (bare (τ E)) u) ⊛ ‵ (flft κ m.1)))
+    (Takes-gives E.al 𝓛 𝓜.mem 𝓡.returns κ m.1 place heap bytes even (bare (τ E)) u) $ await ! tt $ split ! $ move ! (1 ∷ 2 ∷ []) $
     use2 𝓛 (later (‵ lies ⊛ ‵ (flft ρ qρ))) (apply∗ 𝓤 (𝓛.A.lft κ m.1) Home) $ await ! tt $ split ! $
-    use1 𝓛 (some (λ (w : Val). ‵ (fat full_share (α E.al) (l 2) 0 w) ⊛ ‵ (A.own_val heap (w ∷ [])))) (part_out 𝓛 (param 0 A) refl full_share heap (l 2) 0) $ pick ! (λ hv'. split ! $
-    use1 𝓛 (given (Fits E.al hv') (‵ (fat full_share (α E.al) (l 2) 0 hv'))) (𝓛.laws.at_wt full_share (α E.al) (l 2) 0 hv') $ learn ! (λ fits'. give_at ! 2 $ move ! (2 ∷ []) $
+    use1 𝓛 (some (λ (w : Val). ‵ (fat full_share (α E.al) (l 2) 0 w) ⊛ ‵ (A.own_val heap (w ∷ [])))) (part_out 𝓛 (param 0 A) refl full_share heap (l 2) 0) $
+    pick ! (λ hv'. split ! $
+    use1 𝓛 (given (Fits E.al hv') (‵ (fat full_share (α E.al) (l 2) 0 hv'))) (𝓛.laws.at_wt full_share (α E.al) (l 2) 0 hv') $
+    learn ! (λ fits'. give_at ! 2 $ move ! (2 ∷ []) $
     answers E.al ! 𝓜.mem 𝓡.returns heap (bare (τ E)) u
-    (λ b o is. let made = box_typed E hv' b o fits' in let won = first_Good (box_ty E) (word E hv' b o) made in let value = live 0 (vcons (word E hv' b o) vnil) in
-    lands_as ! is refl (Answer-typed true b o) $ first ! $ switches_on ! (get_tag ! (vrt ! refl (fld ! refl (stop !))) (whole !)) $ exec ! 𝓣.C 𝓣.Λ (env fn.locals l) (arm_body 0 both) Then $
-    sets ! (of_opd ! (get_in ! (vrt ! refl (fld ! refl (stop !))) (in_variant ! 0 0 refl refl (whole !)))) refl (tt, tt) $ sets ! (of_opd ! (get ! refl)) refl (tt, tt) $ sets ! (of_opd ! (get ! refl)) refl fits' $
-    sets ! (agg ! (and_then ! (get ! refl) (and_then ! (get ! refl) (no_more !)))) refl made $ sets_last ! (agg ! (and_then ! (lit ! tt) (and_then ! (get ! refl) (no_more !)))) refl won $
+    (λ b o is. let made = box_typed E hv' b o fits' in let won = first_Good (box_ty E) (word E hv' b o) made in
+    let value = live 0 (vcons (word E hv' b o) vnil) in
+    lands_as ! is refl (Answer-typed true b o) $ first ! $ switches_on ! (get_tag ! (vrt ! refl (fld ! refl (stop !))) (whole !)) $
+    exec ! 𝓣.C 𝓣.Λ (env fn.locals l) (arm_body 0 both) Then $
+    sets ! (of_opd ! (get_in ! (vrt ! refl (fld ! refl (stop !))) (in_variant ! 0 0 refl refl (whole !)))) refl (tt, tt) $
+    sets ! (of_opd ! (get ! refl)) refl (tt, tt) $ sets ! (of_opd ! (get ! refl)) refl fits' $
+    sets ! (agg ! (and_then ! (get ! refl) (and_then ! (get ! refl) (no_more !)))) refl made $
+    sets_last ! (agg ! (and_then ! (lit ! tt) (and_then ! (get ! refl) (no_more !)))) refl won $
     exec ! 𝓣.C 𝓣.Λ (env fn.locals l) (after 4 fn.body) (at_ret _ Post) $ sets ! (of_opd ! (get ! refl)) refl won $
-    room_in E ! heap b o $ use1 𝓛 (‵ (out.own_val (Ok (record { at = block_ptr b o; heap = heap })) (value ∷ []))) (ok_of 𝓛 rooms (P E) (record { at = block_ptr b o; heap = heap }) (word E hv' b o)) $
+    room_in E ! heap b o $ use1 𝓛 (‵ (out.own_val (Ok (record { at = block_ptr b o; heap = heap })) (value ∷ [])))
+    (ok_of 𝓛 rooms (P E) (record { at = block_ptr b o; heap = heap }) (word E hv' b o)) $
     returns ! (look_at ! 0 refl) $ free_all ! refl $ keep ! (0 ∷ 2 ∷ 1 ∷ []) $
     suffices ! _ (ends_at 𝓛 En hs c y value (Ok (record { at = block_ptr b o; heap = heap })) (tt, tt) (tt, tt)) $ says ! refl $
     nothing ! $ nothing ! $ fjoin ! $ join ! $ nothing ! $ move ! (3 ∷ 0 ∷ []) $ join ! $ move ! (2 ∷ 0 ∷ []) $ join ! $ join ! $ done !)
     (λ is. let lost = some_Good (α E.al) hv' fits' in let value = live 1 (vcons hv' vnil) in
-    lands_as ! is refl (Answer-typed false 0 0) $ first ! $ switches_on ! (get_tag ! (vrt ! refl (fld ! refl (stop !))) (whole !)) $ exec ! 𝓣.C 𝓣.Λ (env fn.locals l) (arm_body 1 both) Then $
+    lands_as ! is refl (Answer-typed false 0 0) $ first ! $ switches_on ! (get_tag ! (vrt ! refl (fld ! refl (stop !))) (whole !)) $
+    exec ! 𝓣.C 𝓣.Λ (env fn.locals l) (arm_body 1 both) Then $
     sets ! (of_opd ! (get ! refl)) refl fits' $ sets_last ! (agg ! (and_then ! (lit ! tt) (and_then ! (get ! refl) (no_more !)))) refl lost $
     exec ! 𝓣.C 𝓣.Λ (env fn.locals l) (after 4 fn.body) (at_ret _ Post) $ sets ! (of_opd ! (get ! refl)) refl lost $
-    use1 𝓛 (‵ (out.own_val (Err heap) (value ∷ []))) (err_of 𝓛 rooms (P E) heap hv') $ returns ! (look_at ! 0 refl) $ free_all ! refl $ keep ! (0 ∷ 2 ∷ 1 ∷ []) $
+    use1 𝓛 (‵ (out.own_val (Err heap) (value ∷ []))) (err_of 𝓛 rooms (P E) heap hv') $ returns ! (look_at ! 0 refl) $ free_all ! refl $
+    keep ! (0 ∷ 2 ∷ 1 ∷ []) $
     suffices ! _ (ends_at 𝓛 En hs c y value (Err heap) (tt, tt) (tt, tt)) $ says ! refl $
     nothing ! $ nothing ! $ fjoin ! $ join ! $ nothing ! $ move ! (3 ∷ 0 ∷ []) $ join ! $ move ! (2 ∷ 0 ∷ []) $ join ! $ join ! $ done !)))))))))
