@@ -1,5 +1,6 @@
 -- The items of an array by how its type is stored.
-use Rattle.std.proofs.Common.{◌≡◌, ℕ, zero, suc, ◌+◌, ◌*◌, ◌/◌, ◌<◌, ◌≤◌, Bool, true, false, List, [], ◌∷◌, length, get_or, map, Option, None, Some, inl, inr, refl, ap, ◌∙◌, sym, subst, true≢false, arith}
+use Rattle.std.proofs.Common.{◌≡◌, ℕ, zero, suc, ◌+◌, ◌*◌, ◌/◌, ◌<◌, ◌≤◌, Bool, true, false, List, [], ◌∷◌, length, get_or, map}
+use Rattle.std.proofs.Common.{Option, None, Some, inl, inr, refl, ap, ◌∙◌, sym, subst, true≢false, arith}
 use Rattle.std.specs.Prelude.{◌⊎◌, IsTrue, if◌then◌else◌}
 use Rattle.std.specs.Global.{Box}
 use Rattle.std.proofs.lemmas.Bool.{cases_eq}
@@ -14,20 +15,21 @@ use Rattle.fmt_string.specs.Storage.{storage_of}
 use Rattle.fmt_string.specs.Value.{values}
 use Rattle.fmt_string.specs.Value.Value.{Null, Fields}
 use Rattle.bit_pack.specs.Packed.{IsWidth}
-use Rattle.tree_model.specs.Tree.{Released, Live, IsLive, absent, present, trees, maybe_tree, tree_list, children_of, child_at, dictionary_of}
+use Rattle.tree_model.specs.Tree.{Released, Live, IsLive, absent, present, trees, maybe_tree, tree_list, children_of, child_at, dictionary_of, Depth}
 use Rattle.raw_array.specs.Members.{ArrayMembers, ArrayTree, members_of}
 use Rattle.layout_check.specs.declared.typed.Typed.{Typed, out-Typed}
 use Rattle.layout_check.specs.declared.layout.Layout.TheVariants.{ByChildren}
-use Rattle.layout_check.specs.Kinds.{KindTree, levels, NodesOk, AllNodesOk, DictNodesOk, KidsOk, DictOk, IsOneChild, IsPairOfColumns}
+use Rattle.layout_check.specs.Kinds.{KindTree, NodesOk, AllNodesOk, DictNodesOk, KidsOk, DictOk, IsOneChild, IsPairOfColumns}
 use Rattle.layout_check.specs.TypedView.{typed_of, kind_of, kids_of, dict_in}
 use Rattle.layout_check.specs.Layout.{layout_of, bytes, first, is_valid}
 use Rattle.layout_check.specs.Values.{Reader, each, child_item, field_items, row_items, item, item_or_entry, value_at, readers, reader_of, tree_items}
 use Rattle.layout_check.specs.Within.{StoredWithin, ItemsWithin, IndexWithin, ViewWithin, DataWithin}
 use Rattle.fmt_string.specs.declared.storage.Storage.{Storage}
-use Rattle.arr_import.specs.StoredItems.{stored_item, IsThere, NumberThere, IsListStorage, IsViewStorage, AreItemsThere, IsIndexThere}
+use Rattle.arr_import.specs.StoredItems.{stored_item, IsThere, NumberThere, IsListStorage, IsViewStorage, AreItemsThere, IsIndexThere, IsOwn}
 use Rattle.arr_import.specs.Window.{Window, Home, IsDictionary, IsStruct, IsStructValue, index_at, home_from, home_of}
 
-pub item-stored : (kind : DataType) (kids : List Reader) (own : ArrayMembers) (children : List ArrayTree) (i : ℕ) → item kind kids own children i ≡ stored_item (storage_of kind) kids own children i
+pub item-stored : (kind : DataType) (kids : List Reader) (own : ArrayMembers) (children : List ArrayTree) (i : ℕ)
+    → item kind kids own children i ≡ stored_item (storage_of kind) kids own children i
 item-stored kinds.Null kids own children i = refl
 item-stored kinds.Bool kids own children i = refl
 item-stored (kinds.Int width signed) kids own children i = refl
@@ -67,7 +69,8 @@ int_width bits h =
           | inl e ↦ (inr (inr (inl (omega (arith, e)))), omega (arith, e))
           | inr c ↦ elim (cases_eq bits 64) [
             | inl e ↦ (inr (inr (inr (inl (omega (arith, e))))), omega (arith, e))
-            | inr d ↦ absurd (∥∥₁_elim h (hlevel props) (λ s. elim s [ inl e ↦ a e | inr s ↦ elim s [ inl e ↦ b e | inr s ↦ elim s [ inl e ↦ c e | inr e ↦ d e ] ] ]))
+            | inr d ↦ absurd (∥∥₁_elim h (hlevel props)
+                (λ s. elim s [ inl e ↦ a e | inr s ↦ elim s [ inl e ↦ b e | inr s ↦ elim s [ inl e ↦ c e | inr e ↦ d e ] ] ]))
           ]
         ]
       ]
@@ -87,13 +90,14 @@ eight-there : (stored : List ℕ) (place : ℕ) → (place + 1) * 8 ≤ length s
 eight-there stored place h = record { width_is = inr (inr (inr (inl refl))); widest = λ e. refl; there = h }
 
 -- what a lawful array's buffers have of an item, by how the type is stored
-there : (kind : DataType) (own : ArrayMembers) (place : ℕ) → ∥ KindOk kind ∥₁ → StoredWithin (layout_of kind) own place → IsThere (storage_of kind) (bytes own 1) (bytes own 2) place
+there : (kind : DataType) (own : ArrayMembers) (place : ℕ) → ∥ KindOk kind ∥₁ → StoredWithin (layout_of kind) own place
+    → IsThere (storage_of kind) (bytes own 1) (bytes own 2) place
 there kinds.Null own place ok h = tt
 there kinds.Bool own place ok h = h
 there (kinds.Int bits signed) own place ok h = record { width_is = (int_width bits ok).0; widest = narrow (bits / 8) signed (int_width bits ok).1; there = h }
 there (kinds.Float bits) own place ok h = record { width_is = (float_width bits ok).0; widest = narrow (bits / 8) false (float_width bits ok).1; there = h }
-there (kinds.Binary wide) own place ok h = (record { there = h.0.there; from = h.0.from; rise = h.0.rise }, h.1)
-there (kinds.Utf8 wide) own place ok h = (record { there = h.0.there; from = h.0.from; rise = h.0.rise }, h.1)
+there (kinds.Binary wide) own place ok h = h
+there (kinds.Utf8 wide) own place ok h = h
 there (kinds.FixedBinary size) own place ok h = h
 there (kinds.Decimal precision scale false) own place ok h = record { width_is = inr (inr (inr (inr refl))); widest = λ e. refl; there = h }
 there (kinds.Decimal precision scale true) own place ok h = h
@@ -108,14 +112,15 @@ there (kinds.Duration tick) own place ok h = eight-there (bytes own 1) place h
 there kinds.IntervalMonths own place ok h = four-there (bytes own 1) place h
 there kinds.IntervalDayTime own place ok h = h
 there kinds.IntervalMonthDayNano own place ok h = h
-there (kinds.List wide) own place ok h = record { there = h.there; from = h.from; rise = h.rise }
+there (kinds.List wide) own place ok h = h
 there (kinds.FixedList size) own place ok h = tt
 there kinds.Struct own place ok h = tt
-there kinds.Map own place ok h = record { there = h.there; from = h.from; rise = h.rise }
+there kinds.Map own place ok h = h
 there kinds.BinaryView own place ok h = h
 there kinds.Utf8View own place ok h = h
 
-pub item-there : (kind : DataType) (storage : Storage) (own : ArrayMembers) (stored text : List ℕ) (place : ℕ) → storage ≡ storage_of kind → stored ≡ bytes own 1 → text ≡ bytes own 2
+pub item-there : (kind : DataType) (storage : Storage) (own : ArrayMembers) (stored text : List ℕ) (place : ℕ) → storage ≡ storage_of kind
+    → stored ≡ bytes own 1 → text ≡ bytes own 2
     → ∥ KindOk kind ∥₁ → StoredWithin (layout_of kind) own place → IsThere storage stored text place
 item-there kind storage own stored text place s b t ok h =
     subst (λ a. IsThere a stored text place) (sym s)
@@ -124,7 +129,8 @@ item-there kind storage own stored text place s b t ok h =
 
 -- ---- views
 
-view-named : (kind : DataType) (own : ArrayMembers) (i : ℕ) → IsViewStorage (storage_of kind) → IsTrue (is_valid own i) → ViewWithin (layout_of kind) own i → DataWithin own i
+view-named : (kind : DataType) (own : ArrayMembers) (i : ℕ) → IsViewStorage (storage_of kind) → IsTrue (is_valid own i) → ViewWithin (layout_of kind) own i
+    → DataWithin own i
 view-named kinds.BinaryView own i is valid h = h valid
 view-named kinds.Utf8View own i is valid h = h valid
 view-named (kinds.Decimal precision scale false) own i is valid h = absurd is
@@ -132,15 +138,18 @@ view-named (kinds.Decimal precision scale true) own i is valid h = absurd is
 view-named kind own i is valid h = absurd is
 
 -- where the data of a valid view are
-pub view-there : (kind : DataType) (storage : Storage) (own : ArrayMembers) (i : ℕ) → storage ≡ storage_of kind → IsViewStorage storage → is_valid own i ≡ true → ViewWithin (layout_of kind) own i → DataWithin own i
+pub view-there : (kind : DataType) (storage : Storage) (own : ArrayMembers) (i : ℕ) → storage ≡ storage_of kind → IsViewStorage storage → is_valid own i ≡ true
+    → ViewWithin (layout_of kind) own i → DataWithin own i
 view-there kind storage own i s is v h = view-named kind own i (subst IsViewStorage s is) v h
 
 -- ---- a node of kinds that is in order
 
-pub kind-ok : (t : Typed) → typed_of t ≡ Live (kind_of t) (trees (kids_of t)) (maybe_tree (dict_in (out-Typed t).dict)) → ∥ NodesOk (typed_of t) ∥₁ → ∥ KindOk (kind_of t) ∥₁
+pub kind-ok : (t : Typed) → typed_of t ≡ Live (kind_of t) (trees (kids_of t)) (maybe_tree (dict_in (out-Typed t).dict)) → ∥ NodesOk (typed_of t) ∥₁
+    → ∥ KindOk (kind_of t) ∥₁
 kind-ok t e h = ∥∥₁_map h (λ ok. (subst NodesOk e ok).0)
 
-all-nodes-ok : (t : Typed) → typed_of t ≡ Live (kind_of t) (trees (kids_of t)) (maybe_tree (dict_in (out-Typed t).dict)) → NodesOk (typed_of t) → AllNodesOk (trees (kids_of t))
+all-nodes-ok : (t : Typed) → typed_of t ≡ Live (kind_of t) (trees (kids_of t)) (maybe_tree (dict_in (out-Typed t).dict)) → NodesOk (typed_of t)
+    → AllNodesOk (trees (kids_of t))
 all-nodes-ok t e ok = (subst NodesOk e ok).3
 
 each-ok : (kids : List Typed) (k : ℕ) (d : Typed) → k < length kids → AllNodesOk (trees (map typed_of kids)) → NodesOk (typed_of (get_or kids k d))
@@ -177,7 +186,8 @@ pub one-child : (t : Typed) → typed_of t ≡ Live (kind_of t) (trees (kids_of 
 one-child t e storage s list ok =
     ∥∥₁_elim ok (hlevel props) (λ nodes. one-kid (kind_of t) (kids_of t) (subst NodesOk e nodes).1 (subst IsListStorage s list))
 
-items-there : (kind : DataType) (own : ArrayMembers) (place total : ℕ) → ItemsWithin (layout_of kind) own place total → AreItemsThere (storage_of kind) (bytes own 1) place total
+items-there : (kind : DataType) (own : ArrayMembers) (place total : ℕ) → ItemsWithin (layout_of kind) own place total
+    → AreItemsThere (storage_of kind) (bytes own 1) place total
 items-there (kinds.List wide) own place total h = h
 items-there (kinds.FixedList size) own place total h = h
 items-there kinds.Map own place total h = h
@@ -185,10 +195,12 @@ items-there (kinds.Decimal precision scale false) own place total h = tt
 items-there (kinds.Decimal precision scale true) own place total h = tt
 items-there kind own place total h = tt
 
-pub are-items-there : (kind : DataType) (storage : Storage) (own : ArrayMembers) (stored : List ℕ) (place total : ℕ) → storage ≡ storage_of kind → stored ≡ bytes own 1
+pub are-items-there : (kind : DataType) (storage : Storage) (own : ArrayMembers) (stored : List ℕ) (place total : ℕ) → storage ≡ storage_of kind
+    → stored ≡ bytes own 1
     → ItemsWithin (layout_of kind) own place total → AreItemsThere storage stored place total
 are-items-there kind storage own stored place total s b h =
-    subst (λ a. AreItemsThere a stored place total) (sym s) (subst (λ a. AreItemsThere (storage_of kind) a place total) (sym b) (items-there kind own place total h))
+    subst (λ a. AreItemsThere a stored place total) (sym s)
+    (subst (λ a. AreItemsThere (storage_of kind) a place total) (sym b) (items-there kind own place total h))
 
 -- the items of the one child
 pub each-child : (kids : List KindTree) (children : List ArrayTree) (a n : ℕ) → 0 < length kids → 0 < length children
@@ -201,35 +213,51 @@ each-child (kid ∷ kids) (child ∷ rest) a n h l = refl
 
 at-node : (kind : DataType) (kids : List KindTree) (dict : Option KindTree) (array : ArrayTree) (j : ℕ) → IsLive array
     → value_at (Live kind (trees kids) (maybe_tree dict)) array j
-    ≡ (if is_valid (members_of array) j then item_or_entry (reader_of (maybe_tree dict)) kind (readers (trees kids)) (members_of array) (children_of array) (dictionary_of array) j else Null)
+    ≡ (if is_valid (members_of array) j
+    then item_or_entry (reader_of (maybe_tree dict)) kind (readers (trees kids)) (members_of array) (children_of array) (dictionary_of array) j else Null)
 at-node kind kids dict Released j live = absurd live
 at-node kind kids dict (Live own children dictionary) j live = refl
 
-value-node : (t : Typed) → typed_of t ≡ Live (kind_of t) (trees (kids_of t)) (maybe_tree (dict_in (out-Typed t).dict)) → (array : ArrayTree) (j : ℕ) → IsLive array
+value-node : (t : Typed) → typed_of t ≡ Live (kind_of t) (trees (kids_of t)) (maybe_tree (dict_in (out-Typed t).dict)) → (array : ArrayTree) (j : ℕ)
+    → IsLive array
     → value_at (typed_of t) array j
-    ≡ (if is_valid (members_of array) j then item_or_entry (reader_of (maybe_tree (dict_in (out-Typed t).dict))) (kind_of t) (readers (trees (kids_of t))) (members_of array) (children_of array) (dictionary_of array) j else Null)
+    ≡ (if is_valid (members_of array) j
+    then item_or_entry (reader_of (maybe_tree (dict_in (out-Typed t).dict))) (kind_of t) (readers (trees (kids_of t)))
+    (members_of array) (children_of array) (dictionary_of array) j
+    else Null)
 value-node t e array j live = ap (λ k. value_at k array j) e ∙ at-node (kind_of t) (kids_of t) (dict_in (out-Typed t).dict) array j live
 
-pub value-null : (t : Typed) → typed_of t ≡ Live (kind_of t) (trees (kids_of t)) (maybe_tree (dict_in (out-Typed t).dict)) → (array : ArrayTree) (j : ℕ) → IsLive array
+pub value-null : (t : Typed) → typed_of t ≡ Live (kind_of t) (trees (kids_of t)) (maybe_tree (dict_in (out-Typed t).dict)) → (array : ArrayTree) (j : ℕ)
+    → IsLive array
     → is_valid (members_of array) j ≡ false → value_at (typed_of t) array j ≡ Null
 value-null t e array j live n =
     value-node t e array j live
-    ∙ ap (λ b. if b then item_or_entry (reader_of (maybe_tree (dict_in (out-Typed t).dict))) (kind_of t) (readers (trees (kids_of t))) (members_of array) (children_of array) (dictionary_of array) j else Null) n
+    ∙ ap (λ b. if b
+    then item_or_entry (reader_of (maybe_tree (dict_in (out-Typed t).dict))) (kind_of t) (readers (trees (kids_of t)))
+    (members_of array) (children_of array) (dictionary_of array) j
+    else Null) n
 
-valid-node : (t : Typed) → typed_of t ≡ Live (kind_of t) (trees (kids_of t)) (maybe_tree (dict_in (out-Typed t).dict)) → (array : ArrayTree) (j : ℕ) → IsLive array
+valid-node : (t : Typed) → typed_of t ≡ Live (kind_of t) (trees (kids_of t)) (maybe_tree (dict_in (out-Typed t).dict)) → (array : ArrayTree) (j : ℕ)
+    → IsLive array
     → is_valid (members_of array) j ≡ true
-    → value_at (typed_of t) array j ≡ item_or_entry (reader_of (maybe_tree (dict_in (out-Typed t).dict))) (kind_of t) (readers (trees (kids_of t))) (members_of array) (children_of array) (dictionary_of array) j
+    → value_at (typed_of t) array j ≡ item_or_entry (reader_of (maybe_tree (dict_in (out-Typed t).dict))) (kind_of t) (readers (trees (kids_of t)))
+    (members_of array) (children_of array) (dictionary_of array) j
 valid-node t e array j live v =
     value-node t e array j live
-    ∙ ap (λ b. if b then item_or_entry (reader_of (maybe_tree (dict_in (out-Typed t).dict))) (kind_of t) (readers (trees (kids_of t))) (members_of array) (children_of array) (dictionary_of array) j else Null) v
+    ∙ ap (λ b. if b
+    then item_or_entry (reader_of (maybe_tree (dict_in (out-Typed t).dict))) (kind_of t) (readers (trees (kids_of t)))
+    (members_of array) (children_of array) (dictionary_of array) j
+    else Null) v
 
 -- without a dictionary, by how the type is stored
-pub value-item : (t : Typed) → typed_of t ≡ Live (kind_of t) (trees (kids_of t)) (maybe_tree (dict_in (out-Typed t).dict)) → (array : ArrayTree) (j : ℕ) → IsLive array
+pub value-item : (t : Typed) → typed_of t ≡ Live (kind_of t) (trees (kids_of t)) (maybe_tree (dict_in (out-Typed t).dict)) → (array : ArrayTree) (j : ℕ)
+    → IsLive array
     → is_valid (members_of array) j ≡ true → dict_in (out-Typed t).dict ≡ None → (storage : Storage) → storage ≡ storage_of (kind_of t)
     → value_at (typed_of t) array j ≡ stored_item storage (readers (trees (kids_of t))) (members_of array) (children_of array) j
 value-item t e array j live v none storage s =
     valid-node t e array j live v
-    ∙ ap (λ d. item_or_entry (reader_of (maybe_tree d)) (kind_of t) (readers (trees (kids_of t))) (members_of array) (children_of array) (dictionary_of array) j) none
+    ∙ ap (λ d. item_or_entry (reader_of (maybe_tree d)) (kind_of t) (readers (trees (kids_of t)))
+    (members_of array) (children_of array) (dictionary_of array) j) none
     ∙ item-stored (kind_of t) (readers (trees (kids_of t))) (members_of array) (children_of array) j
     ∙ ap (λ a. stored_item a (readers (trees (kids_of t))) (members_of array) (children_of array) j) (sym s)
 
@@ -248,42 +276,52 @@ pub index-int : (t : Typed) → typed_of t ≡ Live (kind_of t) (trees (kids_of 
 index-int t e dict d ok =
     ∥∥₁_elim ok (hlevel props) (λ nodes. int-behind (kind_of t) dict (subst (λ o. DictOk (kind_of t) (maybe_tree o)) d (subst NodesOk e nodes).2))
 
-entry-at : (kind : DataType) (dict : KindTree) (kids : List Reader) (own : ArrayMembers) (children : List ArrayTree) (dictionary : ArrayTree) (j : ℕ) → is_int kind ≡ true
+entry-at : (kind : DataType) (dict : KindTree) (kids : List Reader) (own : ArrayMembers) (children : List ArrayTree) (dictionary : ArrayTree) (j : ℕ)
+    → is_int kind ≡ true
     → item_or_entry (Some (value_at dict)) kind kids own children (Some dictionary) j ≡ value_at dict dictionary (index_at kind own j)
 entry-at (kinds.Int bits signed) dict kids own children dictionary j h = refl
 entry-at kind dict kids own children dictionary j h = absurd (true≢false (sym h))
 
-within-stored : (kind : DataType) (own : ArrayMembers) (j : ℕ) (dictionary : ArrayTree) → is_int kind ≡ true → is_valid own j ≡ true → IndexWithin kind own j dictionary
+within-stored : (kind : DataType) (own : ArrayMembers) (j : ℕ) (dictionary : ArrayTree) → is_int kind ≡ true → is_valid own j ≡ true
+    → IndexWithin kind own j dictionary
     → IsIndexThere (storage_of kind) own j (index_at kind own j) (tree_items dictionary)
 within-stored (kinds.Int bits signed) own j dictionary h v w = ((w v).0, refl, (w v).1)
 within-stored kind own j dictionary h v w = absurd (true≢false (sym h))
 
-pub index-there : (kind : DataType) (storage : Storage) (own : ArrayMembers) (j : ℕ) (dictionary : ArrayTree) → storage ≡ storage_of kind → is_int kind ≡ true → is_valid own j ≡ true → IndexWithin kind own j dictionary
+pub index-there : (kind : DataType) (storage : Storage) (own : ArrayMembers) (j : ℕ) (dictionary : ArrayTree) → storage ≡ storage_of kind → is_int kind ≡ true
+    → is_valid own j ≡ true → IndexWithin kind own j dictionary
     → IsIndexThere storage own j (index_at kind own j) (tree_items dictionary)
-index-there kind storage own j dictionary s h v w = subst (λ a. IsIndexThere a own j (index_at kind own j) (tree_items dictionary)) (sym s) (within-stored kind own j dictionary h v w)
+index-there kind storage own j dictionary s h v w = subst (λ a. IsIndexThere a own j (index_at kind own j) (tree_items dictionary)) (sym s)
+    (within-stored kind own j dictionary h v w)
 
 -- the value of an item with an index is the dictionary's at the index
-pub value-entry : (t : Typed) → typed_of t ≡ Live (kind_of t) (trees (kids_of t)) (maybe_tree (dict_in (out-Typed t).dict)) → (array : ArrayTree) (j : ℕ) → IsLive array
-    → is_valid (members_of array) j ≡ true → (dict : KindTree) (dictionary : ArrayTree) → dict_in (out-Typed t).dict ≡ Some dict → dictionary_of array ≡ Some dictionary
+pub value-entry : (t : Typed) → typed_of t ≡ Live (kind_of t) (trees (kids_of t)) (maybe_tree (dict_in (out-Typed t).dict)) → (array : ArrayTree) (j : ℕ)
+    → IsLive array
+    → is_valid (members_of array) j ≡ true → (dict : KindTree) (dictionary : ArrayTree) → dict_in (out-Typed t).dict ≡ Some dict
+    → dictionary_of array ≡ Some dictionary
     → is_int (kind_of t) ≡ true → value_at (typed_of t) array j ≡ value_at dict dictionary (index_at (kind_of t) (members_of array) j)
 value-entry t e array j live v dict dictionary d a h =
     valid-node t e array j live v
-    ∙ ap (λ o. item_or_entry (reader_of (maybe_tree o)) (kind_of t) (readers (trees (kids_of t))) (members_of array) (children_of array) (dictionary_of array) j) d
+    ∙ ap (λ o. item_or_entry (reader_of (maybe_tree o)) (kind_of t) (readers (trees (kids_of t)))
+    (members_of array) (children_of array) (dictionary_of array) j) d
     ∙ ap (λ o. item_or_entry (Some (value_at dict)) (kind_of t) (readers (trees (kids_of t))) (members_of array) (children_of array) o j) a
     ∙ entry-at (kind_of t) dict (readers (trees (kids_of t))) (members_of array) (children_of array) dictionary j h
 
 behind-ok : (d : Option (Box Typed)) (box : Box Typed) → d ≡ Some box → DictNodesOk (maybe_tree (dict_in d)) → NodesOk (typed_of box.value)
 behind-ok d box e ok = subst (λ o. DictNodesOk (maybe_tree (dict_in o))) e ok
 
-pub dict-ok : (t : Typed) → typed_of t ≡ Live (kind_of t) (trees (kids_of t)) (maybe_tree (dict_in (out-Typed t).dict)) → (box : Box Typed) → (out-Typed t).dict ≡ Some box
+pub dict-ok : (t : Typed) → typed_of t ≡ Live (kind_of t) (trees (kids_of t)) (maybe_tree (dict_in (out-Typed t).dict)) → (box : Box Typed)
+    → (out-Typed t).dict ≡ Some box
     → ∥ NodesOk (typed_of t) ∥₁ → ∥ NodesOk (typed_of box.value) ∥₁
 dict-ok t e box d ok = ∥∥₁_map ok (λ nodes. behind-ok (out-Typed t).dict box d (subst NodesOk e nodes).4)
 
 -- ---- the home of an item
 
-home-node : (kind : DataType) (kids : List KindTree) (dict : KindTree) (array dictionary : ArrayTree) (start count i : ℕ) → IsLive array → dictionary_of array ≡ Some dictionary
+home-node : (kind : DataType) (kids : List KindTree) (dict : KindTree) (array dictionary : ArrayTree) (start count i : ℕ) → IsLive array
+    → dictionary_of array ≡ Some dictionary
     → is_valid (members_of array) (start + i) ≡ true
-    → home_from (Live kind (trees kids) (maybe_tree (Some dict))) array start count i ≡ home_from dict dictionary 0 (tree_items dictionary) (index_at kind (members_of array) (start + i))
+    → home_from (Live kind (trees kids) (maybe_tree (Some dict))) array start count i
+    ≡ home_from dict dictionary 0 (tree_items dictionary) (index_at kind (members_of array) (start + i))
 home-node kind kids dict Released dictionary start count i live a v = absurd live
 home-node kind kids dict (Live own children absent) dictionary start count i live a v = absurd (cc)
 home-node kind kids dict (Live own children (present behind)) dictionary start count i live a v =
@@ -292,10 +330,20 @@ home-node kind kids dict (Live own children (present behind)) dictionary start c
     ∙ ap (λ d. home_from dict d 0 (tree_items d) (index_at kind own (start + i))) same
   where
     here : Home
-    here = record { window = record { typed = Live kind (trees kids) (present dict); array = Live own children (present behind); start = start; count = count }; place = i }
+    here =
+        record {
+          window = record {
+            typed = Live kind (trees kids) (present dict);
+            array = Live own children (present behind);
+            start = start;
+            count = count;
+          };
+          place = i;
+        }
 
 -- an index that isn't null goes on to the dictionary
-pub home-entry : (t : Typed) → typed_of t ≡ Live (kind_of t) (trees (kids_of t)) (maybe_tree (dict_in (out-Typed t).dict)) → (array : ArrayTree) (start count i : ℕ) → IsLive array
+pub home-entry : (t : Typed) → typed_of t ≡ Live (kind_of t) (trees (kids_of t)) (maybe_tree (dict_in (out-Typed t).dict))
+    → (array : ArrayTree) (start count i : ℕ) → IsLive array
     → is_valid (members_of array) (start + i) ≡ true → (w : Window) → IsDictionary w (dict_in (out-Typed t).dict) (dictionary_of array)
     → home_from (typed_of t) array start count i ≡ home_of w (index_at (kind_of t) (members_of array) (start + i))
 home-entry t e array start count i live v w d =
@@ -305,8 +353,10 @@ home-entry t e array start count i live v w d =
     ∙ ap (λ u. home_of u (index_at (kind_of t) (members_of array) (start + i))) (sym d.whole)
 
 -- else the item is at home
-home-null_node : (kind : DataType) (kids : List KindTree) (dict : Option KindTree) (array : ArrayTree) (start count i : ℕ) → is_valid (members_of array) (start + i) ≡ false
-    → home_from (Live kind (trees kids) (maybe_tree dict)) array start count i ≡ record { window = record { typed = Live kind (trees kids) (maybe_tree dict); array = array; start = start; count = count }; place = i }
+home-null_node : (kind : DataType) (kids : List KindTree) (dict : Option KindTree) (array : ArrayTree) (start count i : ℕ)
+    → is_valid (members_of array) (start + i) ≡ false
+    → home_from (Live kind (trees kids) (maybe_tree dict)) array start count i ≡
+    record { window = record { typed = Live kind (trees kids) (maybe_tree dict); array = array; start = start; count = count }; place = i }
 home-null_node kind kids None array start count i n = refl
 home-null_node kind kids (Some dict) Released start count i n = refl
 home-null_node kind kids (Some dict) (Live own children absent) start count i n = refl
@@ -314,14 +364,25 @@ home-null_node kind kids (Some dict) (Live own children (present dictionary)) st
     ap (λ b. if b then home_from dict dictionary 0 (tree_items dictionary) (index_at kind own (start + i)) else here) n
   where
     here : Home
-    here = record { window = record { typed = Live kind (trees kids) (present dict); array = Live own children (present dictionary); start = start; count = count }; place = i }
+    here =
+        record {
+          window = record {
+            typed = Live kind (trees kids) (present dict);
+            array = Live own children (present dictionary);
+            start = start;
+            count = count;
+          };
+          place = i;
+        }
 
 home-plain_node : (kind : DataType) (kids : List KindTree) (dict : Option KindTree) (array : ArrayTree) (start count i : ℕ) → dict ≡ None
-    → home_from (Live kind (trees kids) (maybe_tree dict)) array start count i ≡ record { window = record { typed = Live kind (trees kids) (maybe_tree dict); array = array; start = start; count = count }; place = i }
+    → home_from (Live kind (trees kids) (maybe_tree dict)) array start count i ≡
+    record { window = record { typed = Live kind (trees kids) (maybe_tree dict); array = array; start = start; count = count }; place = i }
 home-plain_node kind kids None array start count i n = refl
 home-plain_node kind kids (Some dict) array start count i n = absurd (cc)
 
-pub home-null : (t : Typed) → typed_of t ≡ Live (kind_of t) (trees (kids_of t)) (maybe_tree (dict_in (out-Typed t).dict)) → (array : ArrayTree) (start count i : ℕ)
+pub home-null : (t : Typed) → typed_of t ≡ Live (kind_of t) (trees (kids_of t)) (maybe_tree (dict_in (out-Typed t).dict))
+    → (array : ArrayTree) (start count i : ℕ)
     → is_valid (members_of array) (start + i) ≡ false
     → home_from (typed_of t) array start count i ≡ record { window = record { typed = typed_of t; array = array; start = start; count = count }; place = i }
 home-null t e array start count i n =
@@ -329,7 +390,8 @@ home-null t e array start count i n =
     ∙ home-null_node (kind_of t) (kids_of t) (dict_in (out-Typed t).dict) array start count i n
     ∙ ap (λ k. record { window = record { typed = k; array = array; start = start; count = count }; place = i }) (sym e)
 
-pub home-plain : (t : Typed) → typed_of t ≡ Live (kind_of t) (trees (kids_of t)) (maybe_tree (dict_in (out-Typed t).dict)) → (array : ArrayTree) (start count i : ℕ)
+pub home-plain : (t : Typed) → typed_of t ≡ Live (kind_of t) (trees (kids_of t)) (maybe_tree (dict_in (out-Typed t).dict))
+    → (array : ArrayTree) (start count i : ℕ)
     → dict_in (out-Typed t).dict ≡ None
     → home_from (typed_of t) array start count i ≡ record { window = record { typed = typed_of t; array = array; start = start; count = count }; place = i }
 home-plain t e array start count i n =
@@ -338,24 +400,28 @@ home-plain t e array start count i n =
     ∙ ap (λ k. record { window = record { typed = k; array = array; start = start; count = count }; place = i }) (sym e)
 
 -- a dictionary has fewer levels
-fewer : (kind : DataType) (kids : List KindTree) (dict : Option KindTree) (w : KindTree) → dict ≡ Some w → levels w < levels (Live kind (trees kids) (maybe_tree dict))
+fewer : (kind : DataType) (kids : List KindTree) (dict : Option KindTree) (w : KindTree) → dict ≡ Some w
+    → Depth w < Depth (Live kind (trees kids) (maybe_tree dict))
 fewer kind kids None w d = absurd (cc)
 fewer kind kids (Some dict) w d =
     let same : dict ≡ w = cc in
-    subst (λ u. levels w < levels (Live kind (trees kids) (present u))) (sym same) (omega arith)
+    subst (λ u. Depth w < Depth (Live kind (trees kids) (present u))) (sym same) (omega arith)
 
-pub fewer-levels : (t : Typed) → typed_of t ≡ Live (kind_of t) (trees (kids_of t)) (maybe_tree (dict_in (out-Typed t).dict)) → (w : KindTree) → dict_in (out-Typed t).dict ≡ Some w → levels w < levels (typed_of t)
-fewer-levels t e w d = subst (λ k. levels w < levels k) (sym e) (fewer (kind_of t) (kids_of t) (dict_in (out-Typed t).dict) w d)
+pub fewer-levels : (t : Typed) → typed_of t ≡ Live (kind_of t) (trees (kids_of t)) (maybe_tree (dict_in (out-Typed t).dict)) → (w : KindTree)
+    → dict_in (out-Typed t).dict ≡ Some w → Depth w < Depth (typed_of t)
+fewer-levels t e w d = subst (λ k. Depth w < Depth k) (sym e) (fewer (kind_of t) (kids_of t) (dict_in (out-Typed t).dict) w d)
 
 pub ruleset homes = (home-entry, home-null, home-plain, fewer-levels)
 
 -- ---- structs
 
-struct-layout : (kind : DataType) (kids : List KindTree) (dict : Option KindTree) → IsStruct (Live kind (trees kids) (maybe_tree dict)) → layout_of kind ≡ ByChildren
+struct-layout : (kind : DataType) (kids : List KindTree) (dict : Option KindTree) → IsStruct (Live kind (trees kids) (maybe_tree dict))
+    → layout_of kind ≡ ByChildren
 struct-layout kinds.Struct kids dict h = refl
 struct-layout kind kids dict h = absurd h
 
-pub struct-typed : (t : Typed) → typed_of t ≡ Live (kind_of t) (trees (kids_of t)) (maybe_tree (dict_in (out-Typed t).dict)) → IsStruct (typed_of t) → layout_of (kind_of t) ≡ ByChildren
+pub struct-typed : (t : Typed) → typed_of t ≡ Live (kind_of t) (trees (kids_of t)) (maybe_tree (dict_in (out-Typed t).dict)) → IsStruct (typed_of t)
+    → layout_of (kind_of t) ≡ ByChildren
 struct-typed t e h = struct-layout (kind_of t) (kids_of t) (dict_in (out-Typed t).dict) (subst IsStruct e h)
 
 listed-trees : (kids : List KindTree) → tree_list (trees kids) ≡ kids
@@ -363,7 +429,8 @@ listed-trees [] = refl
 listed-trees (kid ∷ kids) = ap (λ ks. kid ∷ ks) (listed-trees kids)
 
 -- the kids of a type are the children of its tree
-pub kids-typed : (t : Typed) → typed_of t ≡ Live (kind_of t) (trees (kids_of t)) (maybe_tree (dict_in (out-Typed t).dict)) → children_of (typed_of t) ≡ kids_of t
+pub kids-typed : (t : Typed) → typed_of t ≡ Live (kind_of t) (trees (kids_of t)) (maybe_tree (dict_in (out-Typed t).dict))
+    → children_of (typed_of t) ≡ kids_of t
 kids-typed t e = ap children_of e ∙ listed-trees (kids_of t)
 
 field-at : (kids : List KindTree) (children : List ArrayTree) (k n : ℕ) → k < length kids → k < length children
@@ -378,19 +445,22 @@ row-node : (kind : DataType) (kids : List KindTree) (dict : Option KindTree) (ar
 row-node kind kids dict Released j live = absurd live
 row-node kind kids dict (Live own children dictionary) j live = refl
 
-row-typed : (t : Typed) → typed_of t ≡ Live (kind_of t) (trees (kids_of t)) (maybe_tree (dict_in (out-Typed t).dict)) → (array : ArrayTree) (j : ℕ) → IsLive array
+row-typed : (t : Typed) → typed_of t ≡ Live (kind_of t) (trees (kids_of t)) (maybe_tree (dict_in (out-Typed t).dict)) → (array : ArrayTree) (j : ℕ)
+    → IsLive array
     → row_items (typed_of t) array j ≡ field_items (readers (trees (kids_of t))) (children_of array) (first (members_of array) + j)
 row-typed t e array j live = ap (λ k. row_items k array j) e ∙ row-node (kind_of t) (kids_of t) (dict_in (out-Typed t).dict) array j live
 
 -- the k-th item of a row is the child's
-pub row-field : (t : Typed) → typed_of t ≡ Live (kind_of t) (trees (kids_of t)) (maybe_tree (dict_in (out-Typed t).dict)) → (array : ArrayTree) (j k : ℕ) → IsLive array
+pub row-field : (t : Typed) → typed_of t ≡ Live (kind_of t) (trees (kids_of t)) (maybe_tree (dict_in (out-Typed t).dict)) → (array : ArrayTree) (j k : ℕ)
+    → IsLive array
     → k < length (kids_of t) → k < length (children_of array)
     → get_or (row_items (typed_of t) array j) k Null ≡ value_at (get_or (kids_of t) k Released) (child_at array k) (first (members_of array) + j)
 row-field t e array j k live h l =
     ap (λ r. get_or r k Null) (row-typed t e array j live)
     ∙ field-at (kids_of t) (children_of array) k (first (members_of array) + j) h l
 
-item-row : (kind : DataType) (kids : List KindTree) (own : ArrayMembers) (children : List ArrayTree) (j : ℕ) → IsStructValue (item kind (readers (trees kids)) own children j)
+item-row : (kind : DataType) (kids : List KindTree) (own : ArrayMembers) (children : List ArrayTree) (j : ℕ)
+    → IsStructValue (item kind (readers (trees kids)) own children j)
     → (kind ≡ kinds.Struct) × (item kind (readers (trees kids)) own children j ≡ Fields (values (field_items (readers (trees kids)) children (first own + j))))
 item-row kinds.Struct kids own children j h = (refl, refl)
 item-row (kinds.Decimal precision scale false) kids own children j h = absurd h
@@ -403,23 +473,56 @@ own-row : (t : Typed) → typed_of t ≡ Live (kind_of t) (trees (kids_of t)) (m
 own-row t e array j live v none h =
     let is =
     valid-node t e array j live v
-    ∙ ap (λ d. item_or_entry (reader_of (maybe_tree d)) (kind_of t) (readers (trees (kids_of t))) (members_of array) (children_of array) (dictionary_of array) j) none in
+    ∙ ap (λ d. item_or_entry (reader_of (maybe_tree d)) (kind_of t) (readers (trees (kids_of t)))
+    (members_of array) (children_of array) (dictionary_of array) j) none in
     let row = item-row (kind_of t) (kids_of t) (members_of array) (children_of array) j (subst IsStructValue is h) in (
       subst IsStruct (sym (e ∙ ap (λ k. Live k (trees (kids_of t)) (maybe_tree (dict_in (out-Typed t).dict))) row.0)) tt,
       is ∙ row.1 ∙ ap (λ r. Fields (values r)) (sym (row-typed t e array j live)),
     )
 
 -- the value of an item at home, where it is a struct's
-pub home-row : (t : Typed) → typed_of t ≡ Live (kind_of t) (trees (kids_of t)) (maybe_tree (dict_in (out-Typed t).dict)) → (array : ArrayTree) (j : ℕ) → IsLive array
+pub home-row : (t : Typed) → typed_of t ≡ Live (kind_of t) (trees (kids_of t)) (maybe_tree (dict_in (out-Typed t).dict)) → (array : ArrayTree) (j : ℕ)
+    → IsLive array
     → (is_valid (members_of array) j ≡ true → dict_in (out-Typed t).dict ≡ None) → IsStructValue (value_at (typed_of t) array j)
     → IsStruct (typed_of t) × (value_at (typed_of t) array j ≡ Fields (values (row_items (typed_of t) array j)))
 home-row t e array j live own h = by (is_valid (members_of array) j) refl
   where
-    by : (b : Bool) → is_valid (members_of array) j ≡ b → IsStruct (typed_of t) × (value_at (typed_of t) array j ≡ Fields (values (row_items (typed_of t) array j)))
+    by : (b : Bool) → is_valid (members_of array) j ≡ b
+        → IsStruct (typed_of t) × (value_at (typed_of t) array j ≡ Fields (values (row_items (typed_of t) array j)))
     by true v = own-row t e array j live v (own v) h
     by false n = absurd (subst IsStructValue (value-null t e array j live n) h)
 
-pub children-count : (t : Typed) → typed_of t ≡ Live (kind_of t) (trees (kids_of t)) (maybe_tree (dict_in (out-Typed t).dict)) → length (children_of (typed_of t)) ≡ length (out-Typed t).kids.items
+pub children-count : (t : Typed) → typed_of t ≡ Live (kind_of t) (trees (kids_of t)) (maybe_tree (dict_in (out-Typed t).dict))
+    → length (children_of (typed_of t)) ≡ length (out-Typed t).kids.items
 children-count t e = ap length (kids-typed t e) ∙ length-map (out-Typed t).kids.items typed_of
 
 pub ruleset children = (children-count)
+
+-- ---- the items of one kind
+
+own-behind : (kind : DataType) → IsOwn (storage_of kind) → is_int kind ≡ true → ⊥
+own-behind (kinds.Int bits signed) own h = own
+own-behind kind own h = true≢false (sym h)
+
+-- no dictionary stands behind what isn't stored as whole numbers
+pub no-dictionary : (t : Typed) → typed_of t ≡ Live (kind_of t) (trees (kids_of t)) (maybe_tree (dict_in (out-Typed t).dict)) → (storage : Storage)
+    → storage ≡ storage_of (kind_of t)
+    → IsOwn storage → ∥ NodesOk (typed_of t) ∥₁ → dict_in (out-Typed t).dict ≡ None
+no-dictionary t e storage s own ok = by (dict_in (out-Typed t).dict) refl
+  where
+    by : (dict : Option KindTree) → dict_in (out-Typed t).dict ≡ dict → dict_in (out-Typed t).dict ≡ None
+    by None is = is
+    by (Some dict) is = absurd (own-behind (kind_of t) (subst IsOwn s own) (index-int t e dict is ok))
+
+-- null, or by how the type is stored
+pub own-item : (t : Typed) → typed_of t ≡ Live (kind_of t) (trees (kids_of t)) (maybe_tree (dict_in (out-Typed t).dict)) → (array : ArrayTree) (j : ℕ)
+    → IsLive array
+    → (is_valid (members_of array) j ≡ true → dict_in (out-Typed t).dict ≡ None) → (storage : Storage) → storage ≡ storage_of (kind_of t)
+    → value_at (typed_of t) array j ≡ (if is_valid (members_of array) j
+    then stored_item storage (readers (trees (kids_of t))) (members_of array) (children_of array) j else Null)
+own-item t e array j live own storage s = by (is_valid (members_of array) j) refl
+  where
+    by : (b : Bool) → is_valid (members_of array) j ≡ b
+        → value_at (typed_of t) array j ≡ (if b then stored_item storage (readers (trees (kids_of t))) (members_of array) (children_of array) j else Null)
+    by true v = value-item t e array j live v (own v) storage s
+    by false n = value-null t e array j live n

@@ -1,8 +1,9 @@
 pub mod Lent
 pub mod StoredItems
+pub mod Accesses
 pub mod Window
 pub mod Cols
 pub mod Shown
 pub mod Imports
 pub mod ImportFaults
-pub mod Flats
+pub mod FaultTexts

@@ -7,6 +7,7 @@ use Rattle.raw_array.specs.Members.{ArrayMembers, ArrayTree}
 use Rattle.layout_check.specs.Layout.{first, bytes, natural, offset_in, stored_number, stored_bytes, data_of, view_width}
 use Rattle.layout_check.specs.Views.{view_data}
 use Rattle.layout_check.specs.Values.{Reader, each, child_item, field_items, listed}
+use Rattle.layout_check.specs.Within.{OffsetsRise}
 use Rattle.fmt_string.specs.declared.storage.Storage.{Storage}
 use Rattle.fmt_string.specs.declared.storage.Storage.TheVariants as storages
 
@@ -25,12 +26,6 @@ stored_item storages.Children kids own children i = Fields (values (field_items 
 
 -- ---- what the buffers have of the item at a place, so that it can be read
 
--- the offset at a place and the next one are there, at least 0, and rise
-pub record OffsetsThere (wide : Bool) (offsets : List ℕ) (place : ℕ) : Type 0 where
-  pub there : (place + 1 + 1) * offset_width wide ≤ length offsets
-  pub from : pos 0 ≤ℤ offset_in wide offsets place
-  pub rise : offset_in wide offsets place ≤ℤ offset_in wide offsets (place + 1)
-
 -- a number of so many bytes is there
 pub record NumberThere (width : ℕ) (signed : Bool) (stored : List ℕ) (place : ℕ) : Type 0 where
   pub width_is : IsWidth width
@@ -43,9 +38,9 @@ IsThere storages.Truths stored text place = place < 8 * length stored
 IsThere (storages.Wholes bits signed) stored text place = NumberThere (bits / 8) signed stored place
 IsThere (storages.Floats bits) stored text place = NumberThere (bits / 8) false stored place
 IsThere (storages.Sized size) stored text place = (place + 1) * size ≤ length stored
-IsThere (storages.Between wide is_text) stored text place = OffsetsThere wide stored place × (offset_in wide stored (place + 1) ≤ℤ pos (length text))
+IsThere (storages.Between wide is_text) stored text place = OffsetsRise wide stored place × (offset_in wide stored (place + 1) ≤ℤ pos (length text))
 IsThere (storages.Views is_text) stored text place = (place + 1) * view_width ≤ length stored
-IsThere (storages.Lists wide) stored text place = OffsetsThere wide stored place
+IsThere (storages.Lists wide) stored text place = OffsetsRise wide stored place
 IsThere (storages.FixedLists size) stored text place = Unit {0}
 IsThere storages.Children stored text place = Unit {0}
 
@@ -58,6 +53,16 @@ IsListStorage _ = ⊥
 abbrev pub IsViewStorage : Storage → Type 0
 IsViewStorage (storages.Views text) = Unit {0}
 IsViewStorage _ = ⊥
+
+-- bytes or text between offsets of this width
+abbrev pub AreBetween : Bool → Storage → Type 0
+AreBetween wide (storages.Between broad text) = broad ≡ wide
+AreBetween wide _ = ⊥
+
+-- no dictionary can stand behind it
+abbrev pub IsOwn : Storage → Type 0
+IsOwn (storages.Wholes bits signed) = ⊥
+IsOwn _ = Unit {0}
 
 -- what a child of so many items has of the item at a place
 abbrev pub AreItemsThere : Storage → List ℕ → ℕ → ℕ → Type 0

@@ -49,7 +49,10 @@ index_at _ own i = 0
 abbrev pub home_from : KindTree → ArrayTree → ℕ → ℕ → ℕ → Home
 home_from (Live kind kids (present dict)) (Live own children (present dictionary)) start count i =
     if is_valid own (start + i) then home_from dict dictionary 0 (tree_items dictionary) (index_at kind own (start + i))
-    else record { window = record { typed = Live kind kids (present dict); array = Live own children (present dictionary); start = start; count = count }; place = i }
+    else record {
+      window = record { typed = Live kind kids (present dict); array = Live own children (present dictionary); start = start; count = count };
+      place = i;
+    }
 home_from typed array start count i = record { window = record { typed = typed; array = array; start = start; count = count }; place = i }
 
 abbrev pub home_of : Window → ℕ → Home

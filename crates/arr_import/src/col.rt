@@ -1,8 +1,11 @@
-ghost use Rattle.std.specs.Prelude.{◌≡◌, IsTrue, is_none, ◌+◌, ◌<◌, ◌≤◌, ◌^◌};
+//! A column: a window over the items of an array, with what it looks up once.
+ghost use Rattle.std.specs.Prelude.{◌≡◌, IsTrue, is_none, is_some, ◌+◌, ◌<◌, ◌≤◌, ◌^◌};
 ghost use Rattle.tree_model.specs.Tree.{IsLive};
 ghost use Rattle.raw_array.specs.Members.{members_of};
 ghost use Rattle.layout_check.specs.Kinds.{NodesOk};
-ghost use Rattle.layout_check.specs.TypedView.{typed_of, kind_of};
+ghost use Rattle.layout_check.specs.TypedView.{typed_of, kind_of, dict_in};
+ghost use Rattle.layout_check.specs.declared.typed.Typed.{out-Typed};
+ghost use Rattle.arr_import.specs.Accesses.{access_of};
 ghost use Rattle.layout_check.specs.Layout.{buffer, bytes, first};
 ghost use Rattle.layout_check.specs.Walk.{first_fault};
 ghost use Rattle.layout_check.specs.Values.{tree_items};
@@ -10,6 +13,7 @@ ghost use Rattle.arr_import.specs.Lent.{lent_bytes};
 ghost use Rattle.fmt_string.specs.Storage.{storage_of as storage_is};
 ghost use Rattle.std.proofs.Props.{props};
 
+use crate::access::{Access, access_of};
 use fmt_string::{Storage, storage_of};
 use layout_check::{Typed, lawful_has_no_fault, lawful_root};
 use raw_array::RawArray;
@@ -25,6 +29,7 @@ pub struct Col<'a> {
     /// The array's offset.
     pub(crate) offset: u64,
     pub(crate) storage: Storage,
+    pub(crate) access: Access,
     pub(crate) validity: Option<&'a [u8]>,
     pub(crate) stored: &'a [u8],
     pub(crate) text: &'a [u8],
@@ -33,6 +38,7 @@ pub struct Col<'a> {
     ghost within: { start + count ≤ tree_items array.now },
     ghost offset_is: { offset ≡ first (members_of array.now) },
     ghost storage_ok: { storage ≡ storage_is (kind_of typed.now) } by { Prim.hlevel props },
+    ghost access_ok: { access ≡ access_of storage (is_some (dict_in (out-Typed typed.now).dict)) } by { Prim.hlevel props },
     ghost validity_is: { lent_bytes validity ≡ buffer (members_of array.now) 0 } by { Prim.hlevel props },
     ghost stored_is: { stored.now ≡ bytes (members_of array.now) 1 },
     ghost text_is: { text.now ≡ bytes (members_of array.now) 2 },
@@ -95,13 +101,15 @@ impl<'a> Col<'a> {
     {
         lawful_has_no_fault(typed, array);
         lawful_root(typed, array);
+        let storage = storage_of(&typed.kind);
         Col {
             typed,
             array,
             start,
             count,
             offset: array.offset() as u64,
-            storage: storage_of(&typed.kind),
+            storage,
+            access: access_of(storage, typed.dict.is_some()),
             validity: validity_of(array),
             stored: buffer_bytes(array, 1),
             text: buffer_bytes(array, 2),

@@ -21,7 +21,8 @@ use layout_check::{
 impl<'a> Col<'a> {
     /// The dictionary, where there is one.
     pub(crate) fn dictionary(&self) -> Option<Col<'a>>
-        ensures { MatchOption result (dict_in (out-Typed self.now.typed.now).dict ≡ None) (λ col. IsDictionary (window_of col) (dict_in (out-Typed self.now.typed.now).dict) (dictionary_of self.now.array.now)) }
+        ensures { MatchOption result (dict_in (out-Typed self.now.typed.now).dict ≡ None)
+            (λ col. IsDictionary (window_of col) (dict_in (out-Typed self.now.typed.now).dict) (dictionary_of self.now.array.now)) }
     {
         kinds_of_typed(self.typed);
         lawful_has_no_fault(self.typed, self.array);
@@ -42,8 +43,10 @@ impl<'a> Col<'a> {
         requires inside { i < self.now.count }
         requires valid { is_valid_at (members_of self.now.array.now) (self.now.start + i) ≡ true }
         requires dictionary { IsDictionary (window_of dictionary.now) (dict_in (out-Typed self.now.typed.now).dict) (dictionary_of self.now.array.now) }
-        ensures there { IsIndexThere self.now.storage (members_of self.now.array.now) (self.now.start + i) (index_at (kind_of self.now.typed.now) (members_of self.now.array.now) (self.now.start + i)) dictionary.now.count }
-        ensures value { item_at (window_of dictionary.now) (index_at (kind_of self.now.typed.now) (members_of self.now.array.now) (self.now.start + i)) ≡ item_at (window_of self.now) i }
+        ensures there { IsIndexThere self.now.storage (members_of self.now.array.now) (self.now.start + i)
+            (index_at (kind_of self.now.typed.now) (members_of self.now.array.now) (self.now.start + i)) dictionary.now.count }
+        ensures value { item_at (window_of dictionary.now) (index_at (kind_of self.now.typed.now) (members_of self.now.array.now) (self.now.start + i))
+            ≡ item_at (window_of self.now) i }
     {
         kinds_of_typed(self.typed);
         lawful_has_no_fault(self.typed, self.array);

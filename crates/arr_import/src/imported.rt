@@ -17,6 +17,7 @@ use layout_check::{LayoutFault, SchemaFault, Typed, check_array, check_schema, o
 use raw_array::RawArray;
 use raw_schema::RawSchema;
 use std::alloc::Global;
+use std::fmt;
 use std::marker::Model;
 
 /// Why two structures are not taken.
@@ -25,6 +26,22 @@ pub enum ImportFault {
     Schema(SchemaFault),
     Layout(LayoutFault),
 }
+
+impl fmt::Display for ImportFault {
+    ghost use Rattle.std.specs.Prelude.{Some};
+    ghost use Rattle.arr_import.specs.FaultTexts.{import_fault_text};
+
+    ghost output = { λ fault. Some (import_fault_text fault) };
+
+    fn fmt<W: fmt::Write>(&self, f: &mut fmt::Formatter<W>) -> fmt::Result {
+        match self {
+            ImportFault::Schema(fault) => write!(f, "{fault}"),
+            ImportFault::Layout(fault) => write!(f, "{fault}"),
+        }
+    }
+}
+
+impl std::error::Error for ImportFault {}
 
 /// A schema and an array that meets it. It can't be dropped: [`Imported::into_raw`] gives both back.
 pub struct Imported {

@@ -64,7 +64,8 @@ impl<'a> Col<'a> {
     pub(crate) fn child_items(&self, k: usize, from: u64, count: u64) -> Col<'a>
         requires inside { k < length (kids_of self.now.typed.now) }
         requires within { from + count ≤ tree_items (child_at self.now.array.now k) }
-        ensures { window_of result ≡ record { typed = get_or (kids_of self.now.typed.now) k Released; array = child_at self.now.array.now k; start = from; count = count } }
+        ensures { window_of result
+            ≡ record { typed = get_or (kids_of self.now.typed.now) k Released; array = child_at self.now.array.now k; start = from; count = count } }
     {
         kinds_of_typed(self.typed);
         lawful_has_no_fault(self.typed, self.array);
@@ -85,7 +86,8 @@ impl<'a> Col<'a> {
         ensures one { length (kids_of self.now.typed.now) ≡ 1 }
         ensures live { length (children_of self.now.array.now) ≡ 1 }
         ensures few { tree_items (child_at self.now.array.now 0) ≤ 2 ^ 40 }
-        ensures items { AreItemsThere self.now.storage self.now.stored.now (first (members_of self.now.array.now) + (self.now.start + i)) (tree_items (child_at self.now.array.now 0)) }
+        ensures items { AreItemsThere self.now.storage self.now.stored.now (first (members_of self.now.array.now) + (self.now.start + i))
+            (tree_items (child_at self.now.array.now 0)) }
     {
         kinds_of_typed(self.typed);
         lawful_has_no_fault(self.typed, self.array);
@@ -98,7 +100,8 @@ impl<'a> Col<'a> {
     fn list(&self, wide: bool, i: u64) -> Col<'a>
         requires inside { i < self.now.count }
         requires storage { self.now.storage ≡ storages.Lists wide }
-        ensures { listed wide (readers (trees (kids_of self.now.typed.now))) (members_of self.now.array.now) (children_of self.now.array.now) (self.now.start + i) ≡ Items (values (items_of (window_of result))) }
+        ensures { listed wide (readers (trees (kids_of self.now.typed.now))) (members_of self.now.array.now) (children_of self.now.array.now)
+            (self.now.start + i) ≡ Items (values (items_of (window_of result))) }
     {
         self.item_is_there(i);
         self.items_are_there(i);
@@ -112,7 +115,8 @@ impl<'a> Col<'a> {
     fn fixed_list(&self, size: u32, i: u64) -> Col<'a>
         requires inside { i < self.now.count }
         requires storage { self.now.storage ≡ storages.FixedLists size }
-        ensures { Items (values (each (child_item (readers (trees (kids_of self.now.typed.now))) (children_of self.now.array.now)) ((first (members_of self.now.array.now) + (self.now.start + i)) * size) size)) ≡ Items (values (items_of (window_of result))) }
+        ensures { Items (values (each (child_item (readers (trees (kids_of self.now.typed.now))) (children_of self.now.array.now))
+            ((first (members_of self.now.array.now) + (self.now.start + i)) * size) size)) ≡ Items (values (items_of (window_of result))) }
     {
         self.items_are_there(i);
         let place = self.place(i);
@@ -123,7 +127,8 @@ impl<'a> Col<'a> {
     pub(crate) fn item(&self, i: u64) -> ValueRef<'a>
         requires inside { i < self.now.count }
         requires valid { is_valid_at (members_of self.now.array.now) (self.now.start + i) ≡ true }
-        ensures { Shows result (stored_item self.now.storage (readers (trees (kids_of self.now.typed.now))) (members_of self.now.array.now) (children_of self.now.array.now) (self.now.start + i)) }
+        ensures { Shows result (stored_item self.now.storage (readers (trees (kids_of self.now.typed.now))) (members_of self.now.array.now)
+            (children_of self.now.array.now) (self.now.start + i)) }
     {
         self.item_is_there(i);
         let place = self.place(i);

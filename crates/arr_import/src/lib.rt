@@ -16,11 +16,12 @@
 //! [`Imported::into_raw`] gives back, and whether the root is a table (`layout_check::check_chunk`).
 #![tactic(auto)]
 
+mod access;
 mod col;
-mod flat;
 mod home;
 mod imported;
 mod item;
+mod one_kind;
 mod rows;
 mod stored;
 #[cfg(test)]

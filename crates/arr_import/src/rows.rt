@@ -12,7 +12,8 @@ impl<'a> Col<'a> {
     /// A law: a row of a struct has an item of each child ("Struct Layout"). The call does nothing.
     pub fn rows_are_whole(&self)
         requires { IsStruct (window_of self.now).typed }
-        ensures { (i : ℕ) → length (row_items (window_of self.now).typed (window_of self.now).array ((window_of self.now).start + i)) ≡ length (children_of (window_of self.now).typed) }
+        ensures { (i : ℕ) → length (row_items (window_of self.now).typed (window_of self.now).array ((window_of self.now).start + i))
+            ≡ length (children_of (window_of self.now).typed) }
     {
         kinds_of_typed(self.typed);
         lawful_has_no_fault(self.typed, self.array);

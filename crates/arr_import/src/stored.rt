@@ -61,7 +61,8 @@ pub fn text_at<'a>(wide: bool, offsets: &[u8], text: &'a [u8], place: u64) -> &'
     requires from { pos 0 ≤ℤ offset_in wide offsets.now place }
     requires rise { offset_in wide offsets.now place ≤ℤ offset_in wide offsets.now (place + 1) }
     requires within { offset_in wide offsets.now (place + 1) ≤ℤ pos (length text.now) }
-    ensures { result.now ≡ take (natural (offset_in wide offsets.now (place + 1)) - natural (offset_in wide offsets.now place)) (drop (natural (offset_in wide offsets.now place)) text.now) }
+    ensures { result.now ≡ take (natural (offset_in wide offsets.now (place + 1)) - natural (offset_in wide offsets.now place))
+        (drop (natural (offset_in wide offsets.now place)) text.now) }
 {
     let here = start_at(wide, offsets, place);
     let next = start_at(wide, offsets, place + 1);

@@ -10,11 +10,9 @@ ghost use Rattle.layout_check.specs.Layout.{first, natural, is_valid as is_valid
 ghost use Rattle.layout_check.specs.Values.{row_items, tree_items};
 ghost use Rattle.arr_import.specs.Window.{IsRow, IsStruct, IsStructValue, child_window, home_of, item_at};
 ghost use Rattle.arr_import.specs.Cols.{window_of};
-ghost use Rattle.arr_import.specs.Flats.{IsFlat};
 ghost use Rattle.arr_import.specs.Shown.{Shows};
 
 use crate::col::Col;
-use crate::flat::Flat;
 use crate::value_ref::ValueRef;
 use layout_check::{kinds_of_typed, lawful_has_no_fault, lawful_items_lie_within, lawful_root};
 
@@ -34,86 +32,6 @@ impl<'a> Col<'a> {
         home.own_value(place)
     }
 
-    /// Item `i` where it is of a plain kind, also through a dictionary.
-    #[inline(always)]
-    fn flat(&self, i: i64) -> Flat<'a>
-        requires from { pos 0 ≤ℤ i }
-        requires below { i <ℤ pos (window_of self.now).count }
-        ensures { IsFlat result (item_at (window_of self.now) (natural i)) }
-    {
-        if self.typed.dict.is_none() {
-            return self.own_flat(i as u64);
-        }
-        self.entry_flat(i as u64)
-    }
-
-    /// The same, where a dictionary stands behind the column.
-    fn entry_flat(&self, i: u64) -> Flat<'a>
-        requires { i < self.now.count }
-        ensures { IsFlat result (item_at (window_of self.now) i) }
-    {
-        let (home, place) = self.home_at(i);
-        home.own_flat(place)
-    }
-
-    /// Item `i` where it is a truth value, also through a dictionary; none where it is null or of any other kind.
-    #[inline(always)]
-    pub fn truth(&self, i: i64) -> Option<bool>
-        requires from { pos 0 ≤ℤ i }
-        requires below { i <ℤ pos (window_of self.now).count }
-        ensures some { IfSome result (λ truth. item_at (window_of self.now) (natural i) ≡ Truth truth) }
-        ensures none { IfNone result ((truth : Bool) → item_at (window_of self.now) (natural i) ≢ Truth truth) }
-    {
-        match self.flat(i) {
-            Flat::Truth(truth) => Some(truth),
-            _ => None,
-        }
-    }
-
-    /// Item `i` where it is a whole number: of an integer, date, time or duration, or a decimal's unscaled number. None as
-    /// [`Col::truth`].
-    #[inline(always)]
-    pub fn whole(&self, i: i64) -> Option<i128>
-        requires from { pos 0 ≤ℤ i }
-        requires below { i <ℤ pos (window_of self.now).count }
-        ensures some { IfSome result (λ number. item_at (window_of self.now) (natural i) ≡ Whole number) }
-        ensures none { IfNone result ((number : ℤ) → item_at (window_of self.now) (natural i) ≢ Whole number) }
-    {
-        match self.flat(i) {
-            Flat::Whole(number) => Some(number),
-            _ => None,
-        }
-    }
-
-    /// The bits of item `i` where it is a float. None as [`Col::truth`].
-    #[inline(always)]
-    pub fn bits(&self, i: i64) -> Option<u64>
-        requires from { pos 0 ≤ℤ i }
-        requires below { i <ℤ pos (window_of self.now).count }
-        ensures some { IfSome result (λ bits. item_at (window_of self.now) (natural i) ≡ Bits bits) }
-        ensures none { IfNone result ((bits : ℕ) → item_at (window_of self.now) (natural i) ≢ Bits bits) }
-    {
-        match self.flat(i) {
-            Flat::Bits(bits) => Some(bits),
-            _ => None,
-        }
-    }
-
-    /// The bytes of item `i` where it is a text, binary or of a fixed size, lent from the array's blocks. None as
-    /// [`Col::truth`].
-    #[inline(always)]
-    pub fn bytes(&self, i: i64) -> Option<&'a [u8]>
-        requires from { pos 0 ≤ℤ i }
-        requires below { i <ℤ pos (window_of self.now).count }
-        ensures some { IfSome result (λ bytes. item_at (window_of self.now) (natural i) ≡ Bytes bytes.now) }
-        ensures none { IfNone result ((bytes : List ℕ) → item_at (window_of self.now) (natural i) ≢ Bytes bytes) }
-    {
-        match self.flat(i) {
-            Flat::Bytes(bytes) => Some(bytes),
-            _ => None,
-        }
-    }
-
     /// Where item `i` stands: this column and `i` where it has no dictionary or the index is null, else what the
     /// dictionary's `home` gives at the index. A struct's fields are the items of that column's children at the number
     /// that is given.
@@ -124,7 +42,8 @@ impl<'a> Col<'a> {
         ensures place { result.1 ≡ pos ((home_of (window_of self.now) (natural i)).place) }
         ensures inside { result.1 <ℤ pos (window_of result.0).count }
         ensures value { item_at (window_of result.0) (natural result.1) ≡ item_at (window_of self.now) (natural i) }
-        ensures row { IsStructValue (item_at (window_of self.now) (natural i)) → IsRow (window_of result.0) (natural result.1) (item_at (window_of self.now) (natural i)) }
+        ensures row { IsStructValue (item_at (window_of self.now) (natural i))
+            → IsRow (window_of result.0) (natural result.1) (item_at (window_of self.now) (natural i)) }
     {
         let (home, place) = self.home_at(i as u64);
         home.row_is_there(place);
@@ -159,7 +78,8 @@ impl<'a> Col<'a> {
         ensures kid { k < length (kids_of self.now.typed.now) }
         ensures typed { child_at (typed_of self.now.typed.now) k ≡ get_or (kids_of self.now.typed.now) k Released }
         ensures within { first (members_of self.now.array.now) + self.now.start + self.now.count ≤ tree_items (child_at self.now.array.now k) }
-        ensures fields { (i : ℕ) → get_or (row_items (typed_of self.now.typed.now) self.now.array.now (self.now.start + i)) k Null ≡ item_at (child_window (window_of self.now) k) i }
+        ensures fields { (i : ℕ) → get_or (row_items (typed_of self.now.typed.now) self.now.array.now (self.now.start + i)) k Null
+            ≡ item_at (child_window (window_of self.now) k) i }
     {
         kinds_of_typed(self.typed);
         lawful_has_no_fault(self.typed, self.array);
@@ -172,7 +92,8 @@ impl<'a> Col<'a> {
         requires kind { IsStruct (window_of self.now).typed }
         requires inside { k < length (children_of (window_of self.now).typed) }
         ensures window { window_of result ≡ child_window (window_of self.now) k }
-        ensures fields { (i : ℕ) → get_or (row_items (window_of self.now).typed (window_of self.now).array ((window_of self.now).start + i)) k Null ≡ item_at (window_of result) i }
+        ensures fields { (i : ℕ) → get_or (row_items (window_of self.now).typed (window_of self.now).array ((window_of self.now).start + i)) k Null
+            ≡ item_at (window_of result) i }
     {
         self.fields_are_there(k);
         lawful_has_no_fault(self.typed, self.array);

@@ -1,3 +1,4 @@
+//! What an item of a column is shown as.
 use crate::col::Col;
 
 /// An item of a column: bytes and lists are lent from the array's blocks.

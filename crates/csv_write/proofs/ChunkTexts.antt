@@ -1,12 +1,14 @@
 -- The lines of a chunk's rows are those of the table's rows.
-use Rattle.std.proofs.Common.{◌≡◌, ◌≢◌, ◌∙◌, ◌<◌, ◌+◌, ◌++◌, ◌^◌, ℕ, zero, suc, List, [], ◌∷◌, length, map, get_or, refl, sym, ap, subst, arith, Some, below_more, append-nil, append_assoc}
+use Rattle.std.proofs.Common.{◌≡◌, ◌≢◌, ◌∙◌, ◌<◌, ◌+◌, ◌++◌, ◌^◌, ℕ, zero, suc, List, [], ◌∷◌, length, map, get_or, refl, sym, ap, subst, arith, Some}
+use Rattle.std.proofs.Common.{below_more, append-nil, append_assoc}
 use Rattle.std.specs.List.{AllZip, concat}
 use Rattle.std.specs.Prelude.{ℤ, Bool}
 use Rattle.std.proofs.lemmas.List.{length-map, map-append, get_or_append_left, get_or_default}
 use Rattle.std.proofs.Math.Seq.{get_or-append_seam}
 use Rattle.std.proofs.lemmas.List.Folds.{concat-append}
 use Rattle.csv.specs.Writing.{default_writer, row_text}
-use Rattle.fmt_string.specs.FieldText.{Form, Truths, Wholes, FloatBits, Text, HexBytes, SizedHex, Decimals, form_of, written_field, written_form, written_if, written_text}
+use Rattle.fmt_string.specs.FieldText.{Form, Truths, Wholes, FloatBits, Text, HexBytes, SizedHex, Decimals, form_of, written_field, written_form, written_if}
+use Rattle.fmt_string.specs.FieldText.{written_text}
 use Rattle.fmt_string.specs.declared.kind.DataType.{DataType}
 use Rattle.fmt_string.specs.declared.kind.DataType.TheVariants as kinds
 use Rattle.fmt_string.specs.Table.{Column, Kind, Flat, Dict, Columns}
@@ -27,7 +29,8 @@ use Rattle.field_codec.specs.declared.form.FieldForm.TheVariants as forms
 
 -- ---- lists, place by place
 
-pub zip-push : {A B : Type 0} → (R : A → B → Type 0) (xs : List A) (ys : List B) (x : A) (y : B) → AllZip R xs ys → R x y → AllZip R (xs ++ x ∷ []) (ys ++ y ∷ [])
+pub zip-push : {A B : Type 0} → (R : A → B → Type 0) (xs : List A) (ys : List B) (x : A) (y : B) → AllZip R xs ys → R x y
+    → AllZip R (xs ++ x ∷ []) (ys ++ y ∷ [])
 zip-push R [] [] x y h r = (r, tt)
 zip-push R [] (b ∷ ys) x y h r = absurd h
 zip-push R (a ∷ xs) [] x y h r = absurd h
@@ -39,7 +42,8 @@ zip-long R [] (b ∷ ys) h = absurd h
 zip-long R (a ∷ xs) [] h = absurd h
 zip-long R (a ∷ xs) (b ∷ ys) h = let more : length xs ≡ length ys = zip-long R xs ys h.1 in omega (arith, more)
 
-zip-at : {A B : Type 0} → (R : A → B → Type 0) (xs : List A) (ys : List B) (j : ℕ) (d : A) (e : B) → AllZip R xs ys → j < length ys → R (get_or xs j d) (get_or ys j e)
+zip-at : {A B : Type 0} → (R : A → B → Type 0) (xs : List A) (ys : List B) (j : ℕ) (d : A) (e : B) → AllZip R xs ys → j < length ys
+    → R (get_or xs j d) (get_or ys j e)
 zip-at R [] [] j d e h lt = absurd (omega (arith, lt))
 zip-at R [] (b ∷ ys) j d e h lt = absurd h
 zip-at R (a ∷ xs) [] j d e h lt = absurd h
@@ -54,21 +58,26 @@ each-push f from (suc n) =
 
 -- the lines of one more row
 pub lines-push : (mark : List ℕ) (columns : List ChunkColumn) (n : ℕ) (text : List ℕ)
-    → text ++ concat (map (row_text default_writer) (rows_at mark columns (n + 1))) ≡ (text ++ concat (map (row_text default_writer) (rows_at mark columns n))) ++ row_text default_writer (row_at mark columns n)
+    → text ++ concat (map (row_text default_writer) (rows_at mark columns (n + 1)))
+    ≡ (text ++ concat (map (row_text default_writer) (rows_at mark columns n))) ++ row_text default_writer (row_at mark columns n)
 lines-push mark columns n text =
     let next : n + 1 ≡ suc n = omega arith in
     let place : 0 + n ≡ n = omega arith in
     let rows : rows_at mark columns (n + 1) ≡ rows_at mark columns n ++ row_at mark columns n ∷ [] =
-    ap (λ m. each (row_at mark columns) 0 m) next ∙ each-push (row_at mark columns) 0 n ∙ ap (λ k. each (row_at mark columns) 0 n ++ row_at mark columns k ∷ []) place in
+    ap (λ m. each (row_at mark columns) 0 m) next ∙ each-push (row_at mark columns) 0 n
+    ∙ ap (λ k. each (row_at mark columns) 0 n ++ row_at mark columns k ∷ []) place in
     rw (rows, map-append, concat-append, append-nil, append_assoc) refl
 
 -- ---- the columns of a chunk
 
-pub child-there : (column : ChunkColumn) (fs : List FieldForm) (w : Window) (k : ℕ) (d : FieldForm) → k < length fs → column.form ≡ get_or fs k d → window_of column.items ≡ child_window w k
-    → ((i : ℕ) → get_or (row_items w.typed w.array (w.start + i)) k Null ≡ item_at (window_of column.items) i) → (f : FieldForm) → IsChild column (get_or fs k f) w k
+pub child-there : (column : ChunkColumn) (fs : List FieldForm) (w : Window) (k : ℕ) (d : FieldForm) → k < length fs → column.form ≡ get_or fs k d
+    → window_of column.items ≡ child_window w k
+    → ((i : ℕ) → get_or (row_items w.typed w.array (w.start + i)) k Null ≡ item_at (window_of column.items) i) → (f : FieldForm)
+    → IsChild column (get_or fs k f) w k
 child-there column fs w k d lt form window items f = record { form_is = form ∙ get_or_default fs k d f lt; count = ap (λ v. v.count) window; items = items }
 
-pub children-push : (ts : List ChunkColumn) (t : ChunkColumn) (fs : List FieldForm) (w : Window) (k : ℕ) → length ts ≡ k → ((f : FieldForm) → IsChild t (get_or fs k f) w k)
+pub children-push : (ts : List ChunkColumn) (t : ChunkColumn) (fs : List FieldForm) (w : Window) (k : ℕ) → length ts ≡ k
+    → ((f : FieldForm) → IsChild t (get_or fs k f) w k)
     → ((j : ℕ) (d : ChunkColumn) (f : FieldForm) → j < k → IsChild (get_or ts j d) (get_or fs j f) w j)
     → (j : ℕ) (d : ChunkColumn) (f : FieldForm) → j < k + 1 → IsChild (get_or (ts ++ t ∷ []) j d) (get_or fs j f) w j
 children-push ts t fs w k e last before j d f lt =
@@ -87,7 +96,8 @@ kids-long columns = ap length (listed-trees (types_of_columns columns)) ∙ leng
 -- ---- a row
 
 -- a value is written by the form of its column
-text-of : (mark : List ℕ) (form : FieldForm) (kind : DataType) (v : Value) → form_of kind ≡ Some (form_in form) → written_in mark (form_in form) v ≡ written_text mark kind v
+text-of : (mark : List ℕ) (form : FieldForm) (kind : DataType) (v : Value) → form_of kind ≡ Some (form_in form)
+    → written_in mark (form_in form) v ≡ written_text mark kind v
 text-of mark form kind Null is = refl
 text-of mark form kind (Truth truth) is = ap (λ f. written_if f (Truth truth)) (sym is)
 text-of mark form kind (Whole number) is = ap (λ f. written_if f (Whole number)) (sym is)
@@ -121,7 +131,8 @@ other-truth mark (Bytes bytes) other = refl
 other-truth mark (Items items) other = refl
 other-truth mark (Fields fields) other = refl
 
-pub other-whole : (mark : List ℕ) (bits : ℕ) (signed : Bool) (v : Value) → ((number : ℤ) → v ≢ Whole number) → written_in mark (Wholes bits signed) v ≡ null_text mark v
+pub other-whole : (mark : List ℕ) (bits : ℕ) (signed : Bool) (v : Value) → ((number : ℤ) → v ≢ Whole number)
+    → written_in mark (Wholes bits signed) v ≡ null_text mark v
 other-whole mark bits signed Null other = refl
 other-whole mark bits signed (Truth truth) other = refl
 other-whole mark bits signed (Whole number) other = absurd (other number refl)
@@ -130,7 +141,8 @@ other-whole mark bits signed (Bytes bytes) other = refl
 other-whole mark bits signed (Items items) other = refl
 other-whole mark bits signed (Fields fields) other = refl
 
-pub other-decimal : (mark : List ℕ) (precision places : ℕ) (v : Value) → ((number : ℤ) → v ≢ Whole number) → written_in mark (Decimals precision places) v ≡ null_text mark v
+pub other-decimal : (mark : List ℕ) (precision places : ℕ) (v : Value) → ((number : ℤ) → v ≢ Whole number)
+    → written_in mark (Decimals precision places) v ≡ null_text mark v
 other-decimal mark precision places Null other = refl
 other-decimal mark precision places (Truth truth) other = refl
 other-decimal mark precision places (Whole number) other = absurd (other number refl)
@@ -192,13 +204,15 @@ kind-proper form (Columns _) h = absurd h
 abbrev no_column : Column
 no_column = record { name = []; kind = Flat kinds.Bool }
 
-text-at : (mark : List ℕ) (columns : List ChunkColumn) (i j : ℕ) (text : List ℕ) → j < length columns → ((d : ChunkColumn) → text_in mark i (get_or columns j d) ≡ text) → get_or (row_at mark columns i) j [] ≡ text
+text-at : (mark : List ℕ) (columns : List ChunkColumn) (i j : ℕ) (text : List ℕ) → j < length columns
+    → ((d : ChunkColumn) → text_in mark i (get_or columns j d) ≡ text) → get_or (row_at mark columns i) j [] ≡ text
 text-at mark [] i j text lt same = absurd (omega (arith, lt))
 text-at mark (column ∷ columns) i zero text lt same = same column
 text-at mark (column ∷ columns) i (suc j) text lt same = text-at mark columns i j text (omega (arith, lt)) same
 
 fields-are : (mark : List ℕ) (columns : List Column) (row : List Value) (texts : List (List ℕ)) → length texts ≡ length columns → length row ≡ length columns
-    → ((j : ℕ) (c : Column) → j < length columns → get_or texts j [] ≡ written_field mark (get_or columns j c).kind (get_or row j Null)) → texts ≡ row_fields mark columns row
+    → ((j : ℕ) (c : Column) → j < length columns → get_or texts j [] ≡ written_field mark (get_or columns j c).kind (get_or row j Null))
+    → texts ≡ row_fields mark columns row
 fields-are mark [] row [] e l same = refl
 fields-are mark [] row (t ∷ texts) e l same = absurd (omega (arith, e))
 fields-are mark (c ∷ cs) [] texts e l same = absurd (omega (arith, l))
@@ -206,9 +220,11 @@ fields-are mark (c ∷ cs) (v ∷ row) [] e l same = absurd (omega (arith, e))
 fields-are mark (c ∷ cs) (v ∷ row) (t ∷ texts) e l same =
     let head : t ≡ written_field mark c.kind v = same 0 c (omega arith) in
     ap (λ x. x ∷ texts) head
-    ∙ ap (λ xs. written_field mark c.kind v ∷ xs) (fields-are mark cs row texts (omega (arith, e)) (omega (arith, l)) (λ j d lt. same (suc j) d (omega (arith, lt))))
+    ∙ ap (λ xs. written_field mark c.kind v ∷ xs)
+    (fields-are mark cs row texts (omega (arith, e)) (omega (arith, l)) (λ j d lt. same (suc j) d (omega (arith, lt))))
 
-module _ (mark : List ℕ) (ts : List ChunkColumn) (fs : List FieldForm) (columns : List Column) (w : Window) (are : AreChildren ts fs w) (of : AreFormsOf fs columns) where
+module _ (mark : List ℕ) (ts : List ChunkColumn) (fs : List FieldForm) (columns : List Column) (w : Window) (are : AreChildren ts fs w)
+    (of : AreFormsOf fs columns) where
   long : length fs ≡ length columns
   long = zip-long (λ form column. IsFormOf form column.kind) fs columns of
 
@@ -219,11 +235,13 @@ module _ (mark : List ℕ) (ts : List ChunkColumn) (fs : List FieldForm) (column
       let child = are.each_is j d forms.Truths few in
       ap (λ f. written_in mark (form_in f) (item_at (window_of (get_or ts j d).items) i)) child.form_is
       ∙ ap (λ v. written_in mark (form_in (get_or fs j forms.Truths)) v) (sym (child.items i))
-      ∙ kind-text mark (get_or fs j forms.Truths) (get_or columns j c).kind _ (zip-at (λ form column. IsFormOf form column.kind) fs columns j forms.Truths c of lt)
+      ∙ kind-text mark (get_or fs j forms.Truths) (get_or columns j c).kind _
+      (zip-at (λ form column. IsFormOf form column.kind) fs columns j forms.Truths c of lt)
 
   row-is : (i : ℕ) → row_at mark ts i ≡ row_fields mark columns (row_items w.typed w.array (w.start + i))
   row-is i =
-      fields-are mark columns (row_items w.typed w.array (w.start + i)) (row_at mark ts i) (omega (arith, length-map ts (text_in mark i), are.count, long)) (are.wide i ∙ long)
+      fields-are mark columns (row_items w.typed w.array (w.start + i)) (row_at mark ts i)
+      (omega (arith, length-map ts (text_in mark i), are.count, long)) (are.wide i ∙ long)
       (λ j c lt.
       let some : j < length ts = omega (arith, lt, long, are.count) in
       text-at mark ts i j _ some (λ d. child-text i j c d lt))

@@ -1,10 +1,12 @@
 -- A record that is written field by field.
-use Rattle.std.proofs.Common.{◌≡◌, ◌≢◌, ◌<◌, ◌+◌, ◌-◌, ◌^◌, ◌++◌, ◌∙◌, ℕ, Bool, true, false, List, [], ◌∷◌, Option, None, Some, length, min, refl, sym, ap, arith, append_assoc, append-nil, length-append}
+use Rattle.std.proofs.Common.{◌≡◌, ◌≢◌, ◌<◌, ◌+◌, ◌-◌, ◌^◌, ◌++◌, ◌∙◌, ℕ, Bool, true, false, List, [], ◌∷◌, Option, None, Some, length, min, refl, sym, ap}
+use Rattle.std.proofs.Common.{arith, append_assoc, append-nil, length-append}
 use Rattle.std.proofs.lemmas.Bool.{false≢true}
 use Rattle.std.proofs.lemmas.Bool.Decides.{nat_tests}
 use Rattle.std.specs.Prelude.{if◌then◌else◌, not, ◌==◌, ◌&&◌, ◌||◌}
 use Rattle.std.specs.Io.KnownBytes.{Appends}
-use Rattle.csv.specs.Writing.{blank_text, comma, default_writer, end_text, field_text, fields_text, fields_written, has_written, is_blank, next_sep, quote_mark, row_body, row_text, tail_text, writer_setup}
+use Rattle.csv.specs.Writing.{blank_text, comma, default_writer, end_text, field_text, fields_text, fields_written, has_written, is_blank, next_sep, quote_mark}
+use Rattle.csv.specs.Writing.{row_body, row_text, tail_text, writer_setup}
 use Rattle.csv.specs.declared.writer.WriterBuilder.{WriterBuilder}
 use Rattle.csv.specs.declared.writer.QuoteStyle.TheVariants as style
 use Rattle.csv_write.specs.Lines.{HasFields, HasLines, HasShown, MemoryWriter, text_of}
@@ -32,7 +34,8 @@ not-first : (n : ℕ) → 0 < n → (n == 0) ≡ false
 not-first n h = grind (arith, nat_tests)
 
 pub body-push : (fields : List (List ℕ)) (field : List ℕ)
-    → row_body default_writer (fields ++ field ∷ []) ≡ row_body default_writer fields ++ (next_sep default_writer (length fields) ++ field_text default_writer field)
+    → row_body default_writer (fields ++ field ∷ [])
+    ≡ row_body default_writer fields ++ (next_sep default_writer (length fields) ++ field_text default_writer field)
 unfolding fields_text
 body-push [] field = append-nil _
 body-push (g ∷ gs) field =
@@ -82,7 +85,8 @@ necessary cfg e h = let other : style.Necessary ≡ style.NonNumeric = sym (ap (
 
 module _ (old new : MemoryWriter) (text : List ℕ) (fields : List (List ℕ)) (has : HasFields old text fields) where
   pub field-written : (field : List ℕ) → length fields < 2 ^ 64 - 1
-      → ((writer_setup old).style ≢ style.NonNumeric → Appends (text_of old) (text_of new) (next_sep (writer_setup old) (fields_written old) ++ field_text (writer_setup old) field))
+      → ((writer_setup old).style ≢ style.NonNumeric
+      → Appends (text_of old) (text_of new) (next_sep (writer_setup old) (fields_written old) ++ field_text (writer_setup old) field))
       → writer_setup new ≡ writer_setup old → fields_written new ≡ min (fields_written old + 1) (2 ^ 64 - 1)
       → (has_written old ≡ false → (writer_setup old).style ≢ style.NonNumeric → has_written new ≡ not (length (field_text (writer_setup old) field) == 0))
       → HasFields new text (fields ++ field ∷ [])
@@ -91,7 +95,8 @@ module _ (old new : MemoryWriter) (text : List ℕ) (fields : List (List ℕ)) (
       let put = appends-known _ _ _ _ has.text_is (appends plain) in
       record {
         count = omega (arith, count, has.count, length-append fields (field ∷ []));
-        shown = shown-push fields field (has_written old) (has_written new) has.shown (λ e. wrote e plain ∙ ap (λ cfg. not (length (field_text cfg field) == 0)) has.setup);
+        shown = shown-push fields field (has_written old) (has_written new) has.shown
+            (λ e. wrote e plain ∙ ap (λ cfg. not (length (field_text cfg field) == 0)) has.setup);
         setup = same ∙ has.setup;
         text_is = put
             ∙ (λ i. Some ((text ++ row_body default_writer fields) ++ (next_sep (has.setup i) (has.count i) ++ field_text (has.setup i) field)))

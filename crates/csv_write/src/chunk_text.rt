@@ -17,14 +17,14 @@ use field_codec::{FieldForm, bits_text, bytes_text, decimal_text, truth_text, wh
 use std::alloc::Global;
 use unit_pass::NoMemory;
 
-// A column of a chunk, and how its fields are written.
+/// A column of a chunk, and how its fields are written.
 #[derive(Clone, Copy)]
 pub(crate) struct ChunkColumn<'a> {
     form: FieldForm,
     items: Col<'a>,
 }
 
-// The columns of a chunk. They are found once for all its rows.
+/// The columns of a chunk. They are found once for all its rows.
 pub(crate) fn chunk_columns<'a>(
     alloc: Global,
     forms: &[FieldForm],
@@ -45,8 +45,8 @@ pub(crate) fn chunk_columns<'a>(
     Ok(columns)
 }
 
-// The text of an item that isn't of its column's form: the mark for a null, and nothing for an item of another form. Under the
-// empty mark both are nothing, and no item is looked at.
+/// The text of an item that isn't of its column's form: the mark for a null, and nothing for an item of another form. Under the
+/// empty mark both are nothing, and no item is looked at.
 #[inline(never)]
 fn null_or_nothing<'b>(items: &Col<'_>, i: i64, mark: &'b [u8]) -> &'b [u8]
     requires from { pos 0 ≤ℤ i }
@@ -62,7 +62,7 @@ fn null_or_nothing<'b>(items: &Col<'_>, i: i64, mark: &'b [u8]) -> &'b [u8]
     }
 }
 
-// The text of an item, read as its column's form has it. A null is the mark.
+/// The text of an item, read as its column's form has it. A null is the mark.
 #[inline(always)]
 #[tactic(auto, using(crate::proofs::ChunkTexts::other_texts))]
 fn item_text<'a: 'b, 'b>(
@@ -104,7 +104,7 @@ fn item_text<'a: 'b, 'b>(
     }
 }
 
-// Writes the field of an item.
+/// Writes the field of an item.
 fn write_item(
     writer: &mut Writer<Vec<u8>>,
     column: &ChunkColumn<'_>,
@@ -121,7 +121,7 @@ fn write_item(
     Ok(())
 }
 
-// Writes one row.
+/// Writes one row.
 fn write_row(
     writer: &mut Writer<Vec<u8>>,
     columns: &[ChunkColumn<'_>],
@@ -139,7 +139,7 @@ fn write_row(
     Ok(())
 }
 
-// The number of a chunk's rows.
+/// The number of a chunk's rows.
 pub(crate) fn count_rows(chunk: &Col<'_>) -> u64
     ensures count { result ≡ (window_of chunk.now).count }
     ensures small { result < 2 ^ 63 }
@@ -147,7 +147,7 @@ pub(crate) fn count_rows(chunk: &Col<'_>) -> u64
     chunk.len() as u64
 }
 
-// Writes the first rows of columns.
+/// Writes the first rows of columns.
 pub(crate) fn write_rows(
     writer: &mut Writer<Vec<u8>>,
     columns: &[ChunkColumn<'_>],
@@ -156,7 +156,8 @@ pub(crate) fn write_rows(
     room: &mut Vec<u8>,
 ) -> Result<(), NoMemory>
     requires { (i : ℕ) → i < rows → HasRow columns.now i }
-    ensures { OnOk result ((text : List ℕ) → HasLines writer.old text → HasLines writer.new (text ++ concat (map (row_text default_writer) (rows_at mark.now columns.now rows)))) }
+    ensures { OnOk result ((text : List ℕ) → HasLines writer.old text
+        → HasLines writer.new (text ++ concat (map (row_text default_writer) (rows_at mark.now columns.now rows)))) }
 {
     for i in 0..rows {
         write_row(writer, columns, i, mark, room)?;

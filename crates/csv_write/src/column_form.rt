@@ -16,7 +16,7 @@ use fmt_string::{ColKind, ColumnType};
 use std::alloc::Global;
 use unit_pass::NoMemory;
 
-// Writes the names of columns as a line.
+/// Writes the names of columns as a line.
 pub(crate) fn write_names(
     writer: &mut Writer<Vec<u8>>,
     columns: &[ColumnType],
@@ -30,7 +30,7 @@ pub(crate) fn write_names(
     Ok(())
 }
 
-// The form of each column.
+/// The form of each column.
 pub(crate) fn column_forms(
     alloc: Global,
     columns: &[ColumnType],
@@ -45,7 +45,7 @@ pub(crate) fn column_forms(
     Ok(forms)
 }
 
-// The form of the values of a column, which a dictionary doesn't change.
+/// The form of the values of a column, which a dictionary doesn't change.
 fn column_form(kind: &ColKind) -> FieldForm
     requires { HasTexts (kind_of kind.now) }
     ensures { IsFormOf result (kind_of kind.now) }

@@ -57,8 +57,10 @@ impl CsvText {
     /// Writes the rows of a chunk, read in place: a column with a dictionary by its values, a null as the mark.
     /// `NoMemory` comes for want of memory alone.
     pub fn add(&mut self, alloc: Global, chunk: Col<'_>) -> Result<(), NoMemory>
-        requires { (mark : List ℕ) × (columns : List Column) × (written : List ℕ) × HasText self.old mark columns written × ((window_of chunk).typed ≡ type_of_columns columns) }
-        ensures { OnOk result ((mark : List ℕ) (columns : List Column) (written : List ℕ) → HasText self.old mark columns written → (window_of chunk.entry).typed ≡ type_of_columns columns
+        requires { (mark : List ℕ) × (columns : List Column) × (written : List ℕ) × HasText self.old mark columns written
+            × ((window_of chunk).typed ≡ type_of_columns columns) }
+        ensures { OnOk result ((mark : List ℕ) (columns : List Column) (written : List ℕ) → HasText self.old mark columns written
+            → (window_of chunk.entry).typed ≡ type_of_columns columns
             → HasText self.new mark columns (written ++ rows_text mark columns (rows_in (window_of chunk.entry)))) }
     {
         let columns = chunk_columns(alloc, &self.forms, &chunk)?;

@@ -1,3 +1,4 @@
+//! Tests of the text of tables: columns of each form, nulls, dictionaries, and chunks that are added in turn.
 ghost use Rattle.std.specs.Prelude.{◌≡◌, ◌≤◌, All, map};
 ghost use Rattle.fmt_string.specs.ColumnView.{column_of};
 ghost use Rattle.raw_schema.specs.Members.{Nodes};
@@ -48,7 +49,7 @@ fn few_levels_behind(rt: &impl Abort, dictionary: &Option<RawArray>)
     }
 }
 
-// A view of all bytes of a new block.
+/// A view of all bytes of a new block.
 fn view(rt: &impl Abort, alloc: Global, bytes: &[u8], pass: &mut Pass) -> BufView {
     assert!(rt; pass.units() >= 1);
     let Ok(bytes) = Vec::from_slice(alloc, bytes) else {
@@ -77,7 +78,7 @@ fn built(rt: &impl Abort, alloc: Global, parts: ArrayParts, pass: &mut Pass) -> 
     }
 }
 
-// An array's length and offset.
+/// An array's length and offset.
 type Span = (i64, i64);
 
 fn array(
@@ -109,7 +110,7 @@ fn array(
     built(rt, alloc, parts, pass)
 }
 
-// The columns of a chunk, from their buffers.
+/// The columns of a chunk, from their buffers.
 fn columns_of(
     rt: &impl Abort,
     alloc: Global,
@@ -125,7 +126,7 @@ fn columns_of(
     arrays
 }
 
-// A struct over columns.
+/// A struct over columns.
 fn chunk(
     rt: &impl Abort,
     alloc: Global,
@@ -170,7 +171,7 @@ fn schema_ended(rt: &impl Abort, schema: RawSchema, pass: &mut Pass) {
     schema.discard();
 }
 
-// The types of columns, read from their schema.
+/// The types of columns, read from their schema.
 fn typed_columns(rt: &impl Abort, alloc: Global, columns: &[ColumnType], pass: &mut Pass) -> Typed
     requires small { Nodes (SchemaOf (map column_of columns.now)) ≤ CHUNK }
     requires not_deep { Depth (SchemaOf (map column_of columns.now)) ≤ 64 }
@@ -193,7 +194,7 @@ fn typed_columns(rt: &impl Abort, alloc: Global, columns: &[ColumnType], pass: &
     typed
 }
 
-// The text of chunks.
+/// The text of chunks.
 fn written(
     rt: &impl Abort,
     alloc: Global,
@@ -222,7 +223,7 @@ fn written(
     }
 }
 
-// The chunks of columns have this text.
+/// The chunks of columns have this text.
 fn shows(
     rt: &impl Abort,
     alloc: Global,
@@ -243,7 +244,7 @@ fn shows(
     all_ended(rt, chunks, pass);
 }
 
-// Three rows: the second is null in the first and third column, the last in the second.
+/// Three rows: the second is null in the first and third column, the last in the second.
 static NUMBERS: [&[Option<&[u8]>]; 4] = [
     &[
         Some(b"\x05"),
@@ -307,7 +308,7 @@ fn rows_of_chunks_are_written_behind_the_header(rt: HostRuntime) {
     desk.close(pass);
 }
 
-// An empty text, which is written as a null is, one with quotes, one with a line's end, and a null.
+/// An empty text, which is written as a null is, one with quotes, one with a line's end, and a null.
 static TEXTS: [&[Option<&[u8]>]; 4] = [
     &[
         Some(b"\x07"),
@@ -359,7 +360,7 @@ fn texts_are_quoted_and_bytes_are_written_by_their_digits(rt: HostRuntime) {
     desk.close(pass);
 }
 
-// A null index, and the entries 1 and 0, of which the first is null.
+/// A null index, and the entries 1 and 0, of which the first is null.
 #[test]
 fn dictionary_is_written_by_its_values(rt: HostRuntime) {
     let alloc = rt.alloc();
@@ -403,7 +404,7 @@ fn dictionary_is_written_by_its_values(rt: HostRuntime) {
     desk.close(pass);
 }
 
-// A date of 32 bits and one of 64, a time of 32 bits and one of 64.
+/// A date of 32 bits and one of 64, a time of 32 bits and one of 64.
 static TIMES: [&[Option<&[u8]>]; 4] = [
     &[None, Some(b"\xff\xff\xff\xff")],
     &[None, Some(b"\0\x5c\x26\x05\0\0\0\0")],

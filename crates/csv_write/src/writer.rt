@@ -7,14 +7,14 @@ use csv::{Writer, WriterBuilder};
 use std::alloc::Global;
 use unit_pass::NoMemory;
 
-// A writer of no lines.
+/// A writer of no lines.
 pub(crate) fn new_writer(alloc: Global) -> Writer<Vec<u8>>
     ensures { HasLines result [] }
 {
     WriterBuilder::new().from_writer(Vec::new(alloc))
 }
 
-// The lines that a writer has written.
+/// The lines that a writer has written.
 pub(crate) fn finish_lines(writer: Writer<Vec<u8>>) -> Result<Vec<u8>, NoMemory>
     ensures { IfOk result (λ v. (text : List ℕ) → HasLines writer text → v.items ≡ text) }
 {
@@ -24,7 +24,7 @@ pub(crate) fn finish_lines(writer: Writer<Vec<u8>>) -> Result<Vec<u8>, NoMemory>
     }
 }
 
-// Writes one field of a line.
+/// Writes one field of a line.
 pub(crate) fn write_text(writer: &mut Writer<Vec<u8>>, field: &[u8]) -> Result<(), NoMemory>
     ensures { OnOk result ((text : List ℕ) (fields : List (List ℕ)) → length fields < 2 ^ 64 - 1
         → HasFields writer.old text fields → HasFields writer.new text (fields ++ field.now ∷ [])) }
@@ -35,7 +35,7 @@ pub(crate) fn write_text(writer: &mut Writer<Vec<u8>>, field: &[u8]) -> Result<(
     }
 }
 
-// Ends a line.
+/// Ends a line.
 pub(crate) fn end_line(writer: &mut Writer<Vec<u8>>) -> Result<(), NoMemory>
     ensures { OnOk result ((text : List ℕ) (fields : List (List ℕ)) → HasFields writer.old text fields
         → HasLines writer.new (text ++ row_text default_writer fields)) }

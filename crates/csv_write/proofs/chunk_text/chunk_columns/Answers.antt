@@ -18,5 +18,6 @@ loop-k-preserved c =
       count = omega (arith, ap length c.in_ok-push.ensures.items, length-append c.loop-k.columns.items (column ∷ []), c.loop-k.invariant.count);
       each_is = λ j d f lt.
           subst (λ ts. IsChild (get_or ts j d) (get_or fs j f) w j) (sym c.in_ok-push.ensures.items)
-          (children-push c.loop-k.columns.items column fs w k c.loop-k.invariant.count (child-there column fs w k forms.Truths inside refl c.child.ensures.window c.child.ensures.fields) c.loop-k.invariant.each_is j d f lt);
+          (children-push c.loop-k.columns.items column fs w k c.loop-k.invariant.count
+          (child-there column fs w k forms.Truths inside refl c.child.ensures.window c.child.ensures.fields) c.loop-k.invariant.each_is j d f lt);
     }

@@ -11,7 +11,8 @@ use Rattle.csv_write.proofs.chunk_text.write_row.Goals as goal
 -- one more column
 row-push : (mark : List ℕ) (columns : List ChunkColumn) (i k : ℕ) (column : ChunkColumn) → k < length columns → column ≡ get_or columns k column
     → row_at mark (take k columns) i ++ text_in mark i column ∷ [] ≡ row_at mark (take (k + 1) columns) i
-row-push mark columns i k column lt is = ap (λ c. row_at mark (take k columns) i ++ text_in mark i c ∷ []) is ∙ sym (map_more (text_in mark i) columns k column lt)
+row-push mark columns i k column lt is =
+    ap (λ c. row_at mark (take k columns) i ++ text_in mark i c ∷ []) is ∙ sym (map_more (text_in mark i) columns k column lt)
 
 pub loop-column-init : goal.loop-column-init
 loop-column-init c text h = no-fields c.args.writer.now text h
@@ -21,7 +22,8 @@ loop-column-preserved c text h =
     let k = c.loop-column.column-index in
     let columns = c.args.columns.now in
     let inside : k < length columns = omega arith in
-    let long : length (row_at c.args.mark.now (take k columns) c.args.i) ≡ length (take k columns) = length-map (take k columns) (text_in c.args.mark.now c.args.i) in
+    let long : length (row_at c.args.mark.now (take k columns) c.args.i) ≡ length (take k columns) =
+    length-map (take k columns) (text_in c.args.mark.now c.args.i) in
     let few : length (row_at c.args.mark.now (take k columns) c.args.i) < 18446744073709551615 = omega (arith, length-take k columns) in
     subst (λ fields. HasFields c.write_item.new.writer text fields)
     (row-push c.args.mark.now columns c.args.i k c.column-item.result inside c.column-item.is)

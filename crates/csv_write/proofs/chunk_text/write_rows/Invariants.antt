@@ -7,4 +7,5 @@ use Rattle.csv_write.proofs.chunk_text.write_rows.Given as goal
 
 -- the writer has the lines of the rows so far
 abbrev pub invariant-loop-i : goal.invariant-loop-i
-invariant-loop-i l = (text : List ℕ) → HasLines l.initial.writer text → HasLines l.writer (text ++ concat (map (row_text default_writer) (rows_at l.mark l.columns l.i)))
+invariant-loop-i l =
+    (text : List ℕ) → HasLines l.initial.writer text → HasLines l.writer (text ++ concat (map (row_text default_writer) (rows_at l.mark l.columns l.i)))

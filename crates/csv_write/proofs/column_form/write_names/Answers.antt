@@ -12,7 +12,8 @@ abbrev names_of : List ColumnType → List (List ℕ)
 names_of columns = map (λ column. column.name) columns
 
 -- one more name
-name-push : (columns : List ColumnType) (k : ℕ) (column : ColumnType) (name : List ℕ) → k < length columns → column ≡ get_or columns k column → name ≡ column.name
+name-push : (columns : List ColumnType) (k : ℕ) (column : ColumnType) (name : List ℕ) → k < length columns
+    → column ≡ get_or columns k column → name ≡ column.name
     → names_of (take k columns) ++ name ∷ [] ≡ names_of (take (k + 1) columns)
 name-push columns k column name lt is same =
     ap (λ n. names_of (take k columns) ++ n ∷ []) (same ∙ ap (λ c. c.name) is) ∙ sym (map_more (λ column. column.name) columns k column lt)

@@ -8,5 +8,8 @@ use Rattle.csv_write.proofs.csv_text_tests.written.Goals as goal
 pub loop-chunk-preserved : goal.loop-chunk-preserved
 loop-chunk-preserved g c =
     let columns = map column_of c.args.columns.now in
-    let (written, has) = c.loop-chunk.invariant in
-    (written ++ rows_text [] columns (rows_in (window_of c.of.result)), c.in-Ok-add.ensures [] columns written has (ap (λ w. w.typed) c.of.ensures.window ∙ c.requires.typed))
+    let (written, has) = c.loop-chunk.invariant in (
+      written ++ rows_text [] columns (rows_in (window_of c.of.result)),
+      c.in-Ok-add.ensures [] columns written has
+          (ap (λ w. w.typed) c.of.ensures.window ∙ c.requires.typed),
+    )

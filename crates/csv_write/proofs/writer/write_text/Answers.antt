@@ -7,6 +7,7 @@ returns c =
     elim c.match-write_field.branch [
       | in-Ok w ↦
           let done = w.in-Ok.ensures in
-          rw w.result-is (λ text fields few h. field-written c.args.writer.now c.write_field.new.self text fields h c.args.field.now few done.text done.same done.count done.wrote)
+          rw w.result-is (λ text fields few h. field-written c.args.writer.now c.write_field.new.self text fields h c.args.field.now few done.text
+          done.same done.count done.wrote)
       | in-Err w ↦ rw w.result-is tt
     ]

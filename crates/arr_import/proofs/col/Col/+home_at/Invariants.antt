@@ -1,6 +1,6 @@
-use Rattle.layout_check.specs.Kinds.{levels}
+use Rattle.tree_model.specs.Tree.{Depth}
 use Rattle.layout_check.specs.TypedView.{typed_of}
 use Rattle.arr_import.proofs.col.Col.+home_at.Given as goal
 
 abbrev pub decreases-home_at : goal.decreases-home_at
-decreases-home_at a = levels (typed_of a.self.now.typed.now)
+decreases-home_at a = Depth (typed_of a.self.now.typed.now)

@@ -14,7 +14,8 @@ window-requires-clause-lawful c =
     let kid = c.index-kid.result.now in
     let inside : c.args.k < length kids = omega (arith, c.requires.inside, length-map kids typed_of) in
     let lawful : LayoutOk (typed_of kid) (child_at c.args.self.now.array.now c.args.k) =
-    subst (λ u. LayoutOk u (child_at c.args.self.now.array.now c.args.k)) (kid-tree kids c.args.k kid inside c.index-kid.ensures) (c.lawful_parts.ensures.children c.args.k c.requires.inside) in
+    subst (λ u. LayoutOk u (child_at c.args.self.now.array.now c.args.k)) (kid-tree kids c.args.k kid inside c.index-kid.ensures)
+    (c.lawful_parts.ensures.children c.args.k c.requires.inside) in
     c.lawful_has_no_fault-2.ensures.1 (subst (λ a. LayoutOk (typed_of kid) a) (sym c.child-child.ensures) lawful)
 
 pub window-requires-clause-valid : goal.window-requires-clause-valid

@@ -19,7 +19,8 @@ returns c =
     let inside : k < length (kids_of t) = subst (λ l. k < length l) kids c.requires.inside in
     let typed : child_at (typed_of t) k ≡ get_or (kids_of t) k Released = ap (λ l. get_or l k Released) kids in
     let needed : end own ≤ tree_items (child_at col.array.now k) =
-    subst (λ l. items_need l own ≤ tree_items (child_at col.array.now k)) (struct-typed t e c.requires.kind) (c.lawful_items_lie_within.ensures.needed k inside) in
+    subst (λ l. items_need l own ≤ tree_items (child_at col.array.now k)) (struct-typed t e c.requires.kind)
+    (c.lawful_items_lie_within.ensures.needed k inside) in
     let live : k < length (children_of col.array.now) = omega (arith, inside, c.lawful_root.ensures.children) in
     record {
       kid = inside;

@@ -23,7 +23,8 @@ returns c =
     record {
       there =
           subst (λ n. IsIndexThere col.storage own j (index_at (kind_of t) own j) n) (sym all)
-          (index-there (kind_of t) col.storage own j w.array col.storage_ok int c.requires.valid (c.lawful_items_lie_within.ensures.index j w.typed w.array inside d.typed d.array));
+          (index-there (kind_of t) col.storage own j w.array col.storage_ok int c.requires.valid
+          (c.lawful_items_lie_within.ensures.index j w.typed w.array inside d.typed d.array));
       value =
           ap (value_at w.typed w.array) (omega (arith, from))
           ∙ sym (value-entry t c.kinds_of_typed.ensures col.array.now j c.lawful_root.ensures.live c.requires.valid w.typed w.array d.typed d.array int);

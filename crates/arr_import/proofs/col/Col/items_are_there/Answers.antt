@@ -18,6 +18,7 @@ returns c =
       live = omega (arith, one, c.lawful_root.ensures.children);
       few = c.lawful_parts.ensures.few 0 (omega (arith, one));
       items =
-          are-items-there (kind_of col.typed.now) col.storage own col.stored.now (first own + (col.start + c.args.i)) (tree_items (child_at col.array.now 0)) col.storage_ok col.stored_is
+          are-items-there (kind_of col.typed.now) col.storage own col.stored.now (first own + (col.start + c.args.i)) (tree_items (child_at col.array.now 0))
+          col.storage_ok col.stored_is
           (c.lawful_items_lie_within.ensures.children (col.start + c.args.i) 0 inside (omega (arith, one)));
     }

@@ -9,7 +9,8 @@ pub returns : goal.returns
 returns c =
     let col = c.args.self.now in
     λ (v : Value) (is : v ≡ item_at (window_of col) c.args.i) (h : IsStructValue v).
-    let row = home-row col.typed.now c.kinds_of_typed.ensures col.array.now (col.start + c.args.i) c.lawful_root.ensures.live c.requires (subst IsStructValue is h) in
+    let row =
+    home-row col.typed.now c.kinds_of_typed.ensures col.array.now (col.start + c.args.i) c.lawful_root.ensures.live c.requires (subst IsStructValue is h) in
     record {
       is_struct = row.0;
       fields = is ∙ row.1;

@@ -11,7 +11,8 @@ use Rattle.arr_import.proofs.Reading.{kids-typed}
 use Rattle.arr_import.proofs.col.Col.rows_are_whole.Goals as goal
 
 -- as many items as there are kids, where each has a child
-items-long : (kids : List KindTree) (children : List ArrayTree) (n : ℕ) → length children ≡ length kids → length (field_items (readers (trees kids)) children n) ≡ length kids
+items-long : (kids : List KindTree) (children : List ArrayTree) (n : ℕ) → length children ≡ length kids
+    → length (field_items (readers (trees kids)) children n) ≡ length kids
 items-long [] children n e = refl
 items-long (kid ∷ kids) [] n e = absurd (omega (arith, e))
 items-long (kid ∷ kids) (child ∷ rest) n e =
@@ -19,7 +20,8 @@ items-long (kid ∷ kids) (child ∷ rest) n e =
     let more : length (field_items (readers (trees kids)) rest n) ≡ length kids = items-long kids rest n fewer in
     omega (arith, more)
 
-row-long : (kind : DataType) (kids : List KindTree) (dict : Option KindTree) (array : ArrayTree) (j : ℕ) → IsLive array → length (children_of array) ≡ length kids
+row-long : (kind : DataType) (kids : List KindTree) (dict : Option KindTree) (array : ArrayTree) (j : ℕ) → IsLive array
+    → length (children_of array) ≡ length kids
     → length (row_items (Live kind (trees kids) (maybe_tree dict)) array j) ≡ length kids
 row-long kind kids dict Released j live e = absurd live
 row-long kind kids dict (Live own children dictionary) j live e = items-long kids (children_of (Live own children dictionary)) (first own + j) e
