@@ -12,7 +12,7 @@ const REFUSED: u8 = 2;
 /// The status where there is no memory.
 const NO_MEMORY: u8 = 9;
 
-// The words behind the program's name.
+/// The words behind the program's name.
 fn words(rt: &HostRuntime) -> io::Result<Vec<String>> {
     let mut words = Vec::new(rt.alloc());
     for word in env::args(rt)?.skip(1) {
@@ -21,7 +21,7 @@ fn words(rt: &HostRuntime) -> io::Result<Vec<String>> {
     Ok(words)
 }
 
-// Tells why there are no words: one is no text, or there is no memory.
+/// Tells why there are no words: one is no text, or there is no memory.
 fn no_words(rt: &HostRuntime, why: ErrorKind) -> ExitCode {
     match why {
         ErrorKind::OutOfMemory => {

@@ -1,19 +1,14 @@
--- The rows of a text in batches: tables of at most so many rows, and how they end.
-use Rattle.std.specs.Prelude.{ℕ, ◌+◌, ◌-◌, ◌==◌, List, [], ◌∷◌, length, map, Result, Ok, Err, if◌then◌else◌}
+-- The rows of a text in batches: chunks of at most so many rows, and how they end.
+use Rattle.std.specs.Prelude.{ℕ, ◌+◌, ◌-◌, ◌==◌, List, [], ◌∷◌, length, Option, None, Some, Result, Ok, Err, if◌then◌else◌}
 use Rattle.std.specs.List.{filter, onto_first}
-use Rattle.fmt_string.specs.Table.{Column, Row, Table}
+use Rattle.fmt_string.specs.Table.{Column, Row}
 use Rattle.csv_model.specs.Reading.{Record, behind_header, body, records_of, row_of}
 use Rattle.fmt_string.specs.declared.row_fault.RowFault.{RowFault}
 
--- behind the last record, or at the first one that spells no row
-pub data Ending : Type 0 where
-  End : Ending
-  Bad : RowFault → Ending
-
--- tables of the same columns, one behind the other, and their ending
+-- the rows of chunks, one behind the other, and how they end: by a fault, or well
 pub record Chunks : Type 0 where
-  pub tables : List Table
-  pub ending : Ending
+  pub chunks : List (List Row)
+  pub ending : Option RowFault
 
 -- ---- cutting
 
@@ -29,9 +24,6 @@ in_batches batch rows = cut batch batch rows
 abbrev pub whole_batches : ℕ → List Row → List (List Row)
 whole_batches batch rows = filter (λ part. length part == batch) (in_batches batch rows)
 
-abbrev pub tables_of : List Column → List (List Row) → List Table
-tables_of columns parts = map (λ rows. record { columns = columns; rows = rows }) parts
-
 -- ---- reading
 
 abbrev pub row_before : Result Row RowFault → List Row → List Row
@@ -44,13 +36,13 @@ rows_before mark number columns [] = []
 rows_before mark number columns (fields ∷ records) = row_before (row_of mark number columns fields) (rows_before mark (number + 1) columns records)
 
 -- all rows in batches; or, where a record spells no row, the full batches before the batch of that record
-abbrev pub batches_if : Result (List Row) RowFault → ℕ → List Column → List Row → Chunks
-batches_if (Ok rows) batch columns before = record { tables = tables_of columns (in_batches batch rows); ending = End }
-batches_if (Err fault) batch columns before = record { tables = tables_of columns (whole_batches batch before); ending = Bad fault }
+abbrev pub batches_if : Result (List Row) RowFault → ℕ → List Row → Chunks
+batches_if (Ok rows) batch before = record { chunks = in_batches batch rows; ending = None }
+batches_if (Err fault) batch before = record { chunks = whole_batches batch before; ending = Some fault }
 
 -- the rows of these records
 abbrev pub batches_in : List ℕ → List Column → List Record → ℕ → Chunks
-batches_in mark columns records batch = batches_if (body mark columns records) batch columns (rows_before mark 1 columns records)
+batches_in mark columns records batch = batches_if (body mark columns records) batch (rows_before mark 1 columns records)
 
 -- the rows of a text, under a mark for null
 abbrev pub Batches : List ℕ → List ℕ → List Column → ℕ → Chunks

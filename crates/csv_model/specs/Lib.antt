@@ -3,3 +3,4 @@ pub mod Text
 pub mod Batches
 pub mod Header
 pub mod Examples
+pub mod FaultTexts

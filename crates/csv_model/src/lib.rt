@@ -1,12 +1,13 @@
 //! What CSV text means: the records of a text, the columns of its header, the rows that its records spell under them, and
 //! the text of a table.
 //!
-//! The definitions stand in `specs/`: `Reading` (records, rows, faults), `Batches` (rows in tables of a size), `Header`
+//! The definitions stand in `specs/`: `Reading` (records, rows, faults), `Batches` (rows in chunks of a size), `Header`
 //! (columns, faults), `Text` (the text of a table).
 #![tactic(auto)]
 
 mod fault;
 mod header;
+mod laws;
 
 ghost use Rattle.std.specs.Prelude.{◌≡◌, ◌∷◌, ◌++◌, [], codes};
 ghost use Rattle.csv_model.specs.Examples.{echo, NoHeader, Refused, Text};
@@ -14,6 +15,7 @@ ghost use Rattle.fmt_string.specs.declared.row_fault.RowFault.TheVariants as row
 
 pub use fault::HeaderFault;
 pub use header::worked_headers;
+pub use laws::records_are_read_in_turn;
 
 /// Texts that the definitions read and write as they stand here.
 pub fn worked_texts()

@@ -1,23 +1,24 @@
 -- Reading the records of a text into the columns of a body.
-use Rattle.std.proofs.Common.{◌≡◌, ◌≤◌, ◌<◌, ◌+◌, ◌^◌, ◌++◌, ◌∙◌, ℕ, zero, suc, Bool, true, false, List, [], ◌∷◌, length, map, take, drop, get_or, Bor, Result, Ok, Err, refl, sym, ap, subst, arith, length-append, append_assoc, append-nil}
+use Rattle.std.proofs.Common.{◌≡◌, ◌≤◌, ◌<◌, ◌+◌, ◌^◌, ◌++◌, ◌∙◌, ℕ, zero, suc, List, [], ◌∷◌, length, map, take, drop, get_or, Result, Ok, Err, refl, sym, ap}
+use Rattle.std.proofs.Common.{subst, arith, inl, inr, length-append, append_assoc, append-nil}
 use Rattle.std.proofs.lemmas.List.{map-append, take-append-drop}
 use Rattle.std.proofs.lemmas.List.Folds.{concat-append}
 use Rattle.std.specs.List.{concat}
 use Rattle.col_build.specs.declared.builder.Builder.{Builder}
-use Rattle.csv.specs.declared.reader.Reader.{Reader}
 use Rattle.fmt_string.specs.Table.{Column, Kind, Row}
 use Rattle.fmt_string.specs.Value.{Value, Null, byte_total, bytes_of}
 use Rattle.csv_model.specs.Reading.{Record, body_from, row_of, with_row}
 use Rattle.fmt_string.specs.declared.row_fault.RowFault.{RowFault}
 use Rattle.csv_read.specs.Body.{HoldEach, HoldsBody, HoldsKind, IsBodyFault, column_values}
 use Rattle.csv_read.specs.BodyRows.{AddsRow, HasBatch, HasRoomFor, HasRows, IsColumnOf, IsRowsFault, RefusesRow, RowsSoFar, with_rows}
-use Rattle.csv_read.specs.RecordReader.{Takes, records_left, text_left}
+use Rattle.csv_read.specs.RecordReader.{RecordsLeft, Takes}
 use Rattle.csv_read.specs.declared.body.BodyFault.{BodyFault}
 use Rattle.csv_read.specs.declared.body.BodyFault.TheVariants as faults
 use Rattle.csv_read.specs.declared.body_columns.BodyColumns.{BodyColumns}
 use Rattle.field_codec.specs.declared.form.FieldForm.{FieldForm}
 use Rattle.field_codec.specs.declared.form.FieldForm.TheVariants.{Truths}
-use Rattle.csv_read.proofs.Bodies.{none-before, refused}
+use Rattle.csv_read.proofs.Bodies.{few-taken, none-before, refused, rows-count}
+use Rattle.csv_read.proofs.Widths.{widths-from}
 
 -- ---- sizes
 
@@ -33,26 +34,31 @@ total-push : (values : List Value) (value : Value) → byte_total (values ++ val
 total-push values value =
     let joined : concat (map bytes_of (values ++ value ∷ [])) ≡ concat (map bytes_of values) ++ (bytes_of value ++ []) =
     ap concat (map-append bytes_of values (value ∷ [])) ∙ concat-append (map bytes_of values) (bytes_of value ∷ []) in
-    ap length joined ∙ length-append (concat (map bytes_of values)) (bytes_of value ++ []) ∙ ap (λ (xs : List ℕ). length (concat (map bytes_of values)) + length xs) (append-nil (bytes_of value))
+    ap length joined ∙ length-append (concat (map bytes_of values)) (bytes_of value ++ [])
+    ∙ ap (λ (xs : List ℕ). length (concat (map bytes_of values)) + length xs) (append-nil (bytes_of value))
 
-column-push : (j : ℕ) (rows : List Row) (values : Row) → byte_total (column_values j (rows ++ values ∷ [])) ≡ byte_total (column_values j rows) + length (bytes_of (get_or values j Null))
+column-push : (j : ℕ) (rows : List Row) (values : Row)
+    → byte_total (column_values j (rows ++ values ∷ [])) ≡ byte_total (column_values j rows) + length (bytes_of (get_or values j Null))
 column-push j rows values = ap byte_total (map-append _ rows (values ∷ [])) ∙ total-push (column_values j rows) (get_or values j Null)
 
 -- ---- records, one after the other
 
-one-before : (rows : List Row) (values : Row) (rest : Result (List Row) RowFault) → with_rows rows (with_row (Ok values) rest) ≡ with_rows (rows ++ values ∷ []) rest
+one-before : (rows : List Row) (values : Row) (rest : Result (List Row) RowFault)
+    → with_rows rows (with_row (Ok values) rest) ≡ with_rows (rows ++ values ∷ []) rest
 one-before rows values (Ok others) = ap (λ (rs : List Row). Ok rs) (sym (append_assoc rows (values ∷ []) others))
 one-before rows values (Err fault) = refl
 
 -- under the same mark, for a record of the same number
-spelled-by : (mark own : List ℕ) (number other : ℕ) (columns : List Column) (fields : Record) (spelled : Result Row RowFault) → own ≡ mark → other ≡ number → row_of own other columns fields ≡ spelled
+spelled-by : (mark own : List ℕ) (number other : ℕ) (columns : List Column) (fields : Record) (spelled : Result Row RowFault) → own ≡ mark → other ≡ number
+    → row_of own other columns fields ≡ spelled
     → row_of mark number columns fields ≡ spelled
-spelled-by mark own number other columns fields spelled same equal is = subst (λ (n : ℕ). row_of mark n columns fields ≡ spelled) equal (subst (λ (m : List ℕ). row_of m other columns fields ≡ spelled) same is)
+spelled-by mark own number other columns fields spelled same equal is =
+    subst (λ (n : ℕ). row_of mark n columns fields ≡ spelled) equal (subst (λ (m : List ℕ). row_of m other columns fields ≡ spelled) same is)
 
 -- before the first record
-pub none-read : (number batch : ℕ) (columns : List Column) (made : BodyColumns) (reader : Reader (Bor (List ℕ))) → HasRows made columns []
-    → RowsSoFar made.mark number batch columns (records_left reader) (length (text_left reader)) made reader
-none-read number batch columns made reader has =
+pub none-read : (number batch : ℕ) (columns : List Column) (made : BodyColumns) (from : RecordsLeft) → HasRows made columns []
+    → RowsSoFar made.mark number batch columns from made from
+none-read number batch columns made from has =
     let first : number + 0 ≡ number = omega arith in
     record {
       rows = [];
@@ -60,16 +66,18 @@ none-read number batch columns made reader has =
       count = omega arith;
       holds = has;
       marked = refl;
-      spelled = sym (none-before (body_from made.mark (number + 0) columns (take batch (records_left reader))) ∙ ap (λ (n : ℕ). body_from made.mark n columns (take batch (records_left reader))) first);
+      spelled = sym (none-before (body_from made.mark (number + 0) columns (take batch from.records))
+          ∙ ap (λ (n : ℕ). body_from made.mark n columns (take batch from.records)) first);
       rest = refl;
       few = omega arith;
       short = λ j within. omega arith;
     }
 
 -- there is room for one more record
-pub room-for : (mark : List ℕ) (number batch : ℕ) (columns : List Column) (records : List Record) (size : ℕ) (made : BodyColumns) (reader : Reader (Bor (List ℕ))) (fields : Record) (rest : List ℕ) → size ≤ 2 ^ 30
-    → RowsSoFar mark number batch columns records size made reader → Takes (text_left reader) fields rest → HasRoomFor made.forms.items made.builders.items fields
-room-for mark number batch columns records size made reader fields rest small so_far takes = record {
+pub room-for : (mark : List ℕ) (number batch : ℕ) (columns : List Column) (from to : RecordsLeft) (made : BodyColumns) (fields : Record) (rest : ℕ)
+    → from.size ≤ 2 ^ 30
+    → RowsSoFar mark number batch columns from made to → Takes to.size fields rest → HasRoomFor made.forms.items made.builders.items fields
+room-for mark number batch columns from to made fields rest small so_far takes = record {
   columns = columns;
   rows = so_far.rows;
   held = so_far.holds.held;
@@ -78,8 +86,9 @@ room-for mark number batch columns records size made reader fields rest small so
   bytes = λ j within. omega (arith, so_far.short j within, field-short fields j, takes.bytes, small);
 }
 
-pub rows-few : (mark : List ℕ) (number batch : ℕ) (columns : List Column) (records : List Record) (size : ℕ) (made : BodyColumns) (reader : Reader (Bor (List ℕ))) → size ≤ 2 ^ 30 → RowsSoFar mark number batch columns records size made reader → made.rows ≤ 2 ^ 30
-rows-few mark number batch columns records size made reader small so_far = omega (arith, so_far.few, so_far.holds.height, small)
+pub rows-few : (mark : List ℕ) (number batch : ℕ) (columns : List Column) (from to : RecordsLeft) (made : BodyColumns) → from.size ≤ 2 ^ 30
+    → RowsSoFar mark number batch columns from made to → made.rows ≤ 2 ^ 30
+rows-few mark number batch columns from to made small so_far = omega (arith, so_far.few, so_far.holds.height, small)
 
 -- the next record is the first of those that are still to come
 take-next : (others : ℕ) (records rest : List Record) (fields : Record) → records ≡ fields ∷ rest → take (suc others) records ≡ fields ∷ take others rest
@@ -93,18 +102,19 @@ one-fewer zero some = absurd (omega (arith, some))
 one-fewer (suc fewer) some = (fewer, refl)
 
 -- one more record was read and its row was added
-pub one-read : (mark : List ℕ) (number batch : ℕ) (columns : List Column) (records : List Record) (size : ℕ) (old new : BodyColumns) (before after : Reader (Bor (List ℕ))) (fields : Record) (n : ℕ)
-    → RowsSoFar mark number batch columns records size old before → old.rows < batch → n ≡ number + old.rows → Takes (text_left before) fields (text_left after)
-    → records_left before ≡ fields ∷ records_left after → AddsRow n fields old new → RowsSoFar mark number batch columns records size new after
-one-read mark number batch columns records size old new before after fields n so_far below is takes left adds =
+pub one-read : (mark : List ℕ) (number batch : ℕ) (columns : List Column) (from before after : RecordsLeft) (old new : BodyColumns) (fields : Record) (n : ℕ)
+    → RowsSoFar mark number batch columns from old before → old.rows < batch → n ≡ number + old.rows → Takes before.size fields after.size
+    → before.records ≡ fields ∷ after.records → AddsRow n fields old new → RowsSoFar mark number batch columns from new after
+one-read mark number batch columns from before after old new fields n so_far below is takes left adds =
     let rows = so_far.rows in
     let added = adds columns rows so_far.holds in
     let (others, fewer) = one-fewer so_far.others (omega (arith, below, so_far.count, so_far.holds.height)) in
     let longer = length-append rows (added.values ∷ []) in
     let here : n ≡ number + length rows = omega (arith, is, so_far.holds.height) in
     let next : number + length rows + 1 ≡ number + length (rows ++ added.values ∷ []) = omega (arith, longer) in
-    let rest = body_from mark (number + length rows + 1) columns (take others (records_left after)) in
-    let taken : take so_far.others (records_left before) ≡ fields ∷ take others (records_left after) = ap (λ (k : ℕ). take k (records_left before)) fewer ∙ take-next others (records_left before) (records_left after) fields left in
+    let rest = body_from mark (number + length rows + 1) columns (take others after.records) in
+    let taken : take so_far.others before.records ≡ fields ∷ take others after.records =
+    ap (λ (k : ℕ). take k before.records) fewer ∙ take-next others before.records after.records fields left in
     record {
       rows = rows ++ added.values ∷ [];
       others = others;
@@ -113,10 +123,11 @@ one-read mark number batch columns records size old new before after fields n so
       marked = added.marked ∙ so_far.marked;
       spelled = so_far.spelled
           ∙ ap (λ (rs : List Record). with_rows rows (body_from mark (number + length rows) columns rs)) taken
-          ∙ ap (λ (r : Result Row RowFault). with_rows rows (with_row r rest)) (spelled-by mark old.mark (number + length rows) n columns fields (Ok added.values) so_far.marked here added.spelled)
+          ∙ ap (λ (r : Result Row RowFault). with_rows rows (with_row r rest))
+          (spelled-by mark old.mark (number + length rows) n columns fields (Ok added.values) so_far.marked here added.spelled)
           ∙ one-before rows added.values rest
-          ∙ ap (λ (k : ℕ). with_rows (rows ++ added.values ∷ []) (body_from mark k columns (take others (records_left after)))) next;
-      rest = so_far.rest ∙ ap (λ (k : ℕ). drop k (records_left before)) fewer ∙ drop-next others (records_left before) (records_left after) fields left;
+          ∙ ap (λ (k : ℕ). with_rows (rows ++ added.values ∷ []) (body_from mark k columns (take others after.records))) next;
+      rest = so_far.rest ∙ ap (λ (k : ℕ). drop k before.records) fewer ∙ drop-next others before.records after.records fields left;
       few = omega (arith, so_far.few, takes.shorter, longer);
       short = λ j within. omega (arith, so_far.short j within, column-push j rows added.values, added.short j within, field-short fields j, takes.bytes);
     }
@@ -126,54 +137,55 @@ none-of zero xs is = (refl, is)
 none-of (suc n) xs is = (ap (take (suc n)) is, ap (drop (suc n)) is)
 
 -- all of them were read
-pub all-read : (mark : List ℕ) (number batch : ℕ) (columns : List Column) (records : List Record) (size : ℕ) (made : BodyColumns) (reader : Reader (Bor (List ℕ))) → RowsSoFar mark number batch columns records size made reader → batch ≤ made.rows
-    → HasBatch mark number batch columns records size true made reader
-all-read mark number batch columns records size made reader so_far full =
+pub all-read : (mark : List ℕ) (number batch : ℕ) (columns : List Column) (from to : RecordsLeft) (made : BodyColumns)
+    → RowsSoFar mark number batch columns from made to → batch ≤ made.rows → HasBatch mark number batch columns from made to
+all-read mark number batch columns from to made so_far full =
     let none : so_far.others ≡ 0 = omega (arith, full, so_far.count, so_far.holds.height) in
     record {
       rows = so_far.rows;
       holds = so_far.holds;
-      spelled = so_far.spelled ∙ ap (λ (k : ℕ). with_rows so_far.rows (body_from mark (number + length so_far.rows) columns (take k (records_left reader)))) none ∙ ap (λ (rs : List Row). Ok rs) (append-nil so_far.rows);
-      few = omega (arith, so_far.few);
-      full = λ e. omega (arith, none, so_far.count);
-      behind = λ e. so_far.rest ∙ ap (λ (k : ℕ). drop k (records_left reader)) none;
-      short = λ e. so_far.few;
-      last = λ e. absurd (cc);
+      spelled = so_far.spelled ∙ ap (λ (k : ℕ). with_rows so_far.rows (body_from mark (number + length so_far.rows) columns (take k to.records))) none
+          ∙ ap (λ (rs : List Row). Ok rs) (append-nil so_far.rows);
+      few = so_far.few;
+      behind = sym (so_far.rest ∙ ap (λ (k : ℕ). drop k to.records) none);
     }
 
 -- there are no more records
-pub no-more : (mark : List ℕ) (number batch : ℕ) (columns : List Column) (records : List Record) (size : ℕ) (made : BodyColumns) (reader left : Reader (Bor (List ℕ))) → RowsSoFar mark number batch columns records size made reader → records_left reader ≡ []
-    → HasBatch mark number batch columns records size false made left
-no-more mark number batch columns records size made reader left so_far end =
-    let none = none-of so_far.others (records_left reader) end in
+pub no-more : (mark : List ℕ) (number batch : ℕ) (columns : List Column) (from before after : RecordsLeft) (made : BodyColumns)
+    → RowsSoFar mark number batch columns from made before → before.records ≡ [] → after.records ≡ [] → after.size ≤ before.size
+    → HasBatch mark number batch columns from made after
+no-more mark number batch columns from before after made so_far end stays fewer =
+    let none = none-of so_far.others before.records end in
     record {
       rows = so_far.rows;
       holds = so_far.holds;
-      spelled = so_far.spelled ∙ ap (λ (rs : List Record). with_rows so_far.rows (body_from mark (number + length so_far.rows) columns rs)) none.0 ∙ ap (λ (rs : List Row). Ok rs) (append-nil so_far.rows);
-      few = omega (arith, so_far.few);
-      full = λ e. absurd (cc);
-      behind = λ e. absurd (cc);
-      short = λ e. absurd (cc);
-      last = λ e. so_far.rest ∙ none.1;
+      spelled = so_far.spelled ∙ ap (λ (rs : List Record). with_rows so_far.rows (body_from mark (number + length so_far.rows) columns rs)) none.0
+          ∙ ap (λ (rs : List Row). Ok rs) (append-nil so_far.rows);
+      few = omega (arith, so_far.few, fewer);
+      behind = stays ∙ sym (so_far.rest ∙ none.1);
     }
 
 -- a record that spells no row is the first one
-pub first-refused : (mark : List ℕ) (number batch : ℕ) (columns : List Column) (records : List Record) (size : ℕ) (made : BodyColumns) (reader : Reader (Bor (List ℕ))) (fields : Record) (rest : List Record) (n : ℕ) (fault : BodyFault)
-    → RowsSoFar mark number batch columns records size made reader → made.rows < batch → n ≡ number + made.rows → records_left reader ≡ fields ∷ rest → RefusesRow fault n fields made
-    → IsRowsFault fault (body_from mark number columns (take batch records))
-first-refused mark number batch columns records size made reader fields rest n (faults.Row fault) so_far below is left refuses =
+pub first-refused : (mark : List ℕ) (number batch : ℕ) (columns : List Column) (from to : RecordsLeft) (made : BodyColumns) (fields : Record)
+    (rest : List Record) (n : ℕ) (fault : BodyFault)
+    → RowsSoFar mark number batch columns from made to → made.rows < batch → n ≡ number + made.rows → to.records ≡ fields ∷ rest
+    → RefusesRow fault n fields made → IsRowsFault fault (body_from mark number columns (take batch from.records))
+first-refused mark number batch columns from to made fields rest n (faults.Row fault) so_far below is left refuses =
     let rows = so_far.rows in
     let (others, fewer) = one-fewer so_far.others (omega (arith, below, so_far.count, so_far.holds.height)) in
     let here : n ≡ number + length rows = omega (arith, is, so_far.holds.height) in
-    let taken : take so_far.others (records_left reader) ≡ fields ∷ take others rest = ap (λ (k : ℕ). take k (records_left reader)) fewer ∙ take-next others (records_left reader) rest fields left in
+    let taken : take so_far.others to.records ≡ fields ∷ take others rest =
+    ap (λ (k : ℕ). take k to.records) fewer ∙ take-next others to.records rest fields left in
     so_far.spelled
     ∙ ap (λ (rs : List Record). with_rows rows (body_from mark (number + length rows) columns rs)) taken
-    ∙ ap (λ (r : Result Row RowFault). with_rows rows (with_row r (body_from mark (number + length rows + 1) columns (take others rest)))) (spelled-by mark made.mark (number + length rows) n columns fields (Err fault) so_far.marked here (refuses columns rows so_far.holds))
-first-refused mark number batch columns records size made reader fields rest n faults.NoMemory so_far below is left refuses = tt
+    ∙ ap (λ (r : Result Row RowFault). with_rows rows (with_row r (body_from mark (number + length rows + 1) columns (take others rest))))
+    (spelled-by mark made.mark (number + length rows) n columns fields (Err fault) so_far.marked here (refuses columns rows so_far.holds))
+first-refused mark number batch columns from to made fields rest n faults.NoMemory so_far below is left refuses = tt
 
 -- ---- the builders alone
 
-holds-kind : (builder : Builder) (kind : Kind) (values : List Value) (form : FieldForm) (column : Column) → column.kind ≡ kind → IsColumnOf form builder column values → HoldsKind builder kind values
+holds-kind : (builder : Builder) (kind : Kind) (values : List Value) (form : FieldForm) (column : Column) → column.kind ≡ kind
+    → IsColumnOf form builder column values → HoldsKind builder kind values
 holds-kind builder kind values form column same is = subst (λ (k : Kind). HoldsKind builder k values) (sym is.flat ∙ same) is.holds
 
 pub hold-each : (made : BodyColumns) (columns : List Column) (rows : List Row) → HasRows made columns rows → HoldEach made.builders.items columns rows
@@ -182,26 +194,33 @@ hold-each made columns rows has = record {
   each = λ j b c within. holds-kind _ _ _ (get_or made.forms.items j Truths) (get_or columns j c) refl (has.held.each j Truths b c within);
 }
 
--- a text of no records
-pub no-body : (mark : List ℕ) (made : BodyColumns) (columns : List Column) (records : List Record) → records ≡ [] → HasRows made columns [] → HoldsBody mark made.builders.items columns records
-no-body mark made columns [] none has = record { rows = []; spelled = refl; few = omega arith; held = hold-each made columns [] has }
-no-body mark made columns (r ∷ records) none has = absurd cc
-
--- nothing is behind more records than there are
+-- more records than there are
 all-taken : {A : Type 0} (n : ℕ) (xs : List A) → drop n xs ≡ [] → take n xs ≡ xs
 all-taken {A = A} n xs none = sym (append-nil (take n xs)) ∙ ap (λ (rest : List A). take n xs ++ rest) (sym none) ∙ take-append-drop n xs
 
--- a text of a header and records behind it, which were read as one batch
-pub some-body : (mark : List ℕ) (made : BodyColumns) (columns : List Column) (records rest : List Record) (header : Record) (batch size : ℕ) (more : Bool) (reader : Reader (Bor (List ℕ))) → records ≡ header ∷ rest → size ≤ 2 ^ 30 → 2 ^ 30 < batch
-    → HasBatch mark 1 batch columns rest size more made reader → HoldsBody mark made.builders.items columns records
-some-body mark made columns records rest header batch size true reader is small large has = absurd (omega (arith, has.full refl, has.few, small, large))
-some-body mark made columns records rest header batch size false reader is small large has =
-    let all : take batch rest ≡ rest = all-taken batch rest (has.last refl) in
-    let spelled : body_from mark 1 columns rest ≡ Ok has.rows = ap (body_from mark 1 columns) (sym all) ∙ has.spelled in
-    subst (HoldsBody mark made.builders.items columns) (sym is) (record { rows = has.rows; spelled = spelled; few = omega (arith, has.few, small); held = hold-each made columns has.rows has.holds })
+taken-whole : (batch : ℕ) (records : List Record) → length (take batch records) < batch → take batch records ≡ records
+taken-whole batch records short = elim (few-taken batch records) [
+  | inl long ↦ absurd (omega (arith, short, long))
+  | inr behind ↦ all-taken batch records behind.1
+]
 
--- the fault of the records behind a header
-pub body-refused : (mark : List ℕ) (columns : List Column) (records rest : List Record) (header : Record) (batch : ℕ) (fault : BodyFault) → records ≡ header ∷ rest → IsRowsFault fault (body_from mark 1 columns (take batch rest))
-    → IsBodyFault fault mark columns records
-body-refused mark columns records rest header batch (faults.Row fault) is refuses = subst (IsBodyFault (faults.Row fault) mark columns) (sym is) (refused mark 1 batch columns rest fault refuses).0
-body-refused mark columns records rest header batch faults.NoMemory is refuses = tt
+-- records that were read as one batch, which has room for all
+pub whole-body : (mark : List ℕ) (made : BodyColumns) (columns : List Column) (from to : RecordsLeft) (batch : ℕ) → from.size ≤ 2 ^ 30 → 2 ^ 30 < batch
+    → HasBatch mark 1 batch columns from made to
+    → HoldsBody mark made.builders.items columns from.records
+whole-body mark made columns from to batch small large has =
+    let count = rows-count mark 1 columns (take batch from.records) has.rows has.spelled in
+    let all : take batch from.records ≡ from.records = taken-whole batch from.records (omega (arith, count, has.few, small, large)) in
+    let spelled : body_from mark 1 columns from.records ≡ Ok has.rows = ap (body_from mark 1 columns) (sym all) ∙ has.spelled in
+    record {
+      rows = has.rows;
+      spelled = spelled;
+      few = omega (arith, has.few, small);
+      held = record { held = hold-each made columns has.rows has.holds; widths = widths-from mark 1 columns from.records has.rows spelled };
+    }
+
+-- the fault of the first records is that of all
+pub body-refused : (mark : List ℕ) (columns : List Column) (records : List Record) (batch : ℕ) (fault : BodyFault)
+    → IsRowsFault fault (body_from mark 1 columns (take batch records)) → IsBodyFault fault mark columns records
+body-refused mark columns records batch (faults.Row fault) refuses = (refused mark 1 batch columns records fault refuses).0
+body-refused mark columns records batch faults.NoMemory refuses = tt

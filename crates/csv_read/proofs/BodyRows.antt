@@ -1,5 +1,6 @@
 -- One more field, and one more row, for the columns of a body.
-use Rattle.std.proofs.Common.{◌≡◌, ◌≤◌, ◌<◌, ◌+◌, ◌++◌, ◌∙◌, ℕ, zero, suc, true, List, [], ◌∷◌, length, map, drop, get_or, set, Option, Some, None, Result, Ok, Err, refl, sym, ap, subst, arith, inl, inr, length-append, append_assoc, append-nil}
+use Rattle.std.proofs.Common.{◌≡◌, ◌≤◌, ◌<◌, ◌+◌, ◌++◌, ◌∙◌, ℕ, zero, suc, true, List, [], ◌∷◌, length, map, drop, get_or, set, Option, Some, None, Result, Ok}
+use Rattle.std.proofs.Common.{Err, refl, sym, ap, subst, arith, inl, inr, length-append, append_assoc, append-nil}
 use Rattle.std.proofs.Math.Seq.{get_or-append_seam}
 use Rattle.std.proofs.lemmas.Bool.{cases_eq}
 use Rattle.std.proofs.lemmas.Bool.Decides.{nat_tests}
@@ -18,7 +19,8 @@ use Rattle.csv_model.specs.Reading.{Record, field_in, row_of, values_from, value
 use Rattle.fmt_string.specs.declared.row_fault.RowFault.{RowFault}
 use Rattle.fmt_string.specs.declared.row_fault.RowFault.TheVariants as row
 use Rattle.csv_read.specs.Body.{column_values}
-use Rattle.csv_read.specs.BodyRows.{AddsField, AddsFields, AddsRow, HasField, HasFields, HasRoom, HasRoomFor, HasRows, HoldNone, HoldRows, IsColumnOf, IsRowFault, RefusesFields, RefusesRow, SpellsNone, with_values}
+use Rattle.csv_read.specs.BodyRows.{AddsField, AddsFields, AddsRow, HasField, HasFields, HasRoom, HasRoomFor, HasRows, HoldNone, HoldRows, IsColumnOf}
+use Rattle.csv_read.specs.BodyRows.{IsRowFault, RefusesFields, RefusesRow, SpellsNone, with_values}
 use Rattle.field_codec.specs.FieldForms.{IsProper, form_in}
 use Rattle.field_codec.specs.TextColumns.{IsFlatOf}
 use Rattle.csv_read.specs.declared.body.BodyFault.{BodyFault}
@@ -28,8 +30,10 @@ use Rattle.field_codec.specs.declared.form.FieldForm.{FieldForm}
 -- ---- no rows
 
 -- one more column
-pub one-column : (forms : List FieldForm) (builders : List Builder) (columns : List ColumnType) (count : ℕ) (form : FieldForm) (builder : Builder) (item : ColumnType) (kind : DataType)
-    → HoldNone forms builders (map column_of columns) count → count < length columns → item ≡ get_or columns count item → (column_of item).kind ≡ Flat kind → form_of kind ≡ Some (form_in form) → IsProper form
+pub one-column : (forms : List FieldForm) (builders : List Builder) (columns : List ColumnType) (count : ℕ) (form : FieldForm) (builder : Builder)
+    (item : ColumnType) (kind : DataType)
+    → HoldNone forms builders (map column_of columns) count → count < length columns → item ≡ get_or columns count item → (column_of item).kind ≡ Flat kind
+    → form_of kind ≡ Some (form_in form) → IsProper form
     → Holds builder kind [] → HoldNone (forms ++ form ∷ []) (builders ++ builder ∷ []) (map column_of columns) (count + 1)
 one-column forms builders columns count form builder item kind before within is flat in_form proper holds = record {
   forms_count = omega (arith, before.forms_count, length-append forms (form ∷ []));
@@ -37,19 +41,25 @@ one-column forms builders columns count form builder item kind before within is 
   each = λ j f b c below.
       elim (cases_eq j count) [
         | inl here ↦
-            let form_at : get_or (forms ++ form ∷ []) j f ≡ form = subst (λ (n : ℕ). get_or (forms ++ form ∷ []) n f ≡ form) (before.forms_count ∙ sym here) (get_or-append_seam forms form [] f) in
-            let builder_at : get_or (builders ++ builder ∷ []) j b ≡ builder = subst (λ (n : ℕ). get_or (builders ++ builder ∷ []) n b ≡ builder) (before.builders_count ∙ sym here) (get_or-append_seam builders builder [] b) in
-            let column_at : get_or (map column_of columns) j c ≡ column_of item = ap (λ (n : ℕ). get_or (map column_of columns) n c) here ∙ get_or-map column_of columns count item c within ∙ ap column_of (sym is) in
+            let form_at : get_or (forms ++ form ∷ []) j f ≡ form =
+            subst (λ (n : ℕ). get_or (forms ++ form ∷ []) n f ≡ form) (before.forms_count ∙ sym here) (get_or-append_seam forms form [] f) in
+            let builder_at : get_or (builders ++ builder ∷ []) j b ≡ builder =
+            subst (λ (n : ℕ). get_or (builders ++ builder ∷ []) n b ≡ builder) (before.builders_count ∙ sym here) (get_or-append_seam builders builder [] b) in
+            let column_at : get_or (map column_of columns) j c ≡ column_of item =
+            ap (λ (n : ℕ). get_or (map column_of columns) n c) here ∙ get_or-map column_of columns count item c within ∙ ap column_of (sym is) in
             rw (form_at, builder_at, column_at) (record { kind = kind; flat = flat; in_form = in_form; proper = proper; holds = holds })
         | inr other ↦
-            let form_at : get_or (forms ++ form ∷ []) j f ≡ get_or forms j f = get_or_append_left forms (form ∷ []) f j (omega (arith, below, other, before.forms_count)) in
-            let builder_at : get_or (builders ++ builder ∷ []) j b ≡ get_or builders j b = get_or_append_left builders (builder ∷ []) b j (omega (arith, below, other, before.builders_count)) in
+            let form_at : get_or (forms ++ form ∷ []) j f ≡ get_or forms j f =
+            get_or_append_left forms (form ∷ []) f j (omega (arith, below, other, before.forms_count)) in
+            let builder_at : get_or (builders ++ builder ∷ []) j b ≡ get_or builders j b =
+            get_or_append_left builders (builder ∷ []) b j (omega (arith, below, other, before.builders_count)) in
             rw (form_at, builder_at) (before.each j f b c (omega (arith, below, other)))
       ];
 }
 
 -- all columns
-pub all-columns : (made : BodyColumns) (columns : List ColumnType) → HoldNone made.forms.items made.builders.items (map column_of columns) (length columns) → made.rows ≡ 0 → HasRows made (map column_of columns) []
+pub all-columns : (made : BodyColumns) (columns : List ColumnType) → HoldNone made.forms.items made.builders.items (map column_of columns) (length columns)
+    → made.rows ≡ 0 → HasRows made (map column_of columns) []
 all-columns made columns all none = record {
   held = record {
     forms_count = omega (arith, all.forms_count, length-map columns column_of);
@@ -60,10 +70,12 @@ all-columns made columns all none = record {
 }
 
 -- the type of a column that has the property
-pub column-kind : (P : DataType → Type 0) (columns : List ColumnType) (j : ℕ) (item : ColumnType) → All (IsFlatOf P) (map column_of columns) → j < length columns → item ≡ get_or columns j item → IsFlatOf P (column_of item)
+pub column-kind : (P : DataType → Type 0) (columns : List ColumnType) (j : ℕ) (item : ColumnType) → All (IsFlatOf P) (map column_of columns)
+    → j < length columns → item ≡ get_or columns j item → IsFlatOf P (column_of item)
 column-kind P columns j item all within is =
     let inside : j < length (map column_of columns) = omega (arith, within, length-map columns column_of) in
-    subst (IsFlatOf P) (get_or-map column_of columns j item (column_of item) within ∙ ap column_of (sym is)) (All-get_or (IsFlatOf P) (map column_of columns) j (column_of item) inside all)
+    subst (IsFlatOf P) (get_or-map column_of columns j item (column_of item) within ∙ ap column_of (sym is))
+    (All-get_or (IsFlatOf P) (map column_of columns) j (column_of item) inside all)
 
 -- ---- one field
 
@@ -77,11 +89,13 @@ any-default (x ∷ xs) zero d e within = refl
 any-default (x ∷ xs) (suc j) d e within = any-default xs j d e (omega arith)
 
 -- each form is one of a type
-pub form-proper : (forms : List FieldForm) (builders : List Builder) (fields : Record) (room : HasRoomFor forms builders fields) (j : ℕ) (f : FieldForm) (b : Builder) → j < length forms → IsProper (get_or forms j f)
+pub form-proper : (forms : List FieldForm) (builders : List Builder) (fields : Record) (room : HasRoomFor forms builders fields) (j : ℕ) (f : FieldForm)
+    (b : Builder) → j < length forms → IsProper (get_or forms j f)
 form-proper forms builders fields room j f b within = (room.held.each j f b no_column (omega (arith, within, room.held.forms_count))).proper
 
 -- there is room for each field
-pub field-room : (forms : List FieldForm) (builders : List Builder) (fields : Record) (room : HasRoomFor forms builders fields) (j : ℕ) (f : FieldForm) (b : Builder) → j < length forms
+pub field-room : (forms : List FieldForm) (builders : List Builder) (fields : Record) (room : HasRoomFor forms builders fields) (j : ℕ) (f : FieldForm)
+    (b : Builder) → j < length forms
     → HasRoom (get_or forms j f) (get_or builders j b) (length (get_or fields j []))
 field-room forms builders fields room j f b within =
     let inside : j < length room.columns = omega (arith, within, room.held.forms_count) in
@@ -105,11 +119,14 @@ field-value : (mark : List ℕ) (k : Kind) (kind : DataType) (text : List ℕ) �
 field-value mark k kind text is = subst (λ (x : Kind). field_in mark x text ≡ read_field mark kind text) (sym is) refl
 
 -- the values from a column on, by the first of them
-values-at : (mark : List ℕ) (number : ℕ) (columns : List Column) (fields : Record) (j : ℕ) (c : Column) (kind : DataType) (answer : Option Value) → j < length columns → j < length fields
+values-at : (mark : List ℕ) (number : ℕ) (columns : List Column) (fields : Record) (j : ℕ) (c : Column) (kind : DataType) (answer : Option Value)
+    → j < length columns → j < length fields
     → (get_or columns j c).kind ≡ Flat kind → read_field mark kind (get_or fields j []) ≡ answer
-    → values_from mark number (1 + j) (drop j columns) (drop j fields) ≡ values_step number (1 + j) answer (values_from mark number (1 + (j + 1)) (drop (j + 1) columns) (drop (j + 1) fields))
+    → values_from mark number (1 + j) (drop j columns) (drop j fields)
+    ≡ values_step number (1 + j) answer (values_from mark number (1 + (j + 1)) (drop (j + 1) columns) (drop (j + 1) fields))
 values-at mark number columns fields j c kind answer within there flat reads =
-    let here : field_in mark (get_or columns j c).kind (get_or fields j []) ≡ answer = field-value mark (get_or columns j c).kind kind (get_or fields j []) flat ∙ reads in
+    let here : field_in mark (get_or columns j c).kind (get_or fields j []) ≡ answer =
+    field-value mark (get_or columns j c).kind kind (get_or fields j []) flat ∙ reads in
     let next : 1 + j + 1 ≡ 1 + (j + 1) = omega arith in
     rw (split columns j c within, split fields j [] there, here, next) refl
 
@@ -122,19 +139,23 @@ with-more values value (Ok others) = ap (λ (vs : Row). Ok vs) (sym (append_asso
 with-more values value (Err fault) = refl
 
 -- the first field that spells no value is the fault
-pub field-refused : (mark : List ℕ) (forms : List FieldForm) (old new : List Builder) (columns : List Column) (rows : List Row) (fields : Record) (number j : ℕ) (f : FieldForm) (b : Builder)
-    → HoldRows forms old columns rows → HasFields mark forms new columns rows fields number j → j < length forms → j < length fields → SpellsNone mark (get_or forms j f) (get_or fields j [])
+pub field-refused : (mark : List ℕ) (forms : List FieldForm) (old new : List Builder) (columns : List Column) (rows : List Row) (fields : Record) (number j : ℕ)
+    (f : FieldForm) (b : Builder)
+    → HoldRows forms old columns rows → HasFields mark forms new columns rows fields number j → j < length forms → j < length fields
+    → SpellsNone mark (get_or forms j f) (get_or fields j [])
     → values_from mark number 1 columns fields ≡ Err (row.Field number (j + 1))
 field-refused mark forms old new columns rows fields number j f b held so_far within there none =
     let inside : j < length columns = omega (arith, within, held.forms_count) in
     let column = held.each j f b no_column inside in
     let place : 1 + j ≡ j + 1 = omega arith in
     so_far.spelled
-    ∙ ap (with_values so_far.values) (values-at mark number columns fields j no_column column.kind None inside there column.flat (none column.kind column.in_form))
+    ∙ ap (with_values so_far.values)
+    (values-at mark number columns fields j no_column column.kind None inside there column.flat (none column.kind column.in_form))
     ∙ ap (λ (n : ℕ). Err (row.Field number n)) place
 
 -- no field is added yet
-pub no-fields : (mark : List ℕ) (forms : List FieldForm) (builders : List Builder) (fields : Record) (number : ℕ) → AddsFields mark forms fields number 0 builders builders
+pub no-fields : (mark : List ℕ) (forms : List FieldForm) (builders : List Builder) (fields : Record) (number : ℕ)
+    → AddsFields mark forms fields number 0 builders builders
 no-fields mark forms builders fields number columns rows held = record {
   values = [];
   long = refl;
@@ -144,7 +165,8 @@ no-fields mark forms builders fields number columns rows held = record {
 }
 
 -- one more field is added
-module _ (mark : List ℕ) (forms : List FieldForm) (old before : List Builder) (columns : List Column) (rows : List Row) (fields : Record) (number j : ℕ) (f : FieldForm) (b new : Builder)
+module _ (mark : List ℕ) (forms : List FieldForm) (old before : List Builder) (columns : List Column) (rows : List Row) (fields : Record) (number j : ℕ)
+    (f : FieldForm) (b new : Builder)
     (held : HoldRows forms old columns rows) (so_far : HasFields mark forms before columns rows fields number j)
     (within : j < length forms) (there : j < length fields) (count : length before ≡ length old) (same : get_or before j b ≡ get_or old j b)
     (adds : AddsField mark (get_or forms j f) (get_or fields j []) (get_or before j b) new) where
@@ -167,13 +189,15 @@ module _ (mark : List ℕ) (forms : List FieldForm) (old before : List Builder) 
       → IsColumnOf (get_or forms k f2) (get_or (set before j new) k b2) (get_or columns k c2) (column_values k rows ++ get_or values k Null ∷ [])
   before-it k f2 b2 c2 below =
       let builder : get_or (set before j new) k b2 ≡ get_or before k b2 = get_or-set_other before j k new b2 (omega (arith, below)) in
-      let value : get_or values k Null ≡ get_or so_far.values k Null = get_or_append_left so_far.values (added.value ∷ []) Null k (omega (arith, below, so_far.long)) in
+      let value : get_or values k Null ≡ get_or so_far.values k Null =
+      get_or_append_left so_far.values (added.value ∷ []) Null k (omega (arith, below, so_far.long)) in
       rw (builder, value) (so_far.each k f2 b2 c2 below)
 
   at-it : get_or values j Null ≡ added.value
   at-it = subst (λ (n : ℕ). get_or values n Null ≡ added.value) so_far.long (get_or-append_seam so_far.values added.value [] Null)
 
-  it : (f2 : FieldForm) (b2 : Builder) (c2 : Column) → IsColumnOf (get_or forms j f2) (get_or (set before j new) j b2) (get_or columns j c2) (column_values j rows ++ get_or values j Null ∷ [])
+  it : (f2 : FieldForm) (b2 : Builder) (c2 : Column)
+      → IsColumnOf (get_or forms j f2) (get_or (set before j new) j b2) (get_or columns j c2) (column_values j rows ++ get_or values j Null ∷ [])
   it f2 b2 c2 =
       rw (get_or-set_same before j new b2 placed, at-it, any-default forms j f2 f within, any-default columns j c2 no_column inside)
       (record { kind = column.kind; flat = column.flat; in_form = column.in_form; proper = column.proper; holds = added.holds })
@@ -188,7 +212,8 @@ module _ (mark : List ℕ) (forms : List FieldForm) (old before : List Builder) 
     each = λ k f2 b2 c2 below.
         elim (cases_eq k j) [
           | inl here ↦
-              subst (λ (n : ℕ). IsColumnOf (get_or forms n f2) (get_or (set before j new) n b2) (get_or columns n c2) (column_values n rows ++ get_or values n Null ∷ [])) (sym here)
+              subst (λ (n : ℕ). IsColumnOf (get_or forms n f2) (get_or (set before j new) n b2) (get_or columns n c2)
+              (column_values n rows ++ get_or values n Null ∷ [])) (sym here)
               (it f2 b2 c2)
           | inr other ↦ before-it k f2 b2 c2 (omega (arith, below, other))
         ];
@@ -196,7 +221,8 @@ module _ (mark : List ℕ) (forms : List FieldForm) (old before : List Builder) 
         elim (cases_eq k j) [
           | inl here ↦ subst (λ (n : ℕ). length (bytes_of (get_or values n Null)) ≤ length (get_or fields n [])) (sym here) (rw at-it added.short)
           | inr other ↦
-              let value : get_or values k Null ≡ get_or so_far.values k Null = get_or_append_left so_far.values (added.value ∷ []) Null k (omega (arith, below, other, so_far.long)) in
+              let value : get_or values k Null ≡ get_or so_far.values k Null =
+              get_or_append_left so_far.values (added.value ∷ []) Null k (omega (arith, below, other, so_far.long)) in
               rw value (so_far.short k (omega (arith, below, other)))
         ];
   }
@@ -204,13 +230,15 @@ module _ (mark : List ℕ) (forms : List FieldForm) (old before : List Builder) 
 -- ---- one row
 
 -- a record with a field a column spells what its fields spell
-row-fields : (mark : List ℕ) (number : ℕ) (columns : List Column) (fields : Record) → length fields ≡ length columns → row_of mark number columns fields ≡ values_from mark number 1 columns fields
+row-fields : (mark : List ℕ) (number : ℕ) (columns : List Column) (fields : Record) → length fields ≡ length columns
+    → row_of mark number columns fields ≡ values_from mark number 1 columns fields
 row-fields mark number columns fields same =
     let equal : (length fields == length columns) ≡ true = grind (arith, nat_tests, same) in
     rw equal refl
 
 -- and is refused where they are
-pub fields-refused : (old : BodyColumns) (fields : Record) (number : ℕ) (fault : BodyFault) → length fields ≡ length old.forms.items → RefusesFields fault old.mark old.forms.items fields number old.builders.items
+pub fields-refused : (old : BodyColumns) (fields : Record) (number : ℕ) (fault : BodyFault) → length fields ≡ length old.forms.items
+    → RefusesFields fault old.mark old.forms.items fields number old.builders.items
     → RefusesRow fault number fields old
 fields-refused old fields number fault width refuses columns rows has =
     subst (IsRowFault fault) (sym (row-fields old.mark number columns fields (omega (arith, width, has.held.forms_count)))) (refuses columns rows has.held)
@@ -219,18 +247,23 @@ values-push : (j : ℕ) (rows : List Row) (values : Row) → column_values j (ro
 values-push j rows values = map-append _ rows (values ∷ [])
 
 -- where no columns are left, the values are all
-all-spelled : (mark : List ℕ) (values : Row) (number column : ℕ) (columns : List Column) (fields : Record) → columns ≡ [] → with_values values (values_from mark number column columns fields) ≡ Ok values
+all-spelled : (mark : List ℕ) (values : Row) (number column : ℕ) (columns : List Column) (fields : Record) → columns ≡ []
+    → with_values values (values_from mark number column columns fields) ≡ Ok values
 all-spelled mark values number column [] fields none = ap (λ (vs : Row). Ok vs) (append-nil values)
 all-spelled mark values number column (c ∷ cs) fields none = absurd cc
 
 -- all fields are added
-pub row-added : (old new : BodyColumns) (fields : Record) (number : ℕ) → length fields ≡ length old.forms.items → new.forms.items ≡ old.forms.items → length new.builders.items ≡ length old.builders.items → new.rows ≡ old.rows + 1
-    → new.mark ≡ old.mark → AddsFields old.mark old.forms.items fields number (length old.forms.items) old.builders.items new.builders.items → AddsRow number fields old new
+pub row-added : (old new : BodyColumns) (fields : Record) (number : ℕ) → length fields ≡ length old.forms.items → new.forms.items ≡ old.forms.items
+    → length new.builders.items ≡ length old.builders.items → new.rows ≡ old.rows + 1
+    → new.mark ≡ old.mark → AddsFields old.mark old.forms.items fields number (length old.forms.items) old.builders.items new.builders.items
+    → AddsRow number fields old new
 row-added old new fields number width forms count height marked adds columns rows has =
     let added = adds columns rows has.held in
     let wide : length old.forms.items ≡ length columns = has.held.forms_count in
     let no_columns : drop (length old.forms.items) columns ≡ [] = drop_all (length old.forms.items) columns (omega (arith, wide)) in
-    let all = all-spelled old.mark added.values number (1 + length old.forms.items) (drop (length old.forms.items) columns) (drop (length old.forms.items) fields) no_columns in
+    let all =
+    all-spelled old.mark added.values number (1 + length old.forms.items) (drop (length old.forms.items) columns)
+    (drop (length old.forms.items) fields) no_columns in
     record {
       values = added.values;
       marked = marked;

@@ -21,7 +21,8 @@ made-holds (None ∷ buffers) = made-holds buffers
 made-holds (Some bytes ∷ buffers) = ap (λ n. 1 + n) (made-holds buffers)
 
 -- the holds of a finished column
-pub finished-holds : (views : List (Option BufView)) (buffers : List (Option (List ℕ))) → AreMade views buffers → holds_of (buffers_of views) ≡ present_count buffers
+pub finished-holds : (views : List (Option BufView)) (buffers : List (Option (List ℕ))) → AreMade views buffers
+    → holds_of (buffers_of views) ≡ present_count buffers
 finished-holds [] [] made = refl
 finished-holds (None ∷ views) (None ∷ buffers) made = finished-holds views buffers made.1
 finished-holds (Some view ∷ views) (Some bytes ∷ buffers) made = ap (λ n. 1 + n) (finished-holds views buffers made.1)

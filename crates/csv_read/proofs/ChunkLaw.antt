@@ -35,7 +35,8 @@ live-kind (Flat kind) = tt
 live-kind (Dict kind) = tt
 live-kind (Columns _) = tt
 
-pub columns-lawful : Lawful → (place : ℕ) (columns : List Column) (rows : List Row) → FitFrom place columns rows → AreLawful (types_of_columns columns) (column_arrays place columns rows)
+pub columns-lawful : Lawful → (place : ℕ) (columns : List Column) (rows : List Row) → FitFrom place columns rows
+    → AreLawful (types_of_columns columns) (column_arrays place columns rows)
 columns-lawful law place [] rows fits = tt
 columns-lawful law place (c ∷ cs) rows fits =
     (live-kind c.kind, lawful-kind law c.kind (column_values place rows) fits.0, columns-lawful law (place + 1) cs rows fits.1)
@@ -60,8 +61,10 @@ kind-long (Flat kind) values fits = refl
 kind-long (Dict kind) values fits = absurd fits
 kind-long (Columns _) values fits = absurd fits
 
-pub columns-long : (place : ℕ) (columns : List Column) (rows : List Row) → FitFrom place columns rows → All (λ column. length rows ≤ tree_items column) (column_arrays place columns rows)
-columns-long place (c ∷ cs) rows fits zero d small = omega (arith, kind-long c.kind (column_values place rows) fits.0, length-map rows (λ row. get_or row place Null))
+pub columns-long : (place : ℕ) (columns : List Column) (rows : List Row) → FitFrom place columns rows
+    → All (λ column. length rows ≤ tree_items column) (column_arrays place columns rows)
+columns-long place (c ∷ cs) rows fits zero d small =
+    omega (arith, kind-long c.kind (column_values place rows) fits.0, length-map rows (λ row. get_or row place Null))
 columns-long place (c ∷ cs) rows fits (suc k) d small = columns-long (place + 1) cs rows fits.1 k d (omega (arith, small))
 columns-long place [] rows fits k d small = absurd (omega (arith, small))
 
@@ -81,7 +84,8 @@ row_from place (c ∷ cs) row = get_or row place Null ∷ row_from (place + 1) c
 
 from-later : (place : ℕ) (columns : List Column) (value : Value) (row : Row) → row_from (suc place) columns (value ∷ row) ≡ row_from place columns row
 from-later place [] value row = refl
-from-later place (c ∷ cs) value row = ap (λ rest. get_or row place Null ∷ rest) (ap (λ n. row_from n cs (value ∷ row)) (omega arith) ∙ from-later (place + 1) cs value row)
+from-later place (c ∷ cs) value row =
+    ap (λ rest. get_or row place Null ∷ rest) (ap (λ n. row_from n cs (value ∷ row)) (omega arith) ∙ from-later (place + 1) cs value row)
 
 whole-row : (columns : List Column) (row : Row) → length row ≡ length columns → row_from 0 columns row ≡ row
 whole-row [] [] same = refl
@@ -98,7 +102,8 @@ items-are place (c ∷ cs) rows i d small =
     ap (λ v. v ∷ map (λ values. get_or values i Null) (all_values (place + 1) cs rows)) one
     ∙ ap (λ vs. get_or (get_or rows i d) place Null ∷ vs) (items-are (place + 1) cs rows i d small)
 
-pub rows-back : (columns : List Column) (rows : List Row) → All (λ row. length row ≡ length columns) rows → rows_of_values (all_values 0 columns rows) (length rows) ≡ rows
+pub rows-back : (columns : List Column) (rows : List Row) → All (λ row. length row ≡ length columns) rows
+    → rows_of_values (all_values 0 columns rows) (length rows) ≡ rows
 rows-back columns rows widths =
     let row_at : ℕ → Row = λ i. map (λ values. get_or values i Null) (all_values 0 columns rows) in
     each-is row_at rows 0

@@ -14,5 +14,6 @@ unknown-is entries keys names knows =
     position-of-map entry_of (λ e. not (is_among names e.name)) entries
     ∙ position-same (λ e. not (is_among names e.name)) (λ e. not (has_text keys e.name)) entries (λ e. ap not (sym (knows e.name)))
 
-pub type-is : (entries : List TypeEntry) (name : List ℕ) → type_for (entries_of entries) name ≡ kind_or_text (option_map entry_of (find (λ e. bytes_eq e.name name) entries))
+pub type-is : (entries : List TypeEntry) (name : List ℕ)
+    → type_for (entries_of entries) name ≡ kind_or_text (option_map entry_of (find (λ e. bytes_eq e.name name) entries))
 type-is entries name = ap kind_or_text (find-of-map entry_of (λ e. bytes_eq e.name name) entries)

@@ -27,7 +27,8 @@ cut-ascii start (end ∷ ends) bytes zero h = IsAscii-take (drop start bytes) (e
 cut-ascii start (end ∷ ends) bytes (suc j) h = cut-ascii end ends bytes j h
 
 -- where all bytes of a record are ASCII, each field's are
-pub field-ascii : (ascii : Bool) (other : Type 0) (r : Row) (all text : List ℕ) (j : ℕ) → MatchBool ascii (IsAscii all) other → all ≡ r.bytes → text ≡ get_or (fields_of r) j [] → ascii ≡ true → IsAscii text
+pub field-ascii : (ascii : Bool) (other : Type 0) (r : Row) (all text : List ℕ) (j : ℕ) → MatchBool ascii (IsAscii all) other → all ≡ r.bytes
+    → text ≡ get_or (fields_of r) j [] → ascii ≡ true → IsAscii text
 field-ascii true other r all text j h whole field is = subst IsAscii (sym field) (cut-ascii 0 r.ends r.bytes j (subst IsAscii whole h))
 field-ascii false other r all text j h whole field is = absurd cc
 
@@ -47,7 +48,8 @@ module _ (mark : List ℕ) (form : FieldForm) (text : List ℕ) where
   read-in-kind : (kind : DataType) → bytes_eq text mark ≡ false → form_of kind ≡ Some (form_in form) → read_field mark kind text ≡ read_form (form_in form) text
   read-in-kind kind other is = rw other (ap (λ (o : Option Form). option_and_then (λ (f : Form). read_form f text) o) is)
 
-  pub spelled-taken : (builder : Builder) → bytes_eq text mark ≡ false → IsProper form → HasRoom form builder (length text) → TakesSome builder (read_form (form_in form) text)
+  pub spelled-taken : (builder : Builder) → bytes_eq text mark ≡ false → IsProper form → HasRoom form builder (length text)
+      → TakesSome builder (read_form (form_in form) text)
   spelled-taken builder other proper room value reads = (
     room.kind,
     room.values,
@@ -56,7 +58,8 @@ module _ (mark : List ℕ) (form : FieldForm) (text : List ℕ) where
     (field-taken mark room.kind (form_in form) room.values text value room.in_form proper room.bytes (read-in-kind room.kind other room.in_form ∙ reads)).none,
   )
 
-  pub spelled-added : (old new : Builder) → bytes_eq text mark ≡ false → IsProper form → HasRoom form old (length text) → AddsSome (read_form (form_in form) text) old new
+  pub spelled-added : (old new : Builder) → bytes_eq text mark ≡ false → IsProper form → HasRoom form old (length text)
+      → AddsSome (read_form (form_in form) text) old new
       → AddsField mark form text old new
   spelled-added old new other proper room adds kind values is holds =
       let reads : read_field mark kind text ≡ Some adds.0 = read-in-kind kind other is ∙ adds.1 in

@@ -1,5 +1,6 @@
 -- What the columns of a header are.
-use Rattle.std.proofs.Common.{◌≡◌, ◌≢◌, ◌<◌, ◌+◌, ◌∙◌, ◌||◌, ℕ, zero, suc, Bool, true, false, true≢false, List, [], ◌∷◌, length, get_or, All, Option, Some, None, refl, sym, ap, arith, inl, inr}
+use Rattle.std.proofs.Common.{◌≡◌, ◌≢◌, ◌<◌, ◌+◌, ◌∙◌, ◌||◌, ℕ, zero, suc, Bool, true, false, true≢false, List, [], ◌∷◌, length, get_or, All, Option, Some}
+use Rattle.std.proofs.Common.{None, refl, sym, ap, arith, inl, inr}
 use Rattle.std.proofs.lemmas.Bool.{cases_Bool}
 use Rattle.std.proofs.lemmas.List.{get_or-map, length-map}
 use Rattle.std.proofs.lemmas.Slice.Eq.{bytes_eq-Decides}
@@ -9,7 +10,8 @@ use Rattle.std.specs.Str.{bytes_eq}
 use Rattle.fmt_string.specs.declared.kind.DataType.{DataType}
 use Rattle.fmt_string.specs.declared.kind.DataType.TheVariants as kinds
 use Rattle.fmt_string.specs.Table.{Column}
-use Rattle.csv_model.specs.Header.{Entry, column_for, fault_at, first_not_text, first_twice, header_columns, is_among, names_fault, twice_behind, twice_fault, type_for, unknown_fault}
+use Rattle.csv_model.specs.Header.{Entry, column_for, fault_at, first_not_text, first_twice, header_columns, is_among, names_fault, twice_behind, twice_fault}
+use Rattle.csv_model.specs.Header.{type_for, unknown_fault}
 use Rattle.csv_model.specs.Reading.{Record}
 use Rattle.csv_model.specs.declared.fault.HeaderFault.{HeaderFault}
 use Rattle.csv_model.specs.declared.fault.HeaderFault.TheVariants as faults
@@ -38,7 +40,8 @@ no-twice entries fields none =
     (fault-none (first_twice fields) (λ n. faults.Twice n) (unknown_fault entries fields) text.1).0
 
 -- where no name is there twice, none is one of those before
-fresh : (before fields : List (List ℕ)) → twice_behind before fields ≡ None → (k : ℕ) (d : List ℕ) → k < length fields → is_among before (get_or fields k d) ≡ false
+fresh : (before fields : List (List ℕ)) → twice_behind before fields ≡ None → (k : ℕ) (d : List ℕ) → k < length fields
+    → is_among before (get_or fields k d) ≡ false
 fresh before [] none k d within = absurd (omega arith)
 fresh before (f ∷ fs) none zero d within = (none-here (is_among before f) (length before) (twice_behind (f ∷ before) fs) none).0
 fresh before (f ∷ fs) none (suc k) d within =
@@ -73,7 +76,8 @@ module _ (P : DataType → Type 0) (text : P (kinds.Utf8 false)) where
     | inr other ↦ rw other (type-has es (λ k d within. each (suc k) d (omega arith)) name)
   ]
 
-  pub columns-have : (entries : List TypeEntry) → All (λ e. P e.kind) entries → (fields : Record) → All (IsFlatOf P) (header_columns (entries_of entries) fields)
+  pub columns-have : (entries : List TypeEntry) → All (λ e. P e.kind) entries → (fields : Record)
+      → All (IsFlatOf P) (header_columns (entries_of entries) fields)
   columns-have entries each [] k d within = absurd (omega arith)
   columns-have entries each (f ∷ fs) zero d within = (type_for (entries_of entries) f, refl, type-has entries each f)
   columns-have entries each (f ∷ fs) (suc k) d within = columns-have entries each fs k d (omega arith)

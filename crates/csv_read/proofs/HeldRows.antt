@@ -15,14 +15,17 @@ use Rattle.csv_read.proofs.ChunkCosts.{column-blocks}
 -- the builders hold the columns from a place on
 abbrev pub HoldFrom : ℕ → List Builder → List Column → List Row → Type 0
 HoldFrom place [] [] rows = Unit {0}
-HoldFrom place (builder ∷ builders) (column ∷ columns) rows = HoldsKind builder column.kind (column_values place rows) × HoldFrom (place + 1) builders columns rows
+HoldFrom place (builder ∷ builders) (column ∷ columns) rows =
+    HoldsKind builder column.kind (column_values place rows) × HoldFrom (place + 1) builders columns rows
 HoldFrom place _ _ rows = ⊥
 
 hold-from : (place : ℕ) (builders : List Builder) (columns : List Column) (rows : List Row) → length builders ≡ length columns
-    → ((j : ℕ) (b : Builder) (c : Column) → j < length columns → HoldsKind (get_or builders j b) (get_or columns j c).kind (column_values (place + j) rows)) → HoldFrom place builders columns rows
+    → ((j : ℕ) (b : Builder) (c : Column) → j < length columns → HoldsKind (get_or builders j b) (get_or columns j c).kind (column_values (place + j) rows))
+    → HoldFrom place builders columns rows
 hold-from place [] [] rows count each = tt
 hold-from place (b ∷ bs) (c ∷ cs) rows count each =
-    let first : HoldsKind b c.kind (column_values place rows) = subst (λ n. HoldsKind b c.kind (column_values n rows)) (omega arith) (each 0 b c (omega arith)) in (
+    let first : HoldsKind b c.kind (column_values place rows) =
+    subst (λ n. HoldsKind b c.kind (column_values n rows)) (omega arith) (each 0 b c (omega arith)) in (
       first,
       hold-from (place + 1) bs cs rows (omega (arith, count)) (λ j d e small.
           subst (λ n. HoldsKind (get_or bs j d) (get_or cs j e).kind (column_values n rows)) (omega arith) (each (suc j) d e (omega (arith, small)))),
@@ -32,7 +35,8 @@ hold-from place (b ∷ bs) [] rows count each = absurd (omega (arith, count))
 
 pub from-each : (builders : List Builder) (columns : List Column) (rows : List Row) → HoldEach builders columns rows → HoldFrom 0 builders columns rows
 from-each builders columns rows held =
-    hold-from 0 builders columns rows held.count (λ j b c small. subst (λ n. HoldsKind (get_or builders j b) (get_or columns j c).kind (column_values n rows)) (omega arith) (held.each j b c small))
+    hold-from 0 builders columns rows held.count
+    (λ j b c small. subst (λ n. HoldsKind (get_or builders j b) (get_or columns j c).kind (column_values n rows)) (omega arith) (held.each j b c small))
 
 kind-some : (builder : Builder) (kind : Kind) (values : List Value) → HoldsKind builder kind values → HoldsSome builder
 kind-some builder (Flat kind) values holds = (kind, values, holds)
@@ -50,18 +54,21 @@ kind-fits builder (Flat kind) values holds = holds.fits
 kind-fits builder (Dict kind) values holds = absurd holds
 kind-fits builder (Columns _) values holds = absurd holds
 
-pub held-fit : (place : ℕ) (builders : List Builder) (columns : List Column) (rows : List Row) → HoldFrom place builders columns rows → FitFrom place columns rows
+pub held-fit : (place : ℕ) (builders : List Builder) (columns : List Column) (rows : List Row) → HoldFrom place builders columns rows
+    → FitFrom place columns rows
 held-fit place [] [] rows held = tt
 held-fit place (b ∷ bs) (c ∷ cs) rows held = (kind-fits b c.kind (column_values place rows) held.0, held-fit (place + 1) bs cs rows held.1)
 held-fit place [] (c ∷ cs) rows held = absurd held
 held-fit place (b ∷ bs) [] rows held = absurd held
 
-kind-array : (builder : Builder) (kind : Kind) (values : List Value) (array : ArrayTree) → HoldsKind builder kind values → IsColumnOf builder array → array ≡ column_array kind values
+kind-array : (builder : Builder) (kind : Kind) (values : List Value) (array : ArrayTree) → HoldsKind builder kind values → IsColumnOf builder array
+    → array ≡ column_array kind values
 kind-array builder (Flat kind) values array holds is = is kind values holds
 kind-array builder (Dict kind) values array holds is = absurd holds
 kind-array builder (Columns _) values array holds is = absurd holds
 
-pub columns-are : (place : ℕ) (builders : List Builder) (columns : List Column) (rows : List Row) (arrays : List ArrayTree) → HoldFrom place builders columns rows → AreColumnsOf builders arrays
+pub columns-are : (place : ℕ) (builders : List Builder) (columns : List Column) (rows : List Row) (arrays : List ArrayTree)
+    → HoldFrom place builders columns rows → AreColumnsOf builders arrays
     → arrays ≡ column_arrays place columns rows
 columns-are place [] [] rows [] held are = refl
 columns-are place (b ∷ bs) (c ∷ cs) rows (a ∷ as') held are =
@@ -79,8 +86,10 @@ kind-column (Flat kind) values rows fits long = record { live = tt; not_deep = o
 kind-column (Dict kind) values rows fits long = absurd fits
 kind-column (Columns _) values rows fits long = absurd fits
 
-pub are-columns : (place : ℕ) (columns : List Column) (rows : List Row) → FitFrom place columns rows → All (IsColumn (length rows)) (column_arrays place columns rows)
-are-columns place (c ∷ cs) rows fits zero d small = kind-column c.kind (column_values place rows) (length rows) fits.0 (omega (arith, length-map rows (λ row. get_or row place Null)))
+pub are-columns : (place : ℕ) (columns : List Column) (rows : List Row) → FitFrom place columns rows
+    → All (IsColumn (length rows)) (column_arrays place columns rows)
+are-columns place (c ∷ cs) rows fits zero d small =
+    kind-column c.kind (column_values place rows) (length rows) fits.0 (omega (arith, length-map rows (λ row. get_or row place Null)))
 are-columns place (c ∷ cs) rows fits (suc k) d small = are-columns (place + 1) cs rows fits.1 k d (omega (arith, small))
 are-columns place [] rows fits k d small = absurd (omega (arith, small))
 

@@ -1,9 +1,12 @@
 -- What one read does to a reader over a text in memory.
-use Rattle.std.proofs.Common.{◌≡◌, ◌≤◌, ◌+◌, ◌++◌, ◌∙◌, ℕ, true, false, List, [], ◌∷◌, length, Option, Some, None, Bor, refl, sym, ap, subst, arith, inl, inr, length-append}
+use Rattle.std.proofs.Common.{◌≡◌, ◌≤◌, ◌<◌, ◌+◌, ◌++◌, ◌∙◌, ℕ, true, false, List, [], ◌∷◌, length, Option, Some, None, Bor, refl, sym, ap, subst, arith, inl}
+use Rattle.std.proofs.Common.{inr, length-append}
 use Rattle.std.proofs.lemmas.Bool.{cases_Bool, false≢true, true≢false}
 use Rattle.std.specs.Option.{unwrap_or}
+use Rattle.std.specs.List.{concat}
 use Rattle.csv.specs.Machine.{Read, ends_at_end, field_after, fields_after, is_end, next_record, step}
-use Rattle.csv.specs.Reading.{NextIs, ReadRecord, ReadsNext, default_config, has_failed, is_bom, is_flexible, pending_of, reader_state, records_from, source_of, strip_bom, took_first}
+use Rattle.csv.specs.Reading.{NextIs, ReadRecord, ReadsNext, default_config, has_failed, is_bom, is_flexible, pending_of, reader_state, records_from, source_of}
+use Rattle.csv.specs.Reading.{strip_bom, took_first}
 use Rattle.csv.specs.declared.parser.Action.{Action}
 use Rattle.csv.specs.declared.parser.Action.TheVariants as act
 use Rattle.csv.specs.declared.parser.Config.{Config}
@@ -11,8 +14,6 @@ use Rattle.csv.specs.declared.parser.State.{State}
 use Rattle.csv.specs.declared.parser.State.TheVariants as st
 use Rattle.csv.specs.declared.reader.Reader.{Reader}
 use Rattle.csv_model.specs.Reading.{Record}
-use Rattle.csv_model.proofs.AllRecords.{next-leaves, next-shorter}
-use Rattle.csv_model.proofs.LeftRecords.{left-more, left-none, next-small}
 use Rattle.csv_read.specs.RecordReader.{IsReading, Takes, known, records_left, text_left}
 
 next-is : (o : Option Read) (fields : Record) (s : State) (ys : List ℕ) → NextIs o true fields s ys → o ≡ Some (fields, s, ys)
@@ -23,7 +24,8 @@ next-is-none : (o : Option Read) (fields : Record) (s : State) (ys : List ℕ) �
 next-is-none None fields s ys h = refl
 next-is-none (Some p) fields s ys h = absurd (false≢true h.0)
 
-after-record : (cfg : Config) (s : State) (xs : List ℕ) (after : Option (List ℕ)) (fields : Record) (s2 : State) → ReadsNext cfg s (Some xs) after true fields s2
+after-record : (cfg : Config) (s : State) (xs : List ℕ) (after : Option (List ℕ)) (fields : Record) (s2 : State)
+    → ReadsNext cfg s (Some xs) after true fields s2
     → (ys : List ℕ) × (after ≡ Some ys) × (next_record cfg s [] [] xs ≡ Some (fields, s2, ys))
 after-record cfg s xs None fields s2 h = absurd h
 after-record cfg s xs (Some ys) fields s2 h = (ys, refl, next-is (next_record cfg s [] [] xs) fields s2 ys h)
@@ -66,27 +68,37 @@ next-some cfg s fields field (c ∷ rest) q e = elim (cases_Bool (is_end (step c
 
 -- ---- one read
 
+-- what the law of reading records in turn says
+pub record InTurn : Type 0 where
+  pub next : (s : State) (xs : List ℕ) (q : Read) → ends_at_end s ≡ false → next_record default_config s [] [] xs ≡ Some q
+      → records_from default_config (length xs + 1) s xs ≡ q.0 ∷ records_from default_config (length q.2 + 1) q.1 q.2
+  pub end : (s : State) (xs : List ℕ) → next_record default_config s [] [] xs ≡ None → records_from default_config (length xs + 1) s xs ≡ []
+  pub between : (s : State) (xs : List ℕ) (q : Read) → next_record default_config s [] [] xs ≡ Some q → ends_at_end q.1 ≡ false
+  pub shorter : (s : State) (xs : List ℕ) (q : Read) → ends_at_end s ≡ false → next_record default_config s [] [] xs ≡ Some q → length q.2 < length xs
+  pub bytes : (s : State) (xs : List ℕ) (q : Read) → next_record default_config s [] [] xs ≡ Some q → length (concat q.0) + length q.2 ≤ length xs
+  pub count : (s : State) (xs : List ℕ) (q : Read) → next_record default_config s [] [] xs ≡ Some q → length q.0 + length q.2 ≤ length xs + 1
+
 pub record Stepped (old new : Reader (Bor (List ℕ))) (fields : Record) : Type 0 where
   pub reading : IsReading new
   pub more : records_left old ≡ fields ∷ records_left new
   pub some : 1 ≤ length fields
-  pub takes : Takes (text_left old) fields (text_left new)
+  pub takes : Takes (length (text_left old)) fields (length (text_left new))
 
 -- a record was read
-pub stepped : (old new : Reader (Bor (List ℕ))) (fields : Record) → IsReading old → ReadRecord known old new true fields → took_first new ≡ true
+pub stepped : InTurn → (old new : Reader (Bor (List ℕ))) (fields : Record) → IsReading old → ReadRecord known old new true fields → took_first new ≡ true
     → is_flexible new ≡ is_flexible old → has_failed new ≡ has_failed old → Stepped old new fields
-stepped old new fields ready read first flexible failed =
+stepped law old new fields ready read first flexible failed =
     let here : ReadsNext default_config (reader_state old) (Some (text_left old)) (pending_of (known new.rdr) new) true fields (reader_state new) =
-    subst (λ (src : Option (List ℕ)). ReadsNext default_config (reader_state old) src (pending_of (known new.rdr) new) true fields (reader_state new)) ready.source
-    (subst (λ (cfg : Config). ReadsNext cfg (reader_state old) (source_of known old) (pending_of (known new.rdr) new) true fields (reader_state new)) ready.config read.0) in
+    subst (λ (src : Option (List ℕ)). ReadsNext default_config (reader_state old) src (pending_of (known new.rdr) new) true fields (reader_state new))
+    ready.source
+    (subst (λ (cfg : Config). ReadsNext cfg (reader_state old) (source_of known old) (pending_of (known new.rdr) new) true fields (reader_state new))
+    ready.config read.0) in
     let after = after-record default_config (reader_state old) (text_left old) (pending_of (known new.rdr) new) fields (reader_state new) here in
     let source : source_of known new ≡ Some after.0 = pending-left new read.1 ∙ after.1 in
     let left : text_left new ≡ after.0 = ap (λ (o : Option (List ℕ)). unwrap_or o []) source in
     let next = after.2 in
-    let leaves = next-leaves default_config (reader_state old) [] [] (text_left old) (fields, reader_state new, after.0) next in
-    let shorter = next-shorter default_config (reader_state old) [] [] (text_left old) (fields, reader_state new, after.0) ready.between next in
-    let small = next-small default_config (reader_state old) [] [] (text_left old) (fields, reader_state new, after.0) next in
-    let more = left-more default_config (reader_state old) (text_left old) (fields, reader_state new, after.0) ready.between next in
+    let q : Read = (fields, reader_state new, after.0) in
+    let more = law.next (reader_state old) (text_left old) q ready.between next in
     record {
       reading = record {
         config = read.2 ∙ ready.config;
@@ -94,21 +106,27 @@ stepped old new fields ready read first flexible failed =
         flexible = flexible ∙ ready.flexible;
         ready = inl first;
         fresh = failed ∙ ready.fresh;
-        between = leaves.between;
+        between = law.between (reader_state old) (text_left old) q next;
         source = source ∙ ap (λ (xs : List ℕ). Some xs) (sym left);
       };
       more = more ∙ ap (λ (xs : List ℕ). fields ∷ records_from default_config (length xs + 1) (reader_state new) xs) (sym left);
-      some = next-some default_config (reader_state old) [] [] (text_left old) (fields, reader_state new, after.0) next;
-      takes = record { shorter = rw left shorter; bytes = rw left (omega (arith, small.bytes)); count = rw left (omega (arith, small.count)) };
+      some = next-some default_config (reader_state old) [] [] (text_left old) q next;
+      takes = record {
+        shorter = rw left (law.shorter (reader_state old) (text_left old) q ready.between next);
+        bytes = rw left (law.bytes (reader_state old) (text_left old) q next);
+        count = rw left (law.count (reader_state old) (text_left old) q next);
+      };
     }
 
 -- there was none
-pub ended : (old new : Reader (Bor (List ℕ))) (fields : Record) → IsReading old → ReadRecord known old new false fields → records_left old ≡ []
-ended old new fields ready read =
+pub ended : InTurn → (old new : Reader (Bor (List ℕ))) (fields : Record) → IsReading old → ReadRecord known old new false fields → records_left old ≡ []
+ended law old new fields ready read =
     let here : ReadsNext default_config (reader_state old) (Some (text_left old)) (pending_of (known new.rdr) new) false fields (reader_state new) =
-    subst (λ (src : Option (List ℕ)). ReadsNext default_config (reader_state old) src (pending_of (known new.rdr) new) false fields (reader_state new)) ready.source
-    (subst (λ (cfg : Config). ReadsNext cfg (reader_state old) (source_of known old) (pending_of (known new.rdr) new) false fields (reader_state new)) ready.config read.0) in
-    left-none default_config (reader_state old) (text_left old) (after-end default_config (reader_state old) (text_left old) _ fields (reader_state new) here)
+    subst (λ (src : Option (List ℕ)). ReadsNext default_config (reader_state old) src (pending_of (known new.rdr) new) false fields (reader_state new))
+    ready.source
+    (subst (λ (cfg : Config). ReadsNext cfg (reader_state old) (source_of known old) (pending_of (known new.rdr) new) false fields (reader_state new))
+    ready.config read.0) in
+    law.end (reader_state old) (text_left old) (after-end default_config (reader_state old) (text_left old) _ fields (reader_state new) here)
 
 -- a mark at the start makes a text no longer
 pub strip-shorter : (text : List ℕ) → length (strip_bom text) ≤ length text

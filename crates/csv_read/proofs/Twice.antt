@@ -1,5 +1,6 @@
 -- What the search for a name that is there twice keeps.
-use Rattle.std.proofs.Common.{◌≡◌, ◌<◌, ◌≤◌, ◌+◌, ◌∙◌, ◌||◌, ◌++◌, ℕ, Bool, true, false, List, [], ◌∷◌, length, take, drop, get_or, Some, None, refl, sym, ap, arith}
+use Rattle.std.proofs.Common.{◌≡◌, ◌<◌, ◌≤◌, ◌+◌, ◌∙◌, ◌||◌, ◌++◌, ℕ, Bool, true, false, List, [], ◌∷◌, length, take, drop, get_or, Some, None, refl, sym, ap}
+use Rattle.std.proofs.Common.{arith}
 use Rattle.std.proofs.lemmas.List.{drop_all, map-append, take_all, take_more}
 use Rattle.std.proofs.lemmas.List.Folds.{list_any-append}
 use Rattle.std.proofs.lemmas.List.Sorted.{list_any-IsPermutation}
@@ -32,7 +33,8 @@ module _ (names : List (Bor (List ℕ))) (i : ℕ) (keys : List (Bor (List ℕ))
     abbrev name : List ℕ
     name = (get_or names i d).now
 
-    here : first_twice (texts names) ≡ (if is_among far.before name then Some (length far.before) else twice_behind (name ∷ far.before) (texts (drop (i + 1) names)))
+    here : first_twice (texts names)
+        ≡ (if is_among far.before name then Some (length far.before) else twice_behind (name ∷ far.before) (texts (drop (i + 1) names)))
     here = far.rest ∙ ap (λ (bs : List (Bor (List ℕ))). twice_behind far.before (texts bs)) (rest-cons names i d within)
 
     pub twice-hit : has_text keys name ≡ true → first_twice (texts names) ≡ Some i
@@ -47,7 +49,8 @@ module _ (names : List (Bor (List ℕ))) (i : ℕ) (keys : List (Bor (List ℕ))
         record {
           before = name ∷ far.before;
           long = omega (arith, far.long);
-          rest = here ∙ ap (λ b. if b then Some (length far.before) else twice_behind (name ∷ far.before) (texts (drop (i + 1) names))) (sym (far.known name) ∙ new);
+          rest = here ∙ ap (λ b. if b then Some (length far.before) else twice_behind (name ∷ far.before) (texts (drop (i + 1) names)))
+              (sym (far.known name) ∙ new);
           known = λ n.
               sym (list_any-IsPermutation (λ k. bytes_eq n k.now) (get_or names i d ∷ keys) after puts) ∙ ap (λ (b : Bool). bytes_eq n name || b) (far.known n);
           taken = λ n.

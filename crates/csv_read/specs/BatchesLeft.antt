@@ -1,16 +1,13 @@
 -- A text whose rows are read in batches: what is left of it, and what the next batch is.
-use Rattle.std.specs.Prelude.{◌≡◌, ◌≤◌, ◌+◌, ◌^◌, ℕ, Bool, false, if◌then◌else◌, List, [], ◌∷◌, length, map, take, drop, Ok}
-use Rattle.std.specs.Borrow.{Bor}
-use Rattle.csv.specs.declared.reader.Reader.{Reader}
+use Rattle.std.specs.Prelude.{◌≡◌, ◌≤◌, ◌+◌, ◌^◌, ℕ, List, [], ◌∷◌, length, map, take, drop, Ok}
 use Rattle.col_build.specs.declared.builder.Builder.{Builder}
 use Rattle.fmt_string.specs.ColumnView.{column_of}
 use Rattle.fmt_string.specs.Table.{Column, Row}
 use Rattle.fmt_string.specs.declared.kind.ColumnType.{ColumnType}
 use Rattle.csv_model.specs.Batches.{Chunks, batches_if, rows_before}
-use Rattle.csv_model.specs.Reading.{Record, behind_header, body_from, records_of}
+use Rattle.csv_model.specs.Reading.{Record, body_from}
 use Rattle.csv_read.specs.BodyRows.{IsRowsFault}
-use Rattle.csv_read.specs.Chunks.{HoldRows}
-use Rattle.csv_read.specs.RecordReader.{IsReading, records_left, text_left}
+use Rattle.csv_read.specs.Body.{HoldRows}
 use Rattle.csv_read.specs.declared.body.BodyFault.{BodyFault}
 
 -- what contracts see of a text that is read in batches
@@ -25,9 +22,9 @@ pub record BatchesLeft : Type 0 where
 abbrev pub columns_in : BatchesLeft → List Column
 columns_in s = map column_of s.columns
 
--- before the first batch
-abbrev pub all_left : List ℕ → List ColumnType → List ℕ → BatchesLeft
-all_left bytes columns mark = record { columns = columns; mark = mark; read = 0; records = behind_header (records_of bytes) }
+-- before the first batch of these records, which stand behind the header
+abbrev pub all_left : List Record → List ColumnType → List ℕ → BatchesLeft
+all_left records columns mark = record { columns = columns; mark = mark; read = 0; records = records }
 
 -- no record is left
 abbrev pub at_end : BatchesLeft → BatchesLeft
@@ -50,20 +47,8 @@ IsNextFault fault batch s = IsRowsFault fault (body_from s.mark (s.read + 1) (co
 
 -- the batches of the records that are left
 abbrev pub batches_left : ℕ → BatchesLeft → Chunks
-batches_left batch s = batches_if (body_from s.mark (s.read + 1) (columns_in s) s.records) batch (columns_in s) (rows_before s.mark (s.read + 1) (columns_in s) s.records)
+batches_left batch s = batches_if (body_from s.mark (s.read + 1) (columns_in s) s.records) batch (rows_before s.mark (s.read + 1) (columns_in s) s.records)
 
 -- the batches behind a first one
-abbrev pub behind : List Column → List Row → Chunks → Chunks
-behind columns rows others = record { tables = record { columns = columns; rows = rows } ∷ others.tables; ending = others.ending }
-
--- ---- the reader
-
--- the records behind those that were read
-abbrev pub records_ahead : Bool → Reader (Bor (List ℕ)) → List Record
-records_ahead ended reader = if ended then [] else records_left reader
-
--- the reader stands between two batches, unless no record is left
-pub record StandsBetween (read : ℕ) (ended : Bool) (reader : Reader (Bor (List ℕ))) : Type 0 where
-  pub few : read ≤ 2 ^ 30
-  pub reading : ended ≡ false → IsReading reader
-  pub room : ended ≡ false → read + length (text_left reader) ≤ 2 ^ 30
+abbrev pub behind : List Row → Chunks → Chunks
+behind rows others = record { chunks = rows ∷ others.chunks; ending = others.ending }

@@ -1,10 +1,8 @@
 -- The columns of a body in the making, and one more row for them, under a mark for null.
-use Rattle.std.specs.Prelude.{◌≡◌, ◌≤◌, ◌<◌, ◌+◌, ◌^◌, ◌++◌, ℕ, Bool, true, false, List, [], ◌∷◌, length, get_or, take, drop, Option, None, Some, Result, Ok, Err}
-use Rattle.std.specs.Borrow.{Bor}
+use Rattle.std.specs.Prelude.{◌≡◌, ◌≤◌, ◌<◌, ◌+◌, ◌^◌, ◌++◌, ℕ, List, [], ◌∷◌, length, get_or, take, drop, Option, None, Some, Result, Ok, Err}
 use Rattle.col_build.specs.Encoding.{push_fault}
 use Rattle.col_build.specs.Holding.{Adds, Holds}
 use Rattle.col_build.specs.declared.builder.Builder.{Builder}
-use Rattle.csv.specs.declared.reader.Reader.{Reader}
 use Rattle.fmt_string.specs.declared.kind.DataType.{DataType}
 use Rattle.fmt_string.specs.FieldText.{form_of, read_field}
 use Rattle.fmt_string.specs.Table.{Column, Flat, Row}
@@ -13,7 +11,7 @@ use Rattle.csv_model.specs.Reading.{Record, body_from, row_of, values_from}
 use Rattle.fmt_string.specs.declared.row_fault.RowFault.{RowFault}
 use Rattle.csv_read.specs.Body.{column_values}
 use Rattle.field_codec.specs.FieldForms.{IsProper, form_in}
-use Rattle.csv_read.specs.RecordReader.{records_left, text_left}
+use Rattle.csv_read.specs.RecordReader.{RecordsLeft}
 use Rattle.csv_read.specs.declared.body.BodyFault.{BodyFault}
 use Rattle.csv_read.specs.declared.body.BodyFault.TheVariants as faults
 use Rattle.csv_read.specs.declared.body_columns.BodyColumns.{BodyColumns}
@@ -70,7 +68,8 @@ pub record IsColumnOf (form : FieldForm) (builder : Builder) (column : Column) (
 pub record HoldRows (forms : List FieldForm) (builders : List Builder) (columns : List Column) (rows : List Row) : Type 0 where
   pub forms_count : length forms ≡ length columns
   pub builders_count : length builders ≡ length columns
-  pub each : (j : ℕ) (f : FieldForm) (b : Builder) (c : Column) → j < length columns → IsColumnOf (get_or forms j f) (get_or builders j b) (get_or columns j c) (column_values j rows)
+  pub each : (j : ℕ) (f : FieldForm) (b : Builder) (c : Column) → j < length columns
+      → IsColumnOf (get_or forms j f) (get_or builders j b) (get_or columns j c) (column_values j rows)
 
 -- so many columns have a form and a builder, which holds no values
 pub record HoldNone (forms : List FieldForm) (builders : List Builder) (columns : List Column) (count : ℕ) : Type 0 where
@@ -92,16 +91,19 @@ with_values values (Ok others) = Ok (values ++ others)
 with_values values (Err fault) = Err fault
 
 -- the first fields of a record spell values, which their columns hold besides, and the others are yet to be read
-pub record HasFields (mark : List ℕ) (forms : List FieldForm) (builders : List Builder) (columns : List Column) (rows : List Row) (fields : Record) (number count : ℕ) : Type 0 where
+pub record HasFields (mark : List ℕ) (forms : List FieldForm) (builders : List Builder) (columns : List Column) (rows : List Row) (fields : Record)
+    (number count : ℕ) : Type 0 where
   pub values : Row
   pub long : length values ≡ count
   pub spelled : values_from mark number 1 columns fields ≡ with_values values (values_from mark number (1 + count) (drop count columns) (drop count fields))
-  pub each : (j : ℕ) (f : FieldForm) (b : Builder) (c : Column) → j < count → IsColumnOf (get_or forms j f) (get_or builders j b) (get_or columns j c) (column_values j rows ++ get_or values j Null ∷ [])
+  pub each : (j : ℕ) (f : FieldForm) (b : Builder) (c : Column) → j < count
+      → IsColumnOf (get_or forms j f) (get_or builders j b) (get_or columns j c) (column_values j rows ++ get_or values j Null ∷ [])
   pub short : (j : ℕ) → j < count → length (bytes_of (get_or values j Null)) ≤ length (get_or fields j [])
 
 -- so many fields of a record are added
 abbrev pub AddsFields : List ℕ → List FieldForm → Record → ℕ → ℕ → List Builder → List Builder → Type 0
-AddsFields mark forms fields number count old new = (columns : List Column) (rows : List Row) → HoldRows forms old columns rows → HasFields mark forms new columns rows fields number count
+AddsFields mark forms fields number count old new =
+    (columns : List Column) (rows : List Row) → HoldRows forms old columns rows → HasFields mark forms new columns rows fields number count
 
 -- the fault is why a row isn't spelled; want of memory says nothing of it
 abbrev pub IsRowFault : BodyFault → Result Row RowFault → Type 0
@@ -131,7 +133,8 @@ abbrev pub AddsRow : ℕ → Record → BodyColumns → BodyColumns → Type 0
 AddsRow number fields old new = (columns : List Column) (rows : List Row) → HasRows old columns rows → HasRow old.mark number columns rows fields new
 
 abbrev pub RefusesRow : BodyFault → ℕ → Record → BodyColumns → Type 0
-RefusesRow fault number fields old = (columns : List Column) (rows : List Row) → HasRows old columns rows → IsRowFault fault (row_of old.mark number columns fields)
+RefusesRow fault number fields old =
+    (columns : List Column) (rows : List Row) → HasRows old columns rows → IsRowFault fault (row_of old.mark number columns fields)
 
 -- ---- the rows of the next records
 
@@ -144,35 +147,31 @@ abbrev pub with_rows : List Row → Result (List Row) RowFault → Result (List 
 with_rows rows (Ok others) = Ok (rows ++ others)
 with_rows rows (Err fault) = Err fault
 
--- of the next records, so many or all that are left, the columns hold the rows of those that the reader has given, and
--- there is room for the others; the first record has this number
-pub record RowsSoFar (mark : List ℕ) (number batch : ℕ) (columns : List Column) (records : List Record) (size : ℕ) (made : BodyColumns) (reader : Reader (Bor (List ℕ))) : Type 0 where
+-- of the next records, so many or all that are left, the columns hold the rows of those that were read, and there is room
+-- for the others; the first record has this number
+pub record RowsSoFar (mark : List ℕ) (number batch : ℕ) (columns : List Column) (from : RecordsLeft) (made : BodyColumns) (to : RecordsLeft) : Type 0 where
   pub rows : List Row
   -- how many rows are still to come, where there are as many records
   pub others : ℕ
   pub count : length rows + others ≡ batch
   pub holds : HasRows made columns rows
   pub marked : made.mark ≡ mark
-  pub spelled : body_from mark number columns (take batch records) ≡ with_rows rows (body_from mark (number + length rows) columns (take others (records_left reader)))
-  pub rest : drop batch records ≡ drop others (records_left reader)
-  pub few : length rows + length (text_left reader) ≤ size
-  pub short : (j : ℕ) → j < length columns → byte_total (column_values j rows) + length (text_left reader) ≤ size
+  pub spelled : body_from mark number columns (take batch from.records)
+      ≡ with_rows rows (body_from mark (number + length rows) columns (take others to.records))
+  pub rest : drop batch from.records ≡ drop others to.records
+  pub few : length rows + to.size ≤ from.size
+  pub short : (j : ℕ) → j < length columns → byte_total (column_values j rows) + to.size ≤ from.size
 
--- the columns hold the rows of the next records, so many or all that are left; and the reader stands behind them, or it has
--- come to the end
-pub record HasBatch (mark : List ℕ) (number batch : ℕ) (columns : List Column) (records : List Record) (size : ℕ) (more : Bool) (made : BodyColumns) (reader : Reader (Bor (List ℕ))) : Type 0 where
+-- the columns hold the rows of the next records, so many or all that are left, and those behind them are left
+pub record HasBatch (mark : List ℕ) (number batch : ℕ) (columns : List Column) (from : RecordsLeft) (made : BodyColumns) (to : RecordsLeft) : Type 0 where
   pub rows : List Row
   pub holds : HasRows made columns rows
-  pub spelled : body_from mark number columns (take batch records) ≡ Ok rows
-  pub few : length rows ≤ size
-  pub full : more ≡ true → length rows ≡ batch
-  pub behind : more ≡ true → drop batch records ≡ records_left reader
-  pub short : more ≡ true → length rows + length (text_left reader) ≤ size
-  pub last : more ≡ false → drop batch records ≡ []
+  pub spelled : body_from mark number columns (take batch from.records) ≡ Ok rows
+  pub few : length rows + to.size ≤ from.size
+  pub behind : to.records ≡ drop batch from.records
 
-abbrev pub ReadsBatch : ℕ → ℕ → Reader (Bor (List ℕ)) → Bool → BodyColumns → BodyColumns → Reader (Bor (List ℕ)) → Type 0
-ReadsBatch number batch from more old new to =
-    (columns : List Column) → HasRows old columns [] → HasBatch old.mark number batch columns (records_left from) (length (text_left from)) more new to
+abbrev pub ReadsBatch : ℕ → ℕ → RecordsLeft → BodyColumns → BodyColumns → RecordsLeft → Type 0
+ReadsBatch number batch from old new to = (columns : List Column) → HasRows old columns [] → HasBatch old.mark number batch columns from new to
 
 abbrev pub RefusesBatch : BodyFault → ℕ → ℕ → List Record → BodyColumns → Type 0
 RefusesBatch fault number batch records old =

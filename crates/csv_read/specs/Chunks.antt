@@ -1,5 +1,5 @@
 -- The chunk of rows: a struct with a column for each column of the table ("Arrow Columnar Format", "Struct Layout").
-use Rattle.std.specs.Prelude.{◌≡◌, ℕ, ◌+◌, List, [], ◌∷◌, length, None, All}
+use Rattle.std.specs.Prelude.{◌≡◌, ℕ, ◌+◌, List, [], ◌∷◌, length, None}
 use Rattle.std.specs.List.{AllZip, sum_by}
 use Rattle.fmt_string.specs.Table.{Column, Row, Kind, Flat}
 use Rattle.fmt_string.specs.Value.{Value}
@@ -11,7 +11,7 @@ use Rattle.col_build.specs.Finished.{blocks_of}
 use Rattle.col_build.specs.Holding.{Holds}
 use Rattle.col_build.specs.declared.builder.Builder.{Builder}
 use Rattle.arr_export.specs.ArrayTrees.{column_tree, table_tree}
-use Rattle.csv_read.specs.Body.{HoldEach, column_values}
+use Rattle.csv_read.specs.Body.{column_values}
 
 -- the array of a column of plain values
 abbrev pub column_array : Kind → List Value → ArrayTree
@@ -63,8 +63,3 @@ own_blocks tree = holds (members_of tree)
 
 abbrev pub all_blocks : List ArrayTree → ℕ
 all_blocks trees = sum_by own_blocks trees
-
--- the builders hold these rows, each of them a value for each column
-pub record HoldRows (builders : List Builder) (columns : List Column) (rows : List Row) : Type 0 where
-  pub held : HoldEach builders columns rows
-  pub widths : All (λ row. length row ≡ length columns) rows

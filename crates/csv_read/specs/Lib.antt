@@ -4,3 +4,4 @@ pub mod Entries
 pub mod RecordReader
 pub mod Chunks
 pub mod BatchesLeft
+pub mod FaultTexts

@@ -1,5 +1,5 @@
 -- A reader of records over a text in memory: what it has left of the text and of its records.
-use Rattle.std.specs.Prelude.{◌≡◌, ◌≤◌, ◌<◌, ◌+◌, ℕ, true, false, List, [], length, Option, Some}
+use Rattle.std.specs.Prelude.{◌≡◌, ◌≤◌, ◌<◌, ◌+◌, ℕ, Bool, true, false, if◌then◌else◌, List, [], length, Option, Some}
 use Rattle.std.specs.Borrow.{Bor}
 use Rattle.std.specs.Option.{unwrap_or}
 use Rattle.std.specs.List.{concat}
@@ -8,6 +8,23 @@ use Rattle.csv.specs.Reading.{Ready, default_config, has_failed, is_flexible, re
 use Rattle.csv.specs.declared.reader.Reader.{Reader}
 use Rattle.csv.specs.declared.reader.Trim.TheVariants as trim
 use Rattle.csv_model.specs.Reading.{Record}
+
+-- what contracts see of a text whose records are read one after the other
+pub record RecordsLeft : Type 0 where
+  -- the fields of the record that was read last
+  pub row : Record
+  -- how many bytes of the text are left
+  pub size : ℕ
+  -- the records that were not read
+  pub records : List Record
+
+-- a record takes at least a byte of a text, no fewer bytes than its fields have, and at most one field more than bytes
+pub record Takes (size : ℕ) (fields : Record) (rest : ℕ) : Type 0 where
+  pub shorter : rest < size
+  pub bytes : length (concat fields) + rest ≤ size
+  pub count : length fields + rest ≤ size + 1
+
+-- ---- the reader
 
 -- a text in memory is known
 abbrev pub known : Bor (List ℕ) → Option (List ℕ)
@@ -31,8 +48,9 @@ pub record IsReading (reader : Reader (Bor (List ℕ))) : Type 0 where
   pub between : ends_at_end (reader_state reader) ≡ false
   pub source : source_of known reader ≡ Some (text_left reader)
 
--- a record takes at least a byte of a text, no fewer bytes than its fields have, and at most one field more than bytes
-pub record Takes (text : List ℕ) (fields : Record) (rest : List ℕ) : Type 0 where
-  pub shorter : length rest < length text
-  pub bytes : length (concat fields) + length rest ≤ length text
-  pub count : length fields + length rest ≤ length text + 1
+-- the records and the bytes that are left, unless the reader came to the end
+abbrev pub records_ahead : Bool → Reader (Bor (List ℕ)) → List Record
+records_ahead ended reader = if ended then [] else records_left reader
+
+abbrev pub size_ahead : Bool → Reader (Bor (List ℕ)) → ℕ
+size_ahead ended reader = if ended then 0 else length (text_left reader)

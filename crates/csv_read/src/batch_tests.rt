@@ -1,14 +1,14 @@
 //! Tests of reading in batches.
 ghost use Rattle.std.specs.Prelude.{◌≤◌};
 
-use super::{BatchReader, BodyFault};
+use super::{BatchReader, BodyFault, Records};
 use crate::body_tests::{columns_of, expect_lengths};
 use fmt_string::RowFault;
 use std::alloc::Global;
 use std::process::Abort;
 use std::test::Fail;
 
-// A text, how many rows a batch takes, how many rows the batches have, and the fault behind them.
+/// A text, how many rows a batch takes, how many rows the batches have, and the fault behind them.
 static BATCHES: [(&[u8], u64, &[i64], Option<RowFault>); 10] = [
     (b"a,b\n1,x\n2,y\n3,z\n4,\n5,v\n", 1, &[1, 1, 1, 1, 1], None),
     (b"a,b\n1,x\n2,y\n3,z\n4,\n5,v\n", 2, &[2, 2, 1], None),
@@ -42,7 +42,7 @@ static BATCHES: [(&[u8], u64, &[i64], Option<RowFault>); 10] = [
     (b"", 2, &[], None),
 ];
 
-// Expects batches of so many rows.
+/// Expects batches of so many rows.
 fn expect_batches(
     rt: &impl Abort,
     alloc: Global,
@@ -65,9 +65,12 @@ fn expect_batches(
 fn batches_have_their_rows(rt: HostRuntime) -> Result<(), Fail> {
     let alloc = rt.alloc();
     for (text, batch, lengths, wanted) in &BATCHES {
-        let named = columns_of(alloc, b"a,b\n", "a:l")?;
+        let named = columns_of(alloc, &mut Records::start(alloc, b"a,b\n"), "a:l")?;
         assert!(rt; text.len() <= 100 && *batch >= 1);
-        match BatchReader::start(alloc, *text, named, b"") {
+        let Ok(records) = Records::behind_header(alloc, *text) else {
+            return Err(Fail::from("the header is left out"));
+        };
+        match BatchReader::start(alloc, records, named, b"") {
             Ok(batches) => {
                 let mut batches = batches;
                 expect_batches(&rt, alloc, &mut batches, *batch, *lengths);

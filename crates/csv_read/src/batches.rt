@@ -1,13 +1,12 @@
 //! The rows of a text, read into builders a batch a call. The reader keeps its place between two calls.
-ghost use Rattle.std.specs.Prelude.{◌≡◌, ◌≤◌, ◌^◌, [], length, map, Ok, None, IfErr, IfOk, IfSome, OnErr};
+ghost use Rattle.std.specs.Prelude.{◌≡◌, ◌≤◌, ◌^◌, [], map, Ok, None, IfErr, IfOk, IfSome, OnErr};
 ghost use Rattle.fmt_string.specs.ColumnView.{column_of};
 ghost use Rattle.field_codec.specs.TextColumns.{AreAllowed, AreProper};
 
 use crate::body::{BodyFault, read_rows};
 use crate::body_columns::BodyColumns;
-use crate::records::{next_record, start_reading};
+use crate::records::Records;
 use col_build::Builder;
-use csv::{ByteRecord, Reader};
 use fmt_string::ColumnType;
 use std::alloc::Global;
 use std::marker::Model;
@@ -18,62 +17,54 @@ use unit_pass::{Name, NoMemory};
 /// [`read_body`](crate::read_body) reads them all at once.
 #[derive(Drop)]
 pub struct BatchReader<'a> {
-    reader: Reader<&'a [u8]>,
-    row: ByteRecord,
+    records: Records<'a>,
     columns: Vec<ColumnType>,
     // The text that stands for a null.
     mark: Name,
     // How many records behind the header were read.
     read: u64,
-    // No record is left, or a batch was refused.
-    ended: bool,
 }
 
 impl<'a> Model for BatchReader<'a> {
-    ghost use Rattle.std.specs.Prelude.{map};
+    ghost use Rattle.std.specs.Prelude.{◌≤◌, ◌+◌, ◌^◌, map};
     ghost use Rattle.std.specs.Coded.{codes};
     ghost use Rattle.fmt_string.specs.ColumnView.{column_of};
     ghost use Rattle.fmt_string.specs.contracts.kind.ColumnType as kinds;
     ghost use Rattle.field_codec.specs.TextColumns.{AreAllowed, AreProper};
-    ghost use Rattle.csv_read.specs.BatchesLeft.{BatchesLeft, StandsBetween, records_ahead};
+    ghost use Rattle.csv_read.specs.BatchesLeft.{BatchesLeft};
 
     ghost Value = { BatchesLeft };
 
     ghost coded = { Prim.hlevel (codes, kinds.the_row.coded) };
 
-    ghost view = { λ s. record { columns = s.columns.items; mark = s.mark; read = s.read; records = records_ahead s.ended s.reader } };
+    ghost view = { λ s. record { columns = s.columns.items; mark = s.mark; read = s.read; records = s.records.records } };
 
-    ghost invariant = { λ s. AreProper (map column_of s.columns.items) × AreAllowed (map column_of s.columns.items) × StandsBetween s.read s.ended s.reader };
+    ghost invariant = { λ s. AreProper (map column_of s.columns.items) × AreAllowed (map column_of s.columns.items) × (s.read + s.records.size ≤ 2 ^ 30) };
 }
 
 impl<'a> BatchReader<'a> {
     ghost use Rattle.csv_read.specs.BatchesLeft.{IsNextBatch, IsNextFault, all_left, at_end};
 
-    /// Stands before the first batch, behind the header. A text of no records has none behind it. A field that equals the
+    /// Stands before the first batch of the records that are left, which stand behind the header. A field that equals the
     /// mark is null.
     pub fn start(
         alloc: Global,
-        bytes: &'a [u8],
+        records: Records<'a>,
         columns: Vec<ColumnType>,
         mark: &[u8],
     ) -> Result<BatchReader<'a>, NoMemory>
-        requires short { length bytes.now ≤ 2 ^ 30 }
+        requires short { records.size ≤ 2 ^ 30 }
         // The columns are such as a header names: of plain values, and of types that may be asked for.
         requires proper { AreProper (map column_of columns.items) }
         requires allowed { AreAllowed (map column_of columns.items) }
-        ensures left { IfOk result (λ batches. batches ≡ all_left bytes.now columns.items mark.now) }
+        ensures left { IfOk result (λ batches. batches ≡ all_left records.entry.records columns.items mark.now) }
     {
         let mark = Name::from_slice(alloc, mark)?;
-        let mut reader = start_reading(alloc, bytes);
-        let mut row = ByteRecord::new(alloc);
-        let ended = !next_record(&mut reader, &mut row)?;
         Ok(BatchReader {
-            reader,
-            row,
+            records,
             columns,
             mark,
             read: 0,
-            ended,
         })
     }
 
@@ -105,7 +96,7 @@ impl<'a> BatchReader<'a> {
         ensures fault { IfErr result (λ fault. IsNextFault fault batch self.old) }
         ensures fault_ends { OnErr result (self.new ≡ at_end self.old) }
     {
-        if self.ended {
+        if self.records.has_ended() {
             return Ok(None);
         }
         let mut made = match BodyColumns::new(
@@ -115,13 +106,12 @@ impl<'a> BatchReader<'a> {
         ) {
             Ok(made) => made,
             Err(NoMemory) => {
-                self.ended = true;
+                self.records.end();
                 return Err(BodyFault::NoMemory);
             }
         };
-        match read_rows(&mut self.reader, &mut self.row, &mut made, batch, self.read) {
-            Ok(more) => {
-                self.ended = !more;
+        match read_rows(&mut self.records, &mut made, batch, self.read) {
+            Ok(()) => {
                 self.read += made.rows;
                 if made.rows == 0 {
                     return Ok(None);
@@ -129,7 +119,7 @@ impl<'a> BatchReader<'a> {
                 Ok(Some(made.builders))
             }
             Err(fault) => {
-                self.ended = true;
+                self.records.end();
                 Err(fault)
             }
         }

@@ -1,20 +1,18 @@
 //! The body of a text: the rows of the records behind its header.
-ghost use Rattle.std.specs.Prelude.{◌≡◌, ◌≤◌, ◌+◌, ◌^◌, [], List, Ok, length, map, true, IfErr, IfOk};
+ghost use Rattle.std.specs.Prelude.{◌≡◌, ◌≤◌, ◌+◌, ◌^◌, [], List, map, IfErr, IfOk, OnOk};
 ghost use Rattle.fmt_string.specs.ColumnView.{column_of};
 ghost use Rattle.fmt_string.specs.Table.{Column};
-ghost use Rattle.csv_model.specs.Reading.{records_of};
 ghost use Rattle.csv_read.specs.Body.{HoldsBody, IsBodyFault};
 ghost use Rattle.csv_read.specs.BodyRows.{HasRows, ReadsBatch, RefusesBatch};
-ghost use Rattle.csv_read.specs.RecordReader.{IsReading, records_left, text_left};
 ghost use Rattle.field_codec.specs.TextColumns.{AreAllowed, AreProper};
 ghost use Rattle.csv_read.specs.declared.body.BodyFault.TheVariants.{NoMemory};
 
 use crate::body_columns::BodyColumns;
-use crate::records::{next_record, start_reading};
+use crate::records::Records;
 use col_build::Builder;
-use csv::{ByteRecord, Reader};
 use fmt_string::{ColumnType, RowFault};
 use std::alloc::Global;
+use std::fmt;
 use unit_pass::NoMemory;
 
 /// Why the records behind a header make no columns.
@@ -34,58 +32,67 @@ impl From<NoMemory> for BodyFault {
     }
 }
 
-/// Reads the records behind the header of a text into a builder a column. A field that equals the mark is null. A text of no
-/// records has none behind it.
+impl fmt::Display for BodyFault {
+    ghost use Rattle.std.specs.Prelude.{Some};
+    ghost use Rattle.csv_read.specs.FaultTexts.{body_fault_text};
+
+    ghost output = { λ fault. Some (body_fault_text fault) };
+
+    fn fmt<W: fmt::Write>(&self, f: &mut fmt::Formatter<W>) -> fmt::Result {
+        match self {
+            BodyFault::Row(fault) => write!(f, "{fault}"),
+            BodyFault::NoMemory => f.write_str("out of memory"),
+        }
+    }
+}
+
+impl std::error::Error for BodyFault {}
+
+/// Reads all records that are left, which stand behind the header, into a builder a column. A field that equals the mark is
+/// null.
 ///
 /// The first record that spells no row is the fault, and in it that it has another number of fields than there are columns,
-/// or else its first field that is no value of its column; want of memory alone is free.
+/// or else its first field that is no value of its column. Records are numbered from 1 behind the header. Want of memory alone
+/// is free.
 pub fn read_body(
     alloc: Global,
-    bytes: &[u8],
+    records: Records<'_>,
     columns: &[ColumnType],
     mark: &[u8],
 ) -> Result<Vec<Builder>, BodyFault>
-    requires short { length bytes.now ≤ 2 ^ 30 }
+    requires short { records.size ≤ 2 ^ 30 }
     // The columns are such as a header names: of plain values, and of types that may be asked for.
     requires proper { AreProper (map column_of columns.now) }
     requires allowed { AreAllowed (map column_of columns.now) }
     // The builders hold the rows that the records spell.
-    ensures body { IfOk result (λ builders. HoldsBody mark.now builders.items (map column_of columns.now) (records_of bytes.now)) }
+    ensures body { IfOk result (λ builders. HoldsBody mark.now builders.items (map column_of columns.now) records.entry.records) }
     // Which fault it is.
-    ensures fault { IfErr result (λ fault. IsBodyFault fault mark.now (map column_of columns.now) (records_of bytes.now)) }
+    ensures fault { IfErr result (λ fault. IsBodyFault fault mark.now (map column_of columns.now) records.entry.records) }
 {
     let mut made = BodyColumns::new(alloc, columns, mark)?;
-    let mut reader = start_reading(alloc, bytes);
-    let mut row = ByteRecord::new(alloc);
-    if !next_record(&mut reader, &mut row)? {
-        return Ok(made.builders);
-    }
-    read_rows(&mut reader, &mut row, &mut made, u64::MAX, 0)?;
+    let mut records = records;
+    read_rows(&mut records, &mut made, u64::MAX, 0)?;
     Ok(made.builders)
 }
 
-// Reads the next records into columns without rows, so many or all that are left, each by the same record; `read` were read
-// before. Whether the reader stands behind them, and not at the end.
+/// Reads the next records into columns without rows, so many or all that are left; `read` were read before.
 pub(crate) fn read_rows(
-    reader: &mut Reader<&[u8]>,
-    row: &mut ByteRecord,
+    records: &mut Records<'_>,
     made: &mut BodyColumns,
     batch: u64,
     read: u64,
-) -> Result<bool, BodyFault>
-    requires reading { IsReading reader.old }
+) -> Result<(), BodyFault>
     requires none { (columns : List Column) × HasRows made.old columns [] }
-    requires short { length (text_left reader.old) ≤ 2 ^ 30 }
+    requires short { records.old.size ≤ 2 ^ 30 }
     requires few { read ≤ 2 ^ 30 }
-    ensures more { result ≡ Ok true → IsReading reader.new }
-    ensures rows { IfOk result (λ more. ReadsBatch (read + 1) batch reader.old more made.old made.new reader.new) }
-    ensures fault { IfErr result (λ fault. RefusesBatch fault (read + 1) batch (records_left reader.old) made.old) }
+    ensures rows { OnOk result (ReadsBatch (read + 1) batch records.old made.old made.new records.new) }
+    ensures fault { IfErr result (λ fault. RefusesBatch fault (read + 1) batch records.old.records made.old) }
 {
     while made.rows < batch {
-        if !next_record(reader, row)? {
-            return Ok(false);
+        if !records.next()? {
+            return Ok(());
         }
-        made.push(row, read + made.rows + 1)?;
+        made.push(records.row(), read + made.rows + 1)?;
     }
-    Ok(true)
+    Ok(())
 }

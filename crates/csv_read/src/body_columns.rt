@@ -10,7 +10,8 @@ ghost use Rattle.fmt_string.specs.FieldText.{HexBytes, SizedHex, Text, form_of, 
 ghost use Rattle.fmt_string.specs.Kinds.{KindOk};
 ghost use Rattle.fmt_string.specs.Table.{Flat};
 ghost use Rattle.fmt_string.specs.Value.{Bytes};
-ghost use Rattle.csv_read.specs.BodyRows.{AddsField, AddsFields, AddsRow, AddsSome, HasRoom, HasRoomFor, HasRows, RefusesFields, RefusesRow, SpellsNone, Takes, TakesSome};
+ghost use Rattle.csv_read.specs.BodyRows.{AddsField, AddsFields, AddsRow, AddsSome, HasRoom, HasRoomFor, HasRows, RefusesFields, RefusesRow, SpellsNone, Takes};
+ghost use Rattle.csv_read.specs.BodyRows.{TakesSome};
 ghost use Rattle.field_codec.specs.FieldForms.{IsProper, form_in};
 ghost use Rattle.field_codec.specs.TextColumns.{AreAllowed, AreProper, IsAllowed, IsFlatOf};
 
@@ -24,7 +25,7 @@ use fmt_string::{ColKind, ColumnType, DataType, RowFault, clone_kind};
 use std::alloc::Global;
 use unit_pass::{Name, NoMemory};
 
-// How the fields of each column are read, what each holds, and how many rows there are.
+/// How the fields of each column are read, what each holds, and how many rows there are.
 #[derive(Drop)]
 pub(crate) struct BodyColumns {
     pub(crate) forms: Vec<FieldForm>,
@@ -35,7 +36,7 @@ pub(crate) struct BodyColumns {
     pub(crate) mark: Name,
 }
 
-// The type of a column of plain values.
+/// The type of a column of plain values.
 fn flat_kind(column: &ColumnType) -> &DataType
     requires proper { IsFlatOf KindOk (column_of column.now) }
     requires allowed { IsFlatOf IsAllowed (column_of column.now) }
@@ -49,7 +50,7 @@ fn flat_kind(column: &ColumnType) -> &DataType
     }
 }
 
-// Adds an item that the column takes.
+/// Adds an item that the column takes.
 #[inline(always)]
 fn push_item(builder: &mut Builder, item: Item<'_>) -> Result<(), NoMemory>
     requires { Takes builder.old (value_of item) }
@@ -62,7 +63,7 @@ fn push_item(builder: &mut Builder, item: Item<'_>) -> Result<(), NoMemory>
     }
 }
 
-// Adds an item where there is one.
+/// Adds an item where there is one.
 #[inline(always)]
 fn push_some(item: Option<Item<'_>>, builder: &mut Builder) -> Result<bool, NoMemory>
     requires { TakesSome builder.old (option_map value_of item) }
@@ -78,7 +79,7 @@ fn push_some(item: Option<Item<'_>>, builder: &mut Builder) -> Result<bool, NoMe
     }
 }
 
-// Whether a field is UTF-8, which ASCII is.
+/// Whether a field is UTF-8, which ASCII is.
 #[inline(always)]
 fn is_utf8(text: &[u8], ascii: bool) -> bool
     requires { ascii ≡ true → IsAscii text.now }
@@ -87,7 +88,7 @@ fn is_utf8(text: &[u8], ascii: bool) -> bool
     ascii || is_text(text)
 }
 
-// Adds a text that is UTF-8.
+/// Adds a text that is UTF-8.
 #[inline(always)]
 fn add_text(builder: &mut Builder, text: &[u8]) -> Result<(), NoMemory>
     requires text { is_utf8 text.now ≡ true }
@@ -101,7 +102,7 @@ fn add_text(builder: &mut Builder, text: &[u8]) -> Result<(), NoMemory>
     }
 }
 
-// Adds a text where it is UTF-8.
+/// Adds a text where it is UTF-8.
 #[inline(always)]
 fn push_text(text: &[u8], ascii: bool, builder: &mut Builder) -> Result<bool, NoMemory>
     requires ascii { ascii ≡ true → IsAscii text.now }
@@ -116,7 +117,7 @@ fn push_text(text: &[u8], ascii: bool, builder: &mut Builder) -> Result<bool, No
     Ok(true)
 }
 
-// Adds the bytes that a field spells.
+/// Adds the bytes that a field spells.
 fn push_bytes(text: &[u8], room: &mut Vec<u8>, builder: &mut Builder) -> Result<bool, NoMemory>
     requires takes { TakesSome builder.old (read_form HexBytes text.now) }
     ensures added { result ≡ Ok true → AddsSome (read_form HexBytes text.now) builder.old builder.new }
@@ -125,7 +126,7 @@ fn push_bytes(text: &[u8], room: &mut Vec<u8>, builder: &mut Builder) -> Result<
     push_some(bytes(text, room)?, builder)
 }
 
-// Adds so many bytes that a field spells.
+/// Adds so many bytes that a field spells.
 fn push_sized(
     size: u32,
     text: &[u8],
@@ -139,8 +140,8 @@ fn push_sized(
     push_some(sized_bytes(size, text, room)?, builder)
 }
 
-// Adds the value that a field spells in a form, where it spells one. In each form it is an item of one variant, known where
-// it is added.
+/// Adds the value that a field spells in a form, where it spells one. In each form it is an item of one variant, known where
+/// it is added.
 #[inline(always)]
 fn push_spelled(
     form: FieldForm,
@@ -176,7 +177,7 @@ fn push_spelled(
     }
 }
 
-// Whether a field is the mark: most differ from it in length, and an empty one has nothing to compare.
+/// Whether a field is the mark: most differ from it in length, and an empty one has nothing to compare.
 #[inline(always)]
 fn is_mark(text: &[u8], mark: &[u8]) -> bool
     ensures { result ≡ bytes_eq text.now mark.now }
@@ -184,7 +185,7 @@ fn is_mark(text: &[u8], mark: &[u8]) -> bool
     text.len() == mark.len() && (text.is_empty() || text == mark)
 }
 
-// Adds the value that a field spells, where it spells one. A field that equals the mark is null.
+/// Adds the value that a field spells, where it spells one. A field that equals the mark is null.
 fn push_field(
     form: FieldForm,
     text: &[u8],
@@ -206,7 +207,7 @@ fn push_field(
     push_spelled(form, text, ascii, room, builder)
 }
 
-// Adds the values that the fields of a record spell, each to its column. Whether they are ASCII is tested once for all.
+/// Adds the values that the fields of a record spell, each to its column. Whether they are ASCII is tested once for all.
 fn push_fields(
     forms: &[FieldForm],
     row: &ByteRecord,
@@ -235,7 +236,7 @@ fn push_fields(
 }
 
 impl BodyColumns {
-    // Columns without rows, under a mark for null.
+    /// Columns without rows, under a mark for null.
     pub(crate) fn new(
         alloc: Global,
         columns: &[ColumnType],
@@ -263,7 +264,7 @@ impl BodyColumns {
         })
     }
 
-    // Adds the row that the record of this number spells.
+    /// Adds the row that the record of this number spells.
     pub(crate) fn push(&mut self, row: &ByteRecord, number: u64) -> Result<(), BodyFault>
         requires few { self.old.rows < 2 ^ 40 }
         requires fits { HasRoomFor self.old.forms.items self.old.builders.items (fields_of row.now) }

@@ -1,11 +1,11 @@
-// Bodies: the rows of records, each in its column, and the first record that spells none.
+//! Tests of bodies: the rows of records, each in its column, and the first record that spells none.
 ghost use Rattle.std.specs.Prelude.{◌≤◌, List, length, map, IfOk};
 ghost use Rattle.fmt_string.specs.ColumnView.{column_of};
 ghost use Rattle.fmt_string.specs.Table.{Column, Row};
 ghost use Rattle.csv_read.specs.Body.{HoldEach};
 ghost use Rattle.field_codec.specs.TextColumns.{AreAllowed, AreProper};
 
-use super::{BodyFault, read_body, read_header};
+use super::{BodyFault, Records, read_body, read_header};
 use col_build::Builder;
 use fmt_string::{ColumnType, RowFault};
 use stage_plan::read_types;
@@ -13,21 +13,26 @@ use std::alloc::Global;
 use std::process::Abort;
 use std::test::Fail;
 
-// The columns of a text under the types that are asked for.
-pub(crate) fn columns_of(alloc: Global, text: &[u8], asked: &str) -> Result<Vec<ColumnType>, Fail>
+/// The columns of the header under the types that are asked for.
+pub(crate) fn columns_of(
+    alloc: Global,
+    records: &mut Records<'_>,
+    asked: &str,
+) -> Result<Vec<ColumnType>, Fail>
     ensures proper { IfOk result (λ columns. AreProper (map column_of columns.items)) }
     ensures allowed { IfOk result (λ columns. AreAllowed (map column_of columns.items)) }
+    ensures size { records.new.size ≤ records.old.size }
 {
     let Ok(entries) = read_types(alloc, asked) else {
         return Err(Fail::from("the types are read"));
     };
-    match read_header(alloc, text, entries.as_slice()) {
+    match read_header(alloc, records, entries.as_slice()) {
         Ok(columns) => Ok(columns),
         Err(_) => Err(Fail::from("the header is read")),
     }
 }
 
-// A text, the types that are asked for, and the fault of the first record that spells no row.
+/// A text, the types that are asked for, and the fault of the first record that spells no row.
 static FAULTS: [(&[u8], &str, RowFault); 16] = [
     // Another number of fields than the header's.
     (
@@ -103,9 +108,10 @@ static FAULTS: [(&[u8], &str, RowFault); 16] = [
 fn first_record_that_spells_no_row_is_named(rt: HostRuntime) -> Result<(), Fail> {
     let alloc = rt.alloc();
     for (text, asked, wanted) in &FAULTS {
-        let named = columns_of(alloc, *text, *asked)?;
+        let mut records = Records::start(alloc, *text);
+        let named = columns_of(alloc, &mut records, *asked)?;
         assert!(rt; text.len() <= 100);
-        match read_body(alloc, *text, named.as_slice(), b"") {
+        match read_body(alloc, records, named.as_slice(), b"") {
             Ok(_) => assert!(rt; false, "rows under {asked}"),
             Err(fault) => assert_eq!(rt; fault, BodyFault::Row(*wanted), "fault under {asked}"),
         }
@@ -113,7 +119,7 @@ fn first_record_that_spells_no_row_is_named(rt: HostRuntime) -> Result<(), Fail>
     Ok(())
 }
 
-// Expects so many columns of so many values.
+/// Expects so many columns of so many values.
 pub(crate) fn expect_lengths(rt: &impl Abort, builders: &[Builder], columns: usize, rows: i64)
     requires { (columns : List Column) × (rows : List Row) × HoldEach builders.now columns rows }
 {
@@ -123,7 +129,7 @@ pub(crate) fn expect_lengths(rt: &impl Abort, builders: &[Builder], columns: usi
     }
 }
 
-// A text, the types that are asked for, how many columns it has, and how many rows.
+/// A text, the types that are asked for, how many columns it has, and how many rows.
 static BODIES: [(&[u8], &str, usize, i64); 8] = [
     (b"a,b\n", "a:l", 2, 0),
     (b"a", "a:l", 1, 0),
@@ -144,9 +150,10 @@ static BODIES: [(&[u8], &str, usize, i64); 8] = [
 fn each_column_holds_a_value_a_row(rt: HostRuntime) -> Result<(), Fail> {
     let alloc = rt.alloc();
     for (text, asked, columns, rows) in &BODIES {
-        let named = columns_of(alloc, *text, *asked)?;
+        let mut records = Records::start(alloc, *text);
+        let named = columns_of(alloc, &mut records, *asked)?;
         assert!(rt; text.len() <= 1000);
-        match read_body(alloc, *text, named.as_slice(), b"") {
+        match read_body(alloc, records, named.as_slice(), b"") {
             Ok(builders) => expect_lengths(&rt, builders.as_slice(), *columns, *rows),
             Err(fault) => assert!(rt; false, "{fault:?} under {asked}"),
         }
@@ -154,8 +161,8 @@ fn each_column_holds_a_value_a_row(rt: HostRuntime) -> Result<(), Fail> {
     Ok(())
 }
 
-// A text of three columns, of which the second is one of numbers, and the field that is no UTF-8, if there is one. Texts that
-// aren't ASCII stand beside others that are.
+/// A text of three columns, of which the second is one of numbers, and the field that is no UTF-8, if there is one. Texts that
+/// aren't ASCII stand beside others that are.
 static UTF8: [(&[u8], Option<RowFault>); 10] = [
     (b"a,b,c\ncaf\xc3\xa9,1,x\nx,2,y\n", None),
     (b"a,b,c\nx,1,\xe2\x82\xac\ny,2,\n", None),
@@ -196,15 +203,41 @@ static UTF8: [(&[u8], Option<RowFault>); 10] = [
 fn a_text_beside_others_is_utf8(rt: HostRuntime) -> Result<(), Fail> {
     let alloc = rt.alloc();
     for (text, wanted) in &UTF8 {
-        let named = columns_of(alloc, *text, "b:l")?;
+        let mut records = Records::start(alloc, *text);
+        let named = columns_of(alloc, &mut records, "b:l")?;
         assert!(rt; text.len() <= 100);
-        match read_body(alloc, *text, named.as_slice(), b"") {
+        match read_body(alloc, records, named.as_slice(), b"") {
             Ok(builders) => {
                 expect_lengths(&rt, builders.as_slice(), 3, 2);
                 assert_eq!(rt; None, *wanted);
             }
             Err(fault) => assert_eq!(rt; Some(fault), wanted.map(|fault| BodyFault::Row(fault))),
         }
+    }
+    Ok(())
+}
+
+/// A fault, and its text.
+static TEXTS: [(BodyFault, &str); 3] = [
+    (
+        BodyFault::Row(RowFault::Ragged { row: 2, found: 3 }),
+        "record 2: 3 fields",
+    ),
+    (
+        BodyFault::Row(RowFault::Field { row: 3, column: 1 }),
+        "record 3, column 1: not a value of its type",
+    ),
+    (BodyFault::NoMemory, "out of memory"),
+];
+
+#[test]
+fn faults_of_bodies_have_their_texts(rt: HostRuntime) -> Result<(), Fail> {
+    for (fault, wanted) in &TEXTS {
+        assert_eq!(rt;
+            fault.to_string(rt.alloc())?.as_str(),
+            *wanted,
+            "the text of {fault:?}"
+        );
     }
     Ok(())
 }

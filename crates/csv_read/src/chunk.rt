@@ -6,10 +6,12 @@ ghost use Rattle.unit_pass.specs.Tally.{risen};
 ghost use Rattle.unit_pass.specs.declared.pass.TheConstants.{SUPPLY};
 ghost use Rattle.raw_array.specs.Members.{Cost, cost_of_all};
 ghost use Rattle.col_build.specs.Holding.{HoldsSome};
+ghost use Rattle.col_build.specs.declared.builder.Builder.{Builder as ABuilder};
 ghost use Rattle.layout_check.specs.Values.{rows_of};
 ghost use Rattle.layout_check.specs.Walk.{ChunkOk};
 ghost use Rattle.layout_check.specs.ColumnKinds.{type_of_columns};
-ghost use Rattle.csv_read.specs.Chunks.{AreColumnsOf, FitFrom, HoldRows, IsColumnOf, all_blocks, chunk_blocks, chunk_of, own_blocks};
+ghost use Rattle.csv_read.specs.Body.{HoldRows};
+ghost use Rattle.csv_read.specs.Chunks.{AreColumnsOf, FitFrom, IsColumnOf, all_blocks, chunk_blocks, chunk_of, own_blocks};
 
 use arr_export::{export_column, export_table};
 use buf_block::let_go_all;
@@ -20,14 +22,22 @@ use unit_pass::{NoMemory, Pass, SUPPLY};
 
 /// A law: the chunk of rows meets the rules of a chunk, and its rows are these ("Arrow Columnar Format", "Struct Layout").
 pub fn chunks_have_their_rows()
-    ensures chunk { (columns : List Column) (rows : List Row) → FitFrom 0 columns rows → length rows ≤ 2 ^ 40 → ChunkOk (type_of_columns columns) (chunk_of columns rows) }
-    ensures rows { (columns : List Column) (rows : List Row) → FitFrom 0 columns rows → All (λ row. length row ≡ length columns) rows → rows_of (type_of_columns columns) (chunk_of columns rows) ≡ rows }
+    ensures chunk { (columns : List Column) (rows : List Row) → FitFrom 0 columns rows → length rows ≤ 2 ^ 40
+        → ChunkOk (type_of_columns columns) (chunk_of columns rows) }
+    ensures rows { (columns : List Column) (rows : List Row) → FitFrom 0 columns rows → All (λ row. length row ≡ length columns) rows
+        → rows_of (type_of_columns columns) (chunk_of columns rows) ≡ rows }
 {
     arr_export::encoded_columns_are_lawful();
     arr_export::lawful_columns_make_a_chunk();
 }
 
-// The array of the column that a builder holds.
+/// A law: builders that hold rows hold a column each, and the columns of these rows have an encoding.
+pub fn held_rows_fit()
+    ensures some { (builders : List ABuilder) (columns : List Column) (rows : List Row) → HoldRows builders columns rows → All HoldsSome builders }
+    ensures fit { (builders : List ABuilder) (columns : List Column) (rows : List Row) → HoldRows builders columns rows → FitFrom 0 columns rows }
+{}
+
+/// The array of the column that a builder holds.
 fn column_array(alloc: Global, builder: Builder, pass: &mut Pass) -> Result<RawArray, NoMemory>
     requires holds { HoldsSome builder }
     requires units { 4 ≤ pass.old.units }
@@ -50,7 +60,7 @@ fn column_array(alloc: Global, builder: Builder, pass: &mut Pass) -> Result<RawA
     }
 }
 
-// Lets the buffers of a finished column without a dictionary go.
+/// Lets the buffers of a finished column without a dictionary go.
 fn give_up(built: Built, dictionary: Option<RawArray>, pass: &mut Pass)
     requires none { dictionary ≡ None }
     requires units { pass.old.units + count_by is_some built.buffers.items ≤ SUPPLY }
@@ -71,7 +81,7 @@ fn give_up(built: Built, dictionary: Option<RawArray>, pass: &mut Pass)
     let_go_all(buffers, pass);
 }
 
-// The arrays of the columns, one after the other.
+/// The arrays of the columns, one after the other.
 #[tactic(auto, using(tree_model::proofs::Measures::measures))]
 fn column_arrays(
     alloc: Global,
@@ -110,14 +120,17 @@ pub fn export_rows(
     rows: i64,
     pass: &mut Pass,
 ) -> Result<RawArray, NoMemory>
-    requires held { (columns : List Column) × (values : List Row) × HoldRows builders.items columns values × (rows ≡ pos (length values)) × (length values ≤ 2 ^ 40) }
+    requires held { (columns : List Column) × (values : List Row) × HoldRows builders.items columns values × (rows ≡ pos (length values))
+        × (length values ≤ 2 ^ 40) }
     requires few { length builders.items < 2 ^ 31 }
     requires units { 1 + 4 * length builders.items ≤ pass.old.units }
-    ensures chunk { IfOk result (λ chunk. (columns : List Column) (values : List Row) → HoldRows builders.items columns values → rows ≡ pos (length values) → chunk ≡ chunk_of columns values) }
+    ensures chunk { IfOk result (λ chunk. (columns : List Column) (values : List Row) → HoldRows builders.items columns values → rows ≡ pos (length values)
+        → chunk ≡ chunk_of columns values) }
     ensures units { IfOk result (λ chunk. pass.new.units + Cost chunk ≡ pass.old.units) }
     ensures units_back { OnErr result (pass.new.units ≡ pass.old.units) }
     ensures cost { IfOk result (λ chunk. Cost chunk ≤ 1 + 4 * length builders.items) }
-    ensures blocks { OnOk result ((columns : List Column) (values : List Row) → HoldRows builders.items columns values → pass.new.blocks ≡ risen pass.old.blocks (chunk_blocks columns values)) }
+    ensures blocks { OnOk result ((columns : List Column) (values : List Row) → HoldRows builders.items columns values
+        → pass.new.blocks ≡ risen pass.old.blocks (chunk_blocks columns values)) }
     ensures nodes { OnOk result (pass.new.nodes ≡ risen pass.old.nodes (1 + length builders.items)) }
 {
     let arrays = column_arrays(alloc, builders, pass)?;

@@ -12,7 +12,7 @@ use stage_plan::TypeEntry;
 use std::alloc::Global;
 use unit_pass::{Name, NoMemory};
 
-// The columns of these names.
+/// The columns of these names.
 pub(crate) fn columns(
     alloc: Global,
     names: &[&[u8]],
@@ -28,7 +28,7 @@ pub(crate) fn columns(
     Ok(columns)
 }
 
-// The column of a name.
+/// The column of a name.
 fn column(alloc: Global, name: &[u8], entries: &[TypeEntry]) -> Result<ColumnType, NoMemory>
     requires { All (λ e. KindOk e.kind) entries.now }
     ensures { IfOk result (λ column. column_of column ≡ column_for (entries_of entries.now) name.now) }
@@ -41,7 +41,7 @@ fn column(alloc: Global, name: &[u8], entries: &[TypeEntry]) -> Result<ColumnTyp
     })
 }
 
-// The type of the first entry of the name, and text where there is none.
+/// The type of the first entry of the name, and text where there is none.
 fn type_for(alloc: Global, name: &[u8], entries: &[TypeEntry]) -> Result<DataType, NoMemory>
     requires { All (λ e. KindOk e.kind) entries.now }
     ensures { IfOk result (λ kind. kind ≡ type_for (entries_of entries.now) name.now) }

@@ -7,7 +7,7 @@ use col_build::Item;
 use field_codec::read_bytes;
 use unit_pass::NoMemory;
 
-// The bytes that pairs of digits write.
+/// The bytes that pairs of digits write.
 pub(crate) fn bytes<'a>(text: &[u8], room: &'a mut Vec<u8>) -> Result<Option<Item<'a>>, NoMemory>
     ensures { IfOk result (λ item. option_map value_of item ≡ read_form HexBytes text.now) }
 {
@@ -17,7 +17,7 @@ pub(crate) fn bytes<'a>(text: &[u8], room: &'a mut Vec<u8>) -> Result<Option<Ite
     }
 }
 
-// So many bytes that pairs of digits write.
+/// So many bytes that pairs of digits write.
 pub(crate) fn sized_bytes<'a>(
     size: u32,
     text: &[u8],

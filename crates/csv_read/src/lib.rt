@@ -31,6 +31,7 @@ mod tests;
 pub use batch_laws::batches_are_read_in_turn;
 pub use batches::BatchReader;
 pub use body::{BodyFault, read_body};
-pub use chunk::{chunks_have_their_rows, export_rows};
+pub use chunk::{chunks_have_their_rows, export_rows, held_rows_fit};
 pub use csv_model::HeaderFault;
 pub use header::read_header;
+pub use records::Records;

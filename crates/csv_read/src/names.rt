@@ -10,7 +10,7 @@ use std::alloc::Global;
 use std::collections::HashSet;
 use unit_pass::NoMemory;
 
-// Refuses names of which one isn't text or is there twice, and entries of which one has no such name.
+/// Refuses names of which one isn't text or is there twice, and entries of which one has no such name.
 pub(crate) fn check_names(
     alloc: Global,
     names: &[&[u8]],
@@ -36,7 +36,7 @@ pub(crate) fn check_names(
     Ok(())
 }
 
-// The place of the first name that isn't UTF-8.
+/// The place of the first name that isn't UTF-8.
 fn first_not_text(names: &[&[u8]]) -> Option<usize>
     ensures place { result ≡ first_not_text (texts names.now) }
     ensures within { IfSome result (λ place. place < length names.now) }
@@ -49,7 +49,7 @@ fn first_not_text(names: &[&[u8]]) -> Option<usize>
     None
 }
 
-// The place of the first name that is one of those before it. Where there is none, all names are known.
+/// The place of the first name that is one of those before it. Where there is none, all names are known.
 fn first_twice<'a>(
     names: &[&'a [u8]],
     known: &mut HashSet<&'a [u8]>,
@@ -67,9 +67,10 @@ fn first_twice<'a>(
     Ok(None)
 }
 
-// The place of the first entry whose name isn't known.
+/// The place of the first entry whose name isn't known.
 fn first_unknown(entries: &[TypeEntry], known: &HashSet<&[u8]>) -> Option<usize>
-    ensures place { (names : List (List ℕ)) → ((name : List ℕ) → has_text known.now.keys name ≡ is_among names name) → result ≡ first_unknown (entries_of entries.now) names }
+    ensures place { (names : List (List ℕ)) → ((name : List ℕ) → has_text known.now.keys name ≡ is_among names name)
+        → result ≡ first_unknown (entries_of entries.now) names }
     ensures within { IfSome result (λ place. place < length entries.now) }
 {
     for place in 0..entries.len() {

@@ -7,7 +7,7 @@ use csv::ByteRecord;
 use std::alloc::Global;
 use unit_pass::NoMemory;
 
-// The fields of a record.
+/// The fields of a record.
 pub(crate) fn fields(alloc: Global, row: &ByteRecord) -> Result<Vec<&[u8]>, NoMemory>
     ensures { IfOk result (λ fields. texts fields.items ≡ fields_of row.now) }
 {
@@ -18,7 +18,7 @@ pub(crate) fn fields(alloc: Global, row: &ByteRecord) -> Result<Vec<&[u8]>, NoMe
     Ok(fields)
 }
 
-// The field of a record at a place, and nothing where there is none.
+/// The field of a record at a place, and nothing where there is none.
 #[inline(always)]
 pub(crate) fn field(row: &ByteRecord, place: usize) -> &[u8]
     ensures { result.now ≡ get_or (fields_of row.now) place [] }

@@ -1,10 +1,10 @@
-// Headers: the columns that they name, and their first faults.
-use super::{HeaderFault, read_header};
+//! Tests of headers: the columns that they name, and their first faults.
+use super::{HeaderFault, Records, read_header};
 use fmt_string::ColKind;
 use stage_plan::read_types;
 use std::test::Fail;
 
-// A text, the types that are asked for, and the fault of the header.
+/// A text, the types that are asked for, and the fault of the header.
 static FAULTS: [(&[u8], Option<&str>, HeaderFault); 11] = [
     (b"", None, HeaderFault::NoHeader),
     (b"\n\r\n", None, HeaderFault::NoHeader),
@@ -35,7 +35,7 @@ fn first_fault_of_a_header_is_named(rt: HostRuntime) -> Result<(), Fail> {
             Some(asked) => read_types(alloc, *asked).ok().ok_or("the types are read")?,
             None => Vec::new(alloc),
         };
-        match read_header(alloc, *text, entries.as_slice()) {
+        match read_header(alloc, &mut Records::start(alloc, *text), entries.as_slice()) {
             Ok(_) => assert!(rt; false),
             Err(fault) => assert_eq!(rt; fault, *wanted),
         }
@@ -43,7 +43,7 @@ fn first_fault_of_a_header_is_named(rt: HostRuntime) -> Result<(), Fail> {
     Ok(())
 }
 
-// A text, the types that are asked for, and the last column's number, name and type.
+/// A text, the types that are asked for, and the last column's number, name and type.
 static COLUMNS: [(&[u8], &str, usize, &[u8], &str); 5] = [
     (
         b"id,name\n1,x\n",
@@ -75,7 +75,7 @@ fn columns_have_the_types_that_are_asked_for(rt: HostRuntime) -> Result<(), Fail
     let alloc = rt.alloc();
     for (text, asked, count, name, kind) in &COLUMNS {
         let entries = read_types(alloc, *asked).ok().ok_or("the types are read")?;
-        let columns = read_header(alloc, *text, entries.as_slice())
+        let columns = read_header(alloc, &mut Records::start(alloc, *text), entries.as_slice())
             .ok()
             .ok_or("the header is read")?;
         assert_eq!(rt; columns.len(), *count);
@@ -92,7 +92,7 @@ fn columns_have_the_types_that_are_asked_for(rt: HostRuntime) -> Result<(), Fail
     Ok(())
 }
 
-// The names 0, 1, .. of so many columns.
+/// The names 0, 1, .. of so many columns.
 fn long_header(rt: &HostRuntime, count: usize) -> Result<String, Fail> {
     let alloc = rt.alloc();
     let mut text = String::new(alloc);
@@ -110,14 +110,48 @@ fn long_header(rt: &HostRuntime, count: usize) -> Result<String, Fail> {
 fn a_header_has_at_most_1024_columns(rt: HostRuntime) -> Result<(), Fail> {
     let alloc = rt.alloc();
     let most = long_header(&rt, 1024)?;
-    let columns = read_header(alloc, most.as_bytes(), &[])
+    let columns = read_header(alloc, &mut Records::start(alloc, most.as_bytes()), &[])
         .ok()
         .ok_or("the header is read")?;
     assert_eq!(rt; columns.len(), 1024);
     let more = long_header(&rt, 1025)?;
-    match read_header(alloc, more.as_bytes(), &[]) {
+    match read_header(alloc, &mut Records::start(alloc, more.as_bytes()), &[]) {
         Ok(_) => assert!(rt; false),
         Err(fault) => assert_eq!(rt; fault, HeaderFault::TooManyColumns { count: 1025 }),
+    }
+    Ok(())
+}
+
+/// A fault, and its text.
+static TEXTS: [(HeaderFault, &str); 6] = [
+    (HeaderFault::NoHeader, "no header"),
+    (
+        HeaderFault::TooManyColumns { count: 1025 },
+        "header has 1025 columns",
+    ),
+    (
+        HeaderFault::NotText { column: 2 },
+        "header column 2: not UTF-8",
+    ),
+    (
+        HeaderFault::Twice { column: 3 },
+        "header column 3: named before",
+    ),
+    (
+        HeaderFault::Unknown { entry: 4 },
+        "schema entry 4: no such column",
+    ),
+    (HeaderFault::NoMemory, "out of memory"),
+];
+
+#[test]
+fn faults_of_headers_have_their_texts(rt: HostRuntime) -> Result<(), Fail> {
+    for (fault, wanted) in &TEXTS {
+        assert_eq!(rt;
+            fault.to_string(rt.alloc())?.as_str(),
+            *wanted,
+            "the text of {fault:?}"
+        );
     }
     Ok(())
 }

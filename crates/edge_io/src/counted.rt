@@ -1,4 +1,4 @@
-// A source of very many bytes that keeps none.
+//! A source of very many bytes that keeps none.
 ghost use Rattle.std.specs.Prelude.{◌≡◌, ◌<◌, ◌≤◌, Some, false, length, min};
 ghost use Rattle.edge_io.specs.Edge.{GivesFirst, GivesWithin};
 ghost use Rattle.edge_io.specs.Memory.{count_left, letters, read_answer};

@@ -11,6 +11,8 @@ ghost use Rattle.std.specs.Io.KnownBytes.{Appends, Consumes, IsAtEnd};
 ghost use Rattle.edge_io.specs.Edge.{GivesFirst, GivesWithin, LosesCount, LosesPrefix, ReadFailsFor, Rose, TakesFirst, TakesWithin, WriteFailsFor, taken_by};
 
 mod counted;
+mod fault_text;
+mod gate;
 mod mem_sink;
 mod mem_source;
 mod memory;
@@ -18,6 +20,7 @@ mod standard;
 mod whole;
 
 pub use counted::CountSource;
+pub use gate::{Gate, OpenGate};
 pub use memory::{MemSink, MemSource};
 pub use standard::{StdSink, StdSource};
 pub use unit_pass::NoMemory;

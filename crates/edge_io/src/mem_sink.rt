@@ -1,7 +1,8 @@
-// A sink in memory, which tells its bytes and fails where it is told to.
+//! A sink in memory, which tells its bytes and fails where it is told to.
 ghost use Rattle.std.specs.Prelude.{◌≡◌, ◌<◌, ◌≤◌, [], IfOk, Some, false, length, min};
 ghost use Rattle.edge_io.specs.Edge.{TakesFirst, TakesWithin, WriteFailsFor};
-ghost use Rattle.edge_io.specs.Memory.{WroteOnce, bytes_taken, failing_writes, is_failing, most_taken, next_call, room_left, write_answer, writes_failed, writes_made};
+ghost use Rattle.edge_io.specs.Memory.{WroteOnce, bytes_taken, failing_writes, is_failing, most_taken, next_call, room_left, write_answer, writes_failed};
+ghost use Rattle.edge_io.specs.Memory.{writes_made};
 
 use crate::memory::MemSink;
 use crate::{NoMemory, Sink, Took};
@@ -55,7 +56,8 @@ impl Sink for MemSink {
         ensures later { writes_failed self.old ≤ writes_failed self.new }
         ensures cause { WriteFailsFor (writes_failed self.old) (writes_failed self.new) result }
         // Which answer it is.
-        ensures exact { result ≡ write_answer (is_failing (failing_writes self.old) (next_call (writes_made self.old))) (min (min (length piece.now) (most_taken self.old)) (room_left self.old)) }
+        ensures exact { result ≡ write_answer (is_failing (failing_writes self.old) (next_call (writes_made self.old)))
+            (min (min (length piece.now) (most_taken self.old)) (room_left self.old)) }
         ensures plan { WroteOnce self.old self.new }
     {
         self.calls = self.calls.saturating_add(1);

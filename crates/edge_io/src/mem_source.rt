@@ -1,4 +1,4 @@
-// A source in memory, which tells its bytes and fails where it is told to.
+//! A source in memory, which tells its bytes and fails where it is told to.
 ghost use Rattle.std.specs.Prelude.{◌≡◌, ◌<◌, ◌≤◌, Some, drop, length, min};
 ghost use Rattle.edge_io.specs.Edge.{GivesFirst, GivesWithin, ReadFailsFor};
 ghost use Rattle.edge_io.specs.Memory.{ReadOnce, bytes_left, failing_reads, is_failing, most_given, next_call, read_answer, reads_failed, reads_made};
@@ -38,7 +38,8 @@ impl Source for MemSource {
         ensures later { reads_failed self.old ≤ reads_failed self.new }
         ensures cause { ReadFailsFor (reads_failed self.old) (reads_failed self.new) result }
         // Which answer it is.
-        ensures exact { result ≡ read_answer (is_failing (failing_reads self.old) (next_call (reads_made self.old))) (min (min (length room.old) (most_given self.old)) (length (bytes_left self.old))) }
+        ensures exact { result ≡ read_answer (is_failing (failing_reads self.old) (next_call (reads_made self.old)))
+            (min (min (length room.old) (most_given self.old)) (length (bytes_left self.old))) }
         ensures plan { ReadOnce self.old self.new }
     {
         self.calls = self.calls.saturating_add(1);

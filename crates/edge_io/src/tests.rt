@@ -1,4 +1,4 @@
-// Whole texts over sources and sinks that give and take little, and fail.
+//! Whole texts over sources and sinks that give and take little, and fail.
 ghost use Rattle.std.specs.Prelude.{◌≤◌, ◌^◌, ◌-◌};
 
 use crate::{
@@ -11,7 +11,7 @@ use std::io::{ErrorKind, Read, Write};
 use std::process::Abort;
 use std::test::Fail;
 
-// What a source of these bytes gives to the end.
+/// What a source of these bytes gives to the end.
 fn read_bytes(
     alloc: Global,
     bytes: &[u8],
@@ -103,7 +103,7 @@ fn a_sink_keeps_a_prefix_where_a_write_fails(rt: HostRuntime) -> Result<(), Fail
     Ok(())
 }
 
-// A reader that gives so many letters in turn, and fails where the count is missing.
+/// A reader that gives so many letters in turn, and fails where the count is missing.
 #[derive(Drop)]
 struct Letters {
     counts: [Option<usize>; 4],
@@ -165,7 +165,7 @@ fn texts_of_the_system_are_read_whole_or_failed(rt: HostRuntime) -> Result<(), F
     Ok(())
 }
 
-// A writer that takes so many bytes in turn and is flushed, and fails where the count is missing or the flush is to fail.
+/// A writer that takes so many bytes in turn and is flushed, and fails where the count is missing or the flush is to fail.
 #[derive(Drop)]
 struct Takes {
     counts: [(Option<usize>, bool); 5],
@@ -259,5 +259,30 @@ fn a_text_to_the_system_tells_what_was_taken(rt: HostRuntime) -> Result<(), Fail
             Err(WriteFault::Failed { taken: count }) => assert_eq!(rt; taken, Some(count)),
         }
     }
+    Ok(())
+}
+
+/// A fault of reading, and its text.
+static READ_TEXTS: [(ReadFault, &str); 3] = [
+    (ReadFault::Failed, "read failed"),
+    (ReadFault::TooLong, "input too long"),
+    (ReadFault::NoMemory, "out of memory"),
+];
+
+#[test]
+fn faults_have_their_texts(rt: HostRuntime) -> Result<(), Fail> {
+    let alloc = rt.alloc();
+    for (fault, wanted) in &READ_TEXTS {
+        assert_eq!(rt;
+            fault.to_string(alloc)?.as_str(),
+            *wanted,
+            "the text of {fault:?}"
+        );
+    }
+    let fault = WriteFault::Failed { taken: 12 };
+    assert_eq!(rt;
+        fault.to_string(alloc)?.as_str(),
+        "write failed after 12 bytes"
+    );
     Ok(())
 }

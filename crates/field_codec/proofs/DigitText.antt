@@ -1,5 +1,6 @@
 -- The digits of a number of 64 bits, written into the end of a text, and those behind a point.
-use Rattle.std.proofs.Common.{◌≡◌, ℕ, zero, suc, ◌+◌, ◌-◌, ◌*◌, ◌/◌, ◌%◌, ◌^◌, ◌<◌, ◌≤◌, Bool, true, false, List, [], ◌∷◌, ◌++◌, length, drop, set, sym, ap, ◌∙◌, arith}
+use Rattle.std.proofs.Common.{◌≡◌, ℕ, zero, suc, ◌+◌, ◌-◌, ◌*◌, ◌/◌, ◌%◌, ◌^◌, ◌<◌, ◌≤◌, Bool, true, false, List, [], ◌∷◌, ◌++◌, length, drop, set, sym, ap}
+use Rattle.std.proofs.Common.{◌∙◌, arith}
 use Rattle.std.specs.Prelude.{if◌then◌else◌}
 use Rattle.std.specs.Fmt.{decimal, digit_glyph}
 use Rattle.std.proofs.lemmas.Fmt.{decimal_digit, length-decimal-le}
@@ -77,13 +78,15 @@ tail-of (x ∷ text) zero byte rest e = cc
 tail-of (x ∷ text) (suc at) byte rest e = tail-of text at byte rest e
 
 -- the point takes the place of the unit's digit
-pub pointed-digits : (k n at : ℕ) (text old : List ℕ) → k ≤ 18 → at < length text → length old ≡ 40 → drop at text ≡ decimal (10 ^ k + n % 10 ^ k) ++ drop 40 old
+pub pointed-digits : (k n at : ℕ) (text old : List ℕ) → k ≤ 18 → at < length text → length old ≡ 40
+    → drop at text ≡ decimal (10 ^ k + n % 10 ^ k) ++ drop 40 old
     → drop at (set text at 46) ≡ 46 ∷ last_digits 10 k n
 pointed-digits k n at text old few inside size is =
     let next : at + 1 ≡ suc at = omega arith in
     let none : drop 40 old ≡ [] = drop_all 40 old (omega (arith, size)) in
     let all : drop at text ≡ 49 ∷ last_digits 10 k n =
-    is ∙ ap (λ (ds : List ℕ). decimal (10 ^ k + n % 10 ^ k) ++ ds) none ∙ append-nil (decimal (10 ^ k + n % 10 ^ k)) ∙ unit_digits k n (wide _ (unit-small k n few)) in
+    is ∙ ap (λ (ds : List ℕ). decimal (10 ^ k + n % 10 ^ k) ++ ds) none ∙ append-nil (decimal (10 ^ k + n % 10 ^ k))
+    ∙ unit_digits k n (wide _ (unit-small k n few)) in
     drop-set text at 46 inside ∙ ap (λ (m : ℕ). 46 ∷ drop m text) next ∙ ap (λ (ds : List ℕ). 46 ∷ ds) (tail-of text at 49 (last_digits 10 k n) all)
 
 pub with-point : (minus : Bool) (places n unit : ℕ) (text rest : List ℕ) → 0 < places → unit ≡ 10 ^ places
@@ -95,8 +98,10 @@ with-point true (suc more) n unit text rest some is e behind =
 with-point false (suc more) n unit text rest some is e behind =
     e ∙ ap (λ (ds : List ℕ). decimal (n / unit) ++ ds) behind ∙ ap (λ (u : ℕ). decimal (n / u) ++ (46 ∷ last_digits 10 (suc more) n)) is
 
-pub without-point : (minus : Bool) (places n : ℕ) (text old : List ℕ) → places ≡ 0 → length old ≡ 40 → text ≡ (if minus then 45 ∷ decimal n else decimal n) ++ drop 40 old
+pub without-point : (minus : Bool) (places n : ℕ) (text old : List ℕ) → places ≡ 0 → length old ≡ 40
+    → text ≡ (if minus then 45 ∷ decimal n else decimal n) ++ drop 40 old
     → text ≡ (if minus then 45 ∷ point_text places n else point_text places n)
-without-point true zero n text old none size e = e ∙ ap (λ (ds : List ℕ). 45 ∷ (decimal n ++ ds)) (drop_all 40 old (omega (arith, size))) ∙ ap (λ (ds : List ℕ). 45 ∷ ds) (append-nil (decimal n))
+without-point true zero n text old none size e =
+    e ∙ ap (λ (ds : List ℕ). 45 ∷ (decimal n ++ ds)) (drop_all 40 old (omega (arith, size))) ∙ ap (λ (ds : List ℕ). 45 ∷ ds) (append-nil (decimal n))
 without-point false zero n text old none size e = e ∙ ap (λ (ds : List ℕ). decimal n ++ ds) (drop_all 40 old (omega (arith, size))) ∙ append-nil (decimal n)
 without-point minus (suc more) n text old none size e = absurd (omega (arith, none))

@@ -1,5 +1,6 @@
 -- Hexadecimal digits: the numbers and the bytes that they write.
-use Rattle.std.proofs.Common.{◌≡◌, ℕ, zero, suc, ◌+◌, ◌*◌, ◌/◌, ◌%◌, ◌^◌, ◌<◌, ◌≤◌, true, false, List, [], ◌∷◌, ◌++◌, length, take, get_or, Option, Some, None, Result, Ok, Err, refl, sym, ap, ◌∙◌, arith, inl, inr}
+use Rattle.std.proofs.Common.{◌≡◌, ℕ, zero, suc, ◌+◌, ◌*◌, ◌/◌, ◌%◌, ◌^◌, ◌<◌, ◌≤◌, true, false, List, [], ◌∷◌, ◌++◌, length, take, get_or, Option, Some, None}
+use Rattle.std.proofs.Common.{Result, Ok, Err, refl, sym, ap, ◌∙◌, arith, inl, inr}
 use Rattle.std.specs.Prelude.{IsOk, OnOk, MatchResult, MatchOption, ◌==◌, ◌&&◌, codes, slice_index}
 use Rattle.std.specs.List.{list_all}
 use Rattle.std.specs.Option.{option_map}
@@ -33,7 +34,8 @@ hex_more text count number digit next front within is value small e =
     let more : count + 1 ≡ suc count = omega arith in
     record {
       digits = list_all_more is_ascii_hexdigit text count 0 within ∙ rw (front.digits, is) refl;
-      writes = e ∙ ap (λ (x : ℕ). x * 16 + digit) front.writes ∙ ap (λ (x : ℕ). digits_value 16 (take count text) * 16 + x) value ∙ sym (digits_value_more 16 text count within);
+      writes = e ∙ ap (λ (x : ℕ). x * 16 + digit) front.writes ∙ ap (λ (x : ℕ). digits_value 16 (take count text) * 16 + x) value
+          ∙ sym (digits_value_more 16 text count within);
       small = rw more (omega (arith, front.small, small, e, pow-succ' 16 count));
     }
 
@@ -70,7 +72,15 @@ pub power_of_2 : (k : ℕ) → 2 ^ (4 * k) ≡ 16 ^ k
 power_of_2 zero = refl
 power_of_2 (suc k) =
     let more : 4 * suc k ≡ suc (suc (suc (suc (4 * k)))) = omega arith in
-    rw more (omega (arith, pow-succ' 2 (suc (suc (suc (4 * k)))), pow-succ' 2 (suc (suc (4 * k))), pow-succ' 2 (suc (4 * k)), pow-succ' 2 (4 * k), pow-succ' 16 k, power_of_2 k))
+    rw more (omega (
+      arith,
+      pow-succ' 2 (suc (suc (suc (4 * k)))),
+      pow-succ' 2 (suc (suc (4 * k))),
+      pow-succ' 2 (suc (4 * k)),
+      pow-succ' 2 (4 * k),
+      pow-succ' 16 k,
+      power_of_2 k,
+    ))
 
 -- one digit more of a number, of which so many are behind it
 pub next_digit : (place behind left number : ℕ) (text : List ℕ) → text ≡ last_digits 16 place (number / 16 ^ left) → left ≡ suc behind

@@ -1,5 +1,6 @@
 -- Decimal digits in front of a text.
-use Rattle.std.proofs.Common.{◌≡◌, ℕ, suc, ◌+◌, ◌-◌, ◌*◌, ◌^◌, ◌<◌, ◌≤◌, ◌≢◌, ◌⊎◌, true, false, List, [], ◌∷◌, length, take, get_or, refl, sym, ap, ◌∙◌, arith, inl, inr}
+use Rattle.std.proofs.Common.{◌≡◌, ℕ, suc, ◌+◌, ◌-◌, ◌*◌, ◌^◌, ◌<◌, ◌≤◌, ◌≢◌, ◌⊎◌, true, false, List, [], ◌∷◌, length, take, get_or, refl, sym, ap, ◌∙◌, arith}
+use Rattle.std.proofs.Common.{inl, inr}
 use Rattle.std.specs.List.{prefix_len}
 use Rattle.std.specs.Char.{is_ascii_digit, digit_value}
 use Rattle.std.specs.Str.Parse.{digits_value}
@@ -34,7 +35,8 @@ pub record Front (text : List ℕ) (count value : ℕ) : Type 0 where
 pub front_none : (text : List ℕ) → Front text 0 0
 front_none text = record { digits = λ k none. absurd (omega (arith, none)); writes = refl }
 
-pub front_more : (text : List ℕ) (count value next : ℕ) → Front text count value → count < length text → is_ascii_digit (get_or text count 0) ≡ true → next ≡ value * 10 + (get_or text count 0 - 48) → Front text (count + 1) next
+pub front_more : (text : List ℕ) (count value next : ℕ) → Front text count value → count < length text → is_ascii_digit (get_or text count 0) ≡ true
+    → next ≡ value * 10 + (get_or text count 0 - 48) → Front text (count + 1) next
 front_more text count value next front within is e = record {
   digits = below_more (λ k. is_ascii_digit (get_or text k 0) ≡ true) count front.digits is;
   writes = e ∙ ap (λ (x : ℕ). x * 10 + (get_or text count 0 - 48)) front.writes
@@ -42,7 +44,8 @@ front_more text count value next front within is e = record {
       ∙ sym (digits_value_more 10 text count within);
 }
 
-pub front_len : (text : List ℕ) (count value : ℕ) → Front text count value → count ≤ length text → (count < length text → is_ascii_digit (get_or text count 0) ≡ false) → count ≡ prefix_len is_ascii_digit text
+pub front_len : (text : List ℕ) (count value : ℕ) → Front text count value → count ≤ length text
+    → (count < length text → is_ascii_digit (get_or text count 0) ≡ false) → count ≡ prefix_len is_ascii_digit text
 front_len text count value front within ends = sym (prefix_len_is is_ascii_digit text count 0 within front.digits ends)
 
 -- one digit more keeps a number below the power of its length
@@ -56,23 +59,27 @@ few_digits count most few = pow-le-pow_right {n = 10} (omega arith) {i = count} 
 
 -- ---- a number that grows too large
 
-past_front : (text : List ℕ) (count number : ℕ) → Front text count number → count < length text → is_ascii_digit (get_or text count 0) ≡ true → count < prefix_len is_ascii_digit text
+past_front : (text : List ℕ) (count number : ℕ) → Front text count number → count < length text → is_ascii_digit (get_or text count 0) ≡ true
+    → count < prefix_len is_ascii_digit text
 past_front text count number front within is =
     let more = front_more text count number (number * 10 + (get_or text count 0 - 48)) front within is refl in
     elim (cases_lt (prefix_len is_ascii_digit text) (count + 1)) [
       | inl early ↦
-          let stops : is_ascii_digit (get_or text (prefix_len is_ascii_digit text) 0) ≡ false = prefix_len_stops is_ascii_digit text 0 (omega (arith, early, within)) in
+          let stops : is_ascii_digit (get_or text (prefix_len is_ascii_digit text) 0) ≡ false =
+          prefix_len_stops is_ascii_digit text 0 (omega (arith, early, within)) in
           absurd (false≢true (sym stops ∙ more.digits (prefix_len is_ascii_digit text) early))
       | inr late ↦ omega (arith, late)
     ]
 
-pub front_large : (text : List ℕ) (count number : ℕ) → Front text count number → count < length text → is_ascii_digit (get_or text count 0) ≡ true → 10 ^ 37 ≤ number
+pub front_large : (text : List ℕ) (count number : ℕ) → Front text count number → count < length text
+    → is_ascii_digit (get_or text count 0) ≡ true → 10 ^ 37 ≤ number
     → 10 ^ 38 ≤ digits_value 10 (take (prefix_len is_ascii_digit text) text)
 front_large text count number front within is large =
     let more = front_more text count number (number * 10 + (get_or text count 0 - 48)) front within is refl in
     let past = past_front text count number front within is in
     let len = prefix_len is_ascii_digit text in
-    let same : digits_value 10 (take (count + 1) (take len text)) ≡ digits_value 10 (take (count + 1) text) = ap (digits_value 10) (take-take (count + 1) len text (omega (arith, past))) in
+    let same : digits_value 10 (take (count + 1) (take len text)) ≡ digits_value 10 (take (count + 1) text) =
+    ap (digits_value 10) (take-take (count + 1) len text (omega (arith, past))) in
     omega (arith, digits_value-take-le 10 (take len text) (count + 1) (omega arith), same, more.writes, large)
 
 -- ---- a text of digits alone
@@ -96,7 +103,8 @@ pub record Numeral (text : List ℕ) (number : ℕ) : Type 0 where
   pub is : is_numeral text ≡ true
   pub writes : number ≡ digits_value 10 text
 
-pub whole_front : (text : List ℕ) (count number : ℕ) → count ≡ prefix_len is_ascii_digit text → number ≡ digits_value 10 (take count text) → count ≢ 0 → length text ≤ count → Numeral text number
+pub whole_front : (text : List ℕ) (count number : ℕ) → count ≡ prefix_len is_ascii_digit text → number ≡ digits_value 10 (take count text) → count ≢ 0
+    → length text ≤ count → Numeral text number
 whole_front text count number len writes some whole =
     let within = prefix_len-le-length is_ascii_digit text in
     record {

@@ -1,5 +1,6 @@
 -- The text of a decimal: the digits of its number, with a point before so many of them.
-use Rattle.std.proofs.Common.{◌≡◌, ℕ, zero, suc, ◌+◌, ◌-◌, ◌/◌, ◌%◌, ◌^◌, ◌<◌, ◌≤◌, false, List, [], ◌∷◌, ◌++◌, length, take, drop, replicate, refl, sym, ap, ◌∙◌, subst, arith, inl, inr, append_assoc, length-append}
+use Rattle.std.proofs.Common.{◌≡◌, ℕ, zero, suc, ◌+◌, ◌-◌, ◌/◌, ◌%◌, ◌^◌, ◌<◌, ◌≤◌, false, List, [], ◌∷◌, ◌++◌, length, take, drop, replicate, refl, sym, ap}
+use Rattle.std.proofs.Common.{◌∙◌, subst, arith, inl, inr, append_assoc, length-append}
 use Rattle.std.specs.Fmt.{decimal, digit_glyph}
 use Rattle.std.proofs.lemmas.Bool.{cases_lt, lt-ltb}
 use Rattle.std.proofs.lemmas.Nat.{div_below}
@@ -56,7 +57,8 @@ no_digits zero = refl
 no_digits (suc count) = ap (λ (ds : List ℕ). ds ++ one_zero) (no_digits count) ∙ zeros_more count
 
 -- and one of at most so many has zeros before it
-pub padded_digits : (places n : ℕ) → n < 10 ^ 64 → length (decimal n) ≤ places → last_digits 10 places n ≡ replicate (places - length (decimal n)) 48 ++ decimal n
+pub padded_digits : (places n : ℕ) → n < 10 ^ 64 → length (decimal n) ≤ places
+    → last_digits 10 places n ≡ replicate (places - length (decimal n)) 48 ++ decimal n
 padded_digits zero n small short = elim (cases_lt n 10) [
   | inl single ↦ absurd (omega (arith, short, length_one n single))
   | inr some ↦ absurd (omega (arith, short, length_steps n some small))
@@ -93,7 +95,8 @@ none_before places n small short =
 
 pub length-last_digits : (count n : ℕ) → length (last_digits 10 count n) ≡ count
 length-last_digits zero n = refl
-length-last_digits (suc count) n = omega (arith, length-append (last_digits 10 count (n / 10)) (digit_glyph false (n % 10) ∷ []), length-last_digits count (n / 10))
+length-last_digits (suc count) n =
+    omega (arith, length-append (last_digits 10 count (n / 10)) (digit_glyph false (n % 10) ∷ []), length-last_digits count (n / 10))
 
 pub pointed : (places n : ℕ) → n < 10 ^ 64 → 0 < places → places < length (decimal n)
     → point_text places n ≡ take (length (decimal n) - places) (decimal n) ++ (46 ∷ drop (length (decimal n) - places) (decimal n))
@@ -102,7 +105,8 @@ pointed (suc more) n small some long =
     let whole : List ℕ = decimal (n / 10 ^ suc more) in
     let fraction : List ℕ = last_digits 10 (suc more) n in
     let split = split_digits (suc more) n small long in
-    let count : length (decimal n) - suc more ≡ length whole = omega (arith, ap (λ (ds : List ℕ). length ds) split, length-append whole fraction, length-last_digits (suc more) n) in
+    let count : length (decimal n) - suc more ≡ length whole =
+    omega (arith, ap (λ (ds : List ℕ). length ds) split, length-append whole fraction, length-last_digits (suc more) n) in
     let front : take (length (decimal n) - suc more) (decimal n) ≡ whole =
     ap (λ (k : ℕ). take k (decimal n)) count ∙ ap (λ (ds : List ℕ). take (length whole) ds) split ∙ take_at whole fraction (length whole) refl in
     let behind : drop (length (decimal n) - suc more) (decimal n) ≡ fraction =
@@ -117,7 +121,8 @@ zero_pointed (suc more) n small some short =
     ∙ ap (λ (ds : List ℕ). ds ++ (46 ∷ last_digits 10 (suc more) n)) (decimal_digit 0 (omega arith))
     ∙ ap (λ (ds : List ℕ). 48 ∷ 46 ∷ ds) (padded_digits (suc more) n small short)
 
-pub pointed_after : (places n : ℕ) (room digits whole fraction first second third : List ℕ) → n < 10 ^ 64 → 0 < places → digits ≡ decimal n → places < length digits
+pub pointed_after : (places n : ℕ) (room digits whole fraction first second third : List ℕ) → n < 10 ^ 64 → 0 < places → digits ≡ decimal n
+    → places < length digits
     → whole ≡ take (length digits - places) digits → fraction ≡ drop (length digits - places) digits
     → first ≡ room ++ whole → second ≡ first ++ (46 ∷ []) → third ≡ second ++ fraction → third ≡ room ++ point_text places n
 pointed_after places n room digits whole fraction first second third small some is long front behind one two three =

@@ -1,5 +1,6 @@
 //! Decimals: digits before a point and behind it.
-ghost use Rattle.std.specs.Prelude.{◌≡◌, pos, neg_ℤ, if◌then◌else◌, ◌+◌, ◌-◌, ◌*◌, ◌<◌, ◌≤◌, ◌^◌, length, option_map, true, false, IfSome, IfNone, MatchOption, Some, None};
+ghost use Rattle.std.specs.Prelude.{◌≡◌, pos, neg_ℤ, if◌then◌else◌, ◌+◌, ◌-◌, ◌*◌, ◌<◌, ◌≤◌, ◌^◌, length, option_map, true, false, IfSome, IfNone, MatchOption};
+ghost use Rattle.std.specs.Prelude.{Some, None};
 ghost use Rattle.fmt_string.specs.FieldText.{read_decimal, read_unscaled};
 ghost use Rattle.fmt_string.specs.Value.{Whole};
 ghost use Rattle.field_codec.specs.Fractions.{IsPastDecimals, fraction_text};
@@ -20,7 +21,7 @@ pub fn read_decimal(precision: u8, places: u32, text: &[u8]) -> Option<i128>
     Some(with_sign(minus, number))
 }
 
-// The number with its sign.
+/// The number with its sign.
 fn with_sign(minus: bool, number: u128) -> i128
     requires { number < 10 ^ 38 }
     ensures { result ≡ (if minus then neg_ℤ (pos number) else pos number) }
@@ -29,7 +30,7 @@ fn with_sign(minus: bool, number: u128) -> i128
     if minus { -number } else { number }
 }
 
-// The number without sign, where it has at most 38 digits.
+/// The number without sign, where it has at most 38 digits.
 fn unscaled(places: usize, text: &[u8]) -> Option<u128>
     ensures some { IfSome result (λ n. read_unscaled places text.now ≡ Some n) }
     ensures none { IfNone result (IsPastDecimals (read_unscaled places text.now)) }
@@ -40,7 +41,7 @@ fn unscaled(places: usize, text: &[u8]) -> Option<u128>
     long_unscaled(places, text)
 }
 
-// The same of a short text.
+/// The same of a short text.
 fn short_unscaled(places: usize, text: &[u8]) -> Option<u64>
     requires { length text.now + places ≤ 18 }
     ensures { result ≡ read_unscaled places text.now }
@@ -58,7 +59,7 @@ fn short_unscaled(places: usize, text: &[u8]) -> Option<u64>
     Some(whole * power(places) + fraction * power(places - fine))
 }
 
-// The same of a text of any length.
+/// The same of a text of any length.
 fn long_unscaled(places: usize, text: &[u8]) -> Option<u128>
     ensures some { IfSome result (λ n. read_unscaled places text.now ≡ Some n) }
     ensures none { IfNone result (IsPastDecimals (read_unscaled places text.now)) }
@@ -78,7 +79,7 @@ fn long_unscaled(places: usize, text: &[u8]) -> Option<u128>
     Some(whole + fraction)
 }
 
-// What may be the digits behind a point: of the empty text none, and else from 1 to so many bytes behind a point.
+/// What may be the digits behind a point: of the empty text none, and else from 1 to so many bytes behind a point.
 fn fraction_text(most: usize, text: &[u8]) -> Option<&[u8]>
     ensures { option_map (λ t. t.now) result ≡ fraction_text most text.now }
 {
@@ -89,7 +90,7 @@ fn fraction_text(most: usize, text: &[u8]) -> Option<&[u8]>
     }
 }
 
-// The number with so many zeros behind it, where it then has at most 38 digits.
+/// The number with so many zeros behind it, where it then has at most 38 digits.
 fn shifted(number: u128, zeros: usize) -> Option<u128>
     ensures some { IfSome result (λ n. n ≡ number * 10 ^ zeros) }
     ensures small { IfSome result (λ n. n < 10 ^ 38) }

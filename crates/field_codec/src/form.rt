@@ -48,7 +48,7 @@ pub fn form_of(kind: &DataType) -> Option<FieldForm>
     }
 }
 
-// The form of what is stored so.
+/// The form of what is stored so.
 fn stored_form(storage: Storage) -> Option<FieldForm>
     ensures { option_map form_in result ≡ stored_form storage }
 {
@@ -79,7 +79,7 @@ pub fn flat_form(kind: &DataType) -> FieldForm
     }
 }
 
-// The digits behind the point: a scale below 0 is read and written as 0.
+/// The digits behind the point: a scale below 0 is read and written as 0.
 fn places(scale: i32) -> u32
     ensures { result ≡ places scale }
 {

@@ -24,7 +24,7 @@ pub fn read_bits(bits: u8, text: &[u8]) -> Option<u64>
     Some(number)
 }
 
-// The value of a digit.
+/// The value of a digit.
 fn digit(byte: u8) -> Option<u8>
     ensures is { IfSome result (λ d. is_ascii_hexdigit byte ≡ true) }
     ensures value { IfSome result (λ d. d ≡ digit_value byte) }
@@ -49,7 +49,7 @@ pub fn bits_text<'a>(bits: u8, number: u64, room: &'a mut Vec<u8>) -> Result<&'a
     Ok(room.as_slice())
 }
 
-// Fills a text with the lowest digits of a number.
+/// Fills a text with the lowest digits of a number.
 fn write_bits(number: u64, text: &mut [u8])
     requires { length text.old ≤ 16 }
     ensures { text.new ≡ last_digits 16 (length text.old) number }
@@ -61,7 +61,7 @@ fn write_bits(number: u64, text: &mut [u8])
     }
 }
 
-// The digit of a value.
+/// The digit of a value.
 fn glyph(value: u64) -> u8
     requires { value < 16 }
     ensures { result ≡ digit_glyph false value }
@@ -93,7 +93,7 @@ pub fn bytes_text<'a>(bytes: &[u8], room: &'a mut Vec<u8>) -> Result<&'a [u8], N
     Ok(room.as_slice())
 }
 
-// Writes the pairs of digits of bytes.
+/// Writes the pairs of digits of bytes.
 fn encode(bytes: &[u8], text: &mut [u8])
     requires { length text.old ≡ 2 * length bytes.now }
     ensures { text.new ≡ hex_text bytes.now }

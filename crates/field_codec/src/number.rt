@@ -27,7 +27,7 @@ pub fn short_front(text: &[u8]) -> (u64, usize)
     (value, text.len())
 }
 
-// Where a number has 38 digits: 10^37.
+/// Where a number has 38 digits: 10^37.
 const LAST_STEP: u128 = 10_000_000_000_000_000_000_000_000_000_000_000_000;
 
 /// The same of a text of any length, where the number has at most 38 digits.
@@ -44,7 +44,7 @@ pub fn front(text: &[u8]) -> Option<(u128, usize)>
     Some((u128::from(value), count))
 }
 
-// The same, in as many bits as a decimal of 38 digits has.
+/// The same, in as many bits as a decimal of 38 digits has.
 fn long_front(text: &[u8]) -> Option<(u128, usize)>
     ensures count { IfSome result (λ r. r.1 ≡ prefix_len is_ascii_digit text.now) }
     ensures value { IfSome result (λ r. r.0 ≡ digits_value 10 (take r.1 text.now)) }
@@ -95,7 +95,7 @@ pub fn magnitude(text: &[u8]) -> Option<u64>
     Some(value)
 }
 
-// The same of a text of any length.
+/// The same of a text of any length.
 fn long_magnitude(text: &[u8]) -> Option<u64>
     ensures numeral { IfSome result (λ n. is_numeral text.now ≡ true) }
     ensures value { IfSome result (λ n. n ≡ digits_value 10 text.now) }

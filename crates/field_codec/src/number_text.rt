@@ -7,7 +7,7 @@ use crate::powers::power;
 use itoa::{Buffer, write_digits};
 use unit_pass::NoMemory;
 
-// What the text of a number of 64 bits takes at most: a minus, 20 digits, a point and 18 digits.
+/// What the text of a number of 64 bits takes at most: a minus, 20 digits, a point and 18 digits.
 const WIDTH: usize = 40;
 
 /// The text of a whole number.
@@ -24,7 +24,7 @@ pub fn whole_text<'a>(number: i128, room: &'a mut Vec<u8>) -> Result<&'a [u8], N
     Ok(&room.as_slice()[start..])
 }
 
-// The same of a number of any size.
+/// The same of a number of any size.
 fn long_whole_text<'a>(number: i128, room: &'a mut Vec<u8>) -> Result<&'a [u8], NoMemory>
     ensures { IfOk result (λ text. text.now ≡ signed_decimal number) }
 {
@@ -34,7 +34,7 @@ fn long_whole_text<'a>(number: i128, room: &'a mut Vec<u8>) -> Result<&'a [u8], 
     Ok(room.as_slice())
 }
 
-// Writes the digits of a number so that they end at a place, behind a minus where one is asked for, and says where they start.
+/// Writes the digits of a number so that they end at a place, behind a minus where one is asked for, and says where they start.
 fn write_whole(minus: bool, number: u64, text: &mut [u8], end: usize) -> usize
     requires room { 21 ≤ end }
     requires within { end ≤ length text.old }
@@ -67,7 +67,7 @@ pub fn decimal_text<'a>(
     Ok(&room.as_slice()[start..])
 }
 
-// Writes a number at the end of a text, with a point before so many of its digits, and says where it starts.
+/// Writes a number at the end of a text, with a point before so many of its digits, and says where it starts.
 fn write_decimal(minus: bool, number: u64, places: usize, text: &mut [u8]) -> usize
     requires few { places ≤ 18 }
     requires room { length text.old ≡ 40 }
@@ -84,7 +84,7 @@ fn write_decimal(minus: bool, number: u64, places: usize, text: &mut [u8]) -> us
     write_whole(minus, number / unit, text, point)
 }
 
-// The same of any number of places, and of a number of any size.
+/// The same of any number of places, and of a number of any size.
 fn long_decimal_text<'a>(
     places: u32,
     number: i128,
@@ -100,7 +100,7 @@ fn long_decimal_text<'a>(
     Ok(room.as_slice())
 }
 
-// Appends a number, with a point before so many of its digits.
+/// Appends a number, with a point before so many of its digits.
 fn push_point(places: usize, number: u128, room: &mut Vec<u8>) -> Result<(), NoMemory>
     ensures { IfOk result (λ _. room.new.items ≡ room.old.items ++ point_text places number) }
 {
@@ -123,7 +123,7 @@ fn push_point(places: usize, number: u128, room: &mut Vec<u8>) -> Result<(), NoM
     Ok(())
 }
 
-// Appends so many zeros.
+/// Appends so many zeros.
 fn push_zeros(count: usize, room: &mut Vec<u8>) -> Result<(), NoMemory>
     ensures { IfOk result (λ _. room.new.items ≡ room.old.items ++ replicate count 48) }
 {
@@ -136,7 +136,7 @@ fn push_zeros(count: usize, room: &mut Vec<u8>) -> Result<(), NoMemory>
     }
 }
 
-// The digits of a number.
+/// The digits of a number.
 fn digits<'a>(number: u128, buffer: &'a mut Buffer) -> &'a [u8]
     ensures { result.now ≡ decimal number }
 {

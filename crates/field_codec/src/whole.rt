@@ -16,7 +16,7 @@ pub fn read_whole(bits: u8, signed: bool, text: &[u8]) -> Option<i128>
     within(bits, signed, minus, number)
 }
 
-// The number with its sign, where it is in range.
+/// The number with its sign, where it is in range.
 #[inline(always)]
 fn within(bits: u8, signed: bool, minus: bool, number: u64) -> Option<i128>
     requires { IsFlatForm (Wholes bits signed) }
@@ -37,7 +37,7 @@ fn within(bits: u8, signed: bool, minus: bool, number: u64) -> Option<i128>
     }
 }
 
-// The greatest number of so many bits, of which one may be that of the sign.
+/// The greatest number of so many bits, of which one may be that of the sign.
 #[inline(always)]
 fn most(bits: u8, signed: bool) -> u64
     requires { IsFlatForm (Wholes bits signed) }

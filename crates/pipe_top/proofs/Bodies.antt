@@ -29,4 +29,5 @@ module _ (mark : List ℕ) (entries : List Entry) (records : List Record) (colum
     blocks-are = ap (λ cs. chunk_blocks_of cs (rows_of mark entries records)) columns-are ∙ ap (chunk_blocks_of columns) rows-are
 
     pub nodes-are : run_nodes mark entries records ≡ schema_nodes columns + chunk_nodes_of columns rows
-    nodes-are = ap (λ cs. schema_nodes cs + chunk_nodes_of cs (rows_of mark entries records)) columns-are ∙ ap (λ rs. schema_nodes columns + chunk_nodes_of columns rs) rows-are
+    nodes-are = ap (λ cs. schema_nodes cs + chunk_nodes_of cs (rows_of mark entries records)) columns-are
+        ∙ ap (λ rs. schema_nodes columns + chunk_nodes_of columns rs) rows-are

@@ -1,5 +1,6 @@
 -- Texts that are written one after the other.
-use Rattle.std.proofs.Common.{ℕ, ◌≡◌, ◌≤◌, ◌<◌, ◌+◌, ◌++◌, ◌∷◌, ◌∙◌, List, [], Option, Result, Ok, Err, Bor, ap, sym, refl, subst, append_assoc, append-nil, arith, length, map, take, drop, get_or, take-append-drop}
+use Rattle.std.proofs.Common.{ℕ, ◌≡◌, ◌≤◌, ◌<◌, ◌+◌, ◌++◌, ◌∷◌, ◌∙◌, List, [], Option, Result, Ok, Err, Bor, ap, sym, refl, subst, append_assoc, append-nil}
+use Rattle.std.proofs.Common.{arith, length, map, take, drop, get_or, take-append-drop}
 use Rattle.std.proofs.lemmas.Bool.{false≢true}
 use Rattle.std.proofs.lemmas.List.{map_more, take-append-le, length-append}
 use Rattle.std.proofs.lemmas.List.Folds.{concat-append}

@@ -1,9 +1,11 @@
 -- What a run comes to, from what its parts come to.
-use Rattle.std.proofs.Common.{ℕ, ◌≡◌, ◌⊎◌, ◌++◌, ◌∙◌, Bool, true, false, List, Option, None, Some, IfSome, Result, Ok, Err, IfErr, ap, refl, sym, subst, append-nil, inl, inr}
+use Rattle.std.proofs.Common.{ℕ, ◌≡◌, ◌⊎◌, ◌++◌, ◌∙◌, Bool, true, false, List, Option, None, Some, IfSome, Result, Ok, Err, IfErr, ap, refl, sym, subst}
+use Rattle.std.proofs.Common.{append-nil, inl, inr}
 use Rattle.std.proofs.lemmas.Bool.{false≢true}
 use Rattle.edge_io.specs.declared.WriteFault.{WriteFault}
 use Rattle.unit_pass.specs.declared.pass.Audit.{Audit}
-use Rattle.pipe_top.specs.Answer.{Answer, Asks, IsAnswer, IsAnswerTo, IsInput, Request, Text, Fault, answer_to, cause_of, status_of, Cause, OfWords, OfTexts, OfRecords, OfLength, Reading, Writing, Memory}
+use Rattle.pipe_top.specs.Answer.{Answer, Asks, IsAnswer, IsAnswerTo, IsInput, Request, Text, Fault, answer_to, cause_of, status_of, Cause, OfWords, OfTexts}
+use Rattle.pipe_top.specs.Answer.{OfRecords, OfLength, Reading, Writing, Memory}
 use Rattle.pipe_top.specs.Outcomes.{AtWriteFault, AtWriting, GotFirst, GotText, asked_of, fault_in, is_decided}
 use Rattle.pipe_top.specs.declared.asked.Request.{Request as AsksFor}
 use Rattle.pipe_top.specs.Told.{Says, Told, Took, audit_if, fault_line}
@@ -12,7 +14,8 @@ use Rattle.pipe_top.specs.declared.fault.RunFault.TheVariants as run
 
 -- ---- diagnostics
 
-took : (r : Result (Unit {0}) WriteFault) (old new : Option (List ℕ)) (before now : ℕ) (text : List ℕ) → Says r old new before now text → Took old new before now text
+took : (r : Result (Unit {0}) WriteFault) (old new : Option (List ℕ)) (before now : ℕ) (text : List ℕ) → Says r old new before now text
+    → Took old new before now text
 took (Ok done) old new before now text says = inl says.0
 took (Err fault) old new before now text says = inr says
 
@@ -106,7 +109,8 @@ module _ (words : List (List ℕ)) (left : Option (List ℕ)) (request : Result 
   -- where the run has no fault, the words ask for what was read
   done-asked : fault ≡ None → request ≡ Err run.NoMemory → ⊥
   done-asked none memory =
-      let never : ◌≡◌ {A = Result (Unit {0}) RunFault} (Ok tt) (Err run.NoMemory) = sym (carried-ok none) ∙ subst (λ e. IfErr e (λ f. carried ≡ Err f)) memory early in
+      let never : ◌≡◌ {A = Result (Unit {0}) RunFault} (Ok tt) (Err run.NoMemory) =
+      sym (carried-ok none) ∙ subst (λ e. IfErr e (λ f. carried ≡ Err f)) memory early in
       cc
 
   -- ---- the text
@@ -115,16 +119,19 @@ module _ (words : List (List ℕ)) (left : Option (List ℕ)) (request : Result 
       → IfErr carried (λ f. AtWriteFault f (λ taken. IfSome left (λ bytes. GotFirst (IsAnswerTo (asked_of request) bytes) old new taken)))
       → IfSome fault (λ f. AtWriteFault f (λ taken. (bytes : List ℕ) → IsInput words left bytes → GotFirst (IsAnswer words bytes) old new taken))
   prefix-of-answer old new got =
-      subst (λ o. IfSome o (λ f. AtWriteFault f (λ taken. (bytes : List ℕ) → IsInput words left bytes → GotFirst (IsAnswer words bytes) old new taken))) (sym told) (go carried refl got)
+      subst (λ o. IfSome o (λ f. AtWriteFault f (λ taken. (bytes : List ℕ) → IsInput words left bytes → GotFirst (IsAnswer words bytes) old new taken)))
+      (sym told) (go carried refl got)
     where
-      go : (r : Result (Unit {0}) RunFault) → carried ≡ r → IfErr r (λ f. AtWriteFault f (λ taken. IfSome left (λ bytes. GotFirst (IsAnswerTo (asked_of request) bytes) old new taken)))
+      go : (r : Result (Unit {0}) RunFault) → carried ≡ r
+          → IfErr r (λ f. AtWriteFault f (λ taken. IfSome left (λ bytes. GotFirst (IsAnswerTo (asked_of request) bytes) old new taken)))
           → IfSome (fault_in r) (λ f. AtWriteFault f (λ taken. (bytes : List ℕ) → IsInput words left bytes → GotFirst (IsAnswer words bytes) old new taken))
       go (Ok done) is wrote = tt
       go (Err f) is wrote =
           at-writing (cause_of f) (λ taken. IfSome left (λ bytes. GotFirst (IsAnswerTo (asked_of request) bytes) old new taken))
           (λ taken. (bytes : List ℕ) → IsInput words left bytes → GotFirst (IsAnswer words bytes) old new taken)
           (λ n writes first bytes input.
-          let here : GotFirst (IsAnswerTo (asked_of request) bytes) old new n = at-input words left bytes (λ l. GotFirst (IsAnswerTo (asked_of request) l) old new n) input first in
+          let here : GotFirst (IsAnswerTo (asked_of request) bytes) old new n =
+          at-input words left bytes (λ l. GotFirst (IsAnswerTo (asked_of request) l) old new n) input first in
           (here.0, answer-is bytes (Text here.0) (asked-unless (writing-asked f n writes is)) here.1, here.2, here.3))
           wrote
 
@@ -133,26 +140,32 @@ module _ (words : List (List ℕ)) (left : Option (List ℕ)) (request : Result 
   pub refused-by-answer : IfErr carried (λ f. is_decided f ≡ true → IfSome left (λ bytes. answer_to (asked_of request) bytes ≡ Fault f))
       → IfSome fault (λ f. is_decided f ≡ true → (bytes : List ℕ) → IsInput words left bytes → IsAnswer words bytes (Fault f))
   refused-by-answer got =
-      subst (λ o. IfSome o (λ f. is_decided f ≡ true → (bytes : List ℕ) → IsInput words left bytes → IsAnswer words bytes (Fault f))) (sym told) (go carried refl got)
+      subst (λ o. IfSome o (λ f. is_decided f ≡ true → (bytes : List ℕ) → IsInput words left bytes → IsAnswer words bytes (Fault f)))
+      (sym told) (go carried refl got)
     where
-      go : (r : Result (Unit {0}) RunFault) → carried ≡ r → IfErr r (λ f. is_decided f ≡ true → IfSome left (λ bytes. answer_to (asked_of request) bytes ≡ Fault f))
+      go : (r : Result (Unit {0}) RunFault) → carried ≡ r
+          → IfErr r (λ f. is_decided f ≡ true → IfSome left (λ bytes. answer_to (asked_of request) bytes ≡ Fault f))
           → IfSome (fault_in r) (λ f. is_decided f ≡ true → (bytes : List ℕ) → IsInput words left bytes → IsAnswer words bytes (Fault f))
       go (Ok done) is refused = tt
       go (Err f) is refused = λ decided bytes input.
-          answer-is bytes (Fault f) (asked-unless (decided-asked f decided is)) (sym (at-input words left bytes (λ l. answer_to (asked_of request) l ≡ Fault f) input (refused decided)))
+          answer-is bytes (Fault f) (asked-unless (decided-asked f decided is))
+          (sym (at-input words left bytes (λ l. answer_to (asked_of request) l ≡ Fault f) input (refused decided)))
 
   -- ---- which outcome it is
 
   module _ (only : (request ≡ Err run.NoMemory) ⊎ ((asked : Result Request RunFault) → Asks words asked → asked ≡ asked_of request)) where
     -- no other answer is the run's
-    one-answer : (bytes : List ℕ) (answer : Answer) → (request ≡ Err run.NoMemory → ⊥) → IsAnswer words bytes answer → answer ≡ answer_to (asked_of request) bytes
+    one-answer : (bytes : List ℕ) (answer : Answer) → (request ≡ Err run.NoMemory → ⊥) → IsAnswer words bytes answer
+        → answer ≡ answer_to (asked_of request) bytes
     one-answer bytes answer never is = go only
       where
-        go : (request ≡ Err run.NoMemory) ⊎ ((asked : Result Request RunFault) → Asks words asked → asked ≡ asked_of request) → answer ≡ answer_to (asked_of request) bytes
+        go : (request ≡ Err run.NoMemory) ⊎ ((asked : Result Request RunFault) → Asks words asked → asked ≡ asked_of request)
+            → answer ≡ answer_to (asked_of request) bytes
         go (inl none) = absurd (never none)
         go (inr alone) = is.is ∙ ap (λ a. answer_to a bytes) (alone is.asked is.asks)
 
-    both-answers : (bytes : List ℕ) (one other : Answer) → (request ≡ Err run.NoMemory → ⊥) → IsAnswer words bytes one → IsAnswer words bytes other → one ≡ other
+    both-answers : (bytes : List ℕ) (one other : Answer) → (request ≡ Err run.NoMemory → ⊥) → IsAnswer words bytes one
+        → IsAnswer words bytes other → one ≡ other
     both-answers bytes one other never is-one is-other = one-answer bytes one never is-one ∙ sym (one-answer bytes other never is-other)
 
     module _ (ReadRose : Type 0) (status : ℕ) (status-is : status ≡ status_of fault) (read : fault ≡ Some run.ReadFault → ReadRose)
@@ -165,7 +178,8 @@ module _ (words : List (List ℕ)) (left : Option (List ℕ)) (request : Result 
           go (Err g) is = let some : ◌≡◌ {A = Option RunFault} (Some g) (Some f) = is in let one : g ≡ f = cc in ap Err one
 
       refused-at : (f : RunFault) → fault ≡ Some f → is_decided f ≡ true → (bytes : List ℕ) → IsInput words left bytes → IsAnswer words bytes (Fault f)
-      refused-at f is = subst (λ o. IfSome o (λ f. is_decided f ≡ true → (bytes : List ℕ) → IsInput words left bytes → IsAnswer words bytes (Fault f))) is refused
+      refused-at f is =
+          subst (λ o. IfSome o (λ f. is_decided f ≡ true → (bytes : List ℕ) → IsInput words left bytes → IsAnswer words bytes (Fault f))) is refused
 
       memory-status : (f : RunFault) → fault ≡ Some f → f ≡ run.NoMemory → status ≡ 9
       memory-status f is none = status-is ∙ ap status_of is ∙ ap (λ g. status_of (Some g)) none
@@ -176,7 +190,8 @@ module _ (words : List (List ℕ)) (left : Option (List ℕ)) (request : Result 
           → IsInput words left bytes → IsAnswer words bytes (Fault told_fault) → (ReadRose → ⊥) → (fault ≡ Some told_fault) ⊎ (status ≡ 9)
       is-complete-fault old new bytes told_fault text first input answer no-read = go fault refl
         where
-          by-cause : (f : RunFault) → fault ≡ Some f → (is_decided f ≡ true) ⊎ ((f ≡ run.ReadFault) ⊎ (((taken : ℕ) × (f ≡ run.WriteFault taken)) ⊎ (f ≡ run.NoMemory)))
+          by-cause : (f : RunFault) → fault ≡ Some f
+              → (is_decided f ≡ true) ⊎ ((f ≡ run.ReadFault) ⊎ (((taken : ℕ) × (f ≡ run.WriteFault taken)) ⊎ (f ≡ run.NoMemory)))
               → (fault ≡ Some told_fault) ⊎ (status ≡ 9)
           by-cause f is (inl decided) =
               let same : ◌≡◌ {A = Answer} (Fault f) (Fault told_fault) =
@@ -185,7 +200,9 @@ module _ (words : List (List ℕ)) (left : Option (List ℕ)) (request : Result 
               inl (is ∙ ap Some one)
           by-cause f is (inr (inl reading)) = absurd (no-read (read (is ∙ ap Some reading)))
           by-cause f is (inr (inr (inl (taken, writing)))) =
-              let all = subst (λ o. IfSome o (λ f. AtWriteFault f (λ taken. (bytes : List ℕ) → IsInput words left bytes → GotFirst (IsAnswer words bytes) old new taken))) (is ∙ ap Some writing) first in
+              let all =
+              subst (λ o. IfSome o (λ f. AtWriteFault f (λ taken. (bytes : List ℕ) → IsInput words left bytes → GotFirst (IsAnswer words bytes) old new taken)))
+              (is ∙ ap Some writing) first in
               let here = all bytes input in
               let never : ◌≡◌ {A = Answer} (Text here.0) (Fault told_fault) =
               both-answers bytes (Text here.0) (Fault told_fault) (writing-asked f taken (ap cause_of writing) (carried-err f is)) here.1 answer in
@@ -195,6 +212,7 @@ module _ (words : List (List ℕ)) (left : Option (List ℕ)) (request : Result 
           go : (o : Option RunFault) → fault ≡ o → (fault ≡ Some told_fault) ⊎ (status ≡ 9)
           go None is =
               let here = text is bytes input in
-              let never : ◌≡◌ {A = Answer} (Text here.0) (Fault told_fault) = both-answers bytes (Text here.0) (Fault told_fault) (done-asked is) here.1 answer in
+              let never : ◌≡◌ {A = Answer} (Text here.0) (Fault told_fault) =
+              both-answers bytes (Text here.0) (Fault told_fault) (done-asked is) here.1 answer in
               cc
           go (Some f) is = by-cause f is (fault-cases f)

@@ -3,3 +3,4 @@ pub mod Outcomes
 pub mod Rows
 pub mod Told
 pub mod Traffic
+pub mod SaidTexts

@@ -62,7 +62,8 @@ Took old new before now text = Appends old new text ⊎ TookFirst old new before
 
 -- the line of a fault and a text of an audit were told, which may be missing without memory
 abbrev pub Told : Option (List ℕ) → Option (List ℕ) → ℕ → ℕ → Option RunFault → List ℕ → Type 0
-Told old new before now fault audit = Took old new before now (fault_line fault ++ audit) ⊎ ((fault ≡ Some run.NoMemory) × Took old new before now (fault_line fault))
+Told old new before now fault audit =
+    Took old new before now (fault_line fault ++ audit) ⊎ ((fault ≡ Some run.NoMemory) × Took old new before now (fault_line fault))
 
 -- a text was taken, or its first bytes, and the result says which
 abbrev pub Says : Result Unit WriteFault → Option (List ℕ) → Option (List ℕ) → ℕ → ℕ → List ℕ → Type 0

@@ -15,24 +15,25 @@ use std::alloc::Global;
 use unit_pass::{Name, NoMemory};
 use words::{WordsError, read_words};
 
-// What is asked for: types of columns by name, and the mark for null.
+/// What is asked for: types of columns by name, and the mark for null.
 #[derive(Drop)]
 pub(crate) struct Request {
     pub(crate) entries: Vec<TypeEntry>,
     pub(crate) mark: Name,
 }
 
-// What the words ask for, or why they are refused.
+/// What the words ask for, or why they are refused.
 #[derive(Drop)]
 pub(crate) struct Asked {
     pub(crate) audit: bool,
     pub(crate) request: Result<Request, RunFault>,
 }
 
-// Reads the words and the schema text among them.
+/// Reads the words and the schema text among them.
 pub(crate) fn read_asked(alloc: Global, words: &[String]) -> Asked
     ensures asks { (result.request ≡ Err RunFault.NoMemory) ⊎ Asks (texts_of words.now) (asked_of result.request) }
-    ensures only { (result.request ≡ Err RunFault.NoMemory) ⊎ ((asked : Result ARequest AFault) → Asks (texts_of words.now) asked → asked ≡ asked_of result.request) }
+    ensures only { (result.request ≡ Err RunFault.NoMemory)
+        ⊎ ((asked : Result ARequest AFault) → Asks (texts_of words.now) asked → asked ≡ asked_of result.request) }
     ensures early { IfErr result.request (λ fault. (is_early fault ≡ true) ⊎ (fault ≡ RunFault.NoMemory)) }
     ensures proper { IfOk result.request (λ r. All (λ e. KindOk e.kind) r.entries.items) }
     ensures allowed { IfOk result.request (λ r. All (λ e. IsAllowed e.kind) r.entries.items) }
@@ -48,7 +49,7 @@ pub(crate) fn read_asked(alloc: Global, words: &[String]) -> Asked
     }
 }
 
-// The words are refused.
+/// The words are refused.
 fn refused(fault: RunFault) -> Asked
     ensures request { result.request ≡ Err fault }
     ensures audit { result.audit ≡ false }
@@ -59,15 +60,17 @@ fn refused(fault: RunFault) -> Asked
     }
 }
 
-// What a schema text and a mark for null ask for, where there are any: no mark is the empty one.
+/// What a schema text and a mark for null ask for, where there are any: no mark is the empty one.
 fn read_request(
     alloc: Global,
     schema: Option<&str>,
     null: Option<&str>,
 ) -> Result<Request, RunFault>
-    ensures asks { (result ≡ Err RunFault.NoMemory) ⊎ RequestIs (option_map (λ s. s.now) schema.entry) (unwrap_or (option_map (λ s. s.now) null.entry) []) (asked_of result) }
+    ensures asks { (result ≡ Err RunFault.NoMemory)
+        ⊎ RequestIs (option_map (λ s. s.now) schema.entry) (unwrap_or (option_map (λ s. s.now) null.entry) []) (asked_of result) }
     ensures only { (result ≡ Err RunFault.NoMemory)
-        ⊎ ((asked : Result ARequest AFault) → RequestIs (option_map (λ s. s.now) schema.entry) (unwrap_or (option_map (λ s. s.now) null.entry) []) asked → asked ≡ asked_of result) }
+        ⊎ ((asked : Result ARequest AFault) → RequestIs (option_map (λ s. s.now) schema.entry) (unwrap_or (option_map (λ s. s.now) null.entry) []) asked
+        → asked ≡ asked_of result) }
     ensures early { IfErr result (λ fault. (is_early fault ≡ true) ⊎ (fault ≡ RunFault.NoMemory)) }
     ensures proper { IfOk result (λ r. All (λ e. KindOk e.kind) r.entries.items) }
     ensures allowed { IfOk result (λ r. All (λ e. IsAllowed e.kind) r.entries.items) }
@@ -81,7 +84,7 @@ fn read_request(
     }
 }
 
-// The mark for null.
+/// The mark for null.
 fn read_mark(alloc: Global, null: Option<&str>) -> Result<Name, NoMemory>
     ensures { IfOk result (λ mark. mark ≡ unwrap_or (option_map (λ s. s.now) null.entry) []) }
 {
@@ -91,13 +94,14 @@ fn read_mark(alloc: Global, null: Option<&str>) -> Result<Name, NoMemory>
     }
 }
 
-// The entries of a schema text, where there is one.
+/// The entries of a schema text, where there is one.
 fn read_entries(alloc: Global, schema: Option<&str>) -> Result<Vec<TypeEntry>, RunFault>
     ensures asks { (result ≡ Err RunFault.NoMemory) ⊎ EntriesAsk (option_map (λ s. s.now) schema.entry) (entries_asked result) }
     ensures early { IfErr result (λ fault. (is_early fault ≡ true) ⊎ (fault ≡ RunFault.NoMemory)) }
     ensures proper { IfOk result (λ v. All (λ e. KindOk e.kind) v.items) }
     ensures allowed { IfOk result (λ v. All (λ e. IsAllowed e.kind) v.items) }
-    ensures only { (result ≡ Err RunFault.NoMemory) ⊎ ((asked : Result (List AnEntry) AFault) → EntriesAsk (option_map (λ s. s.now) schema.entry) asked → asked ≡ entries_asked result) }
+    ensures only { (result ≡ Err RunFault.NoMemory)
+        ⊎ ((asked : Result (List AnEntry) AFault) → EntriesAsk (option_map (λ s. s.now) schema.entry) asked → asked ≡ entries_asked result) }
 {
     let Some(text) = schema else {
         return Ok(Vec::new(alloc));

@@ -1,4 +1,4 @@
-// Fields of each type that go through a run: the text in which they come back, or none where they are refused.
+//! Fields of each type that go through a run: the text in which they come back, or none where they are refused.
 use crate::RunFault;
 use crate::tests::expect_outcome;
 use std::alloc::Global;
@@ -7,7 +7,7 @@ use std::test::Fail;
 
 // Each row has the words, a field, and the text of the value that the field spells in the column's type.
 
-// Numbers at the ends of their ranges, and one past them.
+/// Numbers at the ends of their ranges, and one past them.
 static RANGES: [(&str, &[u8], Option<&[u8]>); 38] = [
     ("--schema a:c", b"-128", Some(b"-128")),
     ("--schema a:c", b"127", Some(b"127")),
@@ -61,7 +61,7 @@ static RANGES: [(&str, &[u8], Option<&[u8]>); 38] = [
     ("--schema a:tiM", b"2147483648", None),
 ];
 
-// Signs, leading zeros, other bytes and many digits.
+/// Signs, leading zeros, other bytes and many digits.
 static NUMERALS: [(&str, &[u8], Option<&[u8]>); 25] = [
     ("--schema a:l", b"", Some(b"")),
     ("--schema a:l", b"+007", Some(b"7")),
@@ -114,7 +114,7 @@ static NUMERALS: [(&str, &[u8], Option<&[u8]>); 25] = [
     ),
 ];
 
-// Decimals of few digits.
+/// Decimals of few digits.
 static DECIMALS: [(&str, &[u8], Option<&[u8]>); 33] = [
     ("--schema a:d:5,2", b"7.5", Some(b"7.50")),
     ("--schema a:d:5,2", b"7.50", Some(b"7.50")),
@@ -151,7 +151,7 @@ static DECIMALS: [(&str, &[u8], Option<&[u8]>); 33] = [
     ("--schema a:d:5,5", b"0.000001", None),
 ];
 
-// Decimals of up to 38 digits, and of more.
+/// Decimals of up to 38 digits, and of more.
 static LONG_DECIMALS: [(&str, &[u8], Option<&[u8]>); 17] = [
     (
         "--schema a:d:18,9",
@@ -228,7 +228,7 @@ static LONG_DECIMALS: [(&str, &[u8], Option<&[u8]>); 17] = [
     ),
 ];
 
-// Truth values.
+/// Truth values.
 static TRUTHS: [(&str, &[u8], Option<&[u8]>); 19] = [
     ("--schema a:b", b"true", Some(b"true")),
     ("--schema a:b", b"True", Some(b"true")),
@@ -251,7 +251,7 @@ static TRUTHS: [(&str, &[u8], Option<&[u8]>); 19] = [
     ("--schema a:b", b"", Some(b"")),
 ];
 
-// Hexadecimal digits: bits of floats, and bytes.
+/// Hexadecimal digits: bits of floats, and bytes.
 static HEXADECIMALS: [(&str, &[u8], Option<&[u8]>); 28] = [
     ("--schema a:e", b"3c0f", Some(b"3c0f")),
     ("--schema a:e", b"3C0F", Some(b"3c0f")),
@@ -291,7 +291,7 @@ static HEXADECIMALS: [(&str, &[u8], Option<&[u8]>); 28] = [
     ("--schema a:w:2", b"0agg", None),
 ];
 
-// Bytes that are text, and bytes that are none.
+/// Bytes that are text, and bytes that are none.
 static TEXTS: [(&str, &[u8], Option<&[u8]>); 10] = [
     ("--schema a:u", b"\"a,b\"", Some(b"\"a,b\"")),
     ("--schema a:u", b" ", Some(b" ")),
@@ -305,7 +305,7 @@ static TEXTS: [(&str, &[u8], Option<&[u8]>); 10] = [
     ("--schema a:u", b"null", Some(b"null")),
 ];
 
-// A table of one record whose first field is this.
+/// A table of one record whose first field is this.
 fn table_with(alloc: Global, field: &[u8]) -> Result<Vec<u8>, Fail> {
     let mut bytes = b"a,b\n".to_vec(alloc)?;
     bytes.extend_from_slice(field)?;
@@ -313,7 +313,7 @@ fn table_with(alloc: Global, field: &[u8]) -> Result<Vec<u8>, Fail> {
     Ok(bytes)
 }
 
-// Runs over each row's field.
+/// Runs over each row's field.
 fn expect_fields(
     rt: &impl Abort,
     alloc: Global,

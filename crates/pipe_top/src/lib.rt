@@ -20,6 +20,7 @@ ghost use Rattle.pipe_top.specs.declared.fault.RunFault.TheVariants as run;
 mod answer;
 mod asked;
 mod fault;
+mod fault_text;
 mod laws;
 mod schema;
 mod text;

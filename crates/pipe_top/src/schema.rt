@@ -7,7 +7,7 @@ ghost use Rattle.fmt_string.specs.ColumnView.{column_of};
 ghost use Rattle.raw_schema.specs.Members.{Nodes};
 ghost use Rattle.tree_model.specs.Tree.{Depth};
 ghost use Rattle.unit_pass.specs.Tally.{risen};
-ghost use Rattle.unit_pass.specs.declared.pass.TheConstants.{SUPPLY};
+ghost use Rattle.unit_pass.specs.declared.pass.TheConstants.{CHUNK, SUPPLY};
 
 use arr_export::{export_schema, schema_size};
 use fmt_string::ColumnType;
@@ -15,13 +15,13 @@ use raw_schema::RawSchema;
 use std::alloc::Global;
 use unit_pass::{NoMemory, Pass};
 
-// The schema of the columns.
+/// The schema of the columns.
 pub(crate) fn make_schema(
     alloc: Global,
     columns: &[ColumnType],
     pass: &mut Pass,
 ) -> Result<RawSchema, NoMemory>
-    requires units { pass.old.units ≡ SUPPLY }
+    requires units { CHUNK ≤ pass.old.units }
     requires few { length columns.now ≤ most_columns }
     requires proper { AreProper (map column_of columns.now) }
     ensures schema { IfOk result (λ schema. schema ≡ SchemaOf (map column_of columns.now)) }
@@ -37,7 +37,7 @@ pub(crate) fn make_schema(
     Ok(schema)
 }
 
-// Releases a schema.
+/// Releases a schema.
 pub(crate) fn release_schema(schema: RawSchema, pass: &mut Pass)
     requires { pass.old.units + Nodes schema ≤ SUPPLY }
     ensures units { pass.new.units ≡ pass.old.units + Nodes schema }

@@ -1,4 +1,4 @@
-// Runs over sources and sinks in memory, with answers from outside.
+//! Runs over sources and sinks in memory, with answers from outside.
 ghost use Rattle.std.specs.Prelude.{◌≤◌};
 
 use crate::told::tell;
@@ -9,14 +9,14 @@ use std::process::Abort;
 use std::test::Fail;
 use unit_pass::Audit;
 
-// A source of these bytes.
+/// A source of these bytes.
 fn source_of(alloc: Global, bytes: &[u8], step: usize, fails: &[u64]) -> Result<MemSource, Fail>
     requires { 1 ≤ step }
 {
     Ok(MemSource::new(bytes.to_vec(alloc)?, step, fails.to_vec(alloc)?))
 }
 
-// A sink with room for a hundred bytes.
+/// A sink with room for a hundred bytes.
 fn sink_of(alloc: Global, step: usize, fails: &[u64]) -> Result<MemSink, Fail>
     requires { 1 ≤ step }
 {
@@ -26,26 +26,40 @@ fn sink_of(alloc: Global, step: usize, fails: &[u64]) -> Result<MemSink, Fail>
     }
 }
 
-// Runs without words and without a failing call, and expects this outcome and text.
-fn expect_run(
+/// Runs without words and without a failing call, and expects this text, made with so many blocks and nodes.
+fn expect_table(
     rt: &impl Abort,
     alloc: Global,
     bytes: &[u8],
-    expected: (u8, Option<RunFault>, u64, u64),
+    traffic: (u64, u64),
     text: &[u8],
 ) -> Result<(), Fail> {
     let mut source = source_of(alloc, bytes, 7, &[])?;
     let mut sink = sink_of(alloc, 5, &[])?;
     let mut errs = sink_of(alloc, 5, &[])?;
     let outcome = run(alloc, &[], &mut source, &mut sink, &mut errs);
-    let (status, fault, blocks, nodes) = expected;
-    assert_eq!(rt; outcome.status, status);
-    assert_eq!(rt; outcome.fault, fault);
-    assert_eq!(rt; sink.taken(), text);
-    if status == 0 {
-        assert_eq!(rt; outcome.audit.blocks, blocks);
-        assert_eq!(rt; outcome.audit.nodes, nodes);
-    }
+    assert_eq!(rt; outcome.fault, None, "the fault of {bytes:?}");
+    assert_eq!(rt; outcome.status, 0, "the status of {bytes:?}");
+    assert_eq!(rt; sink.taken(), text, "the text of {bytes:?}");
+    let made = (outcome.audit.blocks, outcome.audit.nodes);
+    assert_eq!(rt; made, traffic, "the blocks and nodes of {bytes:?}");
+    Ok(())
+}
+
+/// Runs without words and without a failing call, and expects this fault of the header or of a record.
+fn expect_refusal(
+    rt: &impl Abort,
+    alloc: Global,
+    bytes: &[u8],
+    fault: RunFault,
+) -> Result<(), Fail> {
+    let mut source = source_of(alloc, bytes, 7, &[])?;
+    let mut sink = sink_of(alloc, 5, &[])?;
+    let mut errs = sink_of(alloc, 5, &[])?;
+    let outcome = run(alloc, &[], &mut source, &mut sink, &mut errs);
+    assert_eq!(rt; outcome.fault, Some(fault), "the fault of {bytes:?}");
+    assert_eq!(rt; outcome.status, 4, "the status of {bytes:?}");
+    assert_eq!(rt; sink.taken().len(), 0, "the text of {bytes:?}");
     Ok(())
 }
 
@@ -58,7 +72,7 @@ fn tables_come_back_with_empty_fields_as_nulls(rt: HostRuntime) -> Result<(), Fa
         (b"\xef\xbb\xbfa\r\n\"x,y\"\r\n", 2, 4, b"a\n\"x,y\"\n"),
     ];
     for (bytes, blocks, nodes, text) in cases {
-        expect_run(&rt, rt.alloc(), bytes, (0, None, blocks, nodes), text)?;
+        expect_table(&rt, rt.alloc(), bytes, (blocks, nodes), text)?;
     }
     Ok(())
 }
@@ -77,7 +91,7 @@ fn bad_headers_and_records_are_refused_with_their_places(rt: HostRuntime) -> Res
         ),
     ];
     for (bytes, fault) in cases {
-        expect_run(&rt, rt.alloc(), bytes, (4, Some(fault), 0, 0), b"")?;
+        expect_refusal(&rt, rt.alloc(), bytes, fault)?;
     }
     Ok(())
 }
@@ -130,7 +144,7 @@ fn an_input_past_the_limit_is_too_long(rt: HostRuntime) -> Result<(), Fail> {
     Ok(())
 }
 
-// The words of a line, apart by blanks.
+/// The words of a line, apart by blanks.
 fn words_of(alloc: Global, line: &str) -> Result<Vec<String>, Fail> {
     let mut words = Vec::new(alloc);
     for word in line.split(' ') {
@@ -139,7 +153,7 @@ fn words_of(alloc: Global, line: &str) -> Result<Vec<String>, Fail> {
     Ok(words)
 }
 
-// Runs with these words over a text, and answers the outcome's status and fault and what was told.
+/// Runs with these words over a text, and answers the outcome's status and fault and what was told.
 fn run_words(
     alloc: Global,
     line: &str,
@@ -165,8 +179,12 @@ fn words_and_schema_texts_are_refused_by_their_rules(rt: HostRuntime) -> Result<
     ];
     for (line, entry, rule) in cases {
         let (status, fault, _errs) = run_words(rt.alloc(), line, b"a,b\n1,\n", &[])?;
-        assert_eq!(rt; fault, Some(RunFault::Schema { entry, rule }));
-        assert_eq!(rt; status, 3);
+        assert_eq!(rt;
+            fault,
+            Some(RunFault::Schema { entry, rule }),
+            "the fault of {line}"
+        );
+        assert_eq!(rt; status, 3, "the status of {line}");
     }
     let (status, fault, _errs) = run_words(rt.alloc(), "--audit --batch", b"a\n", &[])?;
     assert_eq!(rt; fault, Some(RunFault::Words(WordsFault::Refused)));
@@ -195,7 +213,7 @@ fn a_table_of_thousands_of_rows_comes_back(rt: HostRuntime) -> Result<(), Fail> 
     Ok(())
 }
 
-// A header of so many columns, whose names differ.
+/// A header of so many columns, whose names differ.
 fn wide_header(alloc: Global, columns: u32) -> Result<Vec<u8>, Fail> {
     let mut bytes = Vec::new(alloc);
     for column in 0..columns {
@@ -221,7 +239,7 @@ fn headers_are_refused_for_width_and_for_entries_of_no_column(rt: HostRuntime) -
     Ok(())
 }
 
-// Runs with these words, and expects this fault and this text.
+/// Runs with these words, and expects this fault and this text.
 pub(crate) fn expect_outcome(
     rt: &impl Abort,
     alloc: Global,
@@ -235,19 +253,23 @@ pub(crate) fn expect_outcome(
     let mut sink = sink_of(alloc, 5, &[])?;
     let mut errs = sink_of(alloc, 5, &[])?;
     let outcome = run(alloc, &words, &mut source, &mut sink, &mut errs);
-    assert_eq!(rt; outcome.fault, fault);
-    assert_eq!(rt; sink.taken(), text);
-    assert_eq!(rt; outcome.audit.left, 0);
+    assert_eq!(rt; outcome.fault, fault, "the fault of {line} over {bytes:?}");
+    assert_eq!(rt; sink.taken(), text, "the text of {line} over {bytes:?}");
+    assert_eq!(rt;
+        outcome.audit.left,
+        0,
+        "what is left of {line} over {bytes:?}"
+    );
     Ok(())
 }
 
-// Runs with these words, and expects this fault, these blocks and nodes where there is none, and this text.
+/// Runs with these words, and expects this text, made with so many blocks and nodes.
 fn expect_typed(
     rt: &impl Abort,
     alloc: Global,
     line: &str,
     bytes: &[u8],
-    expected: (Option<RunFault>, u64, u64),
+    traffic: (u64, u64),
     text: &[u8],
 ) -> Result<(), Fail> {
     let words = words_of(alloc, line)?;
@@ -255,13 +277,14 @@ fn expect_typed(
     let mut sink = sink_of(alloc, 5, &[])?;
     let mut errs = sink_of(alloc, 5, &[])?;
     let outcome = run(alloc, &words, &mut source, &mut sink, &mut errs);
-    let (fault, blocks, nodes) = expected;
-    assert_eq!(rt; outcome.fault, fault);
-    assert_eq!(rt; sink.taken(), text);
-    if outcome.status == 0 {
-        assert_eq!(rt; outcome.audit.blocks, blocks);
-        assert_eq!(rt; outcome.audit.nodes, nodes);
-    }
+    assert_eq!(rt; outcome.fault, None, "the fault of {line} over {bytes:?}");
+    assert_eq!(rt; sink.taken(), text, "the text of {line} over {bytes:?}");
+    let made = (outcome.audit.blocks, outcome.audit.nodes);
+    assert_eq!(rt;
+        made,
+        traffic,
+        "the blocks and nodes of {line} over {bytes:?}"
+    );
     Ok(())
 }
 
@@ -300,7 +323,7 @@ fn typed_columns_come_back_in_the_texts_of_their_types(rt: HostRuntime) -> Resul
         ("--schema a:l", b"a\n", 0, 2, b"a\n"),
     ];
     for (line, bytes, blocks, nodes, text) in cases {
-        expect_typed(&rt, rt.alloc(), line, bytes, (None, blocks, nodes), text)?;
+        expect_typed(&rt, rt.alloc(), line, bytes, (blocks, nodes), text)?;
     }
     Ok(())
 }
@@ -335,7 +358,7 @@ fn fields_outside_their_types_are_refused_with_their_places(rt: HostRuntime) -> 
         ),
     ];
     for (line, bytes, fault) in cases {
-        expect_typed(&rt, rt.alloc(), line, bytes, (Some(fault), 0, 0), b"")?;
+        expect_outcome(&rt, rt.alloc(), line, bytes, Some(fault), b"")?;
     }
     Ok(())
 }
@@ -370,8 +393,8 @@ fn fault_and_audit_are_told_line_by_line(rt: HostRuntime) -> Result<(), Fail> {
     ];
     for (line, bytes, fails, expected, told) in cases {
         let (status, _fault, errs) = run_words(rt.alloc(), line, bytes, fails)?;
-        assert_eq!(rt; status, expected);
-        assert_eq!(rt; errs.taken(), told);
+        assert_eq!(rt; status, expected, "the status of {line} over {bytes:?}");
+        assert_eq!(rt; errs.taken(), told, "what is told of {line} over {bytes:?}");
     }
     Ok(())
 }
@@ -441,8 +464,10 @@ fn each_fault_has_its_line(rt: HostRuntime) -> Result<(), Fail> {
     for (fault, line) in cases {
         let mut errs = sink_of(rt.alloc(), 9, &[])?;
         let told = tell(&mut errs, Some(fault), &audit, false);
-        assert_eq!(rt; told.is_ok(), true);
-        assert_eq!(rt; errs.taken(), line);
+        assert_eq!(rt; told.is_ok(), true, "the line of {fault:?}");
+        assert_eq!(rt; errs.taken(), line, "the line of {fault:?}");
+        let shown = format!(in rt.alloc(); "arrowpipe: {fault}\n")?;
+        assert_eq!(rt; shown.as_bytes(), line, "the text of {fault:?}");
     }
     Ok(())
 }

@@ -1,6 +1,6 @@
 //! The text of a table, by way of a live chunk under its schema.
 ghost use Rattle.std.specs.Prelude.{◌≡◌, ◌+◌, ◌*◌, ◌≤◌, ◌<◌, ◌^◌, ◌++◌, ℕ, List, pos, map, length, vec_len, if◌then◌else◌, is_ok, IfOk, OnOk, All};
-ghost use Rattle.csv_read.specs.Chunks.{HoldRows};
+ghost use Rattle.csv_read.specs.Body.{HoldRows};
 ghost use Rattle.csv_write.specs.CsvTexts.{HasText};
 ghost use Rattle.field_codec.specs.TextColumns.{AreAllowed, AreProper};
 ghost use Rattle.csv_model.specs.Header.{most_columns};
@@ -10,7 +10,7 @@ ghost use Rattle.fmt_string.specs.Table.{Column, Row};
 ghost use Rattle.raw_array.specs.Members.{Cost};
 ghost use Rattle.raw_schema.specs.Members.{Nodes};
 ghost use Rattle.unit_pass.specs.Tally.{risen};
-ghost use Rattle.unit_pass.specs.declared.pass.TheConstants.{SUPPLY};
+ghost use Rattle.unit_pass.specs.declared.pass.TheConstants.{CHUNK, SUPPLY};
 ghost use Rattle.arr_import.specs.declared.imported.ImportFault.TheVariants as faults;
 ghost use Rattle.layout_check.specs.declared.schema.SchemaFault.TheVariants as schemas;
 ghost use Rattle.layout_check.specs.ColumnKinds.{type_of_columns};
@@ -22,7 +22,7 @@ use crate::schema::{make_schema, release_schema};
 use arr_export::column_schemas_are_lawful;
 use arr_import::{ImportFault, Imported, import};
 use col_build::Builder;
-use csv_read::{chunks_have_their_rows, export_rows};
+use csv_read::{chunks_have_their_rows, export_rows, held_rows_fit};
 use csv_write::CsvText;
 use fmt_string::ColumnType;
 use layout_check::{SchemaFault, one_schema_answer};
@@ -31,7 +31,7 @@ use raw_schema::RawSchema;
 use std::alloc::Global;
 use unit_pass::{NoMemory, Pass, SUPPLY};
 
-// Releases a chunk and its schema.
+/// Releases a chunk and its schema.
 fn release_both(schema: RawSchema, chunk: RawArray, pass: &mut Pass)
     requires { pass.old.units + Nodes schema + Cost chunk ≤ SUPPLY }
     ensures units { pass.new.units ≡ pass.old.units + Nodes schema + Cost chunk }
@@ -44,7 +44,7 @@ fn release_both(schema: RawSchema, chunk: RawArray, pass: &mut Pass)
     chunk.discard();
 }
 
-// Takes a chunk of rows with its schema, or releases both: memory alone can be wanting.
+/// Takes a chunk of rows with its schema, or releases both: memory alone can be wanting.
 fn take_chunk(
     alloc: Global,
     schema: RawSchema,
@@ -55,7 +55,8 @@ fn take_chunk(
     requires units { pass.old.units + Nodes schema + Cost chunk ≤ SUPPLY }
     ensures schema { IfOk result (λ imported. imported.schema ≡ schema) }
     ensures chunk { IfOk result (λ imported. imported.array ≡ chunk) }
-    ensures kinds { IfOk result (λ imported. (columns : List Column) (rows : List Row) → IsChunkOf schema chunk columns rows → typed_of imported.typed ≡ type_of_columns columns) }
+    ensures kinds { IfOk result
+        (λ imported. (columns : List Column) (rows : List Row) → IsChunkOf schema chunk columns rows → typed_of imported.typed ≡ type_of_columns columns) }
     ensures units { pass.new.units ≡ pass.old.units + (if is_ok result then 0 else Nodes schema + Cost chunk) }
     ensures blocks { pass.new.blocks ≡ pass.old.blocks }
     ensures nodes { pass.new.nodes ≡ pass.old.nodes }
@@ -72,7 +73,7 @@ fn take_chunk(
     }
 }
 
-// The one fault of structures that meet each rule.
+/// The one fault of structures that meet each rule.
 fn want_of_memory(fault: ImportFault) -> NoMemory
     requires { fault ≡ faults.Schema schemas.NoMemory }
 {
@@ -82,7 +83,7 @@ fn want_of_memory(fault: ImportFault) -> NoMemory
     }
 }
 
-// Writes the rows of a chunk, which are read from where they stand, and releases it and its schema.
+/// Writes the rows of a chunk, which are read from where they stand, and releases it and its schema.
 fn write_chunk(
     alloc: Global,
     schema: RawSchema,
@@ -90,9 +91,11 @@ fn write_chunk(
     text: &mut CsvText,
     pass: &mut Pass,
 ) -> Result<(), NoMemory>
-    requires chunk { (mark : List ℕ) × (columns : List Column) × (rows : List Row) × (written : List ℕ) × IsChunkOf schema chunk columns rows × HasText text.old mark columns written }
+    requires chunk { (mark : List ℕ) × (columns : List Column) × (rows : List Row) × (written : List ℕ) × IsChunkOf schema chunk columns rows
+        × HasText text.old mark columns written }
     requires units { pass.old.units + Nodes schema + Cost chunk ≤ SUPPLY }
-    ensures text { OnOk result ((mark : List ℕ) (columns : List Column) (rows : List Row) (written : List ℕ) → IsChunkOf schema chunk columns rows → HasText text.old mark columns written
+    ensures text { OnOk result ((mark : List ℕ) (columns : List Column) (rows : List Row) (written : List ℕ) → IsChunkOf schema chunk columns rows
+        → HasText text.old mark columns written
         → HasText text.new mark columns (written ++ rows_text mark columns rows)) }
     ensures units { pass.new.units ≡ pass.old.units + Nodes schema + Cost chunk }
     ensures blocks { pass.new.blocks ≡ pass.old.blocks }
@@ -107,16 +110,17 @@ fn write_chunk(
     Ok(())
 }
 
-// How many rows the builders hold.
+/// How many rows the builders hold.
 fn count_rows(builders: &[Builder]) -> i64
     requires some { 1 ≤ length builders.now }
     requires held { (columns : List Column) × (rows : List Row) × HoldRows builders.now columns rows × (length rows ≤ 2 ^ 30) }
     ensures { (columns : List Column) (rows : List Row) → HoldRows builders.now columns rows → result ≡ pos (length rows) }
 {
+    held_rows_fit();
     builders[0].len()
 }
 
-// Writes the rows that builders hold, by way of a chunk, and releases the schema.
+/// Writes the rows that builders hold, by way of a chunk, and releases the schema.
 fn write_rows(
     alloc: Global,
     schema: RawSchema,
@@ -126,15 +130,20 @@ fn write_rows(
 ) -> Result<(), NoMemory>
     requires some { 1 ≤ vec_len builders }
     requires few { vec_len builders ≤ most_columns }
-    requires held { (mark : List ℕ) × (columns : List Column) × (rows : List Row) × (written : List ℕ) × IsSchemaOf schema columns × HoldRows builders.items columns rows × (length rows ≤ 2 ^ 30) × HasText text.old mark columns written }
-    requires units { pass.old.units + Nodes schema ≡ SUPPLY }
-    requires small { Nodes schema ≤ 1 + most_columns }
-    ensures text { OnOk result ((mark : List ℕ) (columns : List Column) (rows : List Row) (written : List ℕ) → IsSchemaOf schema columns → HoldRows builders.items columns rows → length rows ≤ 2 ^ 30 → HasText text.old mark columns written
+    requires held { (mark : List ℕ) × (columns : List Column) × (rows : List Row) × (written : List ℕ) × IsSchemaOf schema columns
+        × HoldRows builders.items columns rows × (length rows ≤ 2 ^ 30) × HasText text.old mark columns written }
+    requires units { 1 + 4 * vec_len builders ≤ pass.old.units }
+    requires room { pass.old.units + Nodes schema ≤ SUPPLY }
+    ensures text { OnOk result ((mark : List ℕ) (columns : List Column) (rows : List Row) (written : List ℕ) → IsSchemaOf schema columns
+        → HoldRows builders.items columns rows → length rows ≤ 2 ^ 30 → HasText text.old mark columns written
         → HasText text.new mark columns (written ++ rows_text mark columns rows)) }
-    ensures units { pass.new.units ≡ SUPPLY }
-    ensures blocks { OnOk result ((columns : List Column) (rows : List Row) → HoldRows builders.items columns rows → pass.new.blocks ≡ risen pass.old.blocks (chunk_blocks_of columns rows)) }
-    ensures nodes { OnOk result ((columns : List Column) (rows : List Row) → HoldRows builders.items columns rows → pass.new.nodes ≡ risen pass.old.nodes (chunk_nodes_of columns rows)) }
+    ensures units { pass.new.units ≡ pass.old.units + Nodes schema }
+    ensures blocks { OnOk result ((columns : List Column) (rows : List Row) → HoldRows builders.items columns rows
+        → pass.new.blocks ≡ risen pass.old.blocks (chunk_blocks_of columns rows)) }
+    ensures nodes { OnOk result ((columns : List Column) (rows : List Row) → HoldRows builders.items columns rows
+        → pass.new.nodes ≡ risen pass.old.nodes (chunk_nodes_of columns rows)) }
 {
+    held_rows_fit();
     let rows = count_rows(&builders);
     if rows == 0 {
         release_schema(schema, pass);
@@ -152,7 +161,7 @@ fn write_rows(
     }
 }
 
-// The text of the table of these columns whose rows builders hold, with the mark for null.
+/// The text of the table of these columns whose rows builders hold, with the mark for null.
 pub(crate) fn table_text(
     alloc: Global,
     columns: &[ColumnType],
@@ -165,7 +174,7 @@ pub(crate) fn table_text(
     requires proper { AreProper (map column_of columns.now) }
     requires allowed { AreAllowed (map column_of columns.now) }
     requires held { (rows : List Row) × HoldRows builders.items (map column_of columns.now) rows × (length rows ≤ 2 ^ 30) }
-    requires units { pass.old.units ≡ SUPPLY }
+    requires units { CHUNK ≤ pass.old.units }
     ensures text { IfOk result (λ text. (rows : List Row) → HoldRows builders.items (map column_of columns.now) rows → length rows ≤ 2 ^ 30
         → text.items ≡ table_text mark.now (record { columns = map column_of columns.now; rows = rows })) }
     ensures units { pass.new.units ≡ pass.old.units }

@@ -4,7 +4,7 @@ ghost use Rattle.std.specs.Io.KnownBytes.{IsAtEnd, Keeps};
 ghost use Rattle.field_codec.specs.TextColumns.{IsAllowed};
 ghost use Rattle.fmt_string.specs.Kinds.{KindOk};
 ghost use Rattle.edge_io.specs.Edge.{LosesPrefix, Rose};
-ghost use Rattle.unit_pass.specs.declared.pass.TheConstants.{SUPPLY};
+ghost use Rattle.unit_pass.specs.declared.pass.TheConstants.{CHUNK};
 ghost use Rattle.words.specs.Words.{texts_of, words_of};
 ghost use Rattle.pipe_top.specs.Answer.{Asks, Fault, IsAnswer, IsAnswerTo, IsInput, Text, answer_to, input_limit, status_of};
 ghost use Rattle.pipe_top.specs.Outcomes.{AtWriteFault, GotFirst, GotText, asked_of, fault_in, is_decided, is_early, is_write_fault, request_of, wants_audit};
@@ -21,7 +21,7 @@ use std::alloc::Global;
 use unit_pass::{Audit, Pass, open_desk};
 use words::WordsFault;
 
-// The most bytes that are read.
+/// The most bytes that are read.
 const INPUT_LIMIT: u64 = 1 << 30;
 
 /// What a run came to.
@@ -70,7 +70,8 @@ pub fn run<S: Source, K: Sink, E: Sink>(
     ensures read_fault { result.fault ≡ Some RunFault.ReadFault → Rose (S.faults source.old) (S.faults source.new) }
     ensures write_fault { IfSome result.fault (λ fault. AtWriteFault fault (λ taken. Rose (K.faults sink.old) (K.faults sink.new))) }
     // After a failed write the sink has the first bytes of the text, and after any other fault it is as before.
-    ensures write_fault_prefix { IfSome result.fault (λ fault. AtWriteFault fault (λ taken. (bytes : List ℕ) → IsInput (texts_of words.now) (S.left source.old) bytes
+    ensures write_fault_prefix { IfSome result.fault
+        (λ fault. AtWriteFault fault (λ taken. (bytes : List ℕ) → IsInput (texts_of words.now) (S.left source.old) bytes
         → GotFirst (IsAnswer (texts_of words.now) bytes) (K.taken sink.old) (K.taken sink.new) taken)) }
     ensures no_memory { result.fault ≡ Some RunFault.NoMemory → Keeps (K.taken sink.old) (K.taken sink.new) }
     ensures unwritten { IfSome result.fault (λ fault. is_write_fault fault ≡ false → Keeps (K.taken sink.old) (K.taken sink.new)) }
@@ -83,11 +84,13 @@ pub fn run<S: Source, K: Sink, E: Sink>(
         → IsTraffic (texts_of words.now) bytes result.audit.blocks result.audit.nodes }
     // The sink of diagnostics took the fault's line and then the audit's where the words ask for it, or the first bytes
     // of that where its own faults rose. Without memory the audit's line may be missing.
-    ensures diagnostics { Told (E.taken errs.old) (E.taken errs.new) (E.faults errs.old) (E.faults errs.new) result.fault (audit_if (wants_audit (words_of (texts_of words.now))) result.audit) }
+    ensures diagnostics { Told (E.taken errs.old) (E.taken errs.new) (E.faults errs.old) (E.faults errs.new) result.fault
+        (audit_if (wants_audit (words_of (texts_of words.now))) result.audit) }
     // Where no fault rises the answer is given, or there was no memory.
     ensures complete { (bytes text : List ℕ) → IsInput (texts_of words.now) (S.left source.old) bytes → IsAnswer (texts_of words.now) bytes (Text text)
         → ¬ (Rose (S.faults source.old) (S.faults source.new)) → ¬ (Rose (K.faults sink.old) (K.faults sink.new)) → (result.status ≡ 0) ⊎ (result.status ≡ 9) }
-    ensures complete_fault { (bytes : List ℕ) (fault : AFault) → IsInput (texts_of words.now) (S.left source.old) bytes → IsAnswer (texts_of words.now) bytes (Fault fault)
+    ensures complete_fault { (bytes : List ℕ) (fault : AFault) → IsInput (texts_of words.now) (S.left source.old) bytes
+        → IsAnswer (texts_of words.now) bytes (Fault fault)
         → ¬ (Rose (S.faults source.old) (S.faults source.new)) → (result.fault ≡ Some fault) ⊎ (result.status ≡ 9) }
 {
     let (desk, mut pass) = open_desk();
@@ -102,7 +105,7 @@ pub fn run<S: Source, K: Sink, E: Sink>(
     outcome
 }
 
-// What a run came to.
+/// What a run came to.
 fn outcome_of(carried: Result<(), RunFault>, audit: Audit) -> Outcome
     ensures status { result.status ≡ status_of result.fault }
     ensures fault { result.fault ≡ fault_in carried }
@@ -122,7 +125,7 @@ fn outcome_of(carried: Result<(), RunFault>, audit: Audit) -> Outcome
     }
 }
 
-// The status of a fault.
+/// The status of a fault.
 fn status(fault: RunFault) -> u8
     ensures { result ≡ status_of (Some fault) }
 {
@@ -143,7 +146,7 @@ fn status(fault: RunFault) -> u8
     }
 }
 
-// Reads the source to its end.
+/// Reads the source to its end.
 fn read_input<S: Source>(alloc: Global, source: &mut S) -> Result<Vec<u8>, RunFault>
     ensures bytes { IfOk result (λ v. IfSome (S.left source.old) (λ bytes. bytes ≡ v.items)) }
     ensures fits { IfOk result (λ v. length v.items ≤ input_limit) }
@@ -161,7 +164,7 @@ fn read_input<S: Source>(alloc: Global, source: &mut S) -> Result<Vec<u8>, RunFa
     }
 }
 
-// Reads the source, makes the text and writes it, where the words are taken.
+/// Reads the source, makes the text and writes it, where the words are taken.
 fn carry_out<S: Source, K: Sink>(
     alloc: Global,
     request: Result<Request, RunFault>,
@@ -169,7 +172,7 @@ fn carry_out<S: Source, K: Sink>(
     sink: &mut K,
     pass: &mut Pass,
 ) -> Result<(), RunFault>
-    requires units { pass.old.units ≡ SUPPLY }
+    requires units { CHUNK ≤ pass.old.units }
     requires proper { IfOk request (λ r. All (λ e. KindOk e.kind) r.entries.items) }
     requires allowed { IfOk request (λ r. All (λ e. IsAllowed e.kind) r.entries.items) }
     requires early { IfErr request (λ fault. (is_early fault ≡ true) ⊎ (fault ≡ RunFault.NoMemory)) }
@@ -182,11 +185,13 @@ fn carry_out<S: Source, K: Sink>(
     ensures refused_unfailed { IfErr request (λ _. S.faults source.new ≡ S.faults source.old) }
     ensures read_fault { result ≡ Err RunFault.ReadFault → Rose (S.faults source.old) (S.faults source.new) }
     ensures write_fault { IfErr result (λ fault. AtWriteFault fault (λ taken. Rose (K.faults sink.old) (K.faults sink.new))) }
-    ensures write_fault_prefix { IfErr result (λ fault. AtWriteFault fault (λ taken. IfSome (S.left source.old) (λ bytes. GotFirst (IsAnswerTo (asked_of request) bytes) (K.taken sink.old) (K.taken sink.new) taken))) }
+    ensures write_fault_prefix { IfErr result (λ fault. AtWriteFault fault
+        (λ taken. IfSome (S.left source.old) (λ bytes. GotFirst (IsAnswerTo (asked_of request) bytes) (K.taken sink.old) (K.taken sink.new) taken))) }
     ensures unwritten { IfErr result (λ fault. is_write_fault fault ≡ false → Keeps (K.taken sink.old) (K.taken sink.new)) }
     ensures prefix { LosesPrefix (S.left source.old) (S.left source.new) }
     ensures units { pass.new.units ≡ pass.old.units }
-    ensures counts { OnOk result (IfSome (S.left source.old) (λ bytes. IfOk request (λ r. RequestTraffic (request_of r) bytes pass.old.blocks pass.old.nodes pass.new.blocks pass.new.nodes))) }
+    ensures counts { OnOk result (IfSome (S.left source.old)
+        (λ bytes. IfOk request (λ r. RequestTraffic (request_of r) bytes pass.old.blocks pass.old.nodes pass.new.blocks pass.new.nodes))) }
 {
     let request = request?;
     let bytes = read_input(alloc, source)?;

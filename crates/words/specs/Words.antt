@@ -1,5 +1,6 @@
 -- What the words of the command line mean: the matches that `clap` promises for a simple command, or a refusal.
-use Rattle.std.specs.Prelude.{◌≡◌, ◌≢◌, ⊤, Bool, true, false, List, [], map, Option, Some, option_map, Result, Ok, Err, if◌then◌else◌, codes, String, string_bytes}
+use Rattle.std.specs.Prelude.{◌≡◌, ◌≢◌, ⊤, Bool, true, false, List, [], map, Option, Some, option_map, Result, Ok, Err, if◌then◌else◌, codes, String}
+use Rattle.std.specs.Prelude.{string_bytes}
 use Rattle.std.specs.Option.{option_map_or, unwrap_or}
 use Rattle.std.specs.Str.{bytes_eq}
 use Rattle.std.specs.declared.alloc.Global.{Global}

@@ -13,6 +13,7 @@ ghost use Rattle.words.specs.Words.{bare_command, flag_rule, text_rule, ErrorOf,
 use clap::error::ErrorKind;
 use clap::{Arg, ArgAction, ArgMatches, Command};
 use std::alloc::{AllocError, Global};
+use std::fmt;
 
 /// What the words ask for. The texts are borrowed from the words.
 #[derive(Clone, Copy, Debug)]
@@ -39,6 +40,37 @@ pub enum WordsError {
     NoMemory,
 }
 
+impl fmt::Display for WordsFault {
+    ghost use Rattle.std.specs.Prelude.{Some};
+    ghost use Rattle.words.specs.FaultTexts.{fault_text};
+
+    ghost output = { λ fault. Some (fault_text fault) };
+
+    fn fmt<W: fmt::Write>(&self, f: &mut fmt::Formatter<W>) -> fmt::Result {
+        match self {
+            WordsFault::Refused => f.write_str("words refused"),
+        }
+    }
+}
+
+impl std::error::Error for WordsFault {}
+
+impl fmt::Display for WordsError {
+    ghost use Rattle.std.specs.Prelude.{Some};
+    ghost use Rattle.words.specs.FaultTexts.{error_text};
+
+    ghost output = { λ error. Some (error_text error) };
+
+    fn fmt<W: fmt::Write>(&self, f: &mut fmt::Formatter<W>) -> fmt::Result {
+        match self {
+            WordsError::Words(fault) => write!(f, "{fault}"),
+            WordsError::NoMemory => f.write_str("out of memory"),
+        }
+    }
+}
+
+impl std::error::Error for WordsError {}
+
 /// Reads the words after the program's name. `--schema -a:u` is refused and `--schema=-a:u` taken, since a text
 /// that stands as a word of its own may not begin with `-`; so it is with `--null`.
 pub fn read_words<'a>(alloc: Global, words: &'a [String]) -> Result<Words<'a>, WordsError>
@@ -55,7 +87,7 @@ pub fn read_words<'a>(alloc: Global, words: &'a [String]) -> Result<Words<'a>, W
     }
 }
 
-// The command, whose words begin after the program's name.
+/// The command, whose words begin after the program's name.
 fn command<'a>(alloc: Global) -> Result<Command<'a>, AllocError>
     ensures { IfOk result (λ c. app_of c ≡ arrowpipe) }
 {
@@ -67,7 +99,7 @@ fn command<'a>(alloc: Global) -> Result<Command<'a>, AllocError>
     Ok(command)
 }
 
-// The command without arguments and without a help flag.
+/// The command without arguments and without a help flag.
 fn bare_command<'a>(alloc: Global) -> Command<'a>
     ensures { app_of result ≡ bare_command }
 {
@@ -76,7 +108,7 @@ fn bare_command<'a>(alloc: Global) -> Command<'a>
         .disable_help_flag(true)
 }
 
-// An option that takes a text.
+/// An option that takes a text.
 fn text_option<'a>(alloc: Global, name: &'a str) -> Arg<'a>
     ensures rule { rule_of result ≡ text_rule name.entry.now }
     ensures local { result.global ≡ false }
@@ -84,7 +116,7 @@ fn text_option<'a>(alloc: Global, name: &'a str) -> Arg<'a>
     Arg::new(alloc, name).long(name)
 }
 
-// An option that takes nothing.
+/// An option that takes nothing.
 fn flag_option<'a>(alloc: Global, name: &'a str) -> Arg<'a>
     ensures rule { rule_of result ≡ flag_rule name.entry.now }
     ensures local { result.global ≡ false }
@@ -92,7 +124,7 @@ fn flag_option<'a>(alloc: Global, name: &'a str) -> Arg<'a>
     text_option(alloc, name).action(ArgAction::SetTrue)
 }
 
-// The error of words that clap did not take.
+/// The error of words that clap did not take.
 fn error_by(kind: ErrorKind) -> WordsError
     ensures { ErrorOf kind result }
 {
@@ -102,7 +134,7 @@ fn error_by(kind: ErrorKind) -> WordsError
     }
 }
 
-// The options that the matches hold.
+/// The options that the matches hold.
 fn options<'a>(matches: &ArgMatches<'a>) -> Words<'a>
     ensures { options_of result ≡ options_in (rows_of (found_of matches.now)) }
 {
@@ -113,7 +145,7 @@ fn options<'a>(matches: &ArgMatches<'a>) -> Words<'a>
     }
 }
 
-// Whether a flag was given.
+/// Whether a flag was given.
 fn flag(matches: &ArgMatches<'_>, id: &str) -> bool
     ensures { result ≡ flag_in id.now (rows_of (found_of matches.now)) }
 {

@@ -1,7 +1,8 @@
-use crate::read_words;
+//! Tests of the words of the command line, and of the texts of their faults.
+use crate::{WordsError, WordsFault, read_words};
 use std::test::Fail;
 
-// The words, apart by blanks, and what they are read as.
+/// The words, apart by blanks, and what they are read as.
 static CASES: [(&str, &str); 10] = [
     (
         "--schema a:l --audit",
@@ -38,6 +39,24 @@ fn words_are_taken_or_refused(rt: HostRuntime) -> Result<(), Fail> {
         let read = read_words(alloc, words.as_slice());
         let shown = format!(in alloc; "{read:?}")?;
         assert!(rt; shown.as_str() == *wanted);
+    }
+    Ok(())
+}
+
+/// A fault, and its text.
+static TEXTS: [(WordsError, &str); 2] = [
+    (WordsError::Words(WordsFault::Refused), "words refused"),
+    (WordsError::NoMemory, "out of memory"),
+];
+
+#[test]
+fn faults_have_their_texts(rt: HostRuntime) -> Result<(), Fail> {
+    for (error, wanted) in &TEXTS {
+        assert_eq!(rt;
+            error.to_string(rt.alloc())?.as_str(),
+            *wanted,
+            "the text of {error:?}"
+        );
     }
     Ok(())
 }

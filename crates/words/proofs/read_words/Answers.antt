@@ -20,7 +20,8 @@ returns-in-Err-try_get_matches_from c =
     let parse = c.try_get_matches_from in
     record {
       taken = tt;
-      refused = refused_words (app_of c.in-Ok.command) (texts_of c.args.words.now) parse.result c.in-Err-try_get_matches_from.error c.error_by.result c.in-Ok.ensures
+      refused =
+          refused_words (app_of c.in-Ok.command) (texts_of c.args.words.now) parse.result c.in-Err-try_get_matches_from.error c.error_by.result c.in-Ok.ensures
           c.in-Err-try_get_matches_from.is parse.ensures.passes
           (subst (λ (k : ErrorKind). ErrorOf k c.error_by.result) c.kind.ensures c.error_by.ensures);
     }

@@ -5,7 +5,9 @@ use Rattle.field_codec.specs.TextColumns.{AreAllowed, AreProper}
 use Rattle.csv_read.proofs.body_tests.a_text_beside_others_is_utf8.Goals as goal
 
 pub read_body-requires-clause-proper : goal.read_body-requires-clause-proper
-read_body-requires-clause-proper g c = subst (λ (columns : List ColumnType). AreProper (map column_of columns)) (sym c.as_slice.ensures.value) c.in_ok-named.ensures.proper
+read_body-requires-clause-proper g c =
+    subst (λ (columns : List ColumnType). AreProper (map column_of columns)) (sym c.as_slice.ensures.value) c.in_ok-named.ensures.proper
 
 pub read_body-requires-clause-allowed : goal.read_body-requires-clause-allowed
-read_body-requires-clause-allowed g c = subst (λ (columns : List ColumnType). AreAllowed (map column_of columns)) (sym c.as_slice.ensures.value) c.in_ok-named.ensures.allowed
+read_body-requires-clause-allowed g c =
+    subst (λ (columns : List ColumnType). AreAllowed (map column_of columns)) (sym c.as_slice.ensures.value) c.in_ok-named.ensures.allowed

@@ -17,7 +17,14 @@ give_up-requires-clause-units c =
     let held = c.requires.holds in
     let made = c.in-Ok.ensures.encoded held.0 held.1 held.2 in
     let same = ap (λ views. holds_of (buffers_of views)) c.in-Err-export_column.ensures.buffers_back in
-    omega (arith, same, finished-holds _ _ made.buffers, c.in-Ok.ensures.units held.0 held.1 held.2, c.in-Err-export_column.ensures.units, holds_of-count c.in-Err-export_column.built.buffers.items)
+    omega (
+      arith,
+      same,
+      finished-holds _ _ made.buffers,
+      c.in-Ok.ensures.units held.0 held.1 held.2,
+      c.in-Err-export_column.ensures.units,
+      holds_of-count c.in-Err-export_column.built.buffers.items,
+    )
 
 pub returns-in-Ok-export_column-clause-units : goal.returns-in-Ok-export_column-clause-units
 returns-in-Ok-export_column-clause-units c =
@@ -42,4 +49,12 @@ returns-in-Err-export_column-clause-units_back c =
     let held = c.requires.holds in
     let made = c.in-Ok.ensures.encoded held.0 held.1 held.2 in
     let same = ap (λ views. holds_of (buffers_of views)) c.in-Err-export_column.ensures.buffers_back in
-    omega (arith, same, finished-holds _ _ made.buffers, c.in-Ok.ensures.units held.0 held.1 held.2, c.in-Err-export_column.ensures.units, c.give_up.ensures.units, holds_of-count c.in-Err-export_column.built.buffers.items)
+    omega (
+      arith,
+      same,
+      finished-holds _ _ made.buffers,
+      c.in-Ok.ensures.units held.0 held.1 held.2,
+      c.in-Err-export_column.ensures.units,
+      c.give_up.ensures.units,
+      holds_of-count c.in-Err-export_column.built.buffers.items,
+    )

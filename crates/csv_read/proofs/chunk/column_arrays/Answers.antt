@@ -11,7 +11,9 @@ use Rattle.csv_read.proofs.chunk.column_arrays.Goals as goal
 
 pub column_array-requires-clause-holds : goal.column_array-requires-clause-holds
 column_array-requires-clause-holds c =
-    let turn = YieldsList-turn (YieldsList-from_vec c.args.builders.items (cc) (cc)) c.loop-builder.yielded c.loop-builder.builder-iterator c.loop-builder.yielded_by _ c.next.new.self c.in-Some.builder c.in-Some.is c.next.ensures.steps in
+    let turn =
+    YieldsList-turn (YieldsList-from_vec c.args.builders.items (cc) (cc)) c.loop-builder.yielded c.loop-builder.builder-iterator c.loop-builder.yielded_by _
+    c.next.new.self c.in-Some.builder c.in-Some.is c.next.ensures.steps in
     subst HoldsSome (sym turn.1) (c.requires.holds (length c.loop-builder.yielded) c.in-Some.builder turn.0)
 
 pub loop-builder-preserved : goal.loop-builder-preserved
@@ -23,7 +25,8 @@ loop-builder-preserved c =
     let blocks = ap all_blocks items ∙ blocks-push c.loop-builder.arrays.items c.in-Ok-column_array.array in
     let more = length-append c.loop-builder.yielded (c.in-Some.builder ∷ []) in
     record {
-      arrays = subst (AreColumnsOf (c.loop-builder.yielded ++ c.in-Some.builder ∷ [])) (sym items) (columns-push c.loop-builder.yielded c.loop-builder.arrays.items c.in-Some.builder c.in-Ok-column_array.array before.arrays one.column);
+      arrays = subst (AreColumnsOf (c.loop-builder.yielded ++ c.in-Some.builder ∷ [])) (sym items)
+          (columns-push c.loop-builder.yielded c.loop-builder.arrays.items c.in-Some.builder c.in-Ok-column_array.array before.arrays one.column);
       count = omega (arith, c.push_reserved.ensures.len, before.count, more);
       room = omega (arith, before.room, c.push_reserved.ensures.capacity);
       units = omega (arith, cost, before.units, one.units);

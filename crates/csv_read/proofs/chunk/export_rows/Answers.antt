@@ -20,20 +20,27 @@ export_table-requires-clause-few_columns c =
 pub export_table-requires-clause-columns : goal.export_table-requires-clause-columns
 export_table-requires-clause-columns c =
     let held = c.requires.held in
-    let arrays = columns-are 0 c.args.builders.items held.0 held.1 c.in_ok-arrays.arrays.items (from-each c.args.builders.items held.0 held.1 held.2.held) c.in_ok-arrays.ensures.columns in
+    let arrays =
+    columns-are 0 c.args.builders.items held.0 held.1 c.in_ok-arrays.arrays.items (from-each c.args.builders.items held.0 held.1 held.2.held)
+    c.in_ok-arrays.ensures.columns in
     let fits = held-fit 0 c.args.builders.items held.0 held.1 (from-each c.args.builders.items held.0 held.1 held.2.held) in
     let same : to_z w64 (of_z w64 c.args.rows) ≡ c.args.rows = omega (arith, ints) in
     let rows = same ∙ held.3 in
-    subst (λ rows. All (IsColumn (natural rows)) c.in_ok-arrays.arrays.items) (sym rows) (subst (All (IsColumn (length held.1))) (sym arrays) (are-columns 0 held.0 held.1 fits))
+    subst (λ rows. All (IsColumn (natural rows)) c.in_ok-arrays.arrays.items) (sym rows)
+    (subst (All (IsColumn (length held.1))) (sym arrays) (are-columns 0 held.0 held.1 fits))
 
 pub returns-in-Ok-clause-chunk : goal.returns-in-Ok-clause-chunk
 returns-in-Ok-clause-chunk c columns values held count =
-    let arrays = columns-are 0 c.args.builders.items columns values c.in_ok-arrays.arrays.items (from-each c.args.builders.items columns values held.held) c.in_ok-arrays.ensures.columns in
+    let arrays =
+    columns-are 0 c.args.builders.items columns values c.in_ok-arrays.arrays.items (from-each c.args.builders.items columns values held.held)
+    c.in_ok-arrays.ensures.columns in
     let same : to_z w64 (of_z w64 c.args.rows) ≡ c.args.rows = omega (arith, ints) in
     let rows = same ∙ count in
     c.in-Ok.ensures.tree ∙ ap (λ rows. table_tree (natural rows) c.in_ok-arrays.arrays.items) rows ∙ ap (table_tree (length values)) arrays
 
 pub returns-in-Ok-clause-blocks : goal.returns-in-Ok-clause-blocks
 returns-in-Ok-clause-blocks c columns values held =
-    let arrays = columns-are 0 c.args.builders.items columns values c.in_ok-arrays.arrays.items (from-each c.args.builders.items columns values held.held) c.in_ok-arrays.ensures.columns in
+    let arrays =
+    columns-are 0 c.args.builders.items columns values c.in_ok-arrays.arrays.items (from-each c.args.builders.items columns values held.held)
+    c.in_ok-arrays.ensures.columns in
     c.in-Ok.ensures.blocks ∙ c.in_ok-arrays.ensures.blocks ∙ ap (risen c.args.pass.now.blocks) (ap all_blocks arrays ∙ blocks-are 0 columns values)

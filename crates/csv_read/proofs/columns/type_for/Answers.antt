@@ -26,4 +26,5 @@ returns c =
     let entries = c.args.entries.now in
     let name = c.args.name.now in
     sym (type-is entries name
-    ∙ ap (λ (o : Option TypeEntry). kind_or_text (option_map entry_of o)) (find-none (λ e. bytes_eq e.name name) entries c.loop-entry.entry-index c.loop-entry.invariant (omega arith)))
+    ∙ ap (λ (o : Option TypeEntry). kind_or_text (option_map entry_of o))
+    (find-none (λ e. bytes_eq e.name name) entries c.loop-entry.entry-index c.loop-entry.invariant (omega arith)))

@@ -1,19 +1,27 @@
 use Rattle.std.proofs.Common.{◌≡◌, true, false, Bool, Result, Ok}
 use Rattle.csv.specs.Records.{fields_of}
 use Rattle.unit_pass.specs.declared.no_memory.NoMemory.{NoMemory}
-use Rattle.csv_read.proofs.RecordReading.{Stepped, ended, stepped}
+use Rattle.csv_read.proofs.RecordReading.{InTurn, Stepped, ended, stepped}
 use Rattle.csv_read.proofs.records.next_record.Goals as goal
 
 same-found : (a b : Bool) → ◌≡◌ {A = Result Bool NoMemory} (Ok a) (Ok b) → a ≡ b
 same-found a b e = cc
 
+-- the law that is called
+in-turn : (c : goal.In-Ok) → InTurn
+in-turn c =
+    let law = c.records_are_read_in_turn.ensures in
+    record { next = law.next; end = law.end; between = law.between; shorter = law.shorter; bytes = law.bytes; count = law.count }
+
 -- the read found a record
-step : (c : goal.In-Ok) → ◌≡◌ {A = Result Bool NoMemory} (Ok c.in-Ok.found) (Ok true) → Stepped c.args.reader.now c.read_byte_record.new.self (fields_of c.read_byte_record.new.row)
+step : (c : goal.In-Ok) → ◌≡◌ {A = Result Bool NoMemory} (Ok c.in-Ok.found) (Ok true)
+    → Stepped c.args.reader.now c.read_byte_record.new.self (fields_of c.read_byte_record.new.row)
 step c e =
     let found : c.in-Ok.found ≡ true = same-found c.in-Ok.found true e in
     let told = c.in-Ok.ensures in
     let read = rw found at (told.reads c.requires.trim c.requires.ready) in
-    stepped c.args.reader.now c.read_byte_record.new.self (fields_of c.read_byte_record.new.row) c.requires read (told.ready c.requires.trim) told.flexible told.goes
+    stepped (in-turn c) c.args.reader.now c.read_byte_record.new.self (fields_of c.read_byte_record.new.row) c.requires read
+    (told.ready c.requires.trim) told.flexible told.goes
 
 pub returns-in-Ok-clause-reads_on : goal.returns-in-Ok-clause-reads_on
 returns-in-Ok-clause-reads_on c e = (step c e).reading
@@ -31,4 +39,4 @@ pub returns-in-Ok-clause-end : goal.returns-in-Ok-clause-end
 returns-in-Ok-clause-end c e =
     let found : c.in-Ok.found ≡ false = same-found c.in-Ok.found false e in
     let read = rw found at (c.in-Ok.ensures.reads c.requires.trim c.requires.ready) in
-    ended c.args.reader.now c.read_byte_record.new.self (fields_of c.read_byte_record.new.row) c.requires read
+    ended (in-turn c) c.args.reader.now c.read_byte_record.new.self (fields_of c.read_byte_record.new.row) c.requires read

@@ -12,13 +12,19 @@ returns-then-fine-digits c =
     let whole = c.short_front-whole in
     let digits = c.in_ok-digits.digits.now in
     let fraction = c.short_front-fraction in
-    let found : fraction_text c.args.places (drop whole.result.1 text) ≡ Some digits = ap (fraction_text c.args.places) (sym c.split_at.ensures.back) ∙ sym c.in_ok-digits.ensures in
-    sym (other_behind c.args.places whole.result.1 text digits fraction.result.1 (record { len = whole.ensures.count; found = found; fine_len = fraction.ensures.count }) c.if-fine-digits.true)
+    let found : fraction_text c.args.places (drop whole.result.1 text) ≡ Some digits =
+    ap (fraction_text c.args.places) (sym c.split_at.ensures.back) ∙ sym c.in_ok-digits.ensures in
+    sym (other_behind c.args.places whole.result.1 text digits fraction.result.1
+    (record { len = whole.ensures.count; found = found; fine_len = fraction.ensures.count }) c.if-fine-digits.true)
 
 pub overflow_mul-result : goal.overflow_mul-result
 overflow_mul-result c =
     let whole = c.short_front-whole in
-    omega (arith, times_below whole.result.0 whole.result.1 c.args.places 18 c.power.result whole.ensures.small (omega (arith, c.requires, whole.ensures.count, prefix_len-le-length is_ascii_digit c.args.text.now)) c.power.ensures)
+    omega (
+      arith,
+      times_below whole.result.0 whole.result.1 c.args.places 18 c.power.result whole.ensures.small
+          (omega (arith, c.requires, whole.ensures.count, prefix_len-le-length is_ascii_digit c.args.text.now)) c.power.ensures,
+    )
 
 -- the number behind the point is small
 fraction_small : (c : After-power-2) → c.short_front-fraction.result.0 * c.power-2.result < 10 ^ 18
@@ -27,9 +33,13 @@ fraction_small c =
     let whole = c.short_front-whole in
     let digits = c.in_ok-digits.digits.now in
     let fraction = c.short_front-fraction in
-    let found : fraction_text c.args.places (drop whole.result.1 text) ≡ Some digits = ap (fraction_text c.args.places) (sym c.split_at.ensures.back) ∙ sym c.in_ok-digits.ensures in
-    let few = fine_few c.args.places whole.result.1 text digits fraction.result.1 (record { len = whole.ensures.count; found = found; fine_len = fraction.ensures.count }) in
-    times_below fraction.result.0 fraction.result.1 (c.args.places - fraction.result.1) 18 c.power-2.result fraction.ensures.small (omega (arith, few, c.requires)) c.power-2.ensures
+    let found : fraction_text c.args.places (drop whole.result.1 text) ≡ Some digits =
+    ap (fraction_text c.args.places) (sym c.split_at.ensures.back) ∙ sym c.in_ok-digits.ensures in
+    let few =
+    fine_few c.args.places whole.result.1 text digits fraction.result.1
+    (record { len = whole.ensures.count; found = found; fine_len = fraction.ensures.count }) in
+    times_below fraction.result.0 fraction.result.1 (c.args.places - fraction.result.1) 18 c.power-2.result fraction.ensures.small
+    (omega (arith, few, c.requires)) c.power-2.ensures
 
 pub overflow_mul-result-2 : goal.overflow_mul-result-2
 overflow_mul-result-2 c = omega (arith, fraction_small c)
@@ -37,7 +47,9 @@ overflow_mul-result-2 c = omega (arith, fraction_small c)
 pub overflow_add-result : goal.overflow_add-result
 overflow_add-result c =
     let whole = c.short_front-whole in
-    let high = times_below whole.result.0 whole.result.1 c.args.places 18 c.power.result whole.ensures.small (omega (arith, c.requires, whole.ensures.count, prefix_len-le-length is_ascii_digit c.args.text.now)) c.power.ensures in
+    let high =
+    times_below whole.result.0 whole.result.1 c.args.places 18 c.power.result whole.ensures.small
+    (omega (arith, c.requires, whole.ensures.count, prefix_len-le-length is_ascii_digit c.args.text.now)) c.power.ensures in
     omega (arith, fraction_small c, high)
 
 pub returns : goal.returns
@@ -46,7 +58,10 @@ returns c =
     let whole = c.short_front-whole in
     let digits = c.in_ok-digits.digits.now in
     let fraction = c.short_front-fraction in
-    let found : fraction_text c.args.places (drop whole.result.1 text) ≡ Some digits = ap (fraction_text c.args.places) (sym c.split_at.ensures.back) ∙ sym c.in_ok-digits.ensures in
-    sym (parts_read c.args.places whole.result.1 text digits fraction.result.1 whole.result.0 fraction.result.0 (whole.result.0 * c.power.result) (fraction.result.0 * c.power-2.result)
-    (record { len = whole.ensures.count; found = found; fine_len = fraction.ensures.count }) c.if-count-eq0.false c.if-fine-digits.false whole.ensures.value fraction.ensures.value
+    let found : fraction_text c.args.places (drop whole.result.1 text) ≡ Some digits =
+    ap (fraction_text c.args.places) (sym c.split_at.ensures.back) ∙ sym c.in_ok-digits.ensures in
+    sym (parts_read c.args.places whole.result.1 text digits fraction.result.1 whole.result.0 fraction.result.0 (whole.result.0 * c.power.result)
+    (fraction.result.0 * c.power-2.result)
+    (record { len = whole.ensures.count; found = found; fine_len = fraction.ensures.count }) c.if-count-eq0.false c.if-fine-digits.false
+    whole.ensures.value fraction.ensures.value
     (ap (λ (x : ℕ). whole.result.0 * x) c.power.ensures) (ap (λ (x : ℕ). fraction.result.0 * x) c.power-2.ensures))

@@ -21,7 +21,8 @@ loop-place-preserved c =
     let e = ap (λ x. c.loop-place.value * 10 + x) c.from.ensures in
     record {
       front = front_more c.args.text.now c.loop-place.place c.loop-place.value _ c.loop-place.invariant.front (omega arith) is e;
-      small = more_small c.loop-place.value c.loop-place.place c.from.result _ c.loop-place.invariant.small (omega (arith, (digit_is (get_or c.args.text.now c.loop-place.place 0) is).high, c.from.ensures)) (omega arith);
+      small = more_small c.loop-place.value c.loop-place.place c.from.result _ c.loop-place.invariant.small
+          (omega (arith, (digit_is (get_or c.args.text.now c.loop-place.place 0) is).high, c.from.ensures)) (omega arith);
     }
 
 pub returns-clause-count : goal.returns-clause-count

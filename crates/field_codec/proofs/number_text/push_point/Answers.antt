@@ -6,7 +6,8 @@ pub returns-then-digits-places : goal.returns-then-digits-places
 returns-then-digits-places c =
     pointed_after c.args.places c.args.number c.args.room.now.items c.digits-digits.result.now c.split_at.result.0.now c.split_at.result.1.now
     c.extend_from_slice-then-digits-places.new.self.items c.push.new.self.items c.extend_from_slice-then-digits-places-2.new.self.items
-    (omega (arith, c.ranges.number)) (omega (arith, c.if-places-eq0.false)) c.digits-digits.ensures c.if-digits-places.true c.split_at.ensures.front c.split_at.ensures.back
+    (omega (arith, c.ranges.number)) (omega (arith, c.if-places-eq0.false)) c.digits-digits.ensures c.if-digits-places.true
+    c.split_at.ensures.front c.split_at.ensures.back
     c.in_ok-extend_from_slice-2.ensures.items c.in_ok-push.ensures.items c.in_ok-extend_from_slice-3.ensures.items
 
 pub returns : goal.returns

@@ -13,11 +13,14 @@ abbrev Entries : Type 0
 Entries = Result (Vec TypeEntry Global) RunFault
 
 -- the one fault of want of memory
-same-memory : (read : Entries) (fault : RunFault) → read ≡ Err fault → read ≡ Err run.NoMemory → ◌≡◌ {A = Result AsksFor RunFault} (Err fault) (Err run.NoMemory)
-same-memory read fault is none = let same : ◌≡◌ {A = Entries} (Err fault) (Err run.NoMemory) = sym is ∙ none in let one : fault ≡ run.NoMemory = cc in ap Err one
+same-memory : (read : Entries) (fault : RunFault) → read ≡ Err fault → read ≡ Err run.NoMemory
+    → ◌≡◌ {A = Result AsksFor RunFault} (Err fault) (Err run.NoMemory)
+same-memory read fault is none =
+    let same : ◌≡◌ {A = Entries} (Err fault) (Err run.NoMemory) = sym is ∙ none in let one : fault ≡ run.NoMemory = cc in ap Err one
 
 -- what the entries ask for with the mark
-err-asks : (schema : Option (List ℕ)) (mark : List ℕ) (read : Entries) (fault : RunFault) → read ≡ Err fault → (read ≡ Err run.NoMemory) ⊎ EntriesAsk schema (entries_asked read)
+err-asks : (schema : Option (List ℕ)) (mark : List ℕ) (read : Entries) (fault : RunFault) → read ≡ Err fault
+    → (read ≡ Err run.NoMemory) ⊎ EntriesAsk schema (entries_asked read)
     → (◌≡◌ {A = Result AsksFor RunFault} (Err fault) (Err run.NoMemory)) ⊎ RequestIs schema mark (Err fault)
 err-asks schema mark read fault is (inl none) = inl (same-memory read fault is none)
 err-asks schema mark read fault is (inr asks) = inr (entries_asked read, asks, ap (λ r. request_with mark (entries_asked r)) (sym is))

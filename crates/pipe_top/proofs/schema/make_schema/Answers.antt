@@ -23,7 +23,8 @@ export_schema-requires-clause-kinds c = proper-kinds c.args.columns.now c.requir
 pub returns-clause-cost : goal.returns-clause-cost
 returns-clause-cost c =
     let columns = map column_of c.args.columns.now in
-    ap Nodes c.in_ok-schema.ensures.tree ∙ c.schema_size.ensures.flat_nodes columns (proper-flat columns c.requires.proper) ∙ ap (λ n. 1 + n) (length-map c.args.columns.now column_of)
+    ap Nodes c.in_ok-schema.ensures.tree ∙ c.schema_size.ensures.flat_nodes columns (proper-flat columns c.requires.proper)
+    ∙ ap (λ n. 1 + n) (length-map c.args.columns.now column_of)
 
 pub returns-clause-depth : goal.returns-clause-depth
 returns-clause-depth c =

@@ -6,14 +6,13 @@ use Rattle.fmt_string.specs.Table.{Column, Flat}
 use Rattle.fmt_string.specs.Value.{Null}
 use Rattle.fmt_string.specs.declared.kind.DataType.TheVariants as kinds
 use Rattle.csv_read.specs.Body.{HoldsKind, column_values}
-use Rattle.csv_read.proofs.HeldRows.{from-each, held-some}
 use Rattle.pipe_top.proofs.Columns.{kind-count}
 use Rattle.pipe_top.proofs.text.count_rows.Goals as goal
 
 pub len-requires : goal.len-requires
 len-requires c =
     let (columns, rows, held, few) = c.requires.held in
-    let all = held-some 0 c.args.builders.now columns rows (from-each c.args.builders.now columns rows held.held) in
+    let all = c.held_rows_fit.ensures.some c.args.builders.now columns rows held in
     let first : HoldsSome c.index-builders-0.result = subst HoldsSome (sym c.index-builders-0.is) (all 0 c.index-builders-0.result c.requires.some) in
     record { holds = first }
 

@@ -27,4 +27,5 @@ returns-clause-text c rows holds few =
       kinds = have-kinds columns c.requires.proper c.requires.allowed;
       not_deep = c.make_schema.ensures.depth;
     } in
-    c.in_ok-text-2.ensures c.args.mark.now columns _ (c.in_ok-write_rows.ensures.text c.args.mark.now columns rows (header_text columns) schema holds few c.in_ok-text.ensures)
+    c.in_ok-text-2.ensures c.args.mark.now columns _
+    (c.in_ok-write_rows.ensures.text c.args.mark.now columns rows (header_text columns) schema holds few c.in_ok-text.ensures)

@@ -1,8 +1,7 @@
 use Rattle.std.proofs.Common.{◌≡◌, ◌<◌, ◌∙◌, length, ap, arith, sym, subst, w64, to_z, of_z}
 use Rattle.std.proofs.lemmas.Int.{ints}
 use Rattle.unit_pass.specs.Tally.{risen}
-use Rattle.csv_read.specs.Chunks.{HoldRows}
-use Rattle.csv_read.proofs.HeldRows.{from-each, held-fit}
+use Rattle.csv_read.specs.Body.{HoldRows}
 use Rattle.pipe_top.specs.Rows.{IsChunkOf}
 use Rattle.pipe_top.proofs.Columns.{some-blocks}
 use Rattle.pipe_top.proofs.text.write_rows.Goals as goal
@@ -15,7 +14,7 @@ write_chunk-requires-clause-chunk c =
     let chunk : IsChunkOf c.args.schema c.in-Ok.chunk columns rows = record {
       schema_is = schema;
       chunk_is = c.in-Ok.ensures.chunk columns rows held (same ∙ c.count_rows-rows.ensures columns rows lent);
-      fits = held-fit 0 c.args.builders.items columns rows (from-each c.args.builders.items columns rows held.held);
+      fits = c.held_rows_fit.ensures.fit c.args.builders.items columns rows held;
       few = few;
       widths = held.widths;
     } in
@@ -28,7 +27,7 @@ returns-in_ok-write_chunk-in-Ok-clause-text c mark columns rows written schema h
     let chunk : IsChunkOf c.args.schema c.in-Ok.chunk columns rows = record {
       schema_is = schema;
       chunk_is = c.in-Ok.ensures.chunk columns rows held (same ∙ c.count_rows-rows.ensures columns rows lent);
-      fits = held-fit 0 c.args.builders.items columns rows (from-each c.args.builders.items columns rows held.held);
+      fits = c.held_rows_fit.ensures.fit c.args.builders.items columns rows held;
       few = few;
       widths = held.widths;
     } in
@@ -39,4 +38,5 @@ returns-in_ok-write_chunk-in-Ok-clause-blocks c columns rows held =
     let lent = subst (λ builders. HoldRows builders columns rows) (sym c.deref.ensures.value) held in
     let count = c.count_rows-rows.ensures columns rows lent in
     let some : 0 < length rows = omega (arith, ints, count, c.if-rows-eq0.false) in
-    c.in_ok-write_chunk-in-Ok.ensures.blocks ∙ c.in-Ok.ensures.blocks columns rows held ∙ ap (risen c.args.pass.now.blocks) (sym (some-blocks columns rows some))
+    c.in_ok-write_chunk-in-Ok.ensures.blocks ∙ c.in-Ok.ensures.blocks columns rows held
+    ∙ ap (risen c.args.pass.now.blocks) (sym (some-blocks columns rows some))

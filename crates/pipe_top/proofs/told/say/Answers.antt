@@ -17,7 +17,8 @@ loop-piece-preserved g c =
     let before = c.loop-piece.invariant in
     let wrote = c.in_ok-say_piece.ensures in
     record {
-      taken = subst (Appends (g.E.Sink.taken c.args.errs.now) (g.E.Sink.taken c.say_piece.new.errs)) (sym (pieces-push pieces k _ _ inside c.as_bytes.ensures.value))
+      taken = subst (Appends (g.E.Sink.taken c.args.errs.now) (g.E.Sink.taken c.say_piece.new.errs))
+          (sym (pieces-push pieces k _ _ inside c.as_bytes.ensures.value))
           (Appends-trans _ _ _ _ _ before.taken wrote.0);
       later = omega (arith, before.later, wrote.1);
     }
@@ -29,7 +30,8 @@ returns-in_err-say_piece g c =
     let inside : k < length pieces = omega arith in
     let before = c.loop-piece.invariant in
     says-failed _ _ _ _ _ _ c.from_residual.ensures.0
-    (subst (TookFirst (g.E.Sink.taken c.args.errs.now) (g.E.Sink.taken c.say_piece.new.errs) (g.E.Sink.faults c.args.errs.now) (g.E.Sink.faults c.say_piece.new.errs))
+    (subst (TookFirst (g.E.Sink.taken c.args.errs.now) (g.E.Sink.taken c.say_piece.new.errs) (g.E.Sink.faults c.args.errs.now)
+    (g.E.Sink.faults c.say_piece.new.errs))
     (sym (pieces-around pieces k _ _ inside c.as_bytes.ensures.value))
     (first-less _ _ _ _ _ _ (first-then _ _ _ _ _ _ _ _ before.taken before.later c.in_err-say_piece.ensures)))
 

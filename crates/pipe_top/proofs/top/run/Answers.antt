@@ -6,19 +6,24 @@ pub returns-clause-diagnostics : goal.returns-clause-diagnostics
 returns-clause-diagnostics g c =
     let request = c.read_asked-wanted.result.request in
     let early = c.carry_out-carried.ensures.refused_early in
-    let audit = silent-audit request c.carry_out-carried.result _ c.read_asked-wanted.result.audit _ early c.outcome_of-outcome.ensures.fault c.read_asked-wanted.ensures.audit in
-    told-all c.tell-told.result _ _ _ _ c.outcome_of-outcome.result.fault c.outcome_of-outcome.result.audit c.read_asked-wanted.result.audit _ audit c.tell-told.ensures
+    let audit =
+    silent-audit request c.carry_out-carried.result _ c.read_asked-wanted.result.audit _ early c.outcome_of-outcome.ensures.fault
+    c.read_asked-wanted.ensures.audit in
+    told-all c.tell-told.result _ _ _ _ c.outcome_of-outcome.result.fault c.outcome_of-outcome.result.audit c.read_asked-wanted.result.audit _
+    audit c.tell-told.ensures
 
 pub returns-clause-refused : goal.returns-clause-refused
 returns-clause-refused g c =
     let carried = c.carry_out-carried.ensures in
-    refused-by-answer _ (g.S.Source.left c.args.source.now) c.read_asked-wanted.result.request c.carry_out-carried.result _ carried.refused_early c.outcome_of-outcome.ensures.fault
+    refused-by-answer _ (g.S.Source.left c.args.source.now) c.read_asked-wanted.result.request c.carry_out-carried.result _ carried.refused_early
+    c.outcome_of-outcome.ensures.fault
     c.read_asked-wanted.ensures.asks carried.refused
 
 pub returns-clause-write_fault_prefix : goal.returns-clause-write_fault_prefix
 returns-clause-write_fault_prefix g c =
     let carried = c.carry_out-carried.ensures in
-    prefix-of-answer _ (g.S.Source.left c.args.source.now) c.read_asked-wanted.result.request c.carry_out-carried.result _ carried.refused_early c.outcome_of-outcome.ensures.fault
+    prefix-of-answer _ (g.S.Source.left c.args.source.now) c.read_asked-wanted.result.request c.carry_out-carried.result _ carried.refused_early
+    c.outcome_of-outcome.ensures.fault
     c.read_asked-wanted.ensures.asks _ _ carried.write_fault_prefix
 
 pub returns-clause-complete_fault : goal.returns-clause-complete_fault

@@ -11,7 +11,9 @@ returns-in_err-push_fields-clause-fault c =
     let fields = fields_of c.args.row.now in
     let fault = c.in_err-push_fields.field-0.0 in
     let width : length fields ≡ length made.forms.items = search rules in
-    let lent = subst (λ (forms : List FieldForm). RefusesFields fault c.as_slice-2.result.now forms fields c.args.number made.builders.items) c.as_slice.ensures.value c.in_err-push_fields.ensures.fault in
+    let lent =
+    subst (λ (forms : List FieldForm). RefusesFields fault c.as_slice-2.result.now forms fields c.args.number made.builders.items) c.as_slice.ensures.value
+    c.in_err-push_fields.ensures.fault in
     let refused : RefusesFields fault made.mark made.forms.items fields c.args.number made.builders.items =
     subst (λ (mark : List ℕ). RefusesFields fault mark made.forms.items fields c.args.number made.builders.items) c.as_slice-2.ensures lent in
     let told = fields-refused made fields c.args.number fault width refused in
@@ -23,5 +25,6 @@ returns-clause-added c =
     let fields = fields_of c.args.row.now in
     let width : length fields ≡ length made.forms.items = search rules in
     let count : length c.push_fields.new.builders.items ≡ length made.builders.items = search rules in
-    let added : AddsFields made.mark made.forms.items fields c.args.number (length made.forms.items) made.builders.items c.push_fields.new.builders.items = search rules in
+    let added : AddsFields made.mark made.forms.items fields c.args.number (length made.forms.items) made.builders.items
+    c.push_fields.new.builders.items = search rules in
     row-added made _ fields c.args.number width refl count refl refl added

@@ -4,7 +4,7 @@ use Rattle.csv_model.specs.Header.{names_fault}
 use Rattle.csv_read.specs.Entries.{entries_of, texts}
 use Rattle.field_codec.specs.TextColumns.{AreAllowed, AreProper, IsAllowed, NamesDiffer}
 use Rattle.csv_read.proofs.HeaderColumns.{columns-differ, columns-have, no-twice}
-use Rattle.csv_read.proofs.header.read_header.Goals as goal
+use Rattle.csv_read.proofs.header.header_columns.Goals as goal
 
 pub returns-clause-differ : goal.returns-clause-differ
 returns-clause-differ c =
@@ -12,7 +12,8 @@ returns-clause-differ c =
     let same = c.as_slice.ensures.value ∙ sym c.as_slice-2.ensures.value in
     let none : names_fault entries (texts c.as_slice-2.result.now) ≡ None =
     subst (λ (names : List (Bor (List ℕ))). names_fault entries (texts names) ≡ None) same c.in_ok-check_names.ensures.none in
-    subst NamesDiffer (sym c.in_ok-columns.ensures) (columns-differ entries (texts c.as_slice-2.result.now) (no-twice entries (texts c.as_slice-2.result.now) none))
+    subst NamesDiffer (sym c.in_ok-columns.ensures)
+    (columns-differ entries (texts c.as_slice-2.result.now) (no-twice entries (texts c.as_slice-2.result.now) none))
 
 pub returns-clause-proper : goal.returns-clause-proper
 returns-clause-proper c =

@@ -1,0 +1,136 @@
+//! The text of a fault of a run, of which its line on the sink of diagnostics and its `Display` are made.
+ghost use Rattle.std.specs.Prelude.{◌≡◌, ◌++◌, decimal};
+ghost use Rattle.pipe_top.specs.Told.{fault_text, rule_text};
+ghost use Rattle.pipe_top.specs.SaidTexts.{digits_of, said_text};
+
+use crate::fault::RunFault;
+use itoa::Buffer;
+use stage_plan::TypesRule;
+use std::fmt;
+use words::WordsFault;
+
+/// A text with at most two numbers in it.
+#[derive(Clone, Copy)]
+pub(crate) struct Said {
+    pub(crate) front: &'static str,
+    pub(crate) first: Option<u64>,
+    pub(crate) middle: &'static str,
+    pub(crate) second: Option<u64>,
+    pub(crate) back: &'static str,
+}
+
+/// A text without a number.
+fn plain(text: &'static str) -> Said
+    ensures { said_text result ≡ text.now }
+{
+    Said {
+        front: text,
+        first: None,
+        middle: "",
+        second: None,
+        back: "",
+    }
+}
+
+/// A text with a number.
+fn counted(front: &'static str, number: u64, back: &'static str) -> Said
+    ensures { said_text result ≡ front.now ++ decimal number ++ back.now }
+{
+    Said {
+        front,
+        first: Some(number),
+        middle: back,
+        second: None,
+        back: "",
+    }
+}
+
+/// A text with two numbers.
+fn placed(
+    front: &'static str,
+    first: u64,
+    middle: &'static str,
+    second: u64,
+    back: &'static str,
+) -> Said
+    ensures { said_text result ≡ front.now ++ decimal first ++ middle.now ++ decimal second ++ back.now }
+{
+    Said {
+        front,
+        first: Some(first),
+        middle,
+        second: Some(second),
+        back,
+    }
+}
+
+/// The text of a fault.
+pub(crate) fn said_of(fault: RunFault) -> Said
+    ensures { said_text result ≡ fault_text fault }
+{
+    match fault {
+        RunFault::Words(WordsFault::Refused) => plain("words refused"),
+        RunFault::Schema { entry, rule } => counted("schema entry ", entry, rule_text(rule)),
+        RunFault::NoHeader => plain("no header"),
+        RunFault::TooManyColumns { count } => counted("header has ", count, " columns"),
+        RunFault::HeaderText { column } => {
+            counted("header column ", column as u64, ": not UTF-8")
+        }
+        RunFault::HeaderTwice { column } => {
+            counted("header column ", column as u64, ": named before")
+        }
+        RunFault::HeaderUnknown { entry } => { counted("schema entry ", entry, ": no such column") }
+        RunFault::Ragged { row, found } => placed("record ", row, ": ", found, " fields"),
+        RunFault::Field { row, column } => placed(
+            "record ",
+            row,
+            ", column ",
+            column as u64,
+            ": not a value of its type",
+        ),
+        RunFault::InputTooLong => plain("input longer than 1073741824 bytes"),
+        RunFault::ReadFault => plain("read failed"),
+        RunFault::WriteFault { taken } => counted("write failed after ", taken, " bytes"),
+        RunFault::NoMemory => plain("out of memory"),
+    }
+}
+
+/// What is told of a fault of an entry.
+fn rule_text(rule: TypesRule) -> &'static str
+    ensures { result.now ≡ rule_text rule }
+{
+    match rule {
+        TypesRule::BadEntry => ": not a column type",
+        TypesRule::Twice => ": named before",
+    }
+}
+
+/// The digits of a number, and nothing where there is none.
+pub(crate) fn digits<'a>(number: Option<u64>, room: &'a mut Buffer) -> &'a str
+    ensures { result.now ≡ digits_of number }
+{
+    match number {
+        Some(number) => room.format(number),
+        None => "",
+    }
+}
+
+impl fmt::Display for RunFault {
+    ghost use Rattle.std.specs.Prelude.{Some};
+    ghost use Rattle.pipe_top.specs.Told.{fault_text};
+
+    ghost output = { λ fault. Some (fault_text fault) };
+
+    fn fmt<W: fmt::Write>(&self, f: &mut fmt::Formatter<W>) -> fmt::Result {
+        let said = said_of(*self);
+        let mut one = Buffer::new();
+        let mut two = Buffer::new();
+        f.write_str(said.front)?;
+        f.write_str(digits(said.first, &mut one))?;
+        f.write_str(said.middle)?;
+        f.write_str(digits(said.second, &mut two))?;
+        f.write_str(said.back)
+    }
+}
+
+impl std::error::Error for RunFault {}
