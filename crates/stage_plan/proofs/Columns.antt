@@ -16,11 +16,13 @@ same_kind : (result : Result DataType FormatFault) (kind other : DataType) → r
 same_kind result kind other is (inl same) = cc
 same_kind result kind other is (inr out) = cc
 
-no_fault : (result : Result DataType FormatFault) (kind : DataType) (rule : FormatRule) (place : ℕ) → result ≡ Ok kind → (result ≡ Err (At rule place)) ⊎ (result ≡ Err NoMemory) → ⊥
+no_fault : (result : Result DataType FormatFault) (kind : DataType) (rule : FormatRule) (place : ℕ) → result ≡ Ok kind
+    → (result ≡ Err (At rule place)) ⊎ (result ≡ Err NoMemory) → ⊥
 no_fault result kind rule place is (inl same) = cc
 no_fault result kind rule place is (inr out) = cc
 
-no_kind : (result : Result DataType FormatFault) (kind : DataType) (rule : FormatRule) (place : ℕ) → result ≡ Err (At rule place) → (result ≡ Ok kind) ⊎ (result ≡ Err NoMemory) → ⊥
+no_kind : (result : Result DataType FormatFault) (kind : DataType) (rule : FormatRule) (place : ℕ) → result ≡ Err (At rule place)
+    → (result ≡ Ok kind) ⊎ (result ≡ Err NoMemory) → ⊥
 no_kind result kind rule place is (inl same) = cc
 no_kind result kind rule place is (inr out) = cc
 

@@ -1,5 +1,6 @@
 -- A text around the first byte of a kind, and its parts.
-use Rattle.std.proofs.Common.{◌≡◌, ◌∙◌, ◌<◌, Bool, ◌-◌, ◌==◌, ℕ, zero, suc, true, false, true≢false, List, [], ◌∷◌, ◌++◌, length, take, drop, Option, Some, None, option_map, ap, sym, subst, refl, arith, inl, inr, map, append_assoc, length-append}
+use Rattle.std.proofs.Common.{◌≡◌, ◌∙◌, ◌<◌, Bool, ◌-◌, ◌==◌, ℕ, zero, suc, true, false, true≢false, List, [], ◌∷◌, ◌++◌, length, take, drop, Option, Some}
+use Rattle.std.proofs.Common.{None, option_map, ap, sym, subst, refl, arith, inl, inr, map, append_assoc, length-append}
 use Rattle.std.specs.Borrow.{Bor}
 use Rattle.std.specs.Prelude.{position, slice_index_or, All}
 use Rattle.std.proofs.lemmas.Bool.{eqb-true, eq-eqb}
@@ -9,7 +10,8 @@ use Rattle.fmt_string.specs.declared.kind.DataType.{DataType}
 use Rattle.stage_plan.specs.declared.types.TypeEntry.{TypeEntry}
 use Rattle.stage_plan.specs.Types.{parts, semicolon, colon, Lacks, CutsAt, TypeReads, EntryReads}
 
-at_place : (byte : ℕ) (text : List ℕ) (i : ℕ) → i < length text → (slice_index_or text i 0 == byte) ≡ true → ((k : ℕ) → k < i → (slice_index_or text k 0 == byte) ≡ false)
+at_place : (byte : ℕ) (text : List ℕ) (i : ℕ) → i < length text → (slice_index_or text i 0 == byte) ≡ true
+    → ((k : ℕ) → k < i → (slice_index_or text k 0 == byte) ≡ false)
     → CutsAt byte text (take i text) (drop 1 (drop i text))
 at_place byte [] i within is before = absurd (omega arith)
 at_place byte (b ∷ bs) zero within is before = record { first = tt; split = ap (λ (x : ℕ). x ∷ bs) (eqb-true b byte is) }
@@ -24,7 +26,8 @@ cut_at byte text i is =
 
 pub all_lack : (byte : ℕ) (text : List ℕ) → All (λ b. (b == byte) ≡ false) text → Lacks byte text
 all_lack byte [] none = tt
-all_lack byte (b ∷ bs) none = ((λ same. true≢false (sym (eq-eqb b byte same) ∙ none zero 0 (omega arith))), all_lack byte bs (λ k d within. none (suc k) d (omega arith)))
+all_lack byte (b ∷ bs) none =
+    ((λ same. true≢false (sym (eq-eqb b byte same) ∙ none zero 0 (omega arith))), all_lack byte bs (λ k d within. none (suc k) d (omega arith)))
 
 -- all but the first, as a slice from 1 on has it
 pub tail_all : (l : List ℕ) → take (length l - 1) (drop 1 l) ≡ drop 1 l
@@ -65,7 +68,8 @@ pub parts_more : (front behind : List ℕ) → Lacks semicolon front → parts (
 parts_more [] behind lacks = refl
 parts_more (b ∷ bs) behind lacks = go (b == semicolon) refl (parts_more bs behind lacks.1)
   where
-    go : (c : Bool) → (b == semicolon) ≡ c → parts (bs ++ semicolon ∷ behind) ≡ bs ∷ parts behind → parts ((b ∷ bs) ++ semicolon ∷ behind) ≡ (b ∷ bs) ∷ parts behind
+    go : (c : Bool) → (b == semicolon) ≡ c → parts (bs ++ semicolon ∷ behind) ≡ bs ∷ parts behind
+        → parts ((b ∷ bs) ++ semicolon ∷ behind) ≡ (b ∷ bs) ∷ parts behind
     go true e rest = absurd (lacks.0 (eqb-true b semicolon e))
     go false e rest = rw (e, rest) refl
 
@@ -89,7 +93,8 @@ one_entry part name format kind cut only None (inr (n, f, other, reads)) =
     ap (option_map (entry name)) (only None (subst (λ (l : List ℕ). TypeReads l None) same.1 reads))
 one_entry part name format kind cut only (Some e) (f, other, reads) =
     let same = cut_once colon e.name name f format other.first cut.first (sym other.split ∙ cut.split) in
-    ap (λ (n : List ℕ). Some (entry n e.kind)) same.0 ∙ ap (option_map (entry name)) (only (Some e.kind) (subst (λ (l : List ℕ). TypeReads l (Some e.kind)) same.1 reads))
+    ap (λ (n : List ℕ). Some (entry n e.kind)) same.0
+    ∙ ap (option_map (entry name)) (only (Some e.kind) (subst (λ (l : List ℕ). TypeReads l (Some e.kind)) same.1 reads))
 
 -- ---- the loop over the parts
 

@@ -4,3 +4,10 @@ pub mod Walk
 pub mod Loop
 pub mod Readings
 pub mod Worked
+pub mod StageCuts
+pub mod PlanLists
+pub mod Twice
+pub mod AfterColumns
+pub mod Fits
+pub mod Rules
+pub mod PlanWalk

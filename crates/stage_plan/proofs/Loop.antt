@@ -1,5 +1,6 @@
 -- What the loop over the parts keeps.
-use Rattle.std.proofs.Common.{◌≡◌, ◌≢◌, ◌∙◌, ◌<◌, ◌≤◌, ◌+◌, ◌||◌, ℕ, zero, suc, Bool, true, false, true≢false, List, [], ◌∷◌, ◌++◌, length, take, drop, map, Option, Some, None, Ok, ap, sym, subst, refl, arith, drop-cons, option_map, not}
+use Rattle.std.proofs.Common.{◌≡◌, ◌≢◌, ◌∙◌, ◌<◌, ◌≤◌, ◌+◌, ◌||◌, ℕ, zero, suc, Bool, true, false, true≢false, List, [], ◌∷◌, ◌++◌, length, take, drop, map}
+use Rattle.std.proofs.Common.{Option, Some, None, Ok, ap, sym, subst, refl, arith, drop-cons, option_map, not}
 use Rattle.std.specs.Borrow.{Bor}
 use Rattle.std.specs.List.{AllZip, list_any}
 use Rattle.std.specs.List.Sorted.{IsPermutation}
@@ -93,13 +94,15 @@ named es e has =
     let (k, x, within, at, same) = Any-from_list_any (λ x. bytes_eq e.name x.name) es has in
     (k, x, within, at, sym ((bytes_eq-Decides e.name x.name).0 same))
 
-pub new_name : (es : List TypeEntry) (e : TypeEntry) → has_name es e.name ≡ false → (k : ℕ) (d : TypeEntry) → k < length es → (slice_index_or es k d).name ≢ e.name
+pub new_name : (es : List TypeEntry) (e : TypeEntry) → has_name es e.name ≡ false → (k : ℕ) (d : TypeEntry) → k < length es
+    → (slice_index_or es k d).name ≢ e.name
 new_name es e none k d within same =
     let is : bytes_eq e.name (slice_index_or es k d).name ≡ true = (bytes_eq-Decides e.name (slice_index_or es k d).name).1 (sym same) in
     true≢false (sym (list_any_at (λ x. bytes_eq e.name x.name) es k d within is) ∙ none)
 
 -- one entry more
-pub push_settled : (part : List ℕ) (e : TypeEntry) (ps : List (List ℕ)) (fs : List TypeEntry) → Settled ps fs → Settles part (Some e) → Settled (ps ++ part ∷ []) (fs ++ e ∷ [])
+pub push_settled : (part : List ℕ) (e : TypeEntry) (ps : List (List ℕ)) (fs : List TypeEntry) → Settled ps fs → Settles part (Some e)
+    → Settled (ps ++ part ∷ []) (fs ++ e ∷ [])
 push_settled part e [] [] each s = (s, tt)
 push_settled part e [] (f ∷ fs) each s = absurd each
 push_settled part e (p ∷ ps) [] each s = absurd each

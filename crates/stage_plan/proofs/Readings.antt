@@ -1,5 +1,6 @@
 -- Each text reads as entries or as a fault, and as one alone.
-use Rattle.std.proofs.Common.{◌≡◌, ◌∙◌, ◌⊎◌, ◌==◌, ℕ, Bool, true, false, true≢false, List, [], ◌∷◌, ◌++◌, Option, Some, None, Result, Ok, Err, ap, sym, subst, refl, arith, inl, inr, append-nil, append_assoc}
+use Rattle.std.proofs.Common.{◌≡◌, ◌∙◌, ◌⊎◌, ◌==◌, ℕ, Bool, true, false, true≢false, List, [], ◌∷◌, ◌++◌, Option, Some, None, Result, Ok, Err, ap, sym, subst}
+use Rattle.std.proofs.Common.{refl, arith, inl, inr, append-nil, append_assoc}
 use Rattle.std.proofs.lemmas.Bool.{eqb-true, eq-eqb}
 use Rattle.std.proofs.lemmas.List.Quantifiers.{all_pairs_push}
 use Rattle.fmt_string.specs.declared.kind.DataType.{DataType}
@@ -29,7 +30,11 @@ cut-or-lacks byte (b ∷ bs) = go (b == byte) refl (cut-or-lacks byte bs)
     go true is rest = inr ([], bs, record { first = tt; split = ap (λ (x : ℕ). x ∷ bs) (eqb-true b byte is) })
     go false is (inl lacks) = inl ((λ same. true≢false (sym (eq-eqb b byte same) ∙ is)), lacks)
     go false is (inr (front, behind, cut)) =
-        inr (b ∷ front, behind, record { first = ((λ same. true≢false (sym (eq-eqb b byte same) ∙ is)), cut.first); split = ap (λ (l : List ℕ). b ∷ l) cut.split })
+        inr (
+          b ∷ front,
+          behind,
+          record { first = ((λ same. true≢false (sym (eq-eqb b byte same) ∙ is)), cut.first); split = ap (λ (l : List ℕ). b ∷ l) cut.split },
+        )
 
 -- ---- with the law that each format has one reading
 
@@ -59,9 +64,11 @@ module _ (some : (text : List ℕ) → (read : Result DataType FormatFault) × F
   entry-settles : (part : List ℕ) → (read : Option TypeEntry) × Settles part read
   entry-settles part = go (cut-or-lacks colon part)
     where
-      cut-settles : (name format : List ℕ) → CutsAt colon part name format → (kind : Option DataType) → TypeSettles format kind → (read : Option TypeEntry) × Settles part read
+      cut-settles : (name format : List ℕ) → CutsAt colon part name format → (kind : Option DataType) → TypeSettles format kind
+          → (read : Option TypeEntry) × Settles part read
       cut-settles name format cut None settles = (None, (inr (name, format, cut, settles.0), one_entry part name format None cut settles.1))
-      cut-settles name format cut (Some kind) settles = (Some (entry name kind), ((format, cut, settles.0), one_entry part name format (Some kind) cut settles.1))
+      cut-settles name format cut (Some kind) settles =
+          (Some (entry name kind), ((format, cut, settles.0), one_entry part name format (Some kind) cut settles.1))
 
       go : CutOrLacks colon part → (read : Option TypeEntry) × Settles part read
       go (inl lacks) = (None, (inl lacks, no_entry part lacks))
@@ -71,7 +78,8 @@ module _ (some : (text : List ℕ) → (read : Result DataType FormatFault) × F
   abbrev TextSettles : List ℕ → Answer → Type 0
   TextSettles text read = Reads text read × ((other : Answer) → Reads text other → other ≡ read)
 
-  walk : (text : List ℕ) (front : List (List ℕ)) (before : List TypeEntry) (rest : List (List ℕ)) → Settled front before → NamesDiffer before → parts text ≡ front ++ rest
+  walk : (text : List ℕ) (front : List (List ℕ)) (before : List TypeEntry) (rest : List (List ℕ)) → Settled front before → NamesDiffer before
+      → parts text ≡ front ++ rest
       → (read : Answer) × TextSettles text read
   walk text front before [] each differ split =
       let all : Settled (parts text) before = subst (λ (l : List (List ℕ)). Settled l before) (sym (split ∙ append-nil front)) each in
@@ -87,13 +95,20 @@ module _ (some : (text : List ℕ) → (read : Result DataType FormatFault) × F
 
       with-entry : (e : TypeEntry) → Settles part (Some e) → (b : Bool) → has_name before e.name ≡ b → Later → (answer : Answer) × TextSettles text answer
       with-entry e settles true is later =
-          let known : Fails Settles before part Twice = (e, settles, named before e is) in
-          (fault_after before Twice, (fault text front part behind before Twice split each differ known, fault_only text front part behind before Twice split each differ known))
+          let known : Fails Settles before part Twice = (e, settles, named before e is) in (
+            fault_after before Twice,
+            (fault text front part behind before Twice split each differ known, fault_only text front part behind before Twice split each differ known),
+          )
       with-entry e settles false is later = later e settles is
 
       go : (read : Option TypeEntry) → Settles part read → Later → (answer : Answer) × TextSettles text answer
-      go None settles later =
-          (fault_after before BadEntry, (fault text front part behind before BadEntry split each differ settles, fault_only text front part behind before BadEntry split each differ settles))
+      go None settles later = (
+        fault_after before BadEntry,
+        (
+          fault text front part behind before BadEntry split each differ settles,
+          fault_only text front part behind before BadEntry split each differ settles,
+        ),
+      )
       go (Some e) settles later = with-entry e settles (has_name before e.name) refl later
 
   reading : (text : List ℕ) → (read : Answer) × TextSettles text read

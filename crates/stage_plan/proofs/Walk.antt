@@ -1,5 +1,6 @@
 -- The parts one after another, and the one answer that they have.
-use Rattle.std.proofs.Common.{◌≡◌, ◌∙◌, ◌⊎◌, ◌+◌, ℕ, List, [], ◌∷◌, ◌++◌, length, Option, Some, None, Result, Ok, Err, ap, sym, subst, refl, arith, inl, inr, length-append, append_assoc}
+use Rattle.std.proofs.Common.{◌≡◌, ◌∙◌, ◌⊎◌, ◌+◌, ℕ, List, [], ◌∷◌, ◌++◌, length, Option, Some, None, Result, Ok, Err, ap, sym, subst, refl, arith, inl, inr}
+use Rattle.std.proofs.Common.{length-append, append_assoc}
 use Rattle.std.specs.List.{AllZip, Any}
 use Rattle.std.proofs.lemmas.List.{append-nil, get_or_append_left}
 use Rattle.std.specs.Prelude.{slice_index_or}
@@ -24,7 +25,8 @@ not_named : (seen : List TypeEntry) (e : TypeEntry) (more : List TypeEntry) → 
 not_named seen e more differ (k, x, within, at, same) =
     let here : slice_index_or (seen ++ e ∷ more) k x ≡ x = get_or_append_left seen (e ∷ more) x k within ∙ at in
     let there : slice_index_or (seen ++ e ∷ more) (length seen) x ≡ e = at_seam seen in
-    differ k (length seen) x within (omega (arith, length-append seen (e ∷ more))) (ap (λ (y : TypeEntry). y.name) here ∙ same ∙ sym (ap (λ (y : TypeEntry). y.name) there))
+    differ k (length seen) x within (omega (arith, length-append seen (e ∷ more)))
+    (ap (λ (y : TypeEntry). y.name) here ∙ same ∙ sym (ap (λ (y : TypeEntry). y.name) there))
   where
     at_seam : (s : List TypeEntry) → slice_index_or (s ++ e ∷ more) (length s) x ≡ e
     at_seam [] = refl
@@ -56,7 +58,8 @@ module _ (E : List ℕ → Option TypeEntry → Type 0) where
         e,
         each.0,
         not_named seen e es differ,
-        subst (λ (l : List TypeEntry). Walks (seen ++ e ∷ []) ps (Ok l)) regroup (walks_whole ps es (seen ++ e ∷ []) each.1 (subst NamesDiffer (sym regroup) differ)),
+        subst (λ (l : List TypeEntry). Walks (seen ++ e ∷ []) ps (Ok l)) regroup
+            (walks_whole ps es (seen ++ e ∷ []) each.1 (subst NamesDiffer (sym regroup) differ)),
       ))
 
   pub walks_fault : (front : List (List ℕ)) (before seen : List TypeEntry) (part : List ℕ) (behind : List (List ℕ)) (rule : TypesRule)
@@ -75,7 +78,8 @@ module _ (E : List ℕ → Option TypeEntry → Type 0) where
         each.0,
         not_named seen e es differ,
         subst (λ (l : List TypeEntry). Walks (seen ++ e ∷ []) (ps ++ part ∷ behind) (fault_after l rule)) regroup
-            (walks_fault ps es (seen ++ e ∷ []) part behind rule each.1 (subst NamesDiffer (sym regroup) differ) (subst (λ (l : List TypeEntry). Fails l part rule) (sym regroup) fails)),
+            (walks_fault ps es (seen ++ e ∷ []) part behind rule each.1 (subst NamesDiffer (sym regroup) differ)
+            (subst (λ (l : List TypeEntry). Fails l part rule) (sym regroup) fails)),
       ))
 
 -- the reading of a part, which has no other
@@ -107,10 +111,12 @@ reads_walk : (text : List ℕ) (read : Answer) → Reads text read → Walks Ent
 reads_walk text (Ok es) is = walks_whole EntryReads (parts text) es [] is.each is.differ
 reads_walk text (Err (At number BadEntry)) is =
     subst (λ (n : ℕ). Walks EntryReads [] (parts text) (Err (At n BadEntry))) (sym is.counted)
-    (subst (λ (l : List (List ℕ)). Walks EntryReads [] l (fault_after is.before BadEntry)) (sym is.split) (walks_fault EntryReads is.front is.before [] is.part is.behind BadEntry is.each is.differ is.fails))
+    (subst (λ (l : List (List ℕ)). Walks EntryReads [] l (fault_after is.before BadEntry)) (sym is.split)
+    (walks_fault EntryReads is.front is.before [] is.part is.behind BadEntry is.each is.differ is.fails))
 reads_walk text (Err (At number Twice)) is =
     subst (λ (n : ℕ). Walks EntryReads [] (parts text) (Err (At n Twice))) (sym is.counted)
-    (subst (λ (l : List (List ℕ)). Walks EntryReads [] l (fault_after is.before Twice)) (sym is.split) (walks_fault EntryReads is.front is.before [] is.part is.behind Twice is.each is.differ is.fails))
+    (subst (λ (l : List (List ℕ)). Walks EntryReads [] l (fault_after is.before Twice)) (sym is.split)
+    (walks_fault EntryReads is.front is.before [] is.part is.behind Twice is.each is.differ is.fails))
 reads_walk text (Err NoMemory) is = absurd is
 
 -- ---- parts that settle

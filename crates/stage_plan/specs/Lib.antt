@@ -1,2 +1,5 @@
 pub mod Types
 pub mod Code
+pub mod StageWords
+pub mod FaultTexts
+pub mod PlanWords

@@ -1,7 +1,9 @@
+//! Why a schema text names no types.
 ghost use Rattle.std.specs.Prelude.{◌≡◌};
 ghost use Rattle.stage_plan.specs.declared.fault.TypesFault.TheVariants.{NoMemory};
 
 use std::alloc::{AllocError, AllocFailed};
+use std::fmt;
 use unit_pass::NoMemory;
 
 /// What is wrong with an entry.
@@ -44,3 +46,33 @@ impl<T: Drop> From<AllocFailed<T>> for TypesFault {
         TypesFault::NoMemory
     }
 }
+
+impl fmt::Display for TypesRule {
+    ghost use Rattle.std.specs.Prelude.{Some};
+    ghost use Rattle.stage_plan.specs.FaultTexts.{rule_text};
+
+    ghost output = { λ rule. Some (rule_text rule) };
+
+    fn fmt<W: fmt::Write>(&self, f: &mut fmt::Formatter<W>) -> fmt::Result {
+        match self {
+            TypesRule::BadEntry => f.write_str("not a column type"),
+            TypesRule::Twice => f.write_str("named before"),
+        }
+    }
+}
+
+impl fmt::Display for TypesFault {
+    ghost use Rattle.std.specs.Prelude.{Some};
+    ghost use Rattle.stage_plan.specs.FaultTexts.{fault_text};
+
+    ghost output = { λ fault. Some (fault_text fault) };
+
+    fn fmt<W: fmt::Write>(&self, f: &mut fmt::Formatter<W>) -> fmt::Result {
+        match self {
+            TypesFault::At { entry, rule } => write!(f, "schema entry {entry}: {rule}"),
+            TypesFault::NoMemory => f.write_str("out of memory"),
+        }
+    }
+}
+
+impl std::error::Error for TypesFault {}

@@ -1,7 +1,8 @@
+//! Tests of schema texts: their entries, the first entry at fault, and the texts of faults.
 use super::{TypesFault, TypesRule, read_types};
 use std::test::Fail;
 
-// A text, and its first entry at fault.
+/// A text, and its first entry at fault.
 static FAULTS: [(&str, u64, TypesRule); 23] = [
     ("a:u;a:u", 2, TypesRule::Twice),
     ("a", 1, TypesRule::BadEntry),
@@ -42,7 +43,7 @@ fn first_entry_at_fault_is_named(rt: HostRuntime) {
     }
 }
 
-// A text of one entry or two, with the name and the type of the last.
+/// A text of one entry or two, with the name and the type of the last.
 static ENTRIES: [(&str, usize, &str, &str); 9] = [
     ("a:l", 1, "a", "Int { bits: 64, signed: true }"),
     (":u", 1, "", "Utf8 { wide: false }"),
@@ -80,6 +81,37 @@ fn entries_are_names_and_types(rt: HostRuntime) -> Result<(), Fail> {
         assert!(rt; last.name.as_slice() == name.as_bytes());
         let shown = format!(in alloc; "{:?}", last.kind)?;
         assert!(rt; shown.as_str() == *kind);
+    }
+    Ok(())
+}
+
+/// A fault, and its text.
+static TEXTS: [(TypesFault, &str); 3] = [
+    (
+        TypesFault::At {
+            entry: 2,
+            rule: TypesRule::BadEntry,
+        },
+        "schema entry 2: not a column type",
+    ),
+    (
+        TypesFault::At {
+            entry: 3,
+            rule: TypesRule::Twice,
+        },
+        "schema entry 3: named before",
+    ),
+    (TypesFault::NoMemory, "out of memory"),
+];
+
+#[test]
+fn faults_have_their_texts(rt: HostRuntime) -> Result<(), Fail> {
+    for (fault, wanted) in &TEXTS {
+        assert_eq!(rt;
+            fault.to_string(rt.alloc())?.as_str(),
+            *wanted,
+            "the text of {fault:?}"
+        );
     }
     Ok(())
 }

@@ -1,4 +1,6 @@
-ghost use Rattle.std.specs.Prelude.{◌≡◌, ◌≢◌, ◌+◌, ◌==◌, false, true, length, List, All, Option, Result, IfOk, IfErr, IfSome, IfNone, map, option_map, position};
+//! The entries of a schema text, each a name and a type.
+ghost use Rattle.std.specs.Prelude.{◌≡◌, ◌≢◌, ◌+◌, ◌==◌, false, true, length, List, All, Option, Result, IfOk, IfErr, IfSome, IfNone, map, option_map};
+ghost use Rattle.std.specs.Prelude.{position};
 ghost use Rattle.fmt_string.specs.declared.kind.DataType.{DataType as AType};
 ghost use Rattle.fmt_string.specs.Kinds.{KindOk, is_column_type};
 ghost use Rattle.stage_plan.specs.declared.fault.TypesFault.{TypesFault as AFault};
@@ -22,7 +24,7 @@ pub struct TypeEntry {
     pub kind: DataType,
 }
 
-// An entry whose name stands in the text.
+/// An entry whose name stands in the text.
 #[derive(Drop)]
 struct Entry<'a> {
     name: &'a [u8],
@@ -66,7 +68,7 @@ pub fn read_types(alloc: Global, text: &str) -> Result<Vec<TypeEntry>, TypesFaul
     Ok(entries)
 }
 
-// The fault of the entry behind these.
+/// The fault of the entry behind these.
 fn fault_behind(entries: &[TypeEntry], rule: TypesRule) -> TypesFault
     ensures { result ≡ faults.At (length entries.now + 1) rule }
 {
@@ -76,7 +78,7 @@ fn fault_behind(entries: &[TypeEntry], rule: TypesRule) -> TypesFault
     }
 }
 
-// The parts of a text between its `;`.
+/// The parts of a text between its `;`.
 fn parts<'a>(alloc: Global, text: &'a [u8]) -> Result<Vec<&'a [u8]>, NoMemory>
     ensures { IfOk result (λ ps. map (λ p. p.now) ps.items ≡ parts text.now) }
 {
@@ -90,7 +92,7 @@ fn parts<'a>(alloc: Global, text: &'a [u8]) -> Result<Vec<&'a [u8]>, NoMemory>
     Ok(parts)
 }
 
-// The text before the first such byte, and the text behind it.
+/// The text before the first such byte, and the text behind it.
 fn cut(text: &[u8], byte: u8) -> Option<(&[u8], &[u8])>
     ensures found { IfSome result (λ x. CutsAt byte text.now x.0.now x.1.now) }
     ensures none { IfNone result (Lacks byte text.now) }
@@ -102,7 +104,7 @@ fn cut(text: &[u8], byte: u8) -> Option<(&[u8], &[u8])>
     Some((front, &behind[1..]))
 }
 
-// The first place of the byte.
+/// The first place of the byte.
 fn place_of(text: &[u8], byte: u8) -> Option<usize>
     ensures first { result ≡ position (λ b. b == byte) text.now }
     ensures none { IfNone result (All (λ b. (b == byte) ≡ false) text.now) }
@@ -110,7 +112,7 @@ fn place_of(text: &[u8], byte: u8) -> Option<usize>
     text.iter().position(|b| *b == byte)
 }
 
-// The entry that the part is.
+/// The entry that the part is.
 fn read_entry<'a>(alloc: Global, part: &'a [u8]) -> Result<Option<Entry<'a>>, NoMemory>
     ensures found { IfOk result (λ e. EntryReads part.now (option_map entry_of e)) }
     ensures only { IfOk result (λ e. (other : Option AnEntry) → EntryReads part.now other → other ≡ option_map entry_of e) }
@@ -124,7 +126,7 @@ fn read_entry<'a>(alloc: Global, part: &'a [u8]) -> Result<Option<Entry<'a>>, No
     Ok(Some(Entry { name, kind }))
 }
 
-// The type that the format spells, where it is one of a column.
+/// The type that the format spells, where it is one of a column.
 fn column_type(alloc: Global, format: &[u8]) -> Result<Option<DataType>, NoMemory>
     ensures found { IfOk result (TypeReads format.now) }
     ensures only { IfOk result (λ kind. (other : Option AType) → TypeReads format.now other → other ≡ kind) }

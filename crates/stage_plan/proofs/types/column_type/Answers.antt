@@ -9,7 +9,8 @@ returns-then-is_column_type-clause-only c =
 
 pub returns-else-is_column_type-clause-only : goal.returns-else-is_column_type-clause-only
 returns-else-is_column_type-clause-only c =
-    no_column c.args.format.now c.read_format.result c.read_format.ensures.only c.in-Ok.kind c.in-Ok.is (sym c.is_column_type.ensures ∙ c.if-is_column_type.false)
+    no_column c.args.format.now c.read_format.result c.read_format.ensures.only c.in-Ok.kind c.in-Ok.is
+    (sym c.is_column_type.ensures ∙ c.if-is_column_type.false)
 
 pub returns-in-Err-At-clause-only : goal.returns-in-Err-At-clause-only
 returns-in-Err-At-clause-only c =

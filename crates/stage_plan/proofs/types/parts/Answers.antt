@@ -5,7 +5,8 @@ use Rattle.stage_plan.proofs.types.parts.Goals as goal
 pub loop-part-preserved : goal.loop-part-preserved
 loop-part-preserved c =
     rw c.in_ok-push.ensures.items
-    (one_part_more c.loop-part.parts.items c.in-Some.part.now c.loop-part.rest.now c.in-Some.behind.now c.args.text.now c.in-Some.part refl c.in-Some.ensures.found c.loop-part.invariant)
+    (one_part_more c.loop-part.parts.items c.in-Some.part.now c.loop-part.rest.now c.in-Some.behind.now c.args.text.now c.in-Some.part refl
+    c.in-Some.ensures.found c.loop-part.invariant)
 
 pub loop-part-smaller : goal.loop-part-smaller
 loop-part-smaller c = shorter 59 c.loop-part.rest.now c.in-Some.part.now c.in-Some.behind.now c.in-Some.ensures.found

@@ -5,12 +5,14 @@ use Rattle.stage_plan.specs.declared.types.TypeEntry.{TypeEntry}
 use Rattle.stage_plan.specs.declared.fault.TypesFault.{TypesFault}
 use Rattle.stage_plan.specs.declared.fault.TypesFault.TheVariants.{At}
 use Rattle.stage_plan.specs.declared.fault.TypesRule.TheVariants.{BadEntry, Twice}
-use Rattle.stage_plan.proofs.Loop.{ReadSoFar, at_start, one_more, bad, bad_only, twice, twice_only, done, done_only, settles_none, settles_some, was_there, was_new, put_in, kinds_valid, kinds_of_columns}
+use Rattle.stage_plan.proofs.Loop.{ReadSoFar, at_start, one_more, bad, bad_only, twice, twice_only, done, done_only, settles_none, settles_some, was_there}
+use Rattle.stage_plan.proofs.Loop.{was_new, put_in, kinds_valid, kinds_of_columns}
 use Rattle.stage_plan.proofs.Cuts.{entry}
 use Rattle.stage_plan.proofs.types.read_types.Goals as goal
 
 pub loop-part-init : goal.loop-part-init
-loop-part-init c = at_start c.deref-part-items.result.now c.new-names.result.keys c.new-entries.result.items c.new-names.ensures.empty c.new-entries.ensures.items
+loop-part-init c =
+    at_start c.deref-part-items.result.now c.new-names.result.keys c.new-entries.result.items c.new-names.ensures.empty c.new-entries.ensures.items
 
 pub returns-in_default-clause-fault : goal.returns-in_default-clause-fault
 returns-in_default-clause-fault c =
@@ -18,7 +20,8 @@ returns-in_default-clause-fault c =
     let is = c.fault_behind.ensures ∙ ap (λ (l : List TypeEntry). At (length l + 1) BadEntry) c.as_slice.ensures.value in
     λ other.
     subst (TypesFaultIs c.args.text.now) (sym is)
-    (bad c.deref-part-items.result.now c.loop-part.part-index c.loop-part.names.keys c.loop-part.entries.items c.loop-part.invariant _ (omega arith) c.args.text.now all
+    (bad c.deref-part-items.result.now c.loop-part.part-index c.loop-part.names.keys c.loop-part.entries.items c.loop-part.invariant _
+    (omega arith) c.args.text.now all
     (settles_none _ c.in_ok-entry.field-0 c.in_ok-entry.ensures.found c.in_ok-entry.ensures.only c.in_default.is))
 
 pub returns-in_default-clause-only : goal.returns-in_default-clause-only
@@ -27,7 +30,8 @@ returns-in_default-clause-only c =
     let is = c.fault_behind.ensures ∙ ap (λ (l : List TypeEntry). At (length l + 1) BadEntry) c.as_slice.ensures.value in
     λ read reads.
     subst (λ (f : TypesFault). Gives (Err f) read) (sym is)
-    (bad_only c.deref-part-items.result.now c.loop-part.part-index c.loop-part.names.keys c.loop-part.entries.items c.loop-part.invariant _ (omega arith) c.args.text.now all
+    (bad_only c.deref-part-items.result.now c.loop-part.part-index c.loop-part.names.keys c.loop-part.entries.items c.loop-part.invariant _
+    (omega arith) c.args.text.now all
     (settles_none _ c.in_ok-entry.field-0 c.in_ok-entry.ensures.found c.in_ok-entry.ensures.only c.in_default.is) read reads)
 
 pub returns-then-not-added-clause-fault : goal.returns-then-not-added-clause-fault
@@ -37,8 +41,10 @@ returns-then-not-added-clause-fault c =
     let old = was_there c.in_ok-added.added _ c.in_ok-added.ensures.added c.if-not-added.true in
     λ other.
     subst (TypesFaultIs c.args.text.now) (sym is)
-    (twice c.deref-part-items.result.now c.loop-part.part-index c.loop-part.names.keys c.loop-part.entries.items c.loop-part.invariant _ (omega arith) c.args.text.now all
-    c.in-Some.entry.name (entry_of c.in-Some.entry) (settles_some _ c.in_ok-entry.field-0 c.in-Some.entry c.in_ok-entry.ensures.found c.in_ok-entry.ensures.only c.in-Some.is) refl old)
+    (twice c.deref-part-items.result.now c.loop-part.part-index c.loop-part.names.keys c.loop-part.entries.items c.loop-part.invariant _
+    (omega arith) c.args.text.now all
+    c.in-Some.entry.name (entry_of c.in-Some.entry)
+    (settles_some _ c.in_ok-entry.field-0 c.in-Some.entry c.in_ok-entry.ensures.found c.in_ok-entry.ensures.only c.in-Some.is) refl old)
 
 pub returns-then-not-added-clause-only : goal.returns-then-not-added-clause-only
 returns-then-not-added-clause-only c =
@@ -47,37 +53,47 @@ returns-then-not-added-clause-only c =
     let old = was_there c.in_ok-added.added _ c.in_ok-added.ensures.added c.if-not-added.true in
     λ read reads.
     subst (λ (f : TypesFault). Gives (Err f) read) (sym is)
-    (twice_only c.deref-part-items.result.now c.loop-part.part-index c.loop-part.names.keys c.loop-part.entries.items c.loop-part.invariant _ (omega arith) c.args.text.now all
-    c.in-Some.entry.name (entry_of c.in-Some.entry) (settles_some _ c.in_ok-entry.field-0 c.in-Some.entry c.in_ok-entry.ensures.found c.in_ok-entry.ensures.only c.in-Some.is) refl old read reads)
+    (twice_only c.deref-part-items.result.now c.loop-part.part-index c.loop-part.names.keys c.loop-part.entries.items c.loop-part.invariant _
+    (omega arith) c.args.text.now all
+    c.in-Some.entry.name (entry_of c.in-Some.entry)
+    (settles_some _ c.in_ok-entry.field-0 c.in-Some.entry c.in_ok-entry.ensures.found c.in_ok-entry.ensures.only c.in-Some.is) refl old read reads)
 
 pub loop-part-preserved : goal.loop-part-preserved
 loop-part-preserved c =
     let new = was_new c.in_ok-added.added _ c.in_ok-added.ensures.added c.if-not-added.false in
-    let far = one_more c.deref-part-items.result.now c.loop-part.part-index c.loop-part.names.keys c.loop-part.entries.items c.loop-part.invariant _ (omega arith) c.insert.new.self.keys
-    c.in-Some.entry.name (entry_of c.in-Some.entry) (settles_some _ c.in_ok-entry.field-0 c.in-Some.entry c.in_ok-entry.ensures.found c.in_ok-entry.ensures.only c.in-Some.is) refl new
+    let far =
+    one_more c.deref-part-items.result.now c.loop-part.part-index c.loop-part.names.keys c.loop-part.entries.items c.loop-part.invariant _
+    (omega arith) c.insert.new.self.keys
+    c.in-Some.entry.name (entry_of c.in-Some.entry)
+    (settles_some _ c.in_ok-entry.field-0 c.in-Some.entry c.in_ok-entry.ensures.found c.in_ok-entry.ensures.only c.in-Some.is) refl new
     (put_in _ _ c.in_ok-added.added c.in_ok-added.ensures.keys c.if-not-added.false) in
     rw c.in_ok-push.ensures.items
-    (subst (λ (n : List ℕ). ReadSoFar c.deref-part-items.result.now (c.loop-part.part-index + 1) c.insert.new.self.keys (c.loop-part.entries.items ++ entry n c.in-Some.entry.kind ∷ []))
+    (subst (λ (n : List ℕ). ReadSoFar c.deref-part-items.result.now (c.loop-part.part-index + 1) c.insert.new.self.keys
+    (c.loop-part.entries.items ++ entry n c.in-Some.entry.kind ∷ []))
     (sym c.in_ok-name.ensures) far)
 
 pub returns-clause-found : goal.returns-clause-found
 returns-clause-found c =
     let all = ap (map (λ p. p.now)) c.deref-part-items.ensures.value ∙ c.in_ok-parts.ensures ∙ ap parts c.as_bytes.ensures.value in
-    done c.deref-part-items.result.now c.loop-part.part-index c.loop-part.names.keys c.loop-part.entries.items c.loop-part.invariant (omega arith) c.args.text.now all
+    done c.deref-part-items.result.now c.loop-part.part-index c.loop-part.names.keys c.loop-part.entries.items c.loop-part.invariant
+    (omega arith) c.args.text.now all
 
 pub returns-clause-valid : goal.returns-clause-valid
 returns-clause-valid c =
     let all = ap (map (λ p. p.now)) c.deref-part-items.ensures.value ∙ c.in_ok-parts.ensures ∙ ap parts c.as_bytes.ensures.value in
     kinds_valid c.spelled_is_valid.ensures c.args.text.now c.loop-part.entries.items
-    (done c.deref-part-items.result.now c.loop-part.part-index c.loop-part.names.keys c.loop-part.entries.items c.loop-part.invariant (omega arith) c.args.text.now all)
+    (done c.deref-part-items.result.now c.loop-part.part-index c.loop-part.names.keys c.loop-part.entries.items c.loop-part.invariant
+    (omega arith) c.args.text.now all)
 
 pub returns-clause-column : goal.returns-clause-column
 returns-clause-column c =
     let all = ap (map (λ p. p.now)) c.deref-part-items.ensures.value ∙ c.in_ok-parts.ensures ∙ ap parts c.as_bytes.ensures.value in
     kinds_of_columns c.args.text.now c.loop-part.entries.items
-    (done c.deref-part-items.result.now c.loop-part.part-index c.loop-part.names.keys c.loop-part.entries.items c.loop-part.invariant (omega arith) c.args.text.now all)
+    (done c.deref-part-items.result.now c.loop-part.part-index c.loop-part.names.keys c.loop-part.entries.items c.loop-part.invariant
+    (omega arith) c.args.text.now all)
 
 pub returns-clause-only : goal.returns-clause-only
 returns-clause-only c =
     let all = ap (map (λ p. p.now)) c.deref-part-items.ensures.value ∙ c.in_ok-parts.ensures ∙ ap parts c.as_bytes.ensures.value in
-    done_only c.deref-part-items.result.now c.loop-part.part-index c.loop-part.names.keys c.loop-part.entries.items c.loop-part.invariant (omega arith) c.args.text.now all
+    done_only c.deref-part-items.result.now c.loop-part.part-index c.loop-part.names.keys c.loop-part.entries.items c.loop-part.invariant
+    (omega arith) c.args.text.now all

@@ -1,0 +1,21 @@
+//! What the stages of a run mean: the grammar of their texts, their typing, what each makes of a table and of chunks, the
+//! links of a chain of stages, and the blocks and nodes that a run makes.
+//!
+//! The definitions stand in `specs/`: `StageGrammar` (texts), `Typing` (steps and the columns after them), `Stages`
+//! (tables and chunks), `Dictionary` (distinct values), `Links` (the chunks of each link, and the whole table), `Traffic`
+//! (blocks and nodes). The laws over them are calls that do nothing. Reading and typing are `stage_plan`'s.
+#![tactic(auto)]
+
+mod fault;
+mod laws;
+mod runs;
+mod stage;
+mod worked;
+
+pub use fault::{PlanFault, PlanRule, StageFault};
+pub use laws::{
+    batches_give_the_whole, chunks_give_the_whole, slices_are_windows, stages_fit_their_columns,
+};
+pub use runs::{worked_dictionary, worked_marks, worked_runs};
+pub use stage::{Const, Names, Picks, StageText, Step, Test};
+pub use worked::{worked_batches, worked_links, worked_plans, worked_texts};

@@ -1,0 +1,9 @@
+use Rattle.std.proofs.Common.{◌≡◌, map, take}
+use Rattle.fmt_string.specs.ColumnView.{column_of}
+use Rattle.fmt_string.specs.Parts.{picked}
+use Rattle.stage_model.specs.Typing.{no_column}
+use Rattle.stage_plan.specs.PlanWords.{columns_in}
+use Rattle.stage_plan.proofs.after.picked.Given as goal
+
+abbrev pub invariant-loop-place : goal.invariant-loop-place
+invariant-loop-place l = map column_of l.after.items ≡ picked no_column (take l.place-index l.places) (columns_in l.columns)

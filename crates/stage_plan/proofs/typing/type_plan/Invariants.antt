@@ -1,0 +1,14 @@
+use Rattle.std.proofs.Common.{map}
+use Rattle.std.specs.Prelude.{All}
+use Rattle.fmt_string.specs.ColumnForms.{KindsOk}
+use Rattle.fmt_string.specs.ColumnView.{kind_of}
+use Rattle.stage_plan.specs.PlanWords.{columns_in}
+use Rattle.stage_plan.proofs.PlanWalk.{PlannedTo}
+use Rattle.stage_plan.proofs.typing.type_plan.Given as goal
+
+abbrev pub invariant-loop-place : goal.invariant-loop-place
+invariant-loop-place l = record {
+  planned : PlannedTo (columns_in l.initial.columns.items) l.stages l.place (columns_in l.columns.items)
+      (map (λ link. columns_in link.items) l.links.items) l.steps.items;
+  kinds : All (λ c. KindsOk (kind_of c.kind)) l.columns.items;
+}

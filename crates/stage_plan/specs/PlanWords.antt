@@ -1,0 +1,41 @@
+-- What the code's plans are.
+use Rattle.std.specs.Prelude.{◌≡◌, ℕ, Bool, true, false, List, ◌++◌, get_or, length, map}
+use Rattle.std.specs.Borrow.{Bor}
+use Rattle.fmt_string.specs.ColumnView.{column_of}
+use Rattle.fmt_string.specs.Parts.{AreWithin, replaced}
+use Rattle.fmt_string.specs.Table.{Column, Kind}
+use Rattle.fmt_string.specs.declared.kind.ColumnType.{ColumnType}
+use Rattle.stage_model.specs.Typing.{PlanIs, Stage, column, dict_kind, names_of, no_column, places_of, plain_kind, plan_links, plan_steps}
+use Rattle.stage_model.specs.declared.stage.StageText.{StageText}
+use Rattle.stage_plan.specs.declared.typing.Plan.{Plan}
+
+abbrev pub texts : List (Bor (List ℕ)) → List (List ℕ)
+texts names = map (λ n. n.now) names
+
+abbrev pub columns_in : List ColumnType → List Column
+columns_in columns = map column_of columns
+
+-- the columns that a stage names are at these places
+pub record IsThere (columns : List Column) (text : StageText) (places : List ℕ) : Type 0 where
+  pub are : places ≡ places_of columns (names_of text)
+  pub within : AreWithin (length columns) places
+
+abbrev pub kind_by : Bool → Kind → Kind
+kind_by true kind = dict_kind kind
+kind_by false kind = plain_kind kind
+
+-- one of the columns by a dictionary, or without one
+abbrev pub replaced_kind : Bool → ℕ → List Column → List Column
+replaced_kind dict place columns =
+    replaced place (column (get_or columns place no_column).name (kind_by dict (get_or columns place no_column).kind)) columns
+
+-- a column whose name ends so
+abbrev pub with_end : Column → List ℕ → Column
+with_end c end = column (c.name ++ end) c.kind
+
+-- the plan's links and steps are those that the stages of these texts have over the columns
+pub record IsPlan (columns : List Column) (texts : List StageText) (plan : Plan) : Type 0 where
+  pub stages : List Stage
+  pub is : PlanIs columns texts stages
+  pub links : map (λ link. columns_in link.items) plan.links.items ≡ plan_links columns stages
+  pub steps : plan.steps.items ≡ plan_steps stages

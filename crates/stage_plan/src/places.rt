@@ -1,0 +1,77 @@
+//! The places of columns by their names, and names that are there twice.
+ghost use Rattle.std.specs.Prelude.{◌≡◌, ℕ, List, IfOk, IfSome, IfNone, map, is_none, position, true, false};
+ghost use Rattle.std.specs.Str.{bytes_eq};
+ghost use Rattle.std.specs.List.{list_any};
+ghost use Rattle.fmt_string.specs.ColumnView.{column_of};
+ghost use Rattle.fmt_string.specs.Parts.{AreWithin};
+ghost use Rattle.stage_model.specs.Typing.{has_twice, others, place_if, places_of};
+ghost use Rattle.stage_plan.specs.PlanWords.{texts};
+
+use fmt_string::ColumnType;
+use std::alloc::Global;
+use std::collections::HashSet;
+use unit_pass::{Name, NoMemory};
+
+/// The place of the column of a name.
+pub(crate) fn place_of(columns: &[ColumnType], name: &[u8]) -> Option<usize>
+    ensures { result ≡ place_if (map column_of columns.now) name.now }
+{
+    first_named(columns, name)
+}
+
+/// The place of the first column of a name, as the code has the columns.
+fn first_named(columns: &[ColumnType], name: &[u8]) -> Option<usize>
+    ensures { result ≡ position (λ c. bytes_eq c.name name.now) columns.now }
+{
+    columns
+        .iter()
+        .position(|column| column.name.as_slice() == name)
+}
+
+/// The places of the columns of names, or none where a column isn't there.
+pub(crate) fn places_of(
+    alloc: Global,
+    columns: &[ColumnType],
+    names: &[Name],
+) -> Result<Option<Vec<usize>>, NoMemory>
+    ensures found { IfOk result (λ places. IfSome places (λ ps. ps.items ≡ places_of (map column_of columns.now) names.now)) }
+    ensures all { IfOk result (λ places. IfSome places (λ _. list_any (λ name. is_none (place_if (map column_of columns.now) name)) names.now ≡ false)) }
+    ensures none { IfOk result (λ places. IfNone places (list_any (λ name. is_none (place_if (map column_of columns.now) name)) names.now ≡ true)) }
+{
+    let mut places = Vec::new(alloc);
+    for name in names {
+        let Some(place) = place_of(columns, name.as_slice()) else {
+            return Ok(None);
+        };
+        places.push(place)?;
+    }
+    Ok(Some(places))
+}
+
+/// The other numbers below `count`, in order.
+#[tactic(auto, using(crate::proofs::PlanLists::others_more))]
+pub(crate) fn others(alloc: Global, places: &[usize], count: usize) -> Result<Vec<usize>, NoMemory>
+    ensures are { IfOk result (λ rest. rest.items ≡ others places.now count) }
+    ensures within { IfOk result (λ rest. AreWithin count rest.items) }
+{
+    let mut rest = Vec::new(alloc);
+    for place in 0..count {
+        if !places.contains(&place) {
+            rest.push(place)?;
+        }
+    }
+    Ok(rest)
+}
+
+/// Whether a name is one of those before it.
+pub(crate) fn has_twice(alloc: Global, names: &[&[u8]]) -> Result<bool, NoMemory>
+    ensures { IfOk result (λ twice. twice ≡ has_twice (texts names.now)) }
+{
+    let mut known = HashSet::new(alloc);
+    for name in names {
+        if !known.insert(*name)? {
+            return Ok(true);
+        }
+    }
+    Ok(false)
+}
