@@ -1,0 +1,2 @@
+pub mod PickedStreams
+pub mod PickedChunks

@@ -1,0 +1,27 @@
+-- Columns and rows that are picked.
+use Rattle.std.specs.Prelude.{◌≡◌, ◌+◌, ℕ, List, length, map}
+use Rattle.fmt_string.specs.declared.kind.ColumnType.{ColumnType}
+use Rattle.fmt_string.specs.ColumnView.{column_of}
+use Rattle.fmt_string.specs.Parts.{AreWithin, picked}
+use Rattle.fmt_string.specs.Table.{Column, Row}
+use Rattle.fmt_string.specs.Value.{Null}
+use Rattle.arr_move.specs.TreeActs.{Distinct}
+-- stands for a column that isn't there
+pub use Rattle.stage_model.specs.Typing.{no_column}
+use Rattle.stream_face.specs.Streams.{Traffic}
+
+abbrev pub picked_columns : List ℕ → List Column → List Column
+picked_columns picks columns = picked no_column picks columns
+
+abbrev pub picked_rows : List ℕ → List Row → List Row
+picked_rows picks rows = map (picked Null picks) rows
+
+-- different numbers of these columns; and the columns that are kept are those that are picked
+pub record PickFits (picks : List ℕ) (kept : List ColumnType) (before : List Column) : Type 0 where
+  pub distinct : Distinct picks
+  pub within : AreWithin (length before) picks
+  pub columns : map column_of kept ≡ picked_columns picks before
+
+-- a node more for each chunk that is to come
+abbrev pub with_nodes : ℕ → Traffic → Traffic
+with_nodes n due = record { blocks = due.blocks; nodes = due.nodes + n }

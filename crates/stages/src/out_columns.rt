@@ -1,0 +1,65 @@
+//! The columns after a stage, with what the making of their schema asks for.
+ghost use Rattle.std.specs.Prelude.{◌≡◌, ◌+◌, ◌≤◌, All, map, IfOk, MatchResult};
+ghost use Rattle.unit_pass.specs.Tally.{risen};
+ghost use Rattle.unit_pass.specs.declared.pass.TheConstants.{CHUNK};
+ghost use Rattle.fmt_string.specs.ColumnView.{column_of};
+ghost use Rattle.tree_model.specs.Tree.{Depth};
+ghost use Rattle.raw_schema.specs.Members.{Nodes};
+ghost use Rattle.layout_check.specs.ColumnSchema.{KindsOk, SchemaOf};
+
+use arr_export::export_schema;
+use fmt_string::ColumnType;
+use raw_schema::RawSchema;
+use std::alloc::Global;
+use std::marker::Model;
+use unit_pass::{CHUNK, NoMemory, Pass};
+
+/// Columns whose schema can be made. Contracts see their list.
+#[derive(Drop)]
+pub struct OutColumns {
+    list: Vec<ColumnType>,
+}
+
+impl Model for OutColumns {
+    ghost use Rattle.std.specs.Prelude.{List, ◌≤◌, All, map};
+    ghost use Rattle.std.specs.Coded.{codes};
+    ghost use Rattle.unit_pass.specs.declared.pass.TheConstants.{CHUNK};
+    ghost use Rattle.tree_model.specs.Tree.{Depth};
+    ghost use Rattle.raw_schema.specs.Members.{Nodes};
+    ghost use Rattle.fmt_string.specs.ColumnView.{column_of};
+    ghost use Rattle.fmt_string.specs.declared.kind.ColumnType.{ColumnType};
+    ghost use Rattle.fmt_string.specs.contracts.kind.ColumnType as columns;
+    ghost use Rattle.layout_check.specs.ColumnSchema.{KindsOk, SchemaOf};
+
+    ghost Value = { List ColumnType };
+
+    ghost coded = { Prim.hlevel (codes, columns.the_row.coded) };
+
+    ghost view = { λ s. s.list.items };
+
+    ghost invariant = { λ s. (All (λ c. KindsOk (column_of c).kind) s.list.items)
+        × (Nodes (SchemaOf (map column_of s.list.items)) ≤ CHUNK) × (Depth (SchemaOf (map column_of s.list.items)) ≤ 64) };
+}
+
+impl OutColumns {
+    /// Keeps the columns. Takes no memory.
+    pub fn new(list: Vec<ColumnType>) -> OutColumns
+        requires kinds { All (λ c. KindsOk (column_of c).kind) list.items }
+        requires small { Nodes (SchemaOf (map column_of list.items)) ≤ CHUNK }
+        requires not_deep { Depth (SchemaOf (map column_of list.items)) ≤ 64 }
+        ensures { result ≡ list.items }
+    {
+        OutColumns { list }
+    }
+
+    /// The schema of the columns. It draws a unit and counts a node for each of its structures.
+    pub fn schema(&self, alloc: Global, pass: &mut Pass) -> Result<RawSchema, NoMemory>
+        requires room { CHUNK ≤ pass.old.units }
+        ensures tree { IfOk result (λ schema. schema ≡ SchemaOf (map column_of self.now)) }
+        ensures units { MatchResult result (λ schema. pass.new.units + Nodes schema ≡ pass.old.units) (λ _. pass.new.units ≡ pass.old.units) }
+        ensures nodes { IfOk result (λ schema. pass.new.nodes ≡ risen pass.old.nodes (Nodes schema)) }
+        ensures blocks { pass.new.blocks ≡ pass.old.blocks }
+    {
+        export_schema(alloc, self.list.as_slice(), pass)
+    }
+}

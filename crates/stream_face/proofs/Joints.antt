@@ -1,0 +1,170 @@
+-- What the links below a checked stream show.
+use Rattle.std.proofs.Common.{◌≡◌, ◌≢◌, ◌==◌, ◌++◌, ℕ, ℤ, pos, true, false, List, [], ◌∷◌, Option, Some, None, refl, sym, ◌∙◌, ap, subst, if◌then◌else◌, inl}
+use Rattle.std.proofs.Common.{inr}
+use Rattle.std.proofs.lemmas.Bool.Decides.{eqb_tells}
+use Rattle.std.proofs.lemmas.List.{append-nil, append_assoc}
+use Rattle.fmt_string.specs.Table.{Column, Row}
+use Rattle.tree_model.specs.Tree.{Tree, Released, Live, IsLive}
+use Rattle.raw_array.specs.Members.{ArrayTree}
+use Rattle.raw_schema.specs.Members.{SchemaTree}
+use Rattle.layout_check.specs.Kinds.{KindTree}
+use Rattle.layout_check.specs.ColumnKinds.{type_of_columns}
+use Rattle.layout_check.specs.ColumnSchema.{SchemaOf}
+use Rattle.layout_check.specs.Schemas.{TypedOf}
+use Rattle.stream_face.specs.Calls.{Answers, Begins, Shows, Tells}
+use Rattle.stream_face.specs.Raw.{raw_joints, raw_state, refusal_or}
+use Rattle.stream_face.specs.Shown.{Seen, Shown, grown, of_link, seen_of, shown_table, shown_tables}
+use Rattle.stream_face.specs.Streams.{Stream, is_nil}
+use Rattle.stream_face.specs.Texts.{Refusal}
+use Rattle.stream_face.specs.declared.fault.Failure.{Failure}
+use Rattle.stream_face.specs.declared.fault.StreamFault.{StreamFault}
+use Rattle.stream_face.specs.declared.fault.StreamFault.TheVariants as faults
+use Rattle.stream_face.specs.Failures.{why}
+use Rattle.stream_face.specs.Faults.{IsOwnFault, code_of}
+
+pub nil : {A : Type 0} (xs : List A) → is_nil xs ≡ true → xs ≡ []
+nil [] e = refl
+nil (x ∷ xs) e = absurd (cc)
+
+-- what was seen of a link in two parts
+pub of_link-append : (link : ℕ) (a b : List Seen) → of_link link (a ++ b) ≡ of_link link a ++ of_link link b
+of_link-append link [] b = refl
+of_link-append link (seen ∷ a) b =
+    elim (seen.link == link) as
+    (λ t. (if t then seen.shown ∷ of_link link (a ++ b) else of_link link (a ++ b))
+    ≡ (if t then seen.shown ∷ of_link link a else of_link link a) ++ of_link link b)
+    [ true ↦ ap (λ r. seen.shown ∷ r) (of_link-append link a b) | false ↦ of_link-append link a b ]
+
+-- what a tap has seen after two parts
+pub grown-append : (seen : Option (List Seen)) (a b : List Seen) → grown (grown seen a) b ≡ grown seen (a ++ b)
+grown-append None a b = refl
+grown-append (Some before) a b = ap Some (append_assoc before a b)
+
+-- only the empty list begins the empty list
+pub Begins-nil : (xs : List Shown) → Begins xs [] → xs ≡ []
+Begins-nil [] h = refl
+Begins-nil (x ∷ xs) h = let e : [] ≡ x ∷ (xs ++ h.0) = h.1 in cc
+
+abbrev pub Joints : Type 0
+Joints = ℕ → List Shown
+
+-- what a link shows that isn't below the stream
+pub of_link-none : (old new : Joints) (link : ℕ) (code : ℤ) (out : ArrayTree) (before after : Option (List Seen)) → old link ≡ []
+    → (shows : Shows old new code out before after) → of_link link shows.shown ≡ []
+of_link-none old new link code out before after none shows =
+    Begins-nil (of_link link shows.shown) (rw none at (shows.begins link))
+
+-- a link that isn't below the stream stays so
+pub joints-none : (old new : Joints) (link : ℕ) (out : ArrayTree) (before after : Option (List Seen)) → old link ≡ [] → Shows old new (pos 0) out before after
+    → new link ≡ []
+joints-none old new link out before after none shows =
+    let h = shows.leaves refl link in
+    let e = of_link-none old new link (pos 0) out before after none shows in
+    let k : [] ≡ new link = sym none ∙ h ∙ ap (λ xs. xs ++ new link) e in
+    sym k
+
+-- a refusal of the checked stream shows no more than its inner stream did
+pub Shows-raw_refused : (s n : Stream) (link : ℕ) (code refusal : ℤ) (out left : ArrayTree) (before after : Option (List Seen)) → s.joints link ≡ []
+    → refusal ≢ pos 0 → Shows s.joints n.joints code out before after → Shows (raw_joints link s) (raw_joints link n) refusal left before after
+Shows-raw_refused s n link code refusal out left before after none refused shows = record {
+  shown = shows.shown;
+  told = shows.told;
+  begins = λ k. elim (eqb_tells link k) [
+    | inl h ↦ rw (h.0, ← h.1, of_link-none s.joints n.joints link code out before after none shows) (shown_tables s.columns s.ahead, refl)
+    | inr h ↦ rw h.0 (shows.begins k)
+  ];
+  leaves = λ e. absurd (refused e);
+  ends = λ e. absurd (refused e);
+}
+
+abbrev seen_table : ℕ → List Column → List Row → Seen
+seen_table link columns rows = record { link = link; shown = shown_table columns rows }
+
+-- the link of a checked stream loses the table that was shown, and each link below it what it showed
+pub leaves_chunk : (s n : Stream) (link : ℕ) (rows : List Row) (out : ArrayTree) (before after : Option (List Seen)) → s.joints link ≡ []
+    → s.ahead ≡ rows ∷ n.ahead → n.columns ≡ s.columns → (shows : Shows s.joints n.joints (pos 0) out before after) → (k : ℕ)
+    → raw_joints link s k ≡ of_link k (shows.shown ++ seen_table link s.columns rows ∷ []) ++ raw_joints link n k
+leaves_chunk s n link rows out before after none gave same shows k =
+    rw of_link-append (elim (eqb_tells link k) [
+      | inl h ↦ rw (h.0, ← h.1, of_link-none s.joints n.joints link (pos 0) out before after none shows, gave, same) refl
+      | inr h ↦ rw (h.0, append-nil) (shows.leaves refl k)
+    ])
+
+-- a chunk of the checked stream is shown after what its inner stream showed
+pub Shows-raw_chunk : (s n : Stream) (link : ℕ) (rows : List Row) (out : ArrayTree) (before middle after : Option (List Seen)) → s.joints link ≡ []
+    → s.ahead ≡ rows ∷ n.ahead → n.columns ≡ s.columns → Shows s.joints n.joints (pos 0) out before middle → IsLive out
+    → after ≡ grown middle (seen_table link s.columns rows ∷ []) → Shows (raw_joints link s) (raw_joints link n) (pos 0) out before after
+Shows-raw_chunk s n link rows out before middle after none gave same shows live told = record {
+  shown = shows.shown ++ seen_table link s.columns rows ∷ [];
+  told = told ∙ rw shows.told (grown-append before shows.shown (seen_table link s.columns rows ∷ []));
+  begins = λ k. (raw_joints link n k, leaves_chunk s n link rows out before middle none gave same shows k);
+  leaves = λ _ k. leaves_chunk s n link rows out before middle none gave same shows k;
+  ends = λ _ e. absurd (subst IsLive e live);
+}
+
+-- the same, for a call of the inner stream that answered 0 with a live chunk
+pub Shows-raw_live : (s n : Stream) (link : ℕ) (code : ℤ) (schema : SchemaTree) (kinds : KindTree) (out : ArrayTree)
+    (before middle after : Option (List Seen)) → code ≡ pos 0 → IsLive out → s.joints link ≡ [] → n.columns ≡ s.columns
+    → Answers s n code out → Shows s.joints n.joints code out before middle → schema ≡ SchemaOf s.columns → kinds ≡ type_of_columns s.columns
+    → after ≡ grown middle (seen_of link schema kinds out ∷ [])
+    → Shows (raw_joints link s) (raw_joints link n) (pos 0) out before after
+Shows-raw_live s n link code schema kinds out before middle after works live none same answers shows known typed told =
+    let chunk = answers.chunk live in
+    let rows_are = chunk.2.rows_are in
+    Shows-raw_chunk s n link chunk.0 out before middle after none chunk.1 same (rw works at shows) live (rw (known, typed, rows_are) at told)
+
+-- where the checked stream has not failed, nor has its inner stream
+pub inner_works : (f : Option StreamFault) (inner said : Option Refusal) → refusal_or f inner said ≡ None → inner ≡ None
+inner_works None inner said e = e
+inner_works (Some fault) inner said e = absurd (cc)
+
+-- a checked stream that works has no failure of its own
+pub not_failed : (f : Option Failure) (inner said : Option Refusal) → refusal_or (why f) inner said ≡ None → f ≡ None
+not_failed None inner said e = refl
+not_failed (Some failure) inner said e = absurd (cc)
+
+-- a stream that answers 0 has not failed before
+pub works_before : (failure : Option Refusal) (code : ℤ) → ((refusal : Refusal) → failure ≡ Some refusal → code ≢ pos 0) → code ≡ pos 0 → failure ≡ None
+works_before None code repeats works = refl
+works_before (Some refusal) code repeats works = absurd (repeats refusal refl works)
+
+pub live_unless : {M : Type 0} (t : Tree M) → (t ≡ Released → ⊥) → IsLive t
+live_unless Released h = absurd (h refl)
+live_unless (Live members children dictionary) h = tt
+
+-- where a call answers 0, no refusal is told
+pub tells_nothing : (code : ℤ) (said : Option Refusal) → Tells code said → code ≡ pos 0 → said ≡ None
+tells_nothing code None tells zero = refl
+tells_nothing code (Some refusal) tells zero = absurd (tells.1 zero)
+
+-- where a refusal is told, a call doesn't answer 0
+pub tells_refusal : (code : ℤ) (said : Option Refusal) (refusal : Refusal) → Tells code said → said ≡ Some refusal → code ≢ pos 0
+tells_refusal code None refusal tells e = absurd (cc)
+tells_refusal code (Some told) refusal tells e = tells.1
+
+-- the kinds of the schema of columns are those of the columns
+pub kinds_are : (schema : SchemaTree) (kinds : KindTree) (columns : List Column) → schema ≡ SchemaOf columns
+    → TypedOf (SchemaOf columns) (type_of_columns columns)
+    → ((k : KindTree) → TypedOf schema k → k ≡ kinds) → kinds ≡ type_of_columns columns
+kinds_are schema kinds columns known typed only = sym (only (type_of_columns columns) (subst (λ t. TypedOf t (type_of_columns columns)) (sym known) typed))
+
+-- a checked stream's own refusal has a code that isn't 0
+pub own_code : (kinds : KindTree) (chunk : ArrayTree) (fault : StreamFault) → IsOwnFault kinds chunk fault → code_of fault ≢ pos 0
+own_code kinds chunk (faults.Row row) own = absurd own
+own_code kinds chunk (faults.Chunk layout) own = λ e. cc
+own_code kinds chunk (faults.Code code) own = absurd own
+own_code kinds chunk faults.NoMemory own = λ e. cc
+
+-- what a checked stream answers where its tap wants memory
+pub raw_wants : (s n : Stream) (link nodes : ℕ) (fault : StreamFault) (code : ℤ) (out : ArrayTree) → fault ≡ faults.NoMemory → n.said ≡ None
+    → code ≡ code_of fault → out ≡ Released
+    → Answers s (raw_state link nodes (Some fault) n) code out
+raw_wants s n link nodes fault code out is silent codes released =
+    let twelve : code ≡ pos 12 = codes ∙ ap code_of is in
+    record {
+      chunk = λ live. absurd (subst IsLive released live);
+      finish = λ e. absurd (let k : pos 12 ≡ pos 0 = sym twelve ∙ e in cc);
+      bad = λ e. absurd (let k : pos 12 ≡ pos 22 = sym twelve ∙ e in cc);
+      wants = λ _. rw (is, silent) refl;
+      codes = inr (inl twelve);
+    }

@@ -1,0 +1,80 @@
+-- What the calls of a stream answer ("The Arrow C Stream Interface", "The ArrowArrayStream structure").
+use Rattle.std.specs.Prelude.{◌≡◌, ◌≢◌, ◌⊎◌, ◌+◌, ◌≤ℤ◌, ◌++◌, ℕ, ℤ, pos, List, [], ◌∷◌, Option, Some, None}
+use Rattle.fmt_string.specs.declared.row_fault.RowFault.{RowFault}
+use Rattle.fmt_string.specs.Table.{Column, Row}
+use Rattle.tree_model.specs.Tree.{Released, IsLive}
+use Rattle.raw_array.specs.Members.{ArrayTree}
+use Rattle.raw_schema.specs.Members.{SchemaTree, Nodes}
+use Rattle.unit_pass.specs.Tally.{Tally, risen}
+use Rattle.layout_check.specs.ColumnSchema.{SchemaOf}
+use Rattle.stream_face.specs.Lawful.{IsChunkOf}
+use Rattle.stream_face.specs.Shown.{Seen, Shown, grown, of_link}
+use Rattle.stream_face.specs.Streams.{Stream, Traffic}
+use Rattle.stream_face.specs.Texts.{Refusal, refused_row, wanting}
+
+-- ---- any stream
+
+-- 0, or an error's number
+abbrev pub IsCode : ℤ → Type 0
+IsCode code = (pos 0 ≤ℤ code) × (code ≤ℤ pos 4095)
+
+-- it is 0 and no refusal is told, or it isn't, and the refusal has it
+abbrev pub Tells : ℤ → Option Refusal → Type 0
+Tells code None = code ≡ pos 0
+Tells code (Some refusal) = (code ≡ refusal.code) × (code ≢ pos 0)
+
+-- what is given is what was told, if anything was
+abbrev pub IsTold : {A : Type 0} → Option A → A → Type 0
+IsTold None given = Unit {0}
+IsTold (Some told) given = given ≡ told
+
+-- a record is at fault only after the code 22, and is the one at which the stream ends
+abbrev pub IsRowFault : ℤ → Option RowFault → Option RowFault → Type 0
+IsRowFault code ending None = Unit {0}
+IsRowFault code ending (Some fault) = (code ≡ pos 22) × (ending ≡ Some fault)
+
+-- a stream that has refused answers the same again, and shows and counts nothing
+pub record Repeats (old new : Stream) (code : ℤ) (before after : Tally) (seen shown : Option (List Seen)) : Type 0 where
+  pub same : (refusal : Refusal) → old.failure ≡ Some refusal → (code ≡ refusal.code) × (new.said ≡ Some refusal) × (new.fault ≡ old.fault)
+  pub counts : (refusal : Refusal) → old.failure ≡ Some refusal → after ≡ before
+  pub shows : (refusal : Refusal) → old.failure ≡ Some refusal → shown ≡ seen
+
+-- ---- a lawful stream
+
+-- it gives the schema of its columns and counts its nodes, or wants memory
+pub record SchemaAnswer (columns : List Column) (code : ℤ) (out : SchemaTree) (said : Option Refusal) (before after : Tally) : Type 0 where
+  pub given : code ≡ pos 0 → out ≡ SchemaOf columns
+  pub blocks : code ≡ pos 0 → after.blocks ≡ before.blocks
+  pub nodes : code ≡ pos 0 → after.nodes ≡ risen before.nodes (Nodes (SchemaOf columns))
+  pub wants : code ≢ pos 0 → said ≡ Some wanting
+
+-- it gives the next table, or comes to its end, or to its bad record, or wants memory
+pub record Answers (old new : Stream) (code : ℤ) (out : ArrayTree) : Type 0 where
+  pub chunk : IsLive out → (rows : List Row) × (old.ahead ≡ rows ∷ new.ahead) × IsChunkOf old.columns rows out
+  pub finish : code ≡ pos 0 → out ≡ Released → (old.ahead ≡ []) × (new.ahead ≡ []) × (old.ending ≡ None)
+  pub bad : code ≡ pos 22
+      → (old.ahead ≡ []) × (new.ahead ≡ []) × (fault : RowFault) × (old.ending ≡ Some fault) × (new.fault ≡ Some fault) × (new.said ≡ Some (refused_row fault))
+  pub wants : code ≡ pos 12 → new.said ≡ Some wanting
+  pub codes : (code ≡ pos 0) ⊎ (code ≡ pos 12) ⊎ (code ≡ pos 22)
+
+-- the first list begins the second
+abbrev pub Begins : {A : Type 0} → List A → List A → Type 0
+Begins {A} xs ys = (more : List A) × (ys ≡ xs ++ more)
+
+-- what a call shows: a prefix of each link's tables, which then leaves them
+pub record Shows (old new : ℕ → List Shown) (code : ℤ) (out : ArrayTree) (before after : Option (List Seen)) : Type 0 where
+  pub shown : List Seen
+  pub told : after ≡ grown before shown
+  pub begins : (link : ℕ) → Begins (of_link link shown) (old link)
+  pub leaves : code ≡ pos 0 → (link : ℕ) → old link ≡ of_link link shown ++ new link
+  pub ends : code ≡ pos 0 → out ≡ Released → (link : ℕ) → new link ≡ []
+
+-- what a call that answers 0 counts: so much less is due, and nothing at the end
+pub record Counts (old new : Traffic) (before after : Tally) (out : ArrayTree) : Type 0 where
+  pub made : Traffic
+  pub blocks : after.blocks ≡ risen before.blocks made.blocks
+  pub nodes : after.nodes ≡ risen before.nodes made.nodes
+  pub fewer_blocks : old.blocks ≡ made.blocks + new.blocks
+  pub fewer_nodes : old.nodes ≡ made.nodes + new.nodes
+  pub no_blocks : out ≡ Released → new.blocks ≡ 0
+  pub no_nodes : out ≡ Released → new.nodes ≡ 0

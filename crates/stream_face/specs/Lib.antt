@@ -1,0 +1,12 @@
+pub mod Shown
+pub mod Lawful
+pub mod Texts
+pub mod Streams
+pub mod Calls
+pub mod Checked
+pub mod Faults
+pub mod Raw
+pub mod Failures
+pub mod Meaning
+pub mod Strangers
+pub mod FaultTexts

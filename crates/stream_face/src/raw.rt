@@ -1,0 +1,329 @@
+//! A stream with its schema, each of whose chunks is checked and shown.
+ghost use Rattle.std.specs.Prelude.{◌≡◌, ◌≢◌, ◌≤◌, ◌+◌, ◌↔◌, IsTrue, List, ℕ, ℤ, None, Some, Option, true, false, pos, IfOk, IfErr, MatchResult, OnErr, OnOk};
+ghost use Rattle.std.specs.Prelude.{not, [], ◌∷◌};
+ghost use Rattle.std.specs.Thread.{IsSync};
+ghost use Rattle.std.specs.Coded.{Coded-set, codes};
+ghost use Rattle.fmt_string.specs.declared.row_fault.RowFault.{RowFault as RowFaultValue};
+ghost use Rattle.fmt_string.specs.contracts.row_fault.RowFault as rows;
+ghost use Rattle.tree_model.specs.Tree.{Released, IsLive};
+ghost use Rattle.raw_array.specs.Members.{Cost};
+ghost use Rattle.raw_schema.specs.Members.{Nodes, coded_schema};
+ghost use Rattle.layout_check.specs.ColumnSchema.{SchemaOf};
+ghost use Rattle.layout_check.specs.Kinds.{KindTree};
+ghost use Rattle.layout_check.specs.Schemas.{TypedOf};
+ghost use Rattle.layout_check.specs.TypedView.{typed_of};
+ghost use Rattle.layout_check.specs.Walk.{ChunkOk};
+ghost use Rattle.unit_pass.specs.Tally.{risen};
+ghost use Rattle.unit_pass.specs.declared.pass.TheConstants.{CHUNK, ROOM, SUPPLY};
+ghost use Rattle.stream_face.specs.Calls.{Answers, Counts, IsCode, IsRowFault, IsTold, Repeats, Shows, Tells};
+ghost use Rattle.stream_face.specs.Checked.{is_live};
+ghost use Rattle.stream_face.specs.Failures.{why};
+ghost use Rattle.stream_face.specs.Faults.{IsOwnFault, IsStartFault, IsWhy, code_of, fault_text};
+ghost use Rattle.stream_face.specs.Lawful.{LawfulColumns, LawfulTables};
+ghost use Rattle.stream_face.specs.Raw.{raw_state, row_or};
+ghost use Rattle.stream_face.specs.Shown.{Seen, grown, seen_of};
+ghost use Rattle.stream_face.specs.Streams.{IsFresh, Keeps, Stream, is_nil, kept, telling};
+ghost use Rattle.stream_face.specs.Texts.{Refusal, lent_text, text_in};
+ghost use Rattle.stream_face.specs.declared.fault.StreamFault.{StreamFault as StreamFaultValue};
+ghost use Rattle.stream_face.specs.declared.fault.StreamFault.TheVariants as faults;
+
+use crate::fault::{Failure, StartFault, StreamFault};
+use crate::known::Known;
+use crate::stream::ArrayStream;
+use crate::tap::Tap;
+use edge_io::Gate;
+use fmt_string::RowFault;
+use layout_check::{Typed, check_chunk};
+use raw_array::{Acted, RawArray};
+use raw_schema::RawSchema;
+use std::alloc::Global;
+use std::thread::Threads;
+use unit_pass::{CHUNK, NoMemory, Pass, ROOM, SUPPLY};
+
+/// A stream whose schema was checked, and whose chunks are checked and shown to a tap. It can't be dropped.
+pub struct RawStream<S: ArrayStream> {
+    inner: S,
+    link: u32,
+    known: Known,
+    failure: Option<Failure>,
+    ghost lives: { is_live known.schema ≡ (S.state inner).live },
+    ghost same: { IsTrue (S.state inner).live → IsTrue (S.state inner).lawful → known.schema ≡ SchemaOf (S.state inner).columns } by { Prim.hlevel (Coded-set coded_schema) },
+    ghost own_link: { IsTrue (S.state inner).live → IsTrue (S.state inner).lawful → failure ≡ None → is_nil ((S.state inner).joints link) ≡ true },
+    ghost ends: { IsTrue (S.state inner).live → (fault : RowFaultValue) → why failure ≡ Some (faults.Row fault) → (S.state inner).ending ≡ Some fault } by { Prim.hlevel (codes, rows.the_row.coded) },
+}
+
+/// Why a get call of the inner stream refused.
+fn fault_of(code: i32, row: Option<RowFault>) -> StreamFault
+    requires refused { code ≢ pos 0 }
+    requires row { (fault : RowFaultValue) → row ≡ Some fault → code ≡ pos 22 }
+    ensures code { code_of result ≡ code }
+    ensures row { row_or (Some result) row ≡ row }
+    ensures why { (kinds : KindTree) (before after : Stream) → Tells code after.said → after.fault ≡ row → IsWhy code kinds before after (Some result) }
+{
+    if code == 12 {
+        return StreamFault::NoMemory;
+    }
+    match row {
+        Some(row) if code == 22 => StreamFault::Row(row),
+        _ => StreamFault::Code(code),
+    }
+}
+
+/// The text of a refusal, from what the inner stream says.
+fn error_text<'a>(fault: StreamFault, said: Option<&'a str>) -> &'a str
+    ensures { (refusal : Option Refusal) → lent_text said.entry ≡ text_in refusal → result.now ≡ fault_text fault refusal }
+{
+    match said {
+        Some(text) => text,
+        None => fault.own_text(),
+    }
+}
+
+/// Checks a structure that the inner stream gave, and shows it to the tap. What is refused is released.
+fn admit<T: Tap>(
+    alloc: Global,
+    known: &Known,
+    link: u32,
+    out: &mut RawArray,
+    pass: &mut Pass,
+    tap: &mut T,
+) -> Result<(), StreamFault>
+    requires schema { IsLive known.now.schema }
+    requires room { pass.old.units + Cost out.old ≤ SUPPLY }
+    ensures only { (kinds : KindTree) → TypedOf known.now.schema kinds → kinds ≡ typed_of known.now.typed }
+    ensures chunk { OnOk result (ChunkOk (typed_of known.now.typed) out.old) }
+    ensures given { OnOk result (out.new ≡ out.old) }
+    ensures seen { OnOk result (T.seen tap.new ≡ grown (T.seen tap.old) (seen_of link known.now.schema (typed_of known.now.typed) out.old ∷ [])) }
+    ensures unchanged { OnOk result (pass.new ≡ pass.old) }
+    ensures why { IfErr result (IsOwnFault (typed_of known.now.typed) out.old) }
+    ensures lawful { ChunkOk (typed_of known.now.typed) out.old → IfErr result (λ fault. fault ≡ faults.NoMemory) }
+    ensures released { OnErr result (out.new ≡ Released) }
+    ensures unseen { OnErr result (T.seen tap.new ≡ T.seen tap.old) }
+    ensures units { OnErr result (pass.new.units ≡ pass.old.units + Cost out.old) }
+{
+    let typed = known.typed();
+    if let Err(fault) = check_chunk(typed, out) {
+        out.release(pass);
+        return Err(StreamFault::Chunk(fault));
+    }
+    if tap.see(alloc, link, known.schema(), typed, out).is_err() {
+        out.release(pass);
+        return Err(StreamFault::NoMemory);
+    }
+    Ok(())
+}
+
+impl<S: ArrayStream> RawStream<S> {
+    ghost use Rattle.stream_face.specs.Meaning.{below, meaning, raw_fault, raw_kinds, raw_link, raw_schema};
+    ghost use Rattle.layout_check.specs.ColumnKinds.{type_of_columns};
+    ghost use Rattle.layout_check.specs.Kinds.{TypedOk};
+
+    /// Asks the inner stream for its schema, once, and checks it. On a refusal the inner stream is handed back, and all units
+    /// are back.
+    pub fn start(
+        alloc: Global,
+        inner: S,
+        link: u32,
+        pass: &mut Pass,
+    ) -> Result<RawStream<S>, (S, StartFault)>
+        requires live { IsTrue (S.state inner).live }
+        requires own_link { (S.state inner).joints link ≡ [] }
+        requires room { ROOM ≤ pass.old.units }
+        ensures started { IfOk result (λ raw. below S.state raw ≡ telling None (S.state inner)) }
+        ensures link { IfOk result (λ raw. raw_link raw ≡ link) }
+        ensures fault { IfOk result (λ raw. raw_fault raw ≡ None) }
+        ensures schema { IfOk result (λ raw. IsTold (S.state inner).schema (raw_schema raw)) }
+        ensures kinds { IfOk result (λ raw. TypedOf (raw_schema raw) (raw_kinds raw)) }
+        ensures lawful { IsTrue (S.state inner).lawful → IfOk result (λ raw. raw_schema raw ≡ SchemaOf (S.state inner).columns) }
+        ensures few { IsTrue (S.state inner).lawful → IfOk result (λ raw. Nodes (raw_schema raw) ≤ CHUNK) }
+        ensures refused { IfErr result
+            (λ refused. (said : Option Refusal) × (S.state refused.0 ≡ telling said (S.state inner)) × IsStartFault (S.state inner) said refused.1) }
+        ensures units { MatchResult result
+            (λ raw. pass.new.units + Nodes (raw_schema raw) ≡ pass.old.units)
+            (λ _. pass.new.units ≡ pass.old.units) }
+        ensures nodes { IsTrue (S.state inner).lawful → OnOk result (pass.new.nodes ≡ risen pass.old.nodes (Nodes (SchemaOf (S.state inner).columns))) }
+        ensures blocks { IsTrue (S.state inner).lawful → OnOk result (pass.new.blocks ≡ pass.old.blocks) }
+    {
+        inner.lawful_facts();
+        let mut inner = inner;
+        let mut schema = RawSchema::released();
+        let code = inner.get_schema(alloc, &mut schema, pass);
+        if code != 0 {
+            schema.discard();
+            return Err((inner, StartFault::Code(code)));
+        }
+        match Known::of(alloc, schema) {
+            Ok(known) => Ok(RawStream {
+                inner,
+                link,
+                known,
+                failure: None,
+            }),
+            Err((schema, fault)) => {
+                schema.end(pass);
+                Err((inner, StartFault::Schema(fault)))
+            }
+        }
+    }
+
+    /// The schema. It is released with the stream.
+    pub fn schema(&self) -> &RawSchema
+        ensures schema { result.now ≡ raw_schema self.now }
+        ensures live { is_live result.now ≡ (meaning S.state self.now).live }
+        ensures lawful { IsTrue (meaning S.state self.now).live → IsTrue (meaning S.state self.now).lawful
+            → result.now ≡ SchemaOf (meaning S.state self.now).columns }
+    {
+        self.known.schema()
+    }
+
+    /// The kinds of the schema.
+    pub fn typed(&self) -> &Typed
+        requires { IsTrue (meaning S.state self.now).live }
+        ensures kinds { typed_of result.now ≡ raw_kinds self.now }
+        ensures schema { TypedOf (raw_schema self.now) (raw_kinds self.now) }
+        ensures types { TypedOk (raw_kinds self.now) }
+        ensures lawful { IsTrue (meaning S.state self.now).lawful → raw_kinds self.now ≡ type_of_columns (meaning S.state self.now).columns }
+    {
+        self.inner.lawful_facts();
+        self.known.typed()
+    }
+
+    /// The next chunk, checked and shown to the tap; a released array where there is none; or a code that isn't 0. What the
+    /// check refuses is released. After a code that isn't 0 every later call answers the same and does nothing.
+    pub fn next<R: Threads + Sync, T: Tap>(
+        &mut self,
+        rt: &R,
+        alloc: Global,
+        out: &mut RawArray,
+        pass: &mut Pass,
+        tap: &mut T,
+        gate: &(dyn Gate + Sync),
+    ) -> i32
+        requires live { IsTrue (meaning S.state self.old).live }
+        requires empty { out.old ≡ Released }
+        requires room { ROOM ≤ pass.old.units }
+        ensures keeps { Keeps (meaning S.state self.old) (meaning S.state self.new) }
+        ensures link { raw_link self.new ≡ raw_link self.old }
+        ensures schema { raw_schema self.new ≡ raw_schema self.old }
+        ensures kinds { raw_kinds self.new ≡ raw_kinds self.old }
+        ensures code { IsCode result }
+        ensures tells { Tells result (meaning S.state self.new).said }
+        ensures refuses { result ≢ pos 0 → out.new ≡ Released }
+        ensures told { result ≡ pos 0 → IsTold (below S.state self.old).chunk out.new }
+        ensures checked { IsLive out.new → ChunkOk (raw_kinds self.old) out.new }
+        ensures shown { IsLive out.new → (before : Option (List Seen))
+            × (T.seen tap.new ≡ grown before (seen_of (raw_link self.old) (raw_schema self.old) (raw_kinds self.old) out.new ∷ [])) }
+        ensures units { pass.new.units + Cost out.new ≡ pass.old.units }
+        ensures why { raw_fault self.old ≡ None → IsWhy result (raw_kinds self.old) (below S.state self.old) (below S.state self.new) (raw_fault self.new) }
+        ensures stays { (fault : StreamFaultValue) → raw_fault self.old ≡ Some fault → (result ≡ code_of fault) × (self.new ≡ self.old) }
+        ensures failure { (meaning S.state self.new).failure ≡ (meaning S.state self.new).said }
+        ensures faulted { IsRowFault result (meaning S.state self.new).ending (meaning S.state self.new).fault }
+        ensures repeats { Repeats (meaning S.state self.old) (meaning S.state self.new) result pass.old pass.new (T.seen tap.old) (T.seen tap.new) }
+        ensures answers { IsFresh (meaning S.state self.old) → Answers (meaning S.state self.old) (meaning S.state self.new) result out.new }
+        ensures counts { IsFresh (meaning S.state self.old) → result ≡ pos 0
+            → Counts (meaning S.state self.old).due (meaning S.state self.new).due pass.old pass.new out.new }
+        ensures shows { IsFresh (meaning S.state self.old)
+            → Shows (meaning S.state self.old).joints (meaning S.state self.new).joints result out.new (T.seen tap.old) (T.seen tap.new) }
+    {
+        if let Some(failure) = &self.failure {
+            return failure.fault.code();
+        }
+        let code = self.inner.get_next(rt, alloc, out, pass, tap, gate);
+        if code != 0 {
+            let fault = fault_of(code, self.inner.fault());
+            self.failure = Some(Failure { fault });
+            return code;
+        }
+        if out.is_released() {
+            return 0;
+        }
+        self.inner.lawful_facts();
+        match admit(alloc, &self.known, self.link, out, pass, tap) {
+            Ok(()) => 0,
+            Err(fault) => {
+                self.failure = Some(Failure { fault });
+                fault.code()
+            }
+        }
+    }
+
+    /// A law: what holds of a lawful stream at every moment. The call does nothing.
+    pub fn lawful_facts(&self)
+        ensures columns { IsTrue (meaning S.state self.now).lawful → LawfulColumns (meaning S.state self.now).columns }
+        ensures tables { IsTrue (meaning S.state self.now).lawful → LawfulTables (meaning S.state self.now).columns (meaning S.state self.now).ahead }
+    {
+        self.inner.lawful_facts();
+    }
+
+    /// Why the last call of `next` refused.
+    pub fn fault(&self) -> Option<StreamFault>
+        ensures { result ≡ raw_fault self.now }
+    {
+        match &self.failure {
+            None => None,
+            Some(failure) => Some(failure.fault),
+        }
+    }
+
+    /// The record at fault, where that is why.
+    pub fn row_fault(&self) -> Option<RowFault>
+        ensures { result ≡ (meaning S.state self.now).fault }
+    {
+        match &self.failure {
+            None => self.inner.fault(),
+            Some(failure) => match failure.fault {
+                StreamFault::Row(fault) => Some(fault),
+                _ => None,
+            },
+        }
+    }
+
+    /// The error of the last call, where its code wasn't 0. Takes no memory.
+    pub fn last_error(&self) -> Option<&str>
+        ensures { lent_text result ≡ text_in (meaning S.state self.now).said }
+    {
+        match &self.failure {
+            None => self.inner.get_last_error(),
+            Some(failure) => Some(error_text(failure.fault, self.inner.get_last_error())),
+        }
+    }
+
+    /// Whether the stream is released.
+    pub fn is_released(&self) -> bool
+        ensures { result ≡ not (meaning S.state self.now).live }
+    {
+        self.inner.is_released()
+    }
+
+    /// Releases the schema and the inner stream, once. Takes no memory.
+    pub fn release(&mut self, pass: &mut Pass) -> Acted
+        requires { pass.old.units + kept (meaning S.state self.old) ≤ SUPPLY }
+        ensures acted { result ≡ Acted.Acted ↔ IsTrue (meaning S.state self.old).live }
+        ensures gone { (meaning S.state self.new).live ≡ false }
+        ensures schema { raw_schema self.new ≡ Released }
+        ensures columns { (meaning S.state self.new).columns ≡ (meaning S.state self.old).columns }
+        ensures units { pass.new.units ≡ pass.old.units + kept (meaning S.state self.old) }
+        ensures blocks { pass.new.blocks ≡ pass.old.blocks }
+        ensures nodes { pass.new.nodes ≡ pass.old.nodes }
+    {
+        if self.inner.is_released() {
+            return Acted::Was;
+        }
+        self.known.release(pass);
+        self.inner.release(pass)
+    }
+
+    /// Gives up a released stream. Takes no memory.
+    pub fn discard(self)
+        requires { (meaning S.state self).live ≡ false }
+    {
+        let RawStream {
+            inner,
+            link: _,
+            known,
+            failure: _,
+        } = self;
+        known.discard();
+        inner.discard();
+    }
+}
