@@ -1,6 +1,7 @@
 pub mod Remaining
 pub mod Twice
 pub mod RecordReading
+pub mod RecordSizes
 pub mod Fields
 pub mod Entries
 pub mod HeaderColumns

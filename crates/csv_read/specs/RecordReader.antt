@@ -1,5 +1,5 @@
 -- A reader of records over a text in memory: what it has left of the text and of its records.
-use Rattle.std.specs.Prelude.{◌≡◌, ◌≤◌, ◌<◌, ◌+◌, ℕ, Bool, true, false, if◌then◌else◌, List, [], length, Option, Some}
+use Rattle.std.specs.Prelude.{◌≡◌, ◌≤◌, ◌<◌, ◌+◌, ℕ, Bool, true, false, if◌then◌else◌, List, [], ◌∷◌, length, Option, Some}
 use Rattle.std.specs.Borrow.{Bor}
 use Rattle.std.specs.Option.{unwrap_or}
 use Rattle.std.specs.List.{concat}
@@ -23,6 +23,11 @@ pub record Takes (size : ℕ) (fields : Record) (rest : ℕ) : Type 0 where
   pub shorter : rest < size
   pub bytes : length (concat fields) + rest ≤ size
   pub count : length fields + rest ≤ size + 1
+
+-- the bytes of the fields of records
+abbrev pub field_bytes : List Record → ℕ
+field_bytes [] = 0
+field_bytes (fields ∷ records) = length (concat fields) + field_bytes records
 
 -- ---- the reader
 

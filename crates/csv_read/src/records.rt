@@ -3,7 +3,7 @@ ghost use Rattle.std.specs.Prelude.{◌≡◌, ◌≢◌, ◌≤◌, ◌∷◌, 
 ghost use Rattle.csv.specs.Reading.{error_kind, stops_reader};
 ghost use Rattle.csv.specs.Records.{fields_of};
 ghost use Rattle.csv_model.specs.Reading.{behind_header, records_of};
-ghost use Rattle.csv_read.specs.RecordReader.{IsReading, Takes, records_left, text_left};
+ghost use Rattle.csv_read.specs.RecordReader.{IsReading, Takes, field_bytes, records_left, text_left};
 
 use csv::{ByteRecord, Error, Reader, ReaderBuilder};
 use csv_model::records_are_read_in_turn;
@@ -89,6 +89,16 @@ impl<'a> Records<'a> {
         ensures { result ≡ true → self.now.records ≡ [] }
     {
         self.ended
+    }
+
+    /// A law: the records that are left are no more than the bytes that are left of the text, nor are the bytes of their
+    /// fields. The call does nothing.
+    pub fn are_short(&self)
+        ensures count { length self.now.records ≤ self.now.size }
+        ensures bytes { field_bytes self.now.records ≤ self.now.size }
+    {
+        records_are_read_in_turn();
+        let _ended = self.ended;
     }
 
     /// Leaves no record.
