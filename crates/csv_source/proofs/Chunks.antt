@@ -1,0 +1,125 @@
+-- The chunk of the next batch.
+use Rattle.std.proofs.Common.{◌≡◌, ◌≤◌, ◌+◌, ◌*◌, ◌∙◌, ℕ, ℤ, pos, zero, suc, List, [], ◌∷◌, length, drop, All, Option, None, Some, refl, sym, ap, subst, arith}
+use Rattle.std.proofs.lemmas.List.{length-map}
+use Rattle.std.proofs.lemmas.List.Sums.{sum_by-cons}
+use Rattle.std.specs.List.{sum_by}
+use Rattle.col_build.specs.Holding.{Holds}
+use Rattle.col_build.specs.declared.builder.Builder.{Builder}
+use Rattle.csv_model.specs.Batches.{Chunks}
+use Rattle.csv_model.specs.Reading.{Record}
+use Rattle.csv_read.specs.BatchesLeft.{BatchesLeft, IsNextBatch, IsNextFault, at_end, batches_left, behind, columns_in}
+use Rattle.csv_read.specs.Body.{HoldsKind}
+use Rattle.csv_read.specs.Chunks.{chunk_blocks, chunk_of}
+use Rattle.csv_read.specs.RecordReader.{field_bytes}
+use Rattle.csv_read.specs.declared.body.BodyFault.{BodyFault}
+use Rattle.csv_read.specs.declared.body.BodyFault.TheVariants as faults
+use Rattle.fmt_string.specs.ColumnView.{column_of}
+use Rattle.fmt_string.specs.Table.{Column, Kind, Flat, Dict, Columns, Row}
+use Rattle.fmt_string.specs.Value.{Value}
+use Rattle.fmt_string.specs.declared.kind.DataType.{DataType}
+use Rattle.fmt_string.specs.declared.row_fault.RowFault.{RowFault}
+use Rattle.layout_check.specs.ColumnKinds.{type_of_columns}
+use Rattle.layout_check.specs.Values.{rows_of}
+use Rattle.layout_check.specs.Walk.{ChunkOk}
+use Rattle.raw_array.specs.Members.{ArrayTree, Cost}
+use Rattle.stage_model.specs.Traffic.{Made, kind_nodes, made_nodes}
+use Rattle.stream_face.specs.Lawful.{DictsAreFull, IsChunkOf, IsTable}
+use Rattle.tree_model.specs.Tree.{IsLive, child_at}
+use Rattle.unit_pass.specs.Tally.{Tally, risen}
+use Rattle.csv_source.specs.NextChunks.{AreShort, EndsAt, IsNextChunk, no_batches}
+use Rattle.csv_source.specs.Refusals.{TellsOf}
+use Rattle.csv_source.specs.declared.refused.Refused.{Refused}
+use Rattle.csv_source.specs.declared.refused.Refused.TheVariants as refused
+use Rattle.csv_source.proofs.Blocks.{blocks-are}
+use Rattle.csv_source.proofs.PlainKinds.{IsPlain}
+use Rattle.csv_source.proofs.Tables.{left-lawful}
+
+-- ---- what is left of the records
+
+drop-short : (n : ℕ) (records : List Record) → (length (drop n records) ≤ length records) × (field_bytes (drop n records) ≤ field_bytes records)
+drop-short zero records = (omega arith, omega arith)
+drop-short (suc n) [] = (omega arith, omega arith)
+drop-short (suc n) (fields ∷ records) = let rest = drop-short n records in (omega (arith, rest.0), omega (arith, rest.1))
+
+pub next-short : (batch : ℕ) (old new : List Record) → new ≡ drop batch old → AreShort old → AreShort new
+next-short batch old new is short =
+    let fewer = drop-short batch old in
+    subst AreShort (sym is) (omega (arith, short.0, fewer.0), omega (arith, short.1, fewer.1))
+
+pub none-short : (new : List Record) → new ≡ [] → AreShort new
+none-short new is = subst AreShort (sym is) (omega arith, omega arith)
+
+-- ---- the chunk
+
+pub kind-count : (builder : Builder) (kind : Kind) (values : List Value) (n : ℤ) → HoldsKind builder kind values
+    → ((k : DataType) (vs : List Value) → Holds builder k vs → n ≡ pos (length vs)) → n ≡ pos (length values)
+kind-count builder (Flat kind) values n holds count = count kind values holds
+kind-count builder (Dict kind) values n holds count = absurd holds
+kind-count builder (Columns _) values n holds count = absurd holds
+
+columns-nodes : (columns : List Column) → All IsPlain columns → sum_by (λ c. kind_nodes Made c.kind) columns ≡ length columns
+columns-nodes [] plain = refl
+columns-nodes (c ∷ cs) plain =
+    let one : kind_nodes Made c.kind ≡ 1 = ap (kind_nodes Made) (plain zero c (omega arith)).is in
+    let rest = columns-nodes cs (λ k d small. plain (suc k) d (omega (arith, small))) in
+    sum_by-cons (λ (c : Column). kind_nodes Made c.kind) c cs ∙ omega (arith, one, rest)
+
+pub nodes-are : (columns : List Column) → All IsPlain columns → 1 + length columns ≡ made_nodes None columns
+nodes-are columns plain = ap (λ (n : ℕ). 1 + n) (sym (columns-nodes columns plain))
+
+is-chunk : (columns : List Column) (rows : List Row) (chunk : ArrayTree) (columns_count : ℕ) → All IsPlain columns → chunk ≡ chunk_of columns rows
+    → ChunkOk (type_of_columns columns) (chunk_of columns rows) → rows_of (type_of_columns columns) (chunk_of columns rows) ≡ rows
+    → Cost chunk ≤ 1 + 4 * columns_count → columns_count ≤ 1024 → IsChunkOf columns rows chunk
+is-chunk columns rows chunk columns_count plain is ok back cost few = record {
+  ok = subst (ChunkOk (type_of_columns columns)) (sym is) ok;
+  rows_are = ap (rows_of (type_of_columns columns)) is ∙ back;
+  small = omega (arith, cost, few);
+  dicts = λ k none small. subst (λ kind. DictsAreFull kind (child_at chunk k)) (sym (plain k none small).is) tt;
+}
+
+live-chunk : (columns : List Column) (rows : List Row) (chunk : ArrayTree) → chunk ≡ chunk_of columns rows → IsLive chunk
+live-chunk columns rows chunk is = subst IsLive (sym is) tt
+
+next-table : (batch : ℕ) (old : BatchesLeft) (rows : List Row) (others : Chunks) → All IsPlain (columns_in old) → AreShort old.records
+    → batches_left batch old ≡ behind rows others → IsTable (columns_in old) rows
+next-table batch old rows others plain short ahead =
+    let lawful = (left-lawful batch old plain short).tables in
+    (rw ahead at lawful).0
+
+pub next-chunk : (batch : ℕ) (builders : List Builder) (chunk : ArrayTree) (old new : BatchesLeft) (before after : Tally)
+    (found : IsNextBatch batch builders old new)
+    → All IsPlain (columns_in old) → AreShort old.records → length old.columns ≤ 1024
+    → batches_left batch old ≡ behind found.rows (batches_left batch new)
+    → chunk ≡ chunk_of (columns_in old) found.rows
+    → ChunkOk (type_of_columns (columns_in old)) (chunk_of (columns_in old) found.rows)
+    → rows_of (type_of_columns (columns_in old)) (chunk_of (columns_in old) found.rows) ≡ found.rows
+    → Cost chunk ≤ 1 + 4 * length builders
+    → after.blocks ≡ risen before.blocks (chunk_blocks (columns_in old) found.rows)
+    → after.nodes ≡ risen before.nodes (1 + length builders)
+    → IsNextChunk batch chunk old new before after
+next-chunk batch builders chunk old new before after found plain short few ahead is ok back cost blocks nodes =
+    let columns = columns_in old in
+    let count : length builders ≡ length columns = found.held.held.count in
+    let long : length columns ≡ length old.columns = length-map old.columns column_of in
+    let table = next-table batch old found.rows (batches_left batch new) plain short ahead in
+    record {
+      rows = found.rows;
+      ahead = ahead;
+      live = live-chunk columns found.rows chunk is;
+      is = is-chunk columns found.rows chunk (length builders) plain is ok back cost (omega (arith, count, long, few));
+      blocks = blocks ∙ ap (risen before.blocks) (blocks-are columns found.rows plain table);
+      nodes = nodes ∙ ap (λ (n : ℕ). risen before.nodes (1 + n)) count ∙ ap (risen before.nodes) (nodes-are columns plain);
+    }
+
+-- ---- a refusal
+
+pub next-fault : (batch : ℕ) (fault : BodyFault) (why : Refused) (old new : BatchesLeft) → TellsOf fault why → IsNextFault fault batch old → new ≡ at_end old
+    → ((s : BatchesLeft) (row : RowFault) → IsNextFault (faults.Row row) batch s → batches_left batch s ≡ no_batches (Some row))
+    → EndsAt batch why old new
+next-fault batch fault why old new tells next ends law = λ row is. (
+  law old row (subst (λ (f : BodyFault). IsNextFault f batch old) (tells row is) next),
+  ap (λ (s : BatchesLeft). s.records) ends,
+)
+
+pub no-row : (batch : ℕ) (old new : BatchesLeft) → EndsAt batch refused.NoMemory old new
+no-row batch old new = λ row is. let never : ◌≡◌ {A = Option RowFault} None (Some row) = is in absurd (cc)

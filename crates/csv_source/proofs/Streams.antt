@@ -1,0 +1,81 @@
+-- What a call for the next chunk answers, counts and shows.
+use Rattle.std.proofs.Common.{◌≡◌, ◌<◌, ◌+◌, ◌^◌, ◌∙◌, ℕ, ℤ, List, [], ◌∷◌, map, Option, None, Some, refl, sym, ap, subst, arith}
+use Rattle.std.proofs.Common.{append-nil}
+use Rattle.std.proofs.lemmas.List.Sums.{sum_by-cons}
+use Rattle.std.specs.List.{sum_by}
+use Rattle.csv_model.specs.Batches.{Chunks}
+use Rattle.csv_read.specs.BatchesLeft.{BatchesLeft, batches_left, columns_in}
+use Rattle.fmt_string.specs.ColumnView.{column_of}
+use Rattle.fmt_string.specs.Table.{Column, Row}
+use Rattle.fmt_string.specs.declared.kind.ColumnType.{ColumnType}
+use Rattle.raw_array.specs.Members.{ArrayTree}
+use Rattle.stage_model.specs.Traffic.{made_blocks, made_nodes}
+use Rattle.stream_face.specs.Calls.{Counts, Shows}
+use Rattle.stream_face.specs.Shown.{Seen, grown}
+use Rattle.tree_model.specs.Tree.{IsLive, Released}
+use Rattle.unit_pass.specs.Tally.{Tally, risen}
+use Rattle.csv_source.specs.NextChunks.{IsNextChunk, no_batches}
+use Rattle.csv_source.specs.Sources.{chunks_traffic, no_joints}
+
+pub not-released : (out : ArrayTree) → IsLive out → out ≡ Released → ⊥
+not-released out live is = subst IsLive is live
+
+-- ---- what is counted
+
+same-columns : (old new : List ColumnType) → new ≡ old → map column_of old ≡ map column_of new
+same-columns old new same = ap (map column_of) (sym same)
+
+pub chunk-counts : (batch : ℕ) (chunk out : ArrayTree) (old new : BatchesLeft) (before after : Tally) → IsNextChunk batch chunk old new before after
+    → out ≡ chunk → new.columns ≡ old.columns
+    → Counts (chunks_traffic (columns_in old) (batches_left batch old).chunks)
+    (chunks_traffic (columns_in new) (batches_left batch new).chunks) before after out
+chunk-counts batch chunk out old new before after next is same =
+    let columns = columns_in old in
+    let chunks = (batches_left batch new).chunks in
+    let split : (batches_left batch old).chunks ≡ next.rows ∷ chunks = ap (λ (b : Chunks). b.chunks) next.ahead in
+    let later : columns_in old ≡ columns_in new = same-columns old.columns new.columns same in
+    record {
+      made = record { blocks = made_blocks None columns next.rows; nodes = made_nodes None columns };
+      blocks = next.blocks;
+      nodes = next.nodes;
+      fewer_blocks = ap (sum_by (made_blocks None columns)) split ∙ sum_by-cons (made_blocks None columns) next.rows chunks
+          ∙ ap (λ (cs : List Column). made_blocks None columns next.rows + sum_by (made_blocks None cs) chunks) later;
+      fewer_nodes = ap (sum_by (λ rows. made_nodes None columns)) split ∙ sum_by-cons (λ (rows : List Row). made_nodes None columns) next.rows chunks
+          ∙ ap (λ (cs : List Column). made_nodes None columns + sum_by (λ (rows : List Row). made_nodes None cs) chunks) later;
+      no_blocks = λ e. absurd (not-released out (subst IsLive (sym is) next.live) e);
+      no_nodes = λ e. absurd (not-released out (subst IsLive (sym is) next.live) e);
+    }
+
+no-more : (n : ℕ) → n < 2 ^ 64 → n ≡ risen n 0
+no-more n small = omega (arith, small)
+
+pub end-counts : (columns : List Column) (batches : Chunks) (t : Tally) (out : ArrayTree) → batches ≡ no_batches None → t.blocks < 2 ^ 64 → t.nodes < 2 ^ 64
+    → Counts (chunks_traffic columns batches.chunks) (chunks_traffic columns batches.chunks) t t out
+end-counts columns batches t out none blocks nodes =
+    let empty : batches.chunks ≡ [] = ap (λ (b : Chunks). b.chunks) none in
+    let no_blocks : sum_by (made_blocks None columns) batches.chunks ≡ 0 = ap (sum_by (made_blocks None columns)) empty in
+    let no_nodes : sum_by (λ rows. made_nodes None columns) batches.chunks ≡ 0 = ap (sum_by (λ (rows : List Row). made_nodes None columns)) empty in
+    record {
+      made = record { blocks = 0; nodes = 0 };
+      blocks = no-more t.blocks blocks;
+      nodes = no-more t.nodes nodes;
+      fewer_blocks = omega arith;
+      fewer_nodes = omega arith;
+      no_blocks = λ _. no_blocks;
+      no_nodes = λ _. no_nodes;
+    }
+
+-- ---- what is shown
+
+grown-none : (before : Option (List Seen)) → before ≡ grown before []
+grown-none None = refl
+grown-none (Some seen) = ap (λ (xs : List Seen). Some xs) (sym (append-nil seen))
+
+pub shows-nothing : (code : ℤ) (out : ArrayTree) (before : Option (List Seen)) → Shows no_joints no_joints code out before before
+shows-nothing code out before = record {
+  shown = [];
+  told = grown-none before;
+  begins = λ link. ([], refl);
+  leaves = λ _ link. refl;
+  ends = λ _ _ link. refl;
+}

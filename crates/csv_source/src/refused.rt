@@ -1,0 +1,86 @@
+//! Why the source refused, and what is told of it.
+ghost use Rattle.std.specs.Prelude.{◌≡◌, IfOk, string_bytes};
+ghost use Rattle.fmt_string.specs.FaultTexts.{row_fault_text};
+
+use csv_read::BodyFault;
+use fmt_string::RowFault;
+use std::alloc::Global;
+use unit_pass::NoMemory;
+
+/// A record that spells no row, and the text of the refusal.
+#[derive(Drop)]
+pub(crate) struct RefusedRow {
+    fault: RowFault,
+    text: String,
+    ghost told: { string_bytes text ≡ row_fault_text fault },
+}
+
+/// Why a call for a chunk refused.
+#[derive(Drop)]
+pub(crate) enum Refused {
+    Row(RefusedRow),
+    NoMemory,
+}
+
+/// What the last get call told: nothing, that memory for a schema was wanting, or the refusal that stays.
+#[derive(Clone, Copy, PartialEq, Eq, Debug)]
+pub(crate) enum Word {
+    Nothing,
+    Memory,
+    Refusal,
+}
+
+impl RefusedRow {
+    /// The text of a record's fault is made where the call refuses.
+    fn of(alloc: Global, fault: RowFault) -> Result<RefusedRow, NoMemory>
+        ensures { IfOk result (λ row. row.fault ≡ fault) }
+    {
+        let text = fault.to_string(alloc)?;
+        Ok(RefusedRow { fault, text })
+    }
+}
+
+impl Refused {
+    ghost use Rattle.csv_source.specs.Refusals.{TellsOf, refusal_of, row_of};
+
+    /// The refusal for a fault of the records. Memory may be wanting for its text.
+    pub(crate) fn of(alloc: Global, fault: BodyFault) -> Refused
+        ensures { TellsOf fault result }
+    {
+        match fault {
+            BodyFault::Row(fault) => match RefusedRow::of(alloc, fault) {
+                Ok(row) => Refused::Row(row),
+                Err(NoMemory) => Refused::NoMemory,
+            },
+            BodyFault::NoMemory => Refused::NoMemory,
+        }
+    }
+
+    pub(crate) fn code(&self) -> i32
+        ensures { result ≡ (refusal_of self.now).code }
+    {
+        match self {
+            Refused::Row(_) => 22,
+            Refused::NoMemory => 12,
+        }
+    }
+
+    pub(crate) fn text(&self) -> &str
+        ensures { result.now ≡ (refusal_of self.now).text }
+    {
+        match self {
+            Refused::Row(row) => row.text.as_str(),
+            Refused::NoMemory => "out of memory",
+        }
+    }
+
+    /// The record at fault.
+    pub(crate) fn row(&self) -> Option<RowFault>
+        ensures { result ≡ row_of self.now }
+    {
+        match self {
+            Refused::Row(row) => Some(row.fault),
+            Refused::NoMemory => None,
+        }
+    }
+}
