@@ -1,0 +1,2 @@
+pub mod OwnedValues
+pub mod SeenChunks

@@ -1,0 +1,17 @@
+-- What a tap that keeps what it is shown has seen.
+use Rattle.std.specs.Prelude.{List, map}
+use Rattle.layout_check.specs.TypedView.{typed_of}
+use Rattle.stream_face.specs.Shown.{Seen}
+use Rattle.record_tap.specs.OwnedValues.{row_of}
+use Rattle.record_tap.specs.declared.tap.RecordTap.{RecordTap}
+use Rattle.record_tap.specs.declared.tap.SeenChunk.{SeenChunk}
+
+-- a chunk that it keeps, as it was shown
+abbrev pub seen_in : SeenChunk → Seen
+seen_in chunk = record {
+  link = chunk.link;
+  shown = record { names = chunk.names.items; kinds = typed_of chunk.typed; rows = map row_of chunk.rows.items };
+}
+
+abbrev pub seen_by : RecordTap → List Seen
+seen_by tap = map seen_in tap.seen.items
