@@ -1,2 +1,17 @@
 pub mod PickedStreams
 pub mod PickedChunks
+pub mod ChunkCosts
+pub mod ColumnSets
+pub mod PartRows
+pub mod Runs
+pub mod SlicedChunks
+pub mod SlicedStreams
+pub mod PackedTrees
+pub mod PackedStreams
+pub mod PackedChunks
+pub mod CodedColumns
+pub mod Spliced
+pub mod MovedChildren
+pub mod StructChildren
+pub mod UnpackedStreams
+pub mod UnpackedChunks

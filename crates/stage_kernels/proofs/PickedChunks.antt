@@ -48,12 +48,12 @@ window-dictionary t off len =
     elim (is_whole t off len) as (λ w. dictionary_at (if w then t else windowed t off len) ≡ dictionary_at t)
     [ true ↦ refl | false ↦ windowed-dictionary t off len ]
 
-window-children : (t : ArrayTree) (off len : ℤ) → children_of (Window t off len) ≡ children_of t
+pub window-children : (t : ArrayTree) (off len : ℤ) → children_of (Window t off len) ≡ children_of t
 window-children t off len =
     elim (is_whole t off len) as (λ w. children_of (if w then t else windowed t off len) ≡ children_of t)
     [ true ↦ refl | false ↦ windowed-children t off len ]
 
-dicts-window : (kind : Kind) (t : ArrayTree) (off len : ℤ) → DictsAreFull kind t → DictsAreFull kind (Window t off len)
+pub dicts-window : (kind : Kind) (t : ArrayTree) (off len : ℤ) → DictsAreFull kind t → DictsAreFull kind (Window t off len)
 dicts-window (Flat kind) t off len full = tt
 dicts-window (Dict kind) t off len full = rw window-dictionary full
 dicts-window (StructOf members) t off len full = subst (MemberDictsAreFull members) (sym (window-children t off len)) full
@@ -120,7 +120,7 @@ select_answers s n picks code before out live answers made is =
       codes = inl refl;
     }
 
-risen-more : (a b c m : ℕ) → b ≡ risen a m → c ≡ risen b 1 → c ≡ risen a (m + 1)
+pub risen-more : (a b c m : ℕ) → b ≡ risen a m → c ≡ risen b 1 → c ≡ risen a (m + 1)
 risen-more a b c m e f = omega (arith, e, f)
 
 pub select_counts : (s n : Stream) (picks : List ℕ) (code : ℤ) (before out : ArrayTree) (first middle last : Tally) → IsLive before → Answers s n code before

@@ -40,14 +40,15 @@ item-at [] row j inside = absurd (omega (arith, inside))
 item-at (p ∷ picks) row zero inside = refl
 item-at (p ∷ picks) row (suc j) inside = item-at picks row j (omega (arith, inside))
 
-items-same : (picks : List ℕ) (rows : List Row) (j : ℕ) → j < length picks → column_values j (picked_rows picks rows) ≡ column_values (get_or picks j 0) rows
+pub items-same : (picks : List ℕ) (rows : List Row) (j : ℕ) → j < length picks
+    → column_values j (picked_rows picks rows) ≡ column_values (get_or picks j 0) rows
 items-same picks [] j inside = refl
 items-same picks (row ∷ rows) j inside =
     ap (λ (v : Value). v ∷ column_values j (picked_rows picks rows)) (item-at picks row j inside)
     ∙ ap (λ (vs : List Value). get_or row (get_or picks j 0) Null ∷ vs) (items-same picks rows j inside)
 
 -- what holds of each column holds of each that is picked
-all-picked : (P : Column → Type 0) (picks : List ℕ) (columns : List Column) → AreWithin (length columns) picks → All P columns
+pub all-picked : (P : Column → Type 0) (picks : List ℕ) (columns : List Column) → AreWithin (length columns) picks → All P columns
     → All P (picked_columns picks columns)
 all-picked P picks columns within all = λ k none small.
     let inside : k < length picks = omega (arith, small, as-many picks columns) in
@@ -55,7 +56,7 @@ all-picked P picks columns within all = λ k none small.
 
 -- ---- sums over different columns
 
-abbrev total : List ℕ → ℕ
+abbrev pub total : List ℕ → ℕ
 total [] = 0
 total (n ∷ ns) = n + total ns
 
@@ -93,14 +94,14 @@ measures-same f columns (p ∷ picks) within =
     ap (λ (n : ℕ). n ∷ map f (picked_columns picks columns)) (measure-at f columns p (first-within (length columns) p picks within))
     ∙ ap (λ (more : List ℕ). get_or (map f columns) p 0 ∷ more) (measures-same f columns picks (rest-within (length columns) p picks within))
 
-sum-picked : (f : Column → ℕ) (columns : List Column) (picks : List ℕ) → Distinct picks → AreWithin (length columns) picks
+pub sum-picked : (f : Column → ℕ) (columns : List Column) (picks : List ℕ) → Distinct picks → AreWithin (length columns) picks
     → total (map f (picked_columns picks columns)) ≤ total (map f columns)
 sum-picked f columns picks distinct within =
     let same = ap total (measures-same f columns picks within) in
     let fewer = total-picked (map f columns) picks distinct in
     omega (arith, same, fewer)
 
-leaves-are : (columns : List Column) → column_leaves columns ≡ total (map (λ c. leaves c.kind) columns)
+pub leaves-are : (columns : List Column) → column_leaves columns ≡ total (map (λ c. leaves c.kind) columns)
 leaves-are [] = refl
 leaves-are (c ∷ cs) = let e = leaves-are cs in omega (arith, e)
 
@@ -116,7 +117,7 @@ kid-typed [] p inside kids = absurd (omega (arith, inside))
 kid-typed (c ∷ cs) zero inside kids = kids.0
 kid-typed (c ∷ cs) (suc p) inside kids = kid-typed cs p (omega (arith, inside)) kids.1
 
-kids-typed : (picks : List ℕ) (columns : List Column) → AreWithin (length columns) picks
+pub kids-typed : (picks : List ℕ) (columns : List Column) → AreWithin (length columns) picks
     → KidsTyped 2 (trees (map schema_of_column columns)) (trees (types_of_columns columns))
     → KidsTyped 2 (trees (map schema_of_column (picked_columns picks columns))) (trees (types_of_columns (picked_columns picks columns)))
 kids-typed [] columns within kids = tt

@@ -52,6 +52,23 @@ impl OutColumns {
         OutColumns { list }
     }
 
+    /// A law: their kinds are in order, and their schema is small and not deep. The call does nothing.
+    #[inline(always)]
+    pub fn schema_is_small(&self)
+        ensures kinds { All (λ c. KindsOk (column_of c).kind) self.now }
+        ensures small { Nodes (SchemaOf (map column_of self.now)) ≤ CHUNK }
+        ensures not_deep { Depth (SchemaOf (map column_of self.now)) ≤ 64 }
+    {
+        let _list = &self.list;
+    }
+
+    /// The columns, lent.
+    pub fn as_slice(&self) -> &[ColumnType]
+        ensures { result.now ≡ self.now }
+    {
+        self.list.as_slice()
+    }
+
     /// The schema of the columns. It draws a unit and counts a node for each of its structures.
     pub fn schema(&self, alloc: Global, pass: &mut Pass) -> Result<RawSchema, NoMemory>
         requires room { CHUNK ≤ pass.old.units }

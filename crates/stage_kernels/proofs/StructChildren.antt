@@ -1,0 +1,154 @@
+-- What the children of a chunk and of a struct in it offer to those that take them.
+use Rattle.std.proofs.Common.{arith, ◌≡◌, ◌≤◌, ◌<◌, ◌+◌, ◌^◌, ◌≤ℤ◌, ◌∙◌, ℕ, zero, suc, ℤ, pos, negsuc, List, [], ◌∷◌, ◌++◌, length, get_or, take, drop, All}
+use Rattle.std.proofs.Common.{refl, ap, subst}
+use Rattle.std.proofs.lemmas.Int.{ints}
+use Rattle.std.proofs.lemmas.List.{get_or-map, length-map, get_or_default}
+use Rattle.fmt_string.specs.Parts.{AreWithin, member_columns, unpacked_columns}
+use Rattle.fmt_string.specs.Table.{Column, Columns as StructOf, Members}
+use Rattle.tree_model.specs.Tree.{Depth, depth_of_all, IsLive, Released, Live, absent, children_of, child_at, trees, tree_list}
+use Rattle.tree_model.proofs.Lists.{tree_list-trees, trees-tree_list}
+use Rattle.tree_model.proofs.Measures.{Depth-get_or}
+use Rattle.raw_array.specs.Members.{ArrayTree, Cost, cost_of_all, members_of}
+use Rattle.raw_array.specs.Windows.{Window}
+use Rattle.layout_check.specs.Kinds.{KindTree}
+use Rattle.layout_check.specs.Layout.{end, first, items, natural}
+use Rattle.layout_check.specs.Values.{tree_items}
+use Rattle.layout_check.specs.Walk.{ChunkOk, LayoutOk}
+use Rattle.layout_check.specs.ColumnKinds.{table_type, type_of_column, type_of_columns, type_of_kind, types_of_columns}
+use Rattle.arr_export.specs.ArrayTrees.{IsColumn, table_tree}
+use Rattle.arr_move.specs.TreeActs.{FitParentWindow, struct_members}
+use Rattle.column_laws.specs.Picking.{AreLive, Unpacked, cut_children}
+use Rattle.stage_model.specs.Typing.{column_at, no_column}
+use Rattle.stage_kernels.specs.Unpacks.{HasStruct, ShowsChildren, ShowsInner}
+
+-- what is known of lawful structs
+pub record StructLaws : Type 0 where
+  pub live : (types : List KindTree) (t : ArrayTree) → LayoutOk (table_type types) t → IsLive t
+  pub placed : (types : List KindTree) (t : ArrayTree) → LayoutOk (table_type types) t → pos 0 ≤ℤ (members_of t).offset
+  pub sized : (types : List KindTree) (t : ArrayTree) → LayoutOk (table_type types) t → pos 0 ≤ℤ (members_of t).length
+  pub count : (types : List KindTree) (t : ArrayTree) → LayoutOk (table_type types) t → length (children_of t) ≡ length types
+  pub column : (types : List KindTree) (t : ArrayTree) (p : ℕ) → p < length types → LayoutOk (table_type types) t
+      → LayoutOk (get_or types p Released) (child_at t p)
+  pub column_live : (types : List KindTree) (t : ArrayTree) (p : ℕ) → p < length types → IsLive (get_or types p Released)
+      → LayoutOk (table_type types) t → IsLive (child_at t p)
+  pub column_long : (types : List KindTree) (t : ArrayTree) (p : ℕ) → p < length types → IsLive (get_or types p Released)
+      → LayoutOk (table_type types) t → end (members_of t) ≤ tree_items (child_at t p)
+  pub fit : (types : List KindTree) (t : ArrayTree) (picks : List ℕ) → AreLive types → LayoutOk (table_type types) t → AreWithin (length types) picks
+      → FitParentWindow t picks
+  pub types_live : (columns : List Column) → AreLive (types_of_columns columns)
+  pub window : (typed : KindTree) (t : ArrayTree) (off len : ℕ) → off + len ≤ tree_items t → LayoutOk typed t → LayoutOk typed (Window t (pos off) (pos len))
+  pub struct : (fields : Members) → type_of_kind (StructOf fields) ≡ table_type (types_of_columns (member_columns fields))
+
+pub pos-natural : (z : ℤ) → pos 0 ≤ℤ z → pos (natural z) ≡ z
+pos-natural (pos n) h = refl
+pos-natural (negsuc n) h = absurd (omega (arith, h))
+
+few-of : (z : ℤ) (first most : ℕ) → pos 0 ≤ℤ z → first + natural z ≤ most → z ≤ℤ pos most
+few-of (pos n) first most sized small = omega (arith, ints, small)
+few-of (negsuc n) first most sized small = absurd (omega (arith, sized))
+
+one-within : (count k : ℕ) → k < count → AreWithin count (k ∷ [])
+one-within count k small zero inside = small
+one-within count k small (suc j) inside = absurd (omega (arith, inside))
+
+child-depth : (t : ArrayTree) (k : ℕ) → k < length (children_of t) → Depth (child_at t k) + 1 ≤ Depth t
+child-depth Released k small = absurd (omega (arith, small))
+child-depth (Live m ts d) k small =
+    let same = ap depth_of_all (trees-tree_list ts) in
+    omega (arith, same, Depth-get_or (tree_list ts) k small)
+
+-- each live tree costs a unit
+count-cost : (cs : List ArrayTree) → ((k : ℕ) → k < length cs → IsLive (get_or cs k Released)) → length cs ≤ cost_of_all (trees cs)
+count-cost [] live = omega arith
+count-cost (Released ∷ cs) live = absurd (live 0 (omega arith))
+count-cost (Live m ts d ∷ cs) live =
+    let e = count-cost cs (λ k small. live (suc k) (omega (arith, small))) in
+    omega (arith, e)
+
+children-cost : (t : ArrayTree) → IsLive t → cost_of_all (trees (children_of t)) + 1 ≤ Cost t
+children-cost Released live = absurd live
+children-cost (Live m ts d) live = let same = ap cost_of_all (trees-tree_list ts) in omega (arith, same)
+
+module _ (laws : StructLaws) where
+  pub shown : (types : List KindTree) (t : ArrayTree) → AreLive types → LayoutOk (table_type types) t → ShowsChildren t
+  shown types t live ok = record {
+    live = laws.live types t ok;
+    placed = laws.placed types t ok;
+    sized = laws.sized types t ok;
+    fit = λ k small.
+        let e = laws.count types t ok in
+        laws.fit types t (k ∷ []) live ok (one-within (length types) k (omega (arith, e, small))) 0 (omega arith);
+  }
+
+  struct-at : (columns : List Column) (place : ℕ) (fields : Members) → place < length columns → (column_at columns place).kind ≡ StructOf fields
+      → get_or (types_of_columns columns) place Released ≡ table_type (types_of_columns (member_columns fields))
+  struct-at columns place fields inside is =
+      get_or-map type_of_column columns place no_column Released inside ∙ ap type_of_kind is ∙ laws.struct fields
+
+  pub shown-inner : (place : ℕ) (t : ArrayTree) → HasStruct place t → ShowsInner place t
+  shown-inner place t has =
+      let types = types_of_columns has.columns in
+      let inner = types_of_columns (member_columns has.fields) in
+      let ok = has.ok.0 in
+      let small : place < length types = let e = length-map has.columns type_of_column in omega (arith, e, has.inside) in
+      let count = laws.count types t ok in
+      let live = laws.types_live has.columns in
+      let type = struct-at has.columns place has.fields has.inside has.is_struct in
+      let own = subst (λ kind. LayoutOk kind (child_at t place)) type (laws.column types t place small ok) in
+      let long = laws.column_long types t place small (live place small) ok in
+      let cut = laws.window (table_type inner) (child_at t place) (first (members_of t)) (items (members_of t)) long own in
+      let off = pos-natural (members_of t).offset (laws.placed types t ok) in
+      let len = pos-natural (members_of t).length (laws.sized types t ok) in
+      record {
+        outer = shown types t live ok;
+        inside = omega (arith, count, small);
+        inner = shown inner (Window (child_at t place) (members_of t).offset (members_of t).length) (laws.types_live (member_columns has.fields))
+            (subst (λ z. LayoutOk (table_type inner) (Window (child_at t place) (members_of t).offset z)) len
+            (subst (λ z. LayoutOk (table_type inner) (Window (child_at t place) z (pos (items (members_of t))))) off cut));
+      }
+
+  -- the columns of a lawful struct may stand in a table
+  child-column : (types : List KindTree) (t : ArrayTree) → AreLive types → LayoutOk (table_type types) t → Depth t ≤ 128
+      → (k : ℕ) → k < length (children_of t) → IsColumn (items (members_of t)) (child_at t k)
+  child-column types t live ok deep k small =
+      let count = laws.count types t ok in
+      let s : k < length types = omega (arith, count, small) in
+      let long = laws.column_long types t k s (live k s) ok in
+      record {
+        live = laws.column_live types t k s (live k s) ok;
+        not_deep = let d = child-depth t k small in omega (arith, d, deep);
+        long = omega (arith, long);
+      }
+
+  -- the columns of a chunk with a struct's columns in its place
+  module _ (place : ℕ) (t : ArrayTree) (has : HasStruct place t)
+      (ok : ChunkOk (type_of_columns (unpacked_columns place has.fields has.columns)) (Unpacked t place)) where
+    abbrev types : List KindTree
+    types = types_of_columns (unpacked_columns place has.fields has.columns)
+
+    each-column : Depth (Unpacked t place) ≤ 128 → (k : ℕ) → k < length (children_of (Unpacked t place))
+        → IsColumn (natural (members_of t).length) (child_at (Unpacked t place) k)
+    each-column deep k small =
+        child-column types (Unpacked t place) (laws.types_live (unpacked_columns place has.fields has.columns)) ok.0 deep k small
+
+    pub table-columns : Depth (Unpacked t place) ≤ 128 → All (IsColumn (natural (members_of t).length)) (children_of (Unpacked t place))
+    table-columns deep k none small =
+        subst (IsColumn (natural (members_of t).length)) (get_or_default (children_of (Unpacked t place)) k Released none small) (each-column deep k small)
+
+    pub few-columns : Depth (Unpacked t place) ≤ 128 → length (children_of (Unpacked t place)) < Cost (Unpacked t place)
+    few-columns deep =
+        let e = count-cost (children_of (Unpacked t place)) (λ k small. (each-column deep k small).live) in
+        let f = children-cost (Unpacked t place) tt in
+        omega (arith, e, f)
+
+  pub few-rows : (place : ℕ) (t : ArrayTree) → HasStruct place t → end (members_of t) ≤ 2 ^ 40 → (members_of t).length ≤ℤ pos (2 ^ 40)
+  few-rows place t has small =
+      few-of (members_of t).length (first (members_of t)) (2 ^ 40) (laws.sized (types_of_columns has.columns) t has.ok.0) small
+
+pub table-is : (place : ℕ) (t : ArrayTree) (rows : ℤ) (columns : List ArrayTree) → pos 0 ≤ℤ (members_of t).length → rows ≡ (members_of t).length
+    → columns ≡ children_of (Unpacked t place) → table_tree (natural rows) columns ≡ Unpacked t place
+table-is place t rows columns sized is same =
+    let len = ap (λ z. pos (natural z)) is ∙ pos-natural (members_of t).length sized in
+    let cs = cut_children t in
+    let kids = same ∙ tree_list-trees (take place cs ++ cut_children (get_or cs place Released) ++ drop (place + 1) cs) in
+    λ i. Live (struct_members (len i)) (trees (kids i)) absent

@@ -1,0 +1,92 @@
+use Rattle.std.proofs.Common.{rules, ◌≡◌, ◌∙◌, ◌++◌, pos, IsTrue, map, sym, subst}
+use Rattle.tree_model.specs.Tree.{IsLive}
+use Rattle.fmt_string.specs.ColumnView.{column_of}
+use Rattle.fmt_string.specs.Parts.{AreWithin}
+use Rattle.layout_check.specs.Walk.{ChunkOk}
+use Rattle.layout_check.specs.ColumnKinds.{type_of_columns}
+use Rattle.arr_move.specs.TreeActs.{Distinct}
+use Rattle.column_laws.specs.Picking.{Packed}
+use Rattle.stream_face.specs.Lawful.{LawfulColumns}
+use Rattle.stream_face.specs.Meaning.{meaning}
+use Rattle.stream_face.proofs.Joints.{live_unless}
+use Rattle.stage_kernels.specs.Picks.{no_column}
+use Rattle.stage_kernels.proofs.PickedChunks.{chunk_of}
+use Rattle.stage_kernels.proofs.PackedStreams.{kept-of, made_name, numbers-of}
+use Rattle.stage_kernels.proofs.PackedChunks.{pack_answers, pack_counts, pack_repeats, packed-chunk, small-chunk}
+use Rattle.stage_kernels.proofs.pack.PackWorkWork.next.Goals as goal
+
+pub packed-requires-clause-chunk : goal.packed-requires-clause-chunk
+packed-requires-clause-chunk g c =
+    let up = meaning g.U.ArrayStream.state c.args.up.now in
+    let work = c.args.self.now in
+    let call = c.next-code.ensures in
+    let live : IsLive c.next-code.new.out = search (rules, live_unless) in
+    let lawful = c.typed-typed.ensures.lawful (subst IsTrue (sym call.keeps.lawful) c.requires.lawful) in
+    let ok : ChunkOk (type_of_columns up.columns) c.next-code.new.out = chunk_of _ _ _ _ _ call.keeps.columns call.kinds lawful (call.checked live) in
+    let numbers = numbers-of work.rest.items work.picks.items work.out up.columns c.requires.fits in
+    let rest : c.as_slice.result.now ≡ work.rest.items = search rules in
+    let picks : c.as_slice-2.result.now ≡ work.picks.items = search rules in (
+      up.columns,
+      subst (ChunkOk (type_of_columns up.columns)) (sym c.move_out.ensures.moved) ok,
+      subst (AreWithin _) (sym rest) numbers.stay,
+      subst (AreWithin _) (sym picks) numbers.go,
+    )
+
+pub packed-requires-clause-distinct : goal.packed-requires-clause-distinct
+packed-requires-clause-distinct g c =
+    let up = meaning g.U.ArrayStream.state c.args.up.now in
+    let work = c.args.self.now in
+    let numbers = numbers-of work.rest.items work.picks.items work.out up.columns c.requires.fits in
+    let rest : c.as_slice.result.now ≡ work.rest.items = search rules in
+    let picks : c.as_slice-2.result.now ≡ work.picks.items = search rules in
+    subst Distinct (λ i. sym rest i ++ sym picks i) numbers.distinct
+
+pub returns-in-Ok-clause-repeats : goal.returns-in-Ok-clause-repeats
+returns-in-Ok-clause-repeats g c =
+    let zero : c.next-code.result ≡ pos 0 = search rules in
+    pack_repeats _ _ c.next-code.result _ c.next-code.new.pass _ _ _ zero c.next-code.ensures.tells c.next-code.ensures.repeats
+
+pub returns-in-Ok-clause-answers : goal.returns-in-Ok-clause-answers
+returns-in-Ok-clause-answers g c = λ fresh.
+    let up = meaning g.U.ArrayStream.state c.args.up.now in
+    let n = meaning g.U.ArrayStream.state c.next-code.new.self in
+    let work = c.args.self.now in
+    let call = c.next-code.ensures in
+    let out = c.next-code.new.out in
+    let live : IsLive out = search (rules, live_unless) in
+    let lawful = c.typed-typed.ensures.lawful (subst IsTrue (sym call.keeps.lawful) c.requires.lawful) in
+    let ok : ChunkOk (type_of_columns up.columns) out = chunk_of _ _ _ _ _ call.keeps.columns call.kinds lawful (call.checked live) in
+    let rest : c.as_slice.result.now ≡ work.rest.items = search rules in
+    let picks : c.as_slice-2.result.now ≡ work.picks.items = search rules in
+    let taken : c.in-Ok.chunk ≡ Packed out work.rest.items work.picks.items =
+    c.in-Ok.ensures.tree ∙ (λ i. Packed (c.move_out.ensures.moved i) (rest i) (picks i)) in
+    let numbers = numbers-of work.rest.items work.picks.items work.out up.columns c.requires.fits in
+    let columns : LawfulColumns up.columns =
+    subst LawfulColumns call.keeps.columns (c.lawful_facts.ensures.columns (subst IsTrue (sym call.keeps.lawful) c.requires.lawful)) in
+    let are = kept-of work.rest.items work.picks.items work.out up.columns c.requires.fits columns in
+    let law = c.columns_of_a_table.ensures in
+    let name = made_name work.rest.items work.out in
+    let made =
+    packed-chunk work.rest.items work.picks.items work.out up.columns out c.requires.fits
+    (law.pack up.columns no_column name out work.rest.items work.picks.items ok numbers.stay numbers.go)
+    (law.pack_rows up.columns no_column name out work.rest.items work.picks.items ok numbers.stay numbers.go)
+    (λ lawful. small-chunk (map column_of work.out) (Packed out work.rest.items work.picks.items) are
+    (c.chunks_are_small.ensures (map column_of work.out) (Packed out work.rest.items work.picks.items) are.kinds are.dicts lawful)) in
+    pack_answers up n work.out work.rest.items work.picks.items c.next-code.result out c.put.new.self live (call.answers fresh) made (c.put.ensures ∙ taken)
+
+pub returns-in-Ok-clause-counts : goal.returns-in-Ok-clause-counts
+returns-in-Ok-clause-counts g c = λ fresh _.
+    let up = meaning g.U.ArrayStream.state c.args.up.now in
+    let n = meaning g.U.ArrayStream.state c.next-code.new.self in
+    let work = c.args.self.now in
+    let call = c.next-code.ensures in
+    let out = c.next-code.new.out in
+    let live : IsLive out = search (rules, live_unless) in
+    let rest : c.as_slice.result.now ≡ work.rest.items = search rules in
+    let picks : c.as_slice-2.result.now ≡ work.picks.items = search rules in
+    let taken : c.in-Ok.chunk ≡ Packed out work.rest.items work.picks.items =
+    c.in-Ok.ensures.tree ∙ (λ i. Packed (c.move_out.ensures.moved i) (rest i) (picks i)) in
+    let zero : c.next-code.result ≡ pos 0 = search rules in
+    pack_counts up n work.out work.rest.items work.picks.items c.next-code.result out c.put.new.self c.args.pass.now c.next-code.new.pass c.packed.new.pass live
+    (call.answers fresh) (call.counts fresh zero) (c.put.ensures ∙ taken)
+    c.in-Ok.ensures.blocks c.in-Ok.ensures.nodes

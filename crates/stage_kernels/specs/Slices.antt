@@ -1,0 +1,23 @@
+-- What a slice keeps of chunks.
+use Rattle.std.specs.Prelude.{◌≡◌, ◌-◌, ◌==◌, ℕ, pos, min, if◌then◌else◌, List, map}
+use Rattle.fmt_string.specs.ColumnView.{column_of}
+use Rattle.fmt_string.specs.Table.{Column}
+use Rattle.fmt_string.specs.declared.kind.ColumnType.{ColumnType}
+use Rattle.tree_model.specs.Tree.{Released}
+use Rattle.raw_array.specs.Members.{ArrayTree}
+use Rattle.raw_array.specs.Windows.{Window}
+use Rattle.layout_check.specs.Values.{tree_items}
+
+-- the columns that are kept are those that come
+pub record SliceFits (kept : List ColumnType) (before : List Column) : Type 0 where
+  pub columns : map column_of kept ≡ before
+
+-- how many of so many rows are kept, where the first `skip` aren't, nor more than `keep`
+abbrev pub kept_count : ℕ → ℕ → ℕ → ℕ
+kept_count skip keep count = min keep (count - skip)
+
+-- a chunk with those of its rows that are kept; a released array where there are none
+abbrev pub kept_part : ℕ → ℕ → ArrayTree → ArrayTree
+kept_part skip keep chunk =
+    let kept = kept_count skip keep (tree_items chunk) in
+    if kept == 0 then Released else Window chunk (pos skip) (pos kept)

@@ -1,0 +1,42 @@
+-- A struct column that is unpacked: its columns stand in its place.
+use Rattle.std.specs.Prelude.{◌≡◌, ◌<◌, ◌≤◌, ◌≤ℤ◌, ℕ, pos, List, length, map}
+use Rattle.fmt_string.specs.declared.kind.ColumnType.{ColumnType}
+use Rattle.fmt_string.specs.ColumnView.{column_of}
+use Rattle.fmt_string.specs.Parts.{unpacked_columns}
+use Rattle.fmt_string.specs.Table.{Column, Columns, Members}
+use Rattle.tree_model.specs.Tree.{IsLive, children_of, child_at}
+use Rattle.raw_array.specs.Members.{ArrayTree, members_of}
+use Rattle.raw_array.specs.Windows.{FitsWindow, Window}
+use Rattle.layout_check.specs.ColumnKinds.{type_of_columns}
+use Rattle.layout_check.specs.Walk.{ChunkOk}
+use Rattle.stage_model.specs.Typing.{column_at}
+use Rattle.stage_kernels.specs.Structs.{column_structs, most_structs}
+
+-- the column of this number is a struct, and the columns that are kept have its columns in its place
+pub record UnpackFits (place : ℕ) (kept : List ColumnType) (before : List Column) : Type 0 where
+  pub inside : place < length before
+  pub fields : Members
+  pub is_struct : (column_at before place).kind ≡ Columns fields
+  pub columns : map column_of kept ≡ unpacked_columns place fields before
+  pub few_structs : column_structs before ≤ most_structs
+
+-- a chunk whose column at this place is a struct
+pub record HasStruct (place : ℕ) (chunk : ArrayTree) : Type 0 where
+  pub columns : List Column
+  pub fields : Members
+  pub ok : ChunkOk (type_of_columns columns) chunk
+  pub inside : place < length columns
+  pub is_struct : (column_at columns place).kind ≡ Columns fields
+
+-- a live array whose children have the items that it shows
+pub record ShowsChildren (t : ArrayTree) : Type 0 where
+  pub live : IsLive t
+  pub placed : pos 0 ≤ℤ (members_of t).offset
+  pub sized : pos 0 ≤ℤ (members_of t).length
+  pub fit : (k : ℕ) → k < length (children_of t) → FitsWindow (child_at t k) (members_of t).offset (members_of t).length
+
+-- so have those of the child at a place, cut to what the array shows
+pub record ShowsInner (place : ℕ) (t : ArrayTree) : Type 0 where
+  pub outer : ShowsChildren t
+  pub inside : place < length (children_of t)
+  pub inner : ShowsChildren (Window (child_at t place) (members_of t).offset (members_of t).length)

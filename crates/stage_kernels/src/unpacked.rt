@@ -1,0 +1,222 @@
+//! A struct column's children, moved into its place.
+ghost use Rattle.std.specs.Prelude.{◌≡◌, ◌+◌, ◌-◌, ◌<◌, ◌≤◌, ◌^◌, ◌≤ℤ◌, ℕ, pos, [], ◌∷◌, ◌++◌, All, length, map, take, drop, vec_len, vec_capacity};
+ghost use Rattle.std.specs.Prelude.{if◌then◌else◌, is_ok, IfOk, MatchResult};
+ghost use Rattle.tree_model.specs.Tree.{Depth, Released, IsLive, children_of, child_at, trees, with_child};
+ghost use Rattle.raw_array.specs.Members.{ArrayTree, Cost, cost_of_all, members_of};
+ghost use Rattle.raw_array.specs.Windows.{FitsWindow, Window};
+ghost use Rattle.unit_pass.specs.Tally.{risen};
+ghost use Rattle.unit_pass.specs.declared.pass.TheConstants.{SUPPLY};
+ghost use Rattle.layout_check.specs.Layout.{natural};
+ghost use Rattle.arr_export.specs.ArrayTrees.{IsColumn};
+ghost use Rattle.column_laws.specs.Picking.{Unpacked, cut_children};
+ghost use Rattle.stage_kernels.specs.Unpacks.{HasStruct, ShowsChildren, ShowsInner};
+
+use arr_export::export_table;
+use arr_move::slice;
+use array_laws::{lawful_structs_have_columns, windows_are_parts};
+use column_laws::{
+    column_types_follow_picks, columns_can_be_taken, columns_of_a_table,
+    taken_columns_are_no_deeper, taken_columns_cost_no_more,
+};
+use raw_array::{Gone, PartlyMoved, RawArray, release_all, windows_keep_measures};
+use std::alloc::Global;
+use unit_pass::{NoMemory, Pass, SUPPLY};
+
+/// A chunk with a struct's columns in the struct's place, each cut to the items that it shows ("The Arrow C Data Interface",
+/// "Moving child arrays"). No block is made or copied. The new struct of all columns draws one unit; the old one and the
+/// emptied struct are released. On want of memory all is released.
+pub(crate) fn unpack_column(
+    alloc: Global,
+    chunk: RawArray,
+    place: usize,
+    pass: &mut Pass,
+) -> Result<RawArray, NoMemory>
+    requires chunk { HasStruct place chunk }
+    requires unit { 1 ≤ pass.old.units }
+    requires room { pass.old.units + Cost chunk ≤ SUPPLY }
+    ensures tree { IfOk result (λ taken. taken ≡ Unpacked chunk place) }
+    ensures cost { IfOk result (λ taken. Cost taken ≤ Cost chunk) }
+    ensures units { MatchResult result
+        (λ taken. pass.new.units + Cost taken ≡ pass.old.units + Cost chunk)
+        (λ _. pass.new.units ≡ pass.old.units + Cost chunk) }
+    ensures nodes { pass.new.nodes ≡ (if is_ok result then risen pass.old.nodes 1 else pass.old.nodes) }
+    ensures blocks { pass.new.blocks ≡ pass.old.blocks }
+{
+    structs_can_be_unpacked();
+    taken_columns_cost_no_more();
+    chunk.levels_are_few();
+    let rows = chunk.length();
+    let columns = unpacked_children(alloc, chunk, place, pass)?;
+    match export_table(alloc, columns, rows, pass) {
+        Ok(taken) => Ok(taken),
+        Err((columns, NoMemory)) => {
+            release_all(columns, pass);
+            Err(NoMemory)
+        }
+    }
+}
+
+/// A law: a chunk with a struct column has children that can be cut to what it shows, and so has the struct; the struct's
+/// children in its place make the columns of a table.
+fn structs_can_be_unpacked()
+    ensures shown { (place : ℕ) (chunk : ArrayTree) → HasStruct place chunk → ShowsInner place chunk }
+    ensures columns { (place : ℕ) (chunk : ArrayTree) → HasStruct place chunk → Depth chunk ≤ 128
+        → All (IsColumn (natural (members_of chunk).length)) (children_of (Unpacked chunk place)) }
+    ensures few_columns { (place : ℕ) (chunk : ArrayTree) → HasStruct place chunk → Depth chunk ≤ 128
+        → length (children_of (Unpacked chunk place)) < Cost chunk }
+    ensures few_rows { (place : ℕ) (chunk : ArrayTree) → HasStruct place chunk → (members_of chunk).length ≤ℤ pos (2 ^ 40) }
+{
+    lawful_structs_have_columns();
+    windows_are_parts();
+    columns_can_be_taken();
+    column_types_follow_picks();
+    columns_of_a_table();
+    taken_columns_cost_no_more();
+    taken_columns_are_no_deeper();
+}
+
+/// The columns of an array with those of a struct in its place; what is left of the array is released. On want of memory
+/// all is released.
+fn unpacked_children(
+    alloc: Global,
+    array: RawArray,
+    place: usize,
+    pass: &mut Pass,
+) -> Result<Vec<RawArray>, NoMemory>
+    requires shown { ShowsInner place array }
+    requires room { pass.old.units + Cost array ≤ SUPPLY }
+    ensures columns { IfOk result (λ columns. columns.items ≡ children_of (Unpacked array place)) }
+    ensures units { MatchResult result
+        (λ columns. pass.new.units + cost_of_all (trees columns.items) ≡ pass.old.units + Cost array)
+        (λ _. pass.new.units ≡ pass.old.units + Cost array) }
+    ensures more { IfOk result (λ _. pass.old.units ≤ pass.new.units) }
+    ensures nodes { pass.new.nodes ≡ pass.old.nodes }
+    ensures blocks { pass.new.blocks ≡ pass.old.blocks }
+{
+    let count = count_children(&array) - 1 + count_children(array.child(place));
+    let Ok(mut columns) = Vec::with_capacity(alloc, count) else {
+        array.end(pass);
+        return Err(NoMemory);
+    };
+    move_unpacked_children(array, place, &mut columns, pass);
+    Ok(columns)
+}
+
+/// The number of children.
+fn count_children(array: &RawArray) -> usize
+    requires { IsLive array.now }
+    ensures exact { result ≡ length (children_of array.now) }
+    ensures few { length (children_of array.now) < 2 ^ 32 - 1 }
+{
+    array.n_children() as usize
+}
+
+/// Moves all columns of an array, and those of a struct in its place, into an empty list that has room for them, and
+/// releases what is left of the array.
+fn move_unpacked_children(
+    array: RawArray,
+    place: usize,
+    columns: &mut Vec<RawArray>,
+    pass: &mut Pass,
+)
+    requires shown { ShowsInner place array }
+    requires empty { columns.old.items ≡ [] }
+    requires room { length (children_of array) + length (children_of (child_at array place)) ≤ vec_capacity columns.old + 1 }
+    requires units { pass.old.units + Cost array ≤ SUPPLY }
+    ensures columns { columns.new.items ≡ children_of (Unpacked array place) }
+    ensures units { pass.new.units + cost_of_all (trees columns.new.items) ≡ pass.old.units + Cost array }
+    ensures more { pass.old.units + 1 ≤ pass.new.units }
+    ensures nodes { pass.new.nodes ≡ pass.old.nodes }
+    ensures blocks { pass.new.blocks ≡ pass.old.blocks }
+{
+    windows_keep_measures();
+    let count = count_children(&array);
+    let off = array.offset();
+    let len = array.length();
+    let mut moved = PartlyMoved::begin(array);
+    move_children(&mut moved, 0, place, off, len, columns);
+    match moved.take_child(place) {
+        Ok(inner) => move_all_children(slice(inner, off, len), columns, pass),
+        Err(Gone) => unreachable!(),
+    }
+    move_children(&mut moved, place + 1, count, off, len, columns);
+    moved.finish(pass);
+}
+
+/// Moves all columns of a struct, each cut to the items that the struct shows, behind those of a list that has room for
+/// them, and releases the struct.
+fn move_all_children(array: RawArray, columns: &mut Vec<RawArray>, pass: &mut Pass)
+    requires shown { ShowsChildren array }
+    requires room { vec_len columns.old + length (children_of array) ≤ vec_capacity columns.old }
+    requires units { pass.old.units + Cost array ≤ SUPPLY }
+    ensures columns { columns.new.items ≡ columns.old.items ++ cut_children array }
+    ensures len { vec_len columns.new ≡ vec_len columns.old + length (children_of array) }
+    ensures capacity { vec_capacity columns.new ≡ vec_capacity columns.old }
+    ensures units { pass.new.units + cost_of_all (trees columns.new.items) ≡ pass.old.units + Cost array + cost_of_all (trees columns.old.items) }
+    ensures less { pass.new.units ≤ pass.old.units + Cost array }
+    ensures more { pass.old.units ≤ pass.new.units }
+    ensures nodes { pass.new.nodes ≡ pass.old.nodes }
+    ensures blocks { pass.new.blocks ≡ pass.old.blocks }
+{
+    let count = count_children(&array);
+    let off = array.offset();
+    let len = array.length();
+    let mut moved = PartlyMoved::begin(array);
+    move_children(&mut moved, 0, count, off, len, columns);
+    moved.finish(pass);
+}
+
+/// Moves the children of some places, each cut to a window, behind the columns of a list that has room for them.
+fn move_children(
+    moved: &mut PartlyMoved,
+    from: usize,
+    to: usize,
+    off: i64,
+    len: i64,
+    columns: &mut Vec<RawArray>,
+)
+    requires off { pos 0 ≤ℤ off }
+    requires len { pos 0 ≤ℤ len }
+    requires order { from ≤ to }
+    requires inside { to ≤ length (children_of moved.old) }
+    requires fit { (k : ℕ) → from ≤ k → k < to → FitsWindow (child_at moved.old k) off len }
+    requires room { vec_len columns.old + to ≤ vec_capacity columns.old + from }
+    ensures columns { columns.new.items ≡ columns.old.items ++ map (λ c. Window c off len) (take (to - from) (drop from (children_of moved.old))) }
+    ensures len { vec_len columns.new + from ≡ vec_len columns.old + to }
+    ensures capacity { vec_capacity columns.new ≡ vec_capacity columns.old }
+    ensures places { length (children_of moved.new) ≡ length (children_of moved.old) }
+    ensures rest { drop to (children_of moved.new) ≡ drop to (children_of moved.old) }
+    ensures cost { Cost moved.new + cost_of_all (trees columns.new.items) ≡ Cost moved.old + cost_of_all (trees columns.old.items) }
+    ensures less { Cost moved.new ≤ Cost moved.old }
+{
+    for place in from..to {
+        move_child(moved, place, off, len, columns);
+    }
+}
+
+/// Moves a child, cut to a window, behind the columns of a list that has room for it.
+fn move_child(
+    moved: &mut PartlyMoved,
+    place: usize,
+    off: i64,
+    len: i64,
+    columns: &mut Vec<RawArray>,
+)
+    requires off { pos 0 ≤ℤ off }
+    requires len { pos 0 ≤ℤ len }
+    requires inside { place < length (children_of moved.old) }
+    requires fits { FitsWindow (child_at moved.old place) off len }
+    requires room { vec_len columns.old < vec_capacity columns.old }
+    ensures moved { moved.new ≡ with_child moved.old place Released }
+    ensures columns { columns.new.items ≡ columns.old.items ++ Window (child_at moved.old place) off len ∷ [] }
+    ensures len { vec_len columns.new ≡ vec_len columns.old + 1 }
+    ensures capacity { vec_capacity columns.new ≡ vec_capacity columns.old }
+    ensures cost { Cost moved.new + cost_of_all (trees columns.new.items) ≡ Cost moved.old + cost_of_all (trees columns.old.items) }
+    ensures less { Cost moved.new ≤ Cost moved.old }
+{
+    windows_keep_measures();
+    match moved.take_child(place) {
+        Ok(child) => columns.push_reserved(slice(child, off, len)),
+        Err(Gone) => unreachable!(),
+    }
+}
