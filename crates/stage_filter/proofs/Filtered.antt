@@ -1,0 +1,253 @@
+-- What a filter makes of the answers of the stream below it.
+use Rattle.std.proofs.Common.{arith, ◌≡◌, ◌∙◌, ◌≤◌, ◌<◌, ◌+◌, ◌*◌, ◌^◌, ℕ, ℤ, pos, Bool, List, [], ◌∷◌, length, map, get_or, drop, All}
+use Rattle.std.proofs.Common.{IsTrue, refl, sym, ap, subst, inl}
+use Rattle.std.specs.Prelude.{Option, None, Some}
+use Rattle.std.specs.Coded.{Unit-prop, ×_prop}
+use Rattle.std.specs.List.{sum_by}
+use Rattle.std.proofs.Math.Logic.{∥∥₁_elim}
+use Rattle.std.proofs.Props.{props}
+use Rattle.std.proofs.lemmas.List.Sums.{sum_by-cons}
+use Rattle.fmt_string.specs.ColumnForms.{AreColumnKinds}
+use Rattle.fmt_string.specs.ColumnView.{column_of}
+use Rattle.fmt_string.specs.Table.{Column, Row, Kind, Flat, Dict, Columns, Members, no_members, more_members}
+use Rattle.fmt_string.specs.Value.{Null}
+use Rattle.fmt_string.specs.declared.kind.ColumnType.{ColumnType}
+use Rattle.tree_model.specs.Tree.{Depth, Released, IsLive, child_at, children_of}
+use Rattle.unit_pass.specs.Tally.{Tally, risen}
+use Rattle.unit_pass.specs.declared.pass.TheConstants.{CHUNK}
+use Rattle.raw_array.specs.Members.{ArrayTree, Cost}
+use Rattle.layout_check.specs.ColumnKinds.{type_of_columns}
+use Rattle.layout_check.specs.Values.{rows_of}
+use Rattle.layout_check.specs.Walk.{ChunkOk}
+use Rattle.stage_model.specs.Stages.{passes, rows_after}
+use Rattle.stage_model.specs.Traffic.{Moved, made_blocks, made_nodes, table_blocks, table_nodes}
+use Rattle.stage_model.specs.declared.stage.Const.{Const}
+use Rattle.stage_model.specs.declared.stage.Step.{Step}
+use Rattle.stage_model.specs.declared.stage.Step.TheVariants as steps
+use Rattle.stage_model.specs.declared.stage.Test.{Test}
+use Rattle.stream_face.specs.Calls.{Answers, Counts, Repeats, Tells}
+use Rattle.stream_face.specs.Lawful.{DictsAreFull, IsChunkOf, IsTable, LawfulColumns, LawfulTables, MemberDictsAreFull, column_leaves, leaves, member_leaves}
+use Rattle.stream_face.specs.Shown.{Seen}
+use Rattle.stream_face.specs.Streams.{IsFresh, Stream}
+use Rattle.stream_face.specs.Texts.{Refusal}
+use Rattle.stage_kernels.specs.Dues.{due_with}
+use Rattle.stage_kernels.specs.Structs.{column_structs, member_structs, most_structs, structs}
+use Rattle.stage_kernels.proofs.ColumnSets.{same_columns}
+use Rattle.stage_filter.specs.Filters.{CanFilter, FilterFits, passing_rows}
+use Rattle.stage_filter.specs.KeptTrees.{chunk_tree}
+use Rattle.stage_filter.specs.Plain.{HaveNoDict, HasNoDict, ArePlain, most_cost, most_of_columns, most_of_members}
+use Rattle.stage_filter.proofs.Sifted.{fewer-filtered, lawful-filtered, table-filtered}
+
+-- ---- what a filter was made for
+
+mutual
+  plain-prop : (kind : Kind) → IsProp (HasNoDict kind)
+  plain-prop (Flat kind) = Unit-prop
+  plain-prop (Dict kind) = λ a b. absurd a
+  plain-prop (Columns ms) = plain-members-prop ms
+
+  plain-members-prop : (ms : Members) → IsProp (HaveNoDict ms)
+  plain-members-prop no_members = Unit-prop
+  plain-members-prop (more_members name kind rest) = ×_prop (plain-prop kind) (plain-members-prop rest)
+
+pub same : (column : ℕ) (kept : List ColumnType) (before : List Column) → ∥ FilterFits column kept before ∥₁ → map column_of kept ≡ before
+same column kept before fits = same_columns (map column_of kept) before (λ (f : FilterFits column kept before). f.columns) fits
+
+within : (column : ℕ) (kept : List ColumnType) (before : List Column) → ∥ FilterFits column kept before ∥₁ → column < length before
+within column kept before fits = ∥∥₁_elim fits (hlevel props) (λ f. f.within)
+
+few-structs : (column : ℕ) (kept : List ColumnType) (before : List Column) → ∥ FilterFits column kept before ∥₁ → column_structs before ≤ most_structs
+few-structs column kept before fits = ∥∥₁_elim fits (hlevel props) (λ f. f.few)
+
+plain : (column : ℕ) (kept : List ColumnType) (before : List Column) → ∥ FilterFits column kept before ∥₁ → ArePlain before
+plain column kept before fits k d small = ∥∥₁_elim fits (plain-prop (get_or before k d).kind) (λ f. f.plain k d small)
+
+-- ---- the units
+
+mutual
+  most-kind : (kind : Kind) → most_cost kind ≤ 4 * leaves kind + structs kind
+  most-kind (Flat kind) = omega arith
+  most-kind (Dict kind) = omega arith
+  most-kind (Columns ms) = omega (arith, most-members ms)
+
+  most-members : (ms : Members) → most_of_members ms ≤ 4 * member_leaves ms + member_structs ms
+  most-members no_members = omega arith
+  most-members (more_members name kind rest) = omega (arith, most-kind kind, most-members rest)
+
+most-columns : (columns : List Column) → most_of_columns columns ≤ 4 * column_leaves columns + column_structs columns
+most-columns [] = omega arith
+most-columns (c ∷ cs) = omega (arith, most-kind c.kind, most-columns cs)
+
+-- ---- a call of a lawful stream that gives a chunk
+
+-- a stream that has refused gives none
+fresh-by : (failure : Option Refusal) (s n : Stream) (code : ℤ) (before after : Tally) (seen shown : Option (List Seen)) → s.failure ≡ failure
+    → IsTrue s.lawful → Repeats s n code before after seen shown → Tells code n.said → code ≡ pos 0 → IsFresh s
+fresh-by None s n code before after seen shown e lawful repeats tells none = record { lawful = lawful; no_failure = e }
+fresh-by (Some refusal) s n code before after seen shown e lawful repeats tells none =
+    let told : Tells code (Some refusal) = subst (Tells code) (repeats.same refusal e).1 tells in
+    absurd (told.1 none)
+
+pub fresh : (s n : Stream) (code : ℤ) (before after : Tally) (seen shown : Option (List Seen)) → IsTrue s.lawful → Repeats s n code before after seen shown
+    → Tells code n.said → code ≡ pos 0 → IsFresh s
+fresh s n code before after seen shown lawful repeats tells none = fresh-by s.failure s n code before after seen shown refl lawful repeats tells none
+
+-- the table of a chunk, and its rows
+first-table : (columns : List Column) (ahead more : List (List Row)) (rows : List Row) → LawfulTables columns ahead → ahead ≡ rows ∷ more
+    → IsTable columns rows × (length rows ≤ 2 ^ 30)
+first-table columns ahead more rows lawful is =
+    let all : LawfulTables columns (rows ∷ more) = subst (LawfulTables columns) is lawful in
+    (all.tables.0, omega (arith, all.rows))
+
+-- what a chunk that a lawful stream gives has
+pub record IsReady (column : ℕ) (columns : List Column) (rows : List Row) (out : ArrayTree) : Type 0 where
+  pub can : CanFilter column columns out
+  pub rows_are : rows_of (type_of_columns columns) out ≡ rows
+  pub table : IsTable columns rows
+  pub few : length rows ≤ 2 ^ 30
+  pub small : Cost out ≤ CHUNK
+  pub most : 1 + most_of_columns columns ≤ CHUNK
+
+pub ready : (column : ℕ) (kept : List ColumnType) (s n : Stream) (code : ℤ) (out : ArrayTree) (live : IsLive out) (answers : Answers s n code out)
+    → ∥ FilterFits column kept s.columns ∥₁ → LawfulColumns s.columns → LawfulTables s.columns s.ahead → Depth (type_of_columns s.columns) ≤ 64
+    → IsReady column (map column_of kept) (answers.chunk live).0 out
+ready column kept s n code out live answers fits columns tables shallow =
+    let chunk = answers.chunk live in
+    let rows = chunk.0 in
+    let table = first-table s.columns s.ahead n.ahead rows tables chunk.1 in
+    let most = most-columns s.columns in
+    let structs = few-structs column kept s.columns fits in
+    subst (λ (cs : List Column). IsReady column cs rows out) (sym (same column kept s.columns fits))
+    (record {
+      can = record {
+        within = within column kept s.columns fits;
+        plain = plain column kept s.columns fits;
+        kinds = columns.kinds;
+        not_deep = omega (arith, shallow);
+        ok = chunk.2.ok;
+        table = subst (IsTable s.columns) (sym chunk.2.rows_are) table.0;
+        small = omega (arith, most, structs, columns.few);
+        few = let e = ap (length {A = Row}) chunk.2.rows_are in omega (arith, e, table.1);
+      };
+      rows_are = chunk.2.rows_are;
+      table = table.0;
+      few = table.1;
+      small = chunk.2.small;
+      most = omega (arith, most, structs, columns.few);
+    })
+
+-- ---- no dictionary, and none with a null
+
+mutual
+  plain-full : (kind : Kind) (tree : ArrayTree) → HasNoDict kind → DictsAreFull kind tree
+  plain-full (Flat kind) tree is = tt
+  plain-full (Dict kind) tree is = absurd is
+  plain-full (Columns ms) tree is = plain-members-full ms (children_of tree) is
+
+  plain-members-full : (ms : Members) (trees : List ArrayTree) → HaveNoDict ms → MemberDictsAreFull ms trees
+  plain-members-full no_members trees is = tt
+  plain-members-full (more_members name kind rest) trees is = (plain-full kind (get_or trees 0 Released) is.0, plain-members-full rest (drop 1 trees) is.1)
+
+-- ---- the answers of the filter
+
+abbrev pub kept_rows : ℕ → Test → Const → List Row → List Row
+kept_rows column test constant rows = rows_after (steps.Filter column test constant) rows
+
+-- the law of the chunks that are made
+abbrev MakesChunk : Type 0
+MakesChunk = (columns : List Column) (rows : List Row) → All (λ c. AreColumnKinds c.kind) columns → ArePlain columns → IsTable columns rows
+    → length rows ≤ 2 ^ 30 → ChunkOk (type_of_columns columns) (chunk_tree columns rows)
+
+abbrev MakesRows : Type 0
+MakesRows = (columns : List Column) (rows : List Row) → All (λ c. AreColumnKinds c.kind) columns → ArePlain columns → IsTable columns rows
+    → length rows ≤ 2 ^ 30 → rows_of (type_of_columns columns) (chunk_tree columns rows) ≡ rows
+
+is-chunk : MakesChunk → MakesRows → (column : ℕ) (test : Test) (constant : Const) (columns : List Column) (rows : List Row) (out made : ArrayTree)
+    → IsReady column columns rows out → made ≡ chunk_tree columns (passing_rows column test constant columns out)
+    → Cost made ≤ 1 + most_of_columns columns
+    → IsChunkOf columns (kept_rows column test constant rows) made
+is-chunk makes gives column test constant columns rows out made is tree small =
+    let kept = kept_rows column test constant rows in
+    let passing : Row → Bool = λ row. passes test constant (get_or row column Null) in
+    let made_is : made ≡ chunk_tree columns kept = tree ∙ ap (λ (rs : List Row). chunk_tree columns (kept_rows column test constant rs)) is.rows_are in
+    let table : IsTable columns kept = table-filtered columns passing rows is.table in
+    let few : length kept ≤ 2 ^ 30 = let e = fewer-filtered passing rows in omega (arith, e, is.few) in
+    record {
+      ok = subst (ChunkOk (type_of_columns columns)) (sym made_is) (makes columns kept is.can.kinds is.can.plain table few);
+      rows_are = ap (rows_of (type_of_columns columns)) made_is ∙ gives columns kept is.can.kinds is.can.plain table few;
+      small = omega (arith, small, is.most);
+      dicts = λ k none inside. plain-full (get_or columns k none).kind (child_at made k) (is.can.plain k none inside);
+    }
+
+not-released : (columns : List Column) (rows : List Row) (out : ArrayTree) → out ≡ chunk_tree columns rows → out ≡ Released → ⊥
+not-released columns rows out e r = let k : Released ≡ chunk_tree columns rows = sym r ∙ e in absurd (cc)
+
+abbrev pub filtered : ℕ → Test → Const → List Column → Stream → Stream
+filtered column test constant columns s = record s { columns = columns; ahead = map (kept_rows column test constant) s.ahead }
+
+pub filter-answers : MakesChunk → MakesRows → (column : ℕ) (test : Test) (constant : Const) (columns : List Column) (s n : Stream) (code : ℤ)
+    (out made : ArrayTree)
+    (live : IsLive out) (answers : Answers s n code out) → IsReady column columns (answers.chunk live).0 out
+    → made ≡ chunk_tree columns (passing_rows column test constant columns out) → Cost made ≤ 1 + most_of_columns columns
+    → Answers (filtered column test constant columns s) (filtered column test constant columns n) (pos 0) made
+filter-answers makes gives column test constant columns s n code out made live answers is tree small =
+    let chunk = answers.chunk live in
+    record {
+      chunk = λ _. (
+        kept_rows column test constant chunk.0,
+        ap (map (kept_rows column test constant)) chunk.1,
+        is-chunk makes gives column test constant columns chunk.0 out made is tree small,
+      );
+      finish = λ _ e. absurd (not-released columns (passing_rows column test constant columns out) made tree e);
+      bad = λ e. absurd (cc);
+      wants = λ e. absurd (cc);
+      codes = inl refl;
+    }
+
+risen-more : (a b c m n : ℕ) → b ≡ risen a m → c ≡ risen b n → c ≡ risen a (m + n)
+risen-more a b c m n e f = omega (arith, e, f)
+
+pub filter-counts : (column : ℕ) (test : Test) (constant : Const) (columns : List Column) (s n : Stream) (code : ℤ) (out made : ArrayTree)
+    (first middle last : Tally)
+    (live : IsLive out) (answers : Answers s n code out) → IsReady column columns (answers.chunk live).0 out
+    → Counts s.due n.due first middle out
+    → made ≡ chunk_tree columns (passing_rows column test constant columns out)
+    → last.blocks ≡ risen middle.blocks (table_blocks Moved columns (passing_rows column test constant columns out))
+    → last.nodes ≡ risen middle.nodes (table_nodes Moved columns)
+    → Counts (due_with (steps.Filter column test constant) columns (map (kept_rows column test constant) s.ahead) s.due)
+    (due_with (steps.Filter column test constant) columns (map (kept_rows column test constant) n.ahead) n.due) first last made
+filter-counts column test constant columns s n code out made first middle last live answers is counts tree blocks nodes =
+    let chunk = answers.chunk live in
+    let step : Step = steps.Filter column test constant in
+    let kept = kept_rows column test constant chunk.0 in
+    let rest = map (kept_rows column test constant) n.ahead in
+    let here : table_blocks Moved columns (passing_rows column test constant columns out) ≡ table_blocks Moved columns kept =
+    ap (λ (rs : List Row). table_blocks Moved columns (kept_rows column test constant rs)) is.rows_are in
+    let after : List (List Row) → List (List Row) = map (kept_rows column test constant) in
+    let all_blocks = ap (λ (ahead : List (List Row)). sum_by (made_blocks (Some step) columns) (after ahead)) chunk.1 in
+    let all_nodes = ap (λ (ahead : List (List Row)). sum_by (λ (rows : List Row). made_nodes (Some step) columns) (after ahead)) chunk.1 in
+    let one_blocks = sum_by-cons (made_blocks (Some step) columns) kept rest in
+    let one_nodes = sum_by-cons (λ (rows : List Row). made_nodes (Some step) columns) kept rest in
+    record {
+      made = record { blocks = counts.made.blocks + table_blocks Moved columns kept; nodes = counts.made.nodes + table_nodes Moved columns };
+      blocks = risen-more first.blocks middle.blocks last.blocks counts.made.blocks (table_blocks Moved columns kept) counts.blocks
+          (blocks ∙ ap (risen middle.blocks) here);
+      nodes = risen-more first.nodes middle.nodes last.nodes counts.made.nodes (table_nodes Moved columns) counts.nodes nodes;
+      fewer_blocks = omega (arith, counts.fewer_blocks, all_blocks, one_blocks);
+      fewer_nodes = omega (arith, counts.fewer_nodes, all_nodes, one_nodes);
+      no_blocks = λ e. absurd (not-released columns (passing_rows column test constant columns out) made tree e);
+      no_nodes = λ e. absurd (not-released columns (passing_rows column test constant columns out) made tree e);
+    }
+
+-- ---- the laws
+
+pub filter-columns : (column : ℕ) (kept : List ColumnType) (before : List Column) → ∥ FilterFits column kept before ∥₁ → LawfulColumns before
+    → LawfulColumns (map column_of kept)
+filter-columns column kept before fits lawful = subst LawfulColumns (sym (same column kept before fits)) lawful
+
+pub filter-tables : (column : ℕ) (test : Test) (constant : Const) (kept : List ColumnType) (before : List Column) (ahead : List (List Row))
+    → ∥ FilterFits column kept before ∥₁ → LawfulTables before ahead
+    → LawfulTables (map column_of kept) (map (kept_rows column test constant) ahead)
+filter-tables column test constant kept before ahead fits lawful =
+    subst (λ (cs : List Column). LawfulTables cs (map (kept_rows column test constant) ahead)) (sym (same column kept before fits))
+    (lawful-filtered before (λ row. passes test constant (get_or row column Null)) ahead lawful)

@@ -1,0 +1,15 @@
+pub mod Sifted
+pub mod Numbers
+pub mod ValuesTaken
+pub mod ColumnBlocks
+pub mod StructColumns
+pub mod OneMore
+pub mod KeptColumns
+pub mod ColumnCosts
+pub mod ItemsMoved
+pub mod Steps
+pub mod ChunkRows
+pub mod ChunkLaw
+pub mod Passing
+pub mod Filtered
+pub mod Tests

@@ -1,0 +1,5 @@
+pub mod Kept
+pub mod Plain
+pub mod KeptTrees
+pub mod Moving
+pub mod Filters
