@@ -1,0 +1,3 @@
+pub mod DifferentPicks
+pub mod KeptColumns
+pub mod SmallSchemas

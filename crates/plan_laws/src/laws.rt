@@ -1,0 +1,36 @@
+//! Laws on stages that no rule refuses, and on the schemas of their columns. The calls do nothing.
+ghost use Rattle.std.specs.Prelude.{◌≡◌, ◌≤◌, ◌+◌, ◌*◌, List, All};
+ghost use Rattle.fmt_string.specs.ColumnForms.{AreColumnKinds};
+ghost use Rattle.fmt_string.specs.Table.{Column};
+ghost use Rattle.tree_model.specs.Tree.{Depth};
+ghost use Rattle.raw_schema.specs.Members.{Nodes};
+ghost use Rattle.layout_check.specs.ColumnSchema.{SchemaOf};
+ghost use Rattle.stage_model.specs.Traffic.{Made, table_nodes};
+ghost use Rattle.stage_model.specs.Typing.{IsStageOver, Stage};
+ghost use Rattle.stream_face.specs.Lawful.{column_leaves};
+ghost use Rattle.stage_kernels.specs.Plain.{ArePlain, IsMade};
+ghost use Rattle.stage_kernels.specs.Structs.{column_structs};
+ghost use Rattle.plan_laws.specs.Distinct.{DistinctPicks};
+
+/// A law: what a stage that no rule refuses leaves of the columns before it.
+pub fn stages_keep_columns()
+    ensures kinds { (columns : List Column) (stage : Stage) → IsStageOver columns stage → IsMade stage.step
+        → All (λ c. AreColumnKinds c.kind) columns → All (λ c. AreColumnKinds c.kind) stage.columns }
+    ensures plain { (columns : List Column) (stage : Stage) → IsStageOver columns stage → IsMade stage.step → ArePlain columns → ArePlain stage.columns }
+    ensures leaves { (columns : List Column) (stage : Stage) → IsStageOver columns stage → IsMade stage.step
+        → column_leaves stage.columns ≤ column_leaves columns }
+    ensures structs { (columns : List Column) (stage : Stage) → IsStageOver columns stage → IsMade stage.step
+        → column_structs stage.columns ≤ 1 + column_structs columns }
+{}
+
+/// A law: its picks are different columns.
+pub fn picks_are_distinct()
+    ensures { (columns : List Column) (stage : Stage) → IsStageOver columns stage → DistinctPicks stage.step }
+{}
+
+/// A law: the schema of columns is small, and how many nodes a run counts for it.
+pub fn schemas_are_small()
+    ensures nodes { (columns : List Column) → Nodes (SchemaOf columns) ≤ 1 + 2 * column_leaves columns + column_structs columns }
+    ensures depth { (columns : List Column) → Depth (SchemaOf columns) ≤ 3 + column_structs columns }
+    ensures counted { (columns : List Column) → Nodes (SchemaOf columns) ≡ table_nodes Made columns }
+{}

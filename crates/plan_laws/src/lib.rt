@@ -1,0 +1,9 @@
+//! Laws on stages that typing accepts: what they leave of the columns before them, and which columns they pick; and how
+//! small the schemas of columns are. The calls do nothing.
+//!
+//! What it leaves to others: what stages are and mean (`stage_model`), and their works (`stage_kernels`).
+#![tactic(auto)]
+
+mod laws;
+
+pub use laws::{picks_are_distinct, schemas_are_small, stages_keep_columns};
