@@ -1,0 +1,90 @@
+-- One link of a chain.
+use Rattle.std.proofs.Common.{◌≡◌, ◌≤◌, ◌+◌, ◌++◌, ◌==◌, ℕ, List, [], ◌∷◌, Option, Some, None, Result, Ok, Err, OnErr, OnOk, IsTrue, refl, sym, ◌∙◌, ap, subst}
+use Rattle.std.proofs.Common.{arith, inl, inr}
+use Rattle.std.specs.List.{sum_by}
+use Rattle.std.proofs.lemmas.Bool.Decides.{eqb_tells}
+use Rattle.std.proofs.lemmas.List.Sums.{sum_by-cons}
+use Rattle.fmt_string.specs.Table.{Column, Row}
+use Rattle.raw_schema.specs.Members.{Nodes}
+use Rattle.layout_check.specs.ColumnSchema.{SchemaOf}
+use Rattle.unit_pass.specs.Tally.{Tally, risen}
+use Rattle.stage_model.specs.Links.{Link, links_behind}
+use Rattle.stage_model.specs.Stages.{chunks_after}
+use Rattle.stage_model.specs.Traffic.{Made, link_blocks, link_nodes, made_blocks, made_nodes, run_blocks, run_nodes, table_nodes}
+use Rattle.stage_model.specs.Typing.{Stage}
+use Rattle.stream_face.specs.Raw.{raw_joints, raw_state}
+use Rattle.stream_face.specs.Shown.{Seen, Shown}
+use Rattle.stream_face.specs.Streams.{Stream, Traffic, telling}
+use Rattle.stage_chain.specs.Chains.{chain_links, chain_traffic, chunks_of, joints_with, over_stream}
+use Rattle.stage_chain.specs.Runs.{Counted, ShowsAll, ShowsSome}
+use Rattle.stage_chain.proofs.RunLemmas.{grown-nil, risen-add}
+
+pub on-err : {A E P Q : Type 0} (r : Result A E) → (P → Q) → OnErr r P → OnErr r Q
+on-err (Ok a) f p = tt
+on-err (Err e) f p = f p
+
+pub on-ok : {A E P Q : Type 0} (r : Result A E) → (P → Q) → OnOk r P → OnOk r Q
+on-ok (Ok a) f p = f p
+on-ok (Err e) f p = tt
+
+pub whatever : {A E P : Type 0} (r : Result A E) → P → OnErr r P
+whatever (Ok a) p = tt
+whatever (Err e) p = p
+
+-- nothing was shown
+pub shows-nothing : (joints : ℕ → List Shown) (seen : Option (List Seen)) → ShowsSome joints seen seen
+shows-nothing joints seen = record { shown = []; told = grown-nil seen; begins = λ link. (joints link, refl) }
+
+-- a stream checked at a link, which was not asked yet
+abbrev pub IsStarted : ℕ → ℕ → Stream → Stream → Type 0
+IsStarted link nodes s up = up ≡ raw_state link nodes None (telling None s)
+
+raw_above : (s : Stream) (link : ℕ) → ((later : ℕ) → link ≤ later → s.joints later ≡ []) → (later : ℕ) → link + 1 ≤ later
+    → raw_joints link (telling None s) later ≡ []
+raw_above s link none later above =
+    elim (eqb_tells link later) [ inl h ↦ absurd (let e : link ≡ later = h.1 in omega (arith, e, above)) | inr h ↦ rw h.0 (none later (omega (arith, above))) ]
+
+-- no link from the next one on is below a stage
+pub joints-above : (stage : Stage) (s up node : Stream) (link nodes : ℕ) → IsStarted link nodes s up → node ≡ over_stream stage up
+    → ((later : ℕ) → link ≤ later → s.joints later ≡ []) → (later : ℕ) → link + 1 ≤ later → node.joints later ≡ []
+joints-above stage s up node link nodes raw is none later above = rw (is, raw) (raw_above s link none later above)
+
+-- ---- what is shown
+
+pub joints-last : (stages : List Stage) (s up : Stream) (link nodes : ℕ) → stages ≡ [] → IsStarted link nodes s up
+    → up.joints ≡ joints_with link s.joints (chain_links s stages)
+joints-last stages s up link nodes none raw = rw (none, raw) refl
+
+pub joints-step : (stage : Stage) (rest stages : List Stage) (s up node : Stream) (link nodes : ℕ) → stages ≡ stage ∷ rest → IsStarted link nodes s up
+    → node ≡ over_stream stage up → joints_with (link + 1) node.joints (chain_links node rest) ≡ joints_with link s.joints (chain_links s stages)
+joints-step stage rest stages s up node link nodes are raw is = rw (are, is, raw) refl
+
+-- ---- what is counted
+
+pub counted-last : (stages : List Stage) (s up : Stream) (link nodes : ℕ) (a b d : Tally) → stages ≡ [] → IsStarted link nodes s up
+    → Nodes (SchemaOf s.columns) ≡ table_nodes Made s.columns → b.nodes ≡ risen a.nodes (Nodes (SchemaOf s.columns)) → b.blocks ≡ a.blocks
+    → Counted up.due b d → Counted (chain_traffic s stages) a d
+counted-last stages s up link nodes a b d none raw schema more same counted =
+    let due : up.due ≡ s.due = ap (λ (m : Stream). m.due) raw in
+    let blocks : up.due.blocks ≡ s.due.blocks = ap (λ (t : Traffic). t.blocks) due in
+    let made : up.due.nodes ≡ s.due.nodes = ap (λ (t : Traffic). t.nodes) due in
+    rw none (record {
+      blocks = omega (arith, counted.blocks, same, blocks);
+      nodes = omega (arith, counted.nodes, more, schema, made);
+    })
+
+pub counted-step : (stage : Stage) (rest stages : List Stage) (s up node : Stream) (link nodes : ℕ) (a b d : Tally) → stages ≡ stage ∷ rest
+    → IsStarted link nodes s up → node ≡ over_stream stage up
+    → Nodes (SchemaOf s.columns) ≡ table_nodes Made s.columns → b.nodes ≡ risen a.nodes (Nodes (SchemaOf s.columns)) → b.blocks ≡ a.blocks
+    → Counted (chain_traffic node rest) b d → Counted (chain_traffic s stages) a d
+counted-step stage rest stages s up node link nodes a b d are raw is schema more same counted =
+    let over : node ≡ over_stream stage (raw_state link nodes None (telling None s)) = is ∙ ap (over_stream stage) raw in
+    let now : Counted (chain_traffic (over_stream stage (raw_state link nodes None (telling None s))) rest) b d =
+    subst (λ (m : Stream). Counted (chain_traffic m rest) b d) over counted in
+    let chunks = chunks_after stage.step s.ending s.ahead in
+    let behind = links_behind (record { chunks = chunks; ending = s.ending }) rest in
+    let link_of : Link = record { maker = Some stage.step; columns = stage.columns; chunks = chunks } in
+    rw are (record {
+      blocks = omega (arith, now.blocks, same, sum_by-cons link_blocks link_of behind);
+      nodes = omega (arith, now.nodes, more, schema, sum_by-cons link_nodes link_of behind);
+    })

@@ -1,0 +1,5 @@
+pub mod RunLemmas
+pub mod Starting
+pub mod Planning
+pub mod Chaining
+pub mod Driving

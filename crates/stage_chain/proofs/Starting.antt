@@ -1,0 +1,133 @@
+-- What the start of a stage asks for.
+use Rattle.std.proofs.Common.{◌≡◌, ◌≤◌, ◌<◌, ◌+◌, ◌*◌, ◌++◌, ℕ, zero, suc, List, [], ◌∷◌, All, map, length, get_or, Some, refl, sym, ◌∙◌, ap, subst, arith}
+use Rattle.std.proofs.lemmas.List.Sums.{sum_by-cons}
+use Rattle.std.specs.List.{sum_by}
+use Rattle.fmt_string.specs.ColumnForms.{AreColumnKinds, KindsOk, MembersAreColumns, MembersOk}
+use Rattle.fmt_string.specs.ColumnView.{column_of}
+use Rattle.fmt_string.specs.Table.{Column, Row, Kind, Flat, Dict, Columns, Members, no_members, more_members}
+use Rattle.fmt_string.specs.declared.kind.ColumnType.{ColumnType}
+use Rattle.plan_laws.specs.Distinct.{DistinctPicks}
+use Rattle.stage_filter.specs.Filters.{FilterFits}
+use Rattle.stage_kernels.specs.Dues.{due_with}
+use Rattle.stage_kernels.specs.Packs.{PackFits}
+use Rattle.stage_kernels.specs.Picks.{PickFits, picked_rows, with_nodes}
+use Rattle.stage_kernels.specs.Plain.{ArePlain}
+use Rattle.stage_kernels.specs.Unpacks.{UnpackFits}
+use Rattle.stage_kernels.specs.Structs.{column_structs, most_structs}
+use Rattle.stage_model.specs.Stages.{chunks_after}
+use Rattle.stage_model.specs.Typing.{FitsColumns, HasColumns}
+use Rattle.stage_model.specs.declared.stage.Const.{Const}
+use Rattle.stage_model.specs.declared.stage.Test.{Test}
+use Rattle.stage_model.specs.declared.stage.Step.{Step}
+use Rattle.stage_model.specs.declared.stage.Step.TheVariants as steps
+use Rattle.stream_face.specs.Streams.{Stream, Traffic}
+
+mutual
+  kind-ok : (kind : Kind) → AreColumnKinds kind → KindsOk kind
+  kind-ok (Flat kind) is = is.0
+  kind-ok (Dict kind) is = is.0
+  kind-ok (Columns members) is = members-ok members is
+
+  members-ok : (members : Members) → MembersAreColumns members → MembersOk members
+  members-ok no_members are = tt
+  members-ok (more_members name kind rest) are = (kind-ok kind are.0, members-ok rest are.1)
+
+-- the numbers of the columns' types are in their ranges
+pub kinds-ok : (columns : List ColumnType) → All (λ c. AreColumnKinds c.kind) (map column_of columns) → All (λ c. KindsOk (column_of c).kind) columns
+kinds-ok [] all k none small = absurd (omega (arith, small))
+kinds-ok (c ∷ cs) all zero none small = kind-ok (column_of c).kind (all zero (column_of none) (omega arith))
+kinds-ok (c ∷ cs) all (suc k) none small = kinds-ok cs (λ j d below. all (suc j) d (omega (arith, below))) k none (omega (arith, small))
+
+-- ---- what a work is made for
+
+pub select-fits : (picks items : List ℕ) (out kept : List ColumnType) (before : List Column) (step : Step) → items ≡ picks → kept ≡ out
+    → step ≡ steps.Select picks
+    → DistinctPicks step → FitsColumns (length before) step → HasColumns before step (map column_of out) → PickFits items kept before
+select-fits picks items out kept before step same whole is distinct within after =
+    rw (same, whole) (record {
+      distinct = subst DistinctPicks is distinct;
+      within = subst (FitsColumns (length before)) is within;
+      columns = subst (λ s. HasColumns before s (map column_of out)) is after;
+    })
+
+pub pack-fits : (rest picks stay go : List ℕ) (out kept : List ColumnType) (before : List Column) (step : Step) → stay ≡ rest → go ≡ picks → kept ≡ out
+    → step ≡ steps.Pack rest picks → DistinctPicks step → FitsColumns (length before) step → HasColumns before step (map column_of out)
+    → column_structs before ≤ most_structs → PackFits stay go kept before
+pack-fits rest picks stay go out kept before step same same_picks whole is distinct within after few =
+    let both = subst (FitsColumns (length before)) is within in
+    let made = subst (λ s. HasColumns before s (map column_of out)) is after in
+    rw (same, same_picks, whole) (record {
+      distinct = subst DistinctPicks is distinct;
+      stay = both.0;
+      go = both.1;
+      made = made.0;
+      columns = made.1;
+      few = few;
+    })
+
+pub filter-fits : (column place : ℕ) (test : Test) (constant : Const) (out kept : List ColumnType) (before : List Column) (step : Step) → place ≡ column
+    → kept ≡ out
+    → step ≡ steps.Filter column test constant → FitsColumns (length before) step → HasColumns before step (map column_of out) → ArePlain before
+    → column_structs before ≤ most_structs → FilterFits place kept before
+filter-fits column place test constant out kept before step same whole is within after plain few =
+    rw (same, whole) (record {
+      within = subst (FitsColumns (length before)) is within;
+      columns = (subst (λ s. HasColumns before s (map column_of out)) is after).0;
+      plain = plain;
+      few = few;
+    })
+
+pub unpack-fits : (column place : ℕ) (out kept : List ColumnType) (before : List Column) (step : Step) → place ≡ column → kept ≡ out
+    → step ≡ steps.Unpack column → FitsColumns (length before) step → HasColumns before step (map column_of out)
+    → column_structs before ≤ most_structs → UnpackFits place kept before
+unpack-fits column place out kept before step same whole is within after few =
+    let made = subst (λ s. HasColumns before s (map column_of out)) is after in
+    rw (same, whole) (record {
+      inside = subst (FitsColumns (length before)) is within;
+      fields = made.0;
+      is_struct = made.1;
+      columns = made.2;
+      few_structs = few;
+    })
+
+-- ---- what it counts
+
+ones : (chunks : List (List Row)) → sum_by (λ (rows : List Row). 1) chunks ≡ length chunks
+ones [] = refl
+ones (rows ∷ chunks) = let e = ones chunks in omega (arith, e, sum_by-cons (λ (rows : List Row). 1) rows chunks)
+
+zeros : (chunks : List (List Row)) → sum_by (λ (rows : List Row). 0) chunks ≡ 0
+zeros [] = refl
+zeros (rows ∷ chunks) = let e = zeros chunks in omega (arith, e, sum_by-cons (λ (rows : List Row). 0) rows chunks)
+
+map-length : (picks : List ℕ) (chunks : List (List Row)) → length (map (picked_rows picks) chunks) ≡ length chunks
+map-length picks [] = refl
+map-length picks (rows ∷ chunks) = ap suc (map-length picks chunks)
+
+abbrev traffic : ℕ → ℕ → Traffic
+traffic blocks nodes = record { blocks = blocks; nodes = nodes }
+
+more : (m n : ℕ) (due : Traffic) → m ≡ 0 → traffic due.blocks (due.nodes + n) ≡ traffic (due.blocks + m) (due.nodes + n)
+more m n due none = ap (λ b. traffic b (due.nodes + n)) (let e : due.blocks ≡ due.blocks + m = omega (arith, none) in e)
+
+traffic-is : (nodes m n : ℕ) (due : Traffic) → m ≡ 0 → n ≡ nodes → traffic due.blocks (due.nodes + nodes) ≡ traffic (due.blocks + m) (due.nodes + n)
+traffic-is nodes m n due none same = ap (λ k. traffic due.blocks (due.nodes + k)) (sym same) ∙ more m n due none
+
+traffic-stays : (m n : ℕ) (due : Traffic) → m ≡ 0 → n ≡ 0 → due ≡ traffic (due.blocks + m) (due.nodes + n)
+traffic-stays m n due none same =
+    ap (λ k. traffic due.blocks k) (let e : due.nodes ≡ due.nodes + n = omega (arith, same) in e) ∙ more m n due none
+
+-- a selection makes a node for each chunk
+pub selected-due : (picks : List ℕ) (columns : List Column) (up : Stream)
+    → with_nodes (length up.ahead) up.due ≡ due_with (steps.Select picks) columns (chunks_after (steps.Select picks) up.ending up.ahead) up.due
+selected-due picks columns up =
+    let chunks = map (picked_rows picks) up.ahead in
+    traffic-is (length up.ahead) (sum_by (λ (rows : List Row). 0) chunks) (sum_by (λ (rows : List Row). 1) chunks) up.due
+    (zeros chunks) (ones chunks ∙ map-length picks up.ahead)
+
+-- a slice makes nothing
+pub sliced-due : (off len : ℕ) (columns : List Column) (up : Stream)
+    → up.due ≡ due_with (steps.Slice off len) columns (chunks_after (steps.Slice off len) up.ending up.ahead) up.due
+sliced-due off len columns up =
+    let chunks = chunks_after (steps.Slice off len) up.ending up.ahead in
+    traffic-stays (sum_by (λ (rows : List Row). 0) chunks) (sum_by (λ (rows : List Row). 0) chunks) up.due (zeros chunks) (zeros chunks)

@@ -1,0 +1,41 @@
+use Rattle.std.proofs.Common.{rules, arith, ◌≡◌, ◌≤◌, ◌∷◌, ℕ, List, [], length, refl, sym, ◌∙◌, ap, subst}
+use Rattle.raw_schema.specs.Members.{Nodes}
+use Rattle.stage_model.specs.Typing.{Stage}
+use Rattle.stream_face.specs.Meaning.{meaning, raw_schema}
+use Rattle.stream_face.specs.Streams.{Stream}
+use Rattle.stages.specs.Stages.{stage_state}
+use Rattle.stage_chain.specs.Chains.{chain_links, chain_traffic, joints_with}
+use Rattle.stage_chain.specs.Plans.{AreStages, stage_in, stages_left}
+use Rattle.stage_chain.specs.Runs.{Counted, ShowsAll, ShowsSome}
+use Rattle.stage_chain.specs.StepWorks.{work_ahead, work_columns, work_due}
+use Rattle.stage_chain.proofs.Chaining.{IsStarted, counted-last, counted-step, joints-above, joints-last, joints-step, on-err, on-ok, shows-nothing, whatever}
+use Rattle.stage_chain.proofs.chain.ZeroChain.go.Goals as goal
+
+none_left : (stages : List Stage) → length stages ≤ 0 → stages ≡ []
+none_left [] few = refl
+none_left (stage ∷ stages) few = absurd (omega (arith, few))
+
+pub returns-clause-shows_some : goal.returns-clause-shows_some
+returns-clause-shows_some g c = whatever c.refuse.result (shows-nothing _ _)
+
+pub returns-in-Ok-clause-counts : goal.returns-in-Ok-clause-counts
+returns-in-Ok-clause-counts g c =
+    let s = g.S.ArrayStream.state c.args.source in
+    let up = meaning g.S.ArrayStream.state c.in-Ok.last in
+    let raw : IsStarted c.args.link (Nodes (raw_schema c.in-Ok.last)) s up = search rules in
+    let none : stages_left c.args._stages ≡ [] = none_left (stages_left c.args._stages) c.requires.few in
+    on-ok c.write_rows.result
+    (counted-last (stages_left c.args._stages) s up c.args.link _ c.args.pass.now c.start.new.pass c.write_rows.new.pass none raw
+    (c.schemas_are_small.ensures.counted s.columns) (c.in-Ok.ensures.nodes c.requires.lawful) (c.in-Ok.ensures.blocks c.requires.lawful))
+    c.write_rows.ensures.counts
+
+pub returns-in-Ok-clause-shows_some : goal.returns-in-Ok-clause-shows_some
+returns-in-Ok-clause-shows_some g c =
+    let s = g.S.ArrayStream.state c.args.source in
+    let up = meaning g.S.ArrayStream.state c.in-Ok.last in
+    let raw : IsStarted c.args.link (Nodes (raw_schema c.in-Ok.last)) s up = search rules in
+    let none : stages_left c.args._stages ≡ [] = none_left (stages_left c.args._stages) c.requires.few in
+    on-err c.write_rows.result
+    (subst (λ joints. ShowsSome joints (g.T.Tap.seen c.args.tap.now) (g.T.Tap.seen c.write_rows.new.tap)) (joints-last
+    (stages_left c.args._stages) s up c.args.link _ none raw))
+    c.write_rows.ensures.shows_some

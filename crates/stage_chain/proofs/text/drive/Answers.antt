@@ -1,0 +1,117 @@
+use Rattle.std.proofs.Common.{rules, arith, ◌≡◌, ◌≤◌, ℕ, IfOk, List, [], length, get_or, drop, refl, sym, ◌∙◌, ap, subst}
+use Rattle.csv_model.specs.Text.{header_text}
+use Rattle.csv_write.specs.CsvTexts.{HasText}
+use Rattle.field_codec.specs.TextColumns.{HaveTexts}
+use Rattle.stage_model.specs.Links.{last_columns}
+use Rattle.csv_model.specs.Text.{table_text}
+use Rattle.fmt_string.specs.Parts.{joined_rows}
+use Rattle.fmt_string.specs.Table.{Column}
+use Rattle.stage_model.specs.Links.{Whole}
+use Rattle.stage_model.specs.Stages.{table}
+use Rattle.stage_model.specs.Typing.{Stage}
+use Rattle.stream_face.specs.Streams.{Stream}
+use Rattle.stage_chain.specs.Boxes.{boxed_state}
+use Rattle.stage_chain.specs.Chains.{chain_links, link_shows}
+use Rattle.stage_chain.specs.Runs.{ShowsAll, ShowsSome}
+use Rattle.stage_chain.specs.Plans.{AreStages, links_of, plan_stages, stages_left}
+use Rattle.stage_chain.proofs.Chaining.{on-err, on-ok}
+use Rattle.stage_chain.proofs.Driving.{shows-all, shows-some, text-is}
+use Rattle.stage_chain.proofs.Planning.{few-stages, last-link-is, last-texts, plan-are-stages}
+use Rattle.stage_chain.proofs.text.drive.Goals as goal
+
+pub prepare-requires-clause-texts : goal.prepare-requires-clause-texts
+prepare-requires-clause-texts g c =
+    let s = g.S.ArrayStream.state c.args.source in
+    let are = plan-are-stages s.columns c.requires.plan.0 c.args.plan c.requires.plan.1 c.requires.made in
+    subst HaveTexts (sym (last-link-is s.columns c.requires.plan.0 c.args.plan c.requires.plan.1))
+    (last-texts c.stages_keep_columns.ensures.kinds s.columns (plan_stages c.args.plan) are (c.lawful_facts.ensures.columns c.requires.lawful).kinds)
+
+pub go-requires-clause-stages : goal.go-requires-clause-stages
+go-requires-clause-stages g c =
+    let s = g.S.ArrayStream.state c.args.source in
+    let b = boxed_state g.S.ArrayStream.state c.in-Ok.source in
+    let made : b ≡ s = c.in-Ok.ensures.made in
+    let left : stages_left c.into_iter.result ≡ plan_stages c.args.plan = search rules in
+    subst (λ (m : Stream). AreStages m.columns (stages_left c.into_iter.result)) (sym made)
+    (subst (AreStages s.columns) (sym left) (plan-are-stages s.columns c.requires.plan.0 c.args.plan c.requires.plan.1 c.requires.made))
+
+pub go-requires-clause-numbers : goal.go-requires-clause-numbers
+go-requires-clause-numbers g c =
+    let left : stages_left c.into_iter.result ≡ plan_stages c.args.plan = search rules in
+    let few = few-stages c.args.plan.steps.items (drop 1 (links_of c.args.plan)) in
+    omega (arith, few, ap length left, c.requires.few)
+
+pub go-requires-clause-few : goal.go-requires-clause-few
+go-requires-clause-few g c =
+    let left : stages_left c.into_iter.result ≡ plan_stages c.args.plan = search rules in
+    let few = few-stages c.args.plan.steps.items (drop 1 (links_of c.args.plan)) in
+    omega (arith, few, ap length left, c.requires.few)
+
+pub go-requires-clause-room : goal.go-requires-clause-room
+go-requires-clause-room g c =
+    let left : stages_left c.into_iter.result ≡ plan_stages c.args.plan = search rules in
+    let few = few-stages c.args.plan.steps.items (drop 1 (links_of c.args.plan)) in
+    omega (arith, few, ap length left, c.requires.few, c.requires.room)
+
+-- the columns of the last link
+last-of : (s b : Stream) (stages left : List Stage) (last : List Column) → b ≡ s → left ≡ stages → last ≡ last_columns s.columns stages
+    → last ≡ last_columns b.columns left
+last-of s b stages left last made same is =
+    is ∙ ap (last_columns s.columns) (sym same) ∙ ap (λ (m : Stream). last_columns m.columns left) (sym made)
+
+pub go-requires-clause-text : goal.go-requires-clause-text
+go-requires-clause-text g c =
+    let s = g.S.ArrayStream.state c.args.source in
+    let b = boxed_state g.S.ArrayStream.state c.in-Ok.source in
+    let made : b ≡ s = c.in-Ok.ensures.made in
+    let left : stages_left c.into_iter.result ≡ plan_stages c.args.plan = search rules in
+    let header = header_text (get_or (links_of c.args.plan) (length c.args.plan.steps.items) []) in
+    let last =
+    last-of s b (plan_stages c.args.plan) (stages_left c.into_iter.result) (get_or (links_of c.args.plan) (length c.args.plan.steps.items) []) made left
+    (last-link-is s.columns c.requires.plan.0 c.args.plan c.requires.plan.1) in
+    (c.args.mark.now, header, subst (λ cs. HasText c.in-Ok-prepare.text c.args.mark.now cs header) last c.in-Ok-prepare.ensures.text)
+
+pub returns-in-Ok-prepare-clause-text : goal.returns-in-Ok-prepare-clause-text
+returns-in-Ok-prepare-clause-text g c =
+    let s = g.S.ArrayStream.state c.args.source in
+    let b = boxed_state g.S.ArrayStream.state c.in-Ok.source in
+    let made : b ≡ s = c.in-Ok.ensures.made in
+    let left : stages_left c.into_iter.result ≡ plan_stages c.args.plan = search rules in
+    let last =
+    last-of s b (plan_stages c.args.plan) (stages_left c.into_iter.result) (get_or (links_of c.args.plan) (length c.args.plan.steps.items) []) made left
+    (last-link-is s.columns c.requires.plan.0 c.args.plan c.requires.plan.1) in
+    subst (λ (m : Stream). IfOk c.go.result (λ text. text.items
+    ≡ table_text c.args.mark.now (Whole (table m.columns (joined_rows m.ahead)) (plan_stages c.args.plan)))) made
+    (text-is c.go.result b (plan_stages c.args.plan) (stages_left c.into_iter.result) c.in-Ok-prepare.text c.args.mark.now left
+    c.chunks_give_the_whole.ensures.rows c.chunks_give_the_whole.ensures.columns
+    (subst (λ cs. HasText c.in-Ok-prepare.text c.args.mark.now cs (header_text cs)) last c.in-Ok-prepare.ensures.text) c.go.ensures.ends c.go.ensures.text)
+
+-- it stands over no other checked stream
+none-below : (s b : Stream) → b ≡ s → ((link : ℕ) → s.joints link ≡ []) → (link : ℕ) → b.joints link ≡ []
+none-below s b made none link = ap (λ (m : Stream). m.joints link) made ∙ none link
+
+pub returns-in-Ok-prepare-clause-shows : goal.returns-in-Ok-prepare-clause-shows
+returns-in-Ok-prepare-clause-shows g c =
+    let s = g.S.ArrayStream.state c.args.source in
+    let b = boxed_state g.S.ArrayStream.state c.in-Ok.source in
+    let made : b ≡ s = c.in-Ok.ensures.made in
+    let left : stages_left c.into_iter.result ≡ plan_stages c.args.plan = search rules in
+    on-ok c.go.result
+    (λ shows. subst (λ (m : Stream). ShowsAll (link_shows (chain_links m (plan_stages c.args.plan))) (g.T.Tap.seen c.args.tap.now)
+    (g.T.Tap.seen c.go.new.tap)) made
+    (shows-all b (plan_stages c.args.plan) (stages_left c.into_iter.result) (g.T.Tap.seen c.args.tap.now) (g.T.Tap.seen c.go.new.tap) left
+    (none-below s b made c.requires.no_joints) shows))
+    c.go.ensures.shows
+
+pub returns-in-Ok-prepare-clause-shows_some : goal.returns-in-Ok-prepare-clause-shows_some
+returns-in-Ok-prepare-clause-shows_some g c =
+    let s = g.S.ArrayStream.state c.args.source in
+    let b = boxed_state g.S.ArrayStream.state c.in-Ok.source in
+    let made : b ≡ s = c.in-Ok.ensures.made in
+    let left : stages_left c.into_iter.result ≡ plan_stages c.args.plan = search rules in
+    on-err c.go.result
+    (λ shows. subst (λ (m : Stream). ShowsSome (link_shows (chain_links m (plan_stages c.args.plan))) (g.T.Tap.seen c.args.tap.now)
+    (g.T.Tap.seen c.go.new.tap)) made
+    (shows-some b (plan_stages c.args.plan) (stages_left c.into_iter.result) (g.T.Tap.seen c.args.tap.now) (g.T.Tap.seen c.go.new.tap) left
+    (none-below s b made c.requires.no_joints) shows))
+    c.go.ensures.shows_some

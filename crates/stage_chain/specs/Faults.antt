@@ -1,0 +1,9 @@
+-- Why a chain has no text.
+use Rattle.fmt_string.specs.declared.row_fault.RowFault.{RowFault}
+use Rattle.stage_chain.specs.declared.fault.DriveFault.{DriveFault}
+use Rattle.stage_chain.specs.declared.fault.DriveFault.TheVariants.{Row, NoMemory}
+
+-- a fact of the record at fault
+abbrev pub IfRow : DriveFault → (RowFault → Type 0) → Type 0
+IfRow (Row fault) P = P fault
+IfRow NoMemory P = Unit {0}

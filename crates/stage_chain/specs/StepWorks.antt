@@ -1,0 +1,53 @@
+-- What the work of a step means.
+use Rattle.std.specs.Prelude.{List, length, map}
+use Rattle.fmt_string.specs.ColumnView.{column_of}
+use Rattle.fmt_string.specs.Table.{Column, Row}
+use Rattle.stage_filter.specs.Filters.{FilterFits}
+use Rattle.stage_kernels.specs.Dues.{due_with}
+use Rattle.stage_kernels.specs.Packs.{PackFits}
+use Rattle.stage_kernels.specs.Picks.{PickFits, picked_columns, with_nodes}
+use Rattle.stage_kernels.specs.Slices.{SliceFits}
+use Rattle.stage_kernels.specs.Unpacks.{UnpackFits}
+use Rattle.stage_model.specs.Stages.{chunks_after}
+use Rattle.stage_model.specs.declared.stage.Step.TheVariants as steps
+use Rattle.stream_face.specs.Streams.{Stream, Traffic}
+use Rattle.stage_chain.specs.declared.step_work.StepWork.{StepWork}
+use Rattle.stage_chain.specs.declared.step_work.StepWork.TheVariants as works
+
+-- it is made for these columns
+abbrev pub work_fits : StepWork → List Column → Type 0
+work_fits (works.Select w) before = PickFits w.picks.items w.out before
+work_fits (works.Slice w) before = SliceFits w.out before
+work_fits (works.Filter w) before = FilterFits w.column w.out before
+work_fits (works.Pack w) before = PackFits w.rest.items w.picks.items w.out before
+work_fits (works.Unpack w) before = UnpackFits w.place w.out before
+
+-- the columns after it
+abbrev pub work_columns : StepWork → List Column → List Column
+work_columns (works.Select w) before = picked_columns w.picks.items before
+work_columns (works.Slice w) before = map column_of w.out
+work_columns (works.Filter w) before = map column_of w.out
+work_columns (works.Pack w) before = map column_of w.out
+work_columns (works.Unpack w) before = map column_of w.out
+
+-- the tables that it still gives
+abbrev pub work_ahead : StepWork → Stream → List (List Row)
+work_ahead (works.Select w) up = chunks_after (steps.Select w.picks.items) up.ending up.ahead
+work_ahead (works.Slice w) up = chunks_after (steps.Slice w.skip w.keep) up.ending up.ahead
+work_ahead (works.Filter w) up = chunks_after (steps.Filter w.column w.test w.constant) up.ending up.ahead
+work_ahead (works.Pack w) up = chunks_after (steps.Pack w.rest.items w.picks.items) up.ending up.ahead
+work_ahead (works.Unpack w) up = chunks_after (steps.Unpack w.place) up.ending up.ahead
+
+-- the blocks and nodes that its calls still count
+abbrev pub work_due : StepWork → Stream → Traffic
+work_due (works.Select w) up = with_nodes (length up.ahead) up.due
+work_due (works.Slice w) up = up.due
+work_due (works.Filter w) up =
+    let step = steps.Filter w.column w.test w.constant in
+    due_with step (map column_of w.out) (chunks_after step up.ending up.ahead) up.due
+work_due (works.Pack w) up =
+    let step = steps.Pack w.rest.items w.picks.items in
+    due_with step (map column_of w.out) (chunks_after step up.ending up.ahead) up.due
+work_due (works.Unpack w) up =
+    let step = steps.Unpack w.place in
+    due_with step (map column_of w.out) (chunks_after step up.ending up.ahead) up.due
