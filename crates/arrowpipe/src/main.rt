@@ -1,11 +1,12 @@
-//! Reads CSV from standard input and writes the table that it spells to standard output.
+//! Reads CSV from standard input and writes the table that the stages of the words make of it to standard output.
 #![tactic(auto)]
 
-use edge_io::{StdSink, StdSource};
+use edge_io::{OpenGate, StdSink, StdSource};
 use pipe_top::run;
 use std::env;
 use std::io::{self, ErrorKind};
 use std::process::ExitCode;
+use stream_face::NoTap;
 
 /// The status for arguments that are not text, which no command takes.
 const REFUSED: u8 = 2;
@@ -43,6 +44,15 @@ fn main(rt: HostRuntime) -> ExitCode {
     let mut source = StdSource::new(rt.stdin());
     let mut sink = StdSink::new(rt.stdout());
     let mut errs = StdSink::new(rt.stderr());
-    let outcome = run(rt.alloc(), &words, &mut source, &mut sink, &mut errs);
+    let outcome = run(
+        &rt,
+        rt.alloc(),
+        &words,
+        &mut source,
+        &mut sink,
+        &mut errs,
+        &mut NoTap,
+        &OpenGate,
+    );
     ExitCode::from(outcome.status)
 }

@@ -1,8 +1,11 @@
 pub mod Bodies
-pub mod Columns
 pub mod FaultLines
 mod OneAnswer
 pub mod Pieces
 pub mod Runs
-pub mod Schemas
 mod Written
+pub mod LinksMade
+pub mod PlanMade
+pub mod Flat
+pub mod NamedStages
+pub mod AskedStages

@@ -1,10 +1,18 @@
 -- What a run comes to, from what its parts come to.
-use Rattle.std.proofs.Common.{ℕ, ◌≡◌, ◌⊎◌, ◌++◌, ◌∙◌, Bool, true, false, List, Option, None, Some, IfSome, Result, Ok, Err, IfErr, ap, refl, sym, subst}
+use Rattle.std.proofs.Common.{ℕ, ◌≡◌, ◌⊎◌, ◌++◌, ◌∙◌, Bool, true, false, List, Option, None, Some, IfSome, Result, Ok, Err, IfErr, OnErr, OnOk, [], ap, refl}
+use Rattle.std.proofs.Common.{sym, subst}
 use Rattle.std.proofs.Common.{append-nil, inl, inr}
 use Rattle.std.proofs.lemmas.Bool.{false≢true}
 use Rattle.edge_io.specs.declared.WriteFault.{WriteFault}
 use Rattle.unit_pass.specs.declared.pass.Audit.{Audit}
+use Rattle.stage_chain.specs.Chains.{link_shows}
+use Rattle.stage_chain.specs.Runs.{ShowsSome}
+use Rattle.stream_face.specs.Calls.{Begins}
+use Rattle.stream_face.specs.Shown.{Seen, Shown, of_link}
+use Rattle.stream_face.proofs.Joints.{Begins-nil}
+use Rattle.pipe_top.specs.Traffic.{IsShownInPart, links_asked}
 use Rattle.pipe_top.specs.Answer.{Answer, Asks, IsAnswer, IsAnswerTo, IsInput, Request, Text, Fault, answer_to, cause_of, status_of, Cause, OfWords, OfTexts}
+use Rattle.pipe_top.specs.Answer.{OfPlan}
 use Rattle.pipe_top.specs.Answer.{OfRecords, OfLength, Reading, Writing, Memory}
 use Rattle.pipe_top.specs.Outcomes.{AtWriteFault, AtWriting, GotFirst, GotText, asked_of, fault_in, is_decided}
 use Rattle.pipe_top.specs.declared.asked.Request.{Request as AsksFor}
@@ -45,7 +53,9 @@ silent-audit request carried fault wanted asked early told (inr same) = inr same
 
 pub fault-cases : (f : RunFault) → (is_decided f ≡ true) ⊎ ((f ≡ run.ReadFault) ⊎ (((taken : ℕ) × (f ≡ run.WriteFault taken)) ⊎ (f ≡ run.NoMemory)))
 fault-cases (run.Words fault) = inl refl
+fault-cases (run.Stage number fault) = inl refl
 fault-cases (run.Schema entry rule) = inl refl
+fault-cases (run.Plan number rule) = inl refl
 fault-cases run.NoHeader = inl refl
 fault-cases (run.TooManyColumns count) = inl refl
 fault-cases (run.HeaderText column) = inl refl
@@ -61,6 +71,7 @@ fault-cases run.NoMemory = inr (inr (inr refl))
 at-writing : (cause : Cause) (P Q : ℕ → Type 0) → ((n : ℕ) → cause ≡ Writing n → P n → Q n) → AtWriting cause P → AtWriting cause Q
 at-writing OfWords P Q step holds = tt
 at-writing OfTexts P Q step holds = tt
+at-writing OfPlan P Q step holds = tt
 at-writing OfRecords P Q step holds = tt
 at-writing OfLength P Q step holds = tt
 at-writing Reading P Q step holds = tt
@@ -114,6 +125,14 @@ module _ (words : List (List ℕ)) (left : Option (List ℕ)) (request : Result 
       cc
 
   -- ---- the text
+
+  pub text-of-answer : (old new : Option (List ℕ)) → OnOk carried (IfSome left (λ bytes. GotText (IsAnswerTo (asked_of request) bytes) old new))
+      → fault ≡ None → (bytes : List ℕ) → IsInput words left bytes → GotText (IsAnswer words bytes) old new
+  text-of-answer old new got none bytes input =
+      let whole : IfSome left (λ l. GotText (IsAnswerTo (asked_of request) l) old new) =
+      subst (λ r. OnOk r (IfSome left (λ l. GotText (IsAnswerTo (asked_of request) l) old new))) (carried-ok none) got in
+      let here = at-input words left bytes (λ l. GotText (IsAnswerTo (asked_of request) l) old new) input whole in
+      (here.0, answer-is bytes (Text here.0) (asked-unless (done-asked none)) here.1, here.2)
 
   pub prefix-of-answer : (old new : Option (List ℕ))
       → IfErr carried (λ f. AtWriteFault f (λ taken. IfSome left (λ bytes. GotFirst (IsAnswerTo (asked_of request) bytes) old new taken)))
@@ -216,3 +235,36 @@ module _ (words : List (List ℕ)) (left : Option (List ℕ)) (request : Result 
               both-answers bytes (Text here.0) (Fault told_fault) (done-asked is) here.1 answer in
               cc
           go (Some f) is = by-cause f is (fault-cases f)
+
+-- ---- what is shown
+
+-- where nothing was shown, the first chunks of whatever links were
+nothing-shown : (joints : ℕ → List Shown) (old new : Option (List Seen)) → ShowsSome (link_shows []) old new → ShowsSome joints old new
+nothing-shown joints old new shows = record {
+  shown = shows.shown;
+  told = shows.told;
+  begins = λ k.
+      subst (λ seen. Begins seen (joints k)) (sym (Begins-nil (of_link k shows.shown) (shows.begins k))) (joints k, refl);
+}
+
+asked-shown : (words : List (List ℕ)) (bytes : List ℕ) (request : Result AsksFor RunFault) (asked : Result Request RunFault) (old new : Option (List Seen))
+    → (request ≡ Err run.NoMemory) ⊎ ((asked : Result Request RunFault) → Asks words asked → asked ≡ asked_of request) → Asks words asked
+    → ShowsSome (link_shows (links_asked (asked_of request) bytes)) old new → ShowsSome (link_shows (links_asked asked bytes)) old new
+asked-shown words bytes request asked old new (inl none) asks shows =
+    nothing-shown (link_shows (links_asked asked bytes)) old new
+    (subst (λ (r : Result AsksFor RunFault). ShowsSome (link_shows (links_asked (asked_of r) bytes)) old new) none shows)
+asked-shown words bytes request asked old new (inr only) asks shows =
+    subst (λ (a : Result Request RunFault). ShowsSome (link_shows (links_asked a bytes)) old new) (sym (only asked asks)) shows
+
+pub shown-in-part : (words : List (List ℕ)) (left : Option (List ℕ)) (request : Result AsksFor RunFault) (carried : Result (Unit {0}) RunFault)
+    (fault : Option RunFault) (old new : Option (List Seen)) → fault ≡ fault_in carried
+    → (request ≡ Err run.NoMemory) ⊎ ((asked : Result Request RunFault) → Asks words asked → asked ≡ asked_of request)
+    → OnErr carried (IfSome left (λ bytes. ShowsSome (link_shows (links_asked (asked_of request) bytes)) old new))
+    → IfSome fault (λ _. (bytes : List ℕ) → IsInput words left bytes → IsShownInPart words bytes old new)
+shown-in-part words left request (Ok done) fault old new told only shows =
+    subst (λ o. IfSome o (λ _. (bytes : List ℕ) → IsInput words left bytes → IsShownInPart words bytes old new)) (sym told) tt
+shown-in-part words left request (Err f) fault old new told only shows =
+    subst (λ o. IfSome o (λ _. (bytes : List ℕ) → IsInput words left bytes → IsShownInPart words bytes old new)) (sym told)
+    (λ bytes input asked asks.
+    asked-shown words bytes request asked old new only asks
+    (at-input words left bytes (λ l. ShowsSome (link_shows (links_asked (asked_of request) l)) old new) input shows))

@@ -1,5 +1,5 @@
 -- What a run answers: the text of the table that was read, or the first fault, and the status of each fault.
-use Rattle.std.specs.Prelude.{◌≡◌, ℕ, nat_lt, List, [], length, Option, None, Some, Result, Ok, Err, if◌then◌else◌}
+use Rattle.std.specs.Prelude.{◌≡◌, ℕ, ◌+◌, nat_lt, List, [], ◌∷◌, length, Option, None, Some, Result, Ok, Err, if◌then◌else◌}
 use Rattle.fmt_string.specs.Table.{Column, Row}
 use Rattle.csv_read.specs.Entries.{entries_of}
 use Rattle.csv_model.specs.Header.{Entry, header_of}
@@ -9,6 +9,16 @@ use Rattle.fmt_string.specs.declared.row_fault.RowFault.{RowFault}
 use Rattle.fmt_string.specs.declared.row_fault.RowFault.TheVariants as row
 use Rattle.csv_model.specs.declared.fault.HeaderFault.{HeaderFault}
 use Rattle.csv_model.specs.declared.fault.HeaderFault.TheVariants as header
+use Rattle.stage_chain.specs.declared.fault.DriveFault.{DriveFault}
+use Rattle.stage_chain.specs.declared.fault.DriveFault.TheVariants as chain
+use Rattle.stage_model.specs.Links.{Whole}
+use Rattle.stage_model.specs.StageGrammar.{stage_of}
+use Rattle.stage_model.specs.Stages.{table}
+use Rattle.stage_model.specs.Typing.{Stage, plan_of}
+use Rattle.stage_model.specs.declared.fault.PlanFault.{PlanFault}
+use Rattle.stage_model.specs.declared.fault.PlanFault.TheVariants as plan
+use Rattle.stage_model.specs.declared.fault.StageFault.{StageFault}
+use Rattle.stage_model.specs.declared.stage.StageText.{StageText}
 use Rattle.stage_plan.specs.Types.{Reads}
 use Rattle.stage_plan.specs.declared.fault.TypesFault.{TypesFault}
 use Rattle.stage_plan.specs.declared.fault.TypesFault.TheVariants as types
@@ -37,28 +47,44 @@ fault_of_header (header.Twice column) = run.HeaderTwice column
 fault_of_header (header.Unknown entry) = run.HeaderUnknown entry
 fault_of_header header.NoMemory = run.NoMemory
 
--- what is asked for: types of columns by name, and the mark for null
+-- the fault of a run whose stages don't fit the columns
+abbrev pub fault_of_plan : PlanFault → RunFault
+fault_of_plan (plan.At stage rule) = run.Plan stage rule
+fault_of_plan plan.NoMemory = run.NoMemory
+
+-- the fault of a run whose chain of stages gives no text
+abbrev pub fault_of_chain : DriveFault → RunFault
+fault_of_chain (chain.Row fault) = fault_of_row fault
+fault_of_chain chain.NoMemory = run.NoMemory
+
+-- what is asked for: types of columns by name, stages, the most rows of a batch, and the mark for null
 pub record Request : Type 0 where
   pub entries : List TypeEntry
+  pub stages : List StageText
+  pub batch : ℕ
   pub mark : List ℕ
 
--- no types are asked for
+-- no types and no stages are asked for, and batches of 1024 rows
 abbrev pub asking : List ℕ → Request
-asking mark = record { entries = []; mark = mark }
+asking mark = record { entries = []; stages = []; batch = 1024; mark = mark }
 
--- the text of the table of these rows, where no record is refused
-abbrev pub answer_of_rows : List ℕ → List Column → Result (List Row) RowFault → Answer
-answer_of_rows mark columns (Ok rows) = Text (table_text mark (record { columns = columns; rows = rows }))
-answer_of_rows mark columns (Err fault) = Fault (fault_of_row fault)
+-- the text of the table that the stages make of these rows, where no record is refused
+abbrev pub answer_of_rows : List ℕ → List Column → List Stage → Result (List Row) RowFault → Answer
+answer_of_rows mark columns stages (Ok rows) = Text (table_text mark (Whole (table columns rows) stages))
+answer_of_rows mark columns stages (Err fault) = Fault (fault_of_row fault)
 
--- the answer to the records behind a header of these columns
-abbrev pub answer_of_columns : List ℕ → Result (List Column) HeaderFault → List Record → Answer
-answer_of_columns mark (Ok columns) records = answer_of_rows mark columns (body mark columns records)
-answer_of_columns mark (Err fault) records = Fault (fault_of_header fault)
+-- the answer to the records behind a header of these columns, where the stages fit them
+abbrev pub answer_of_plan : List ℕ → List Column → Result (List Stage) PlanFault → List Record → Answer
+answer_of_plan mark columns (Ok stages) records = answer_of_rows mark columns stages (body mark columns records)
+answer_of_plan mark columns (Err fault) records = Fault (fault_of_plan fault)
 
--- the answer to entries and the records of a text, the first of which is the header
-abbrev pub answer_of_records : List ℕ → List Entry → List Record → Answer
-answer_of_records mark entries records = answer_of_columns mark (header_of entries records) (behind_header records)
+abbrev pub answer_of_columns : Request → Result (List Column) HeaderFault → List Record → Answer
+answer_of_columns request (Ok columns) records = answer_of_plan request.mark columns (plan_of columns request.stages) records
+answer_of_columns request (Err fault) records = Fault (fault_of_header fault)
+
+-- the answer to the records of a text, the first of which is the header
+abbrev pub answer_of_records : Request → List Record → Answer
+answer_of_records request records = answer_of_columns request (header_of (entries_of request.entries) records) (behind_header records)
 
 -- the most bytes that are read
 abbrev pub input_limit : ℕ
@@ -67,7 +93,7 @@ input_limit = 1_073_741_824
 -- the answer to what is asked for and the bytes of an input
 abbrev pub answer_of_bytes : Request → List ℕ → Answer
 answer_of_bytes request bytes =
-    if nat_lt input_limit (length bytes) then Fault run.InputTooLong else answer_of_records request.mark (entries_of request.entries) (records_of bytes)
+    if nat_lt input_limit (length bytes) then Fault run.InputTooLong else answer_of_records request (records_of bytes)
 
 -- ---- what the words ask for
 
@@ -85,17 +111,34 @@ EntriesRead (Some text) read = Reads text read
 abbrev pub EntriesAsk : Option (List ℕ) → Result (List TypeEntry) RunFault → Type 0
 EntriesAsk schema asked = (read : Result (List TypeEntry) TypesFault) × EntriesRead schema read × (asked ≡ asked_by read)
 
--- what is asked for with these entries
-abbrev pub request_with : List ℕ → Result (List TypeEntry) RunFault → Result Request RunFault
-request_with mark (Ok entries) = Ok (record { entries = entries; mark = mark })
-request_with mark (Err fault) = Err fault
+-- a stage before others, or the first text that is none
+abbrev pub stage_before : ℕ → Result StageText StageFault → Result (List StageText) RunFault → Result (List StageText) RunFault
+stage_before number (Err fault) rest = Err (run.Stage number fault)
+stage_before number (Ok stage) (Ok stages) = Ok (stage ∷ stages)
+stage_before number (Ok stage) (Err fault) = Err fault
 
--- what a schema text and a mark for null ask for
-abbrev pub RequestIs : Option (List ℕ) → List ℕ → Result Request RunFault → Type 0
-RequestIs schema mark asked = (entries : Result (List TypeEntry) RunFault) × EntriesAsk schema entries × (asked ≡ request_with mark entries)
+-- the stages that texts spell, the first of which has this number
+abbrev pub stages_from : ℕ → List (List ℕ) → Result (List StageText) RunFault
+stages_from number [] = Ok []
+stages_from number (text ∷ texts) = stage_before number (stage_of text) (stages_from (number + 1) texts)
+
+-- what is asked for with these stages and entries
+abbrev pub request_with : Options → List StageText → Result (List TypeEntry) RunFault → Result Request RunFault
+request_with options stages (Ok entries) = Ok (record { entries = entries; stages = stages; batch = options.batch; mark = mark_of options })
+request_with options stages (Err fault) = Err fault
+
+-- what options with these stages ask for: a stage text is refused before the schema text
+abbrev pub StagesAsk : Options → Result (List StageText) RunFault → Result Request RunFault → Type 0
+StagesAsk options (Ok stages) asked =
+    (entries : Result (List TypeEntry) RunFault) × EntriesAsk options.schema entries × (asked ≡ request_with options stages entries)
+StagesAsk options (Err fault) asked = asked ≡ Err fault
+
+-- what options ask for; stages are counted from 1
+abbrev pub RequestIs : Options → Result Request RunFault → Type 0
+RequestIs options asked = StagesAsk options (stages_from 1 options.stages) asked
 
 abbrev pub OptionsAsk : Result Options WordsFault → Result Request RunFault → Type 0
-OptionsAsk (Ok options) asked = RequestIs options.schema (mark_of options) asked
+OptionsAsk (Ok options) asked = RequestIs options asked
 OptionsAsk (Err fault) asked = asked ≡ Err (run.Words fault)
 
 -- the words ask for this, or are refused for this fault, whatever the input is
@@ -128,6 +171,8 @@ pub data Cause : Type 0 where
   OfWords : Cause
   -- a text among the words
   OfTexts : Cause
+  -- the stages over the columns that are read
+  OfPlan : Cause
   -- the header and the records
   OfRecords : Cause
   -- the length of the input
@@ -139,7 +184,9 @@ pub data Cause : Type 0 where
 
 abbrev pub cause_of : RunFault → Cause
 cause_of (run.Words fault) = OfWords
+cause_of (run.Stage number fault) = OfTexts
 cause_of (run.Schema entry rule) = OfTexts
+cause_of (run.Plan number rule) = OfPlan
 cause_of run.NoHeader = OfRecords
 cause_of (run.TooManyColumns count) = OfRecords
 cause_of (run.HeaderText column) = OfRecords
@@ -155,6 +202,7 @@ cause_of run.NoMemory = Memory
 abbrev pub status_by : Cause → ℕ
 status_by OfWords = 2
 status_by OfTexts = 3
+status_by OfPlan = 3
 status_by OfRecords = 4
 status_by OfLength = 5
 status_by Reading = 6

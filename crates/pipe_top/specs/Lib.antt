@@ -1,6 +1,6 @@
 pub mod Answer
 pub mod Outcomes
-pub mod Rows
+pub mod Stages
 pub mod Told
 pub mod Traffic
 pub mod SaidTexts

@@ -5,7 +5,7 @@ use Rattle.std.specs.Io.KnownBytes.{Appends}
 use Rattle.stage_plan.specs.declared.types.TypeEntry.{TypeEntry}
 use Rattle.words.specs.Words.{Options}
 use Rattle.words.specs.declared.WordsFault.{WordsFault}
-use Rattle.pipe_top.specs.Answer.{Answer, Text, Request, Cause, OfWords, OfTexts, OfRecords, OfLength, Reading, Writing, Memory, cause_of}
+use Rattle.pipe_top.specs.Answer.{Answer, Text, Request, Cause, OfWords, OfTexts, OfPlan, OfRecords, OfLength, Reading, Writing, Memory, cause_of}
 use Rattle.pipe_top.specs.declared.asked.Request.{Request as AsksFor}
 use Rattle.pipe_top.specs.declared.fault.RunFault.{RunFault}
 
@@ -13,6 +13,7 @@ use Rattle.pipe_top.specs.declared.fault.RunFault.{RunFault}
 abbrev pub decides : Cause → Bool
 decides OfWords = true
 decides OfTexts = true
+decides OfPlan = true
 decides OfRecords = true
 decides OfLength = true
 decides Reading = false
@@ -61,7 +62,7 @@ entries_asked (Ok entries) = Ok entries.items
 entries_asked (Err fault) = Err fault
 
 abbrev pub request_of : AsksFor → Request
-request_of asked = record { entries = asked.entries.items; mark = asked.mark }
+request_of asked = record { entries = asked.entries.items; stages = asked.stages.items; batch = asked.batch; mark = asked.mark }
 
 abbrev pub asked_of : Result AsksFor RunFault → Result Request RunFault
 asked_of (Ok asked) = Ok (request_of asked)

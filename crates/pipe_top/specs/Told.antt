@@ -5,6 +5,7 @@ use Rattle.std.specs.Borrow.{Bor}
 use Rattle.std.specs.Io.KnownBytes.{Appends}
 use Rattle.edge_io.specs.Edge.{Rose}
 use Rattle.edge_io.specs.declared.WriteFault.{WriteFault}
+use Rattle.stage_model.specs.FaultTexts.{rule_text, stage_fault_text}
 use Rattle.stage_plan.specs.declared.fault.TypesRule.{TypesRule}
 use Rattle.stage_plan.specs.declared.fault.TypesRule.TheVariants as types
 use Rattle.unit_pass.specs.declared.pass.Audit.{Audit}
@@ -14,14 +15,17 @@ use Rattle.pipe_top.specs.declared.fault.RunFault.TheVariants as run
 
 -- ---- the lines
 
-abbrev pub rule_text : TypesRule → List ℕ
-rule_text types.BadEntry = codes ": not a column type"
-rule_text types.Twice = codes ": named before"
+abbrev pub entry_text : TypesRule → List ℕ
+entry_text types.BadEntry = codes ": not a column type"
+entry_text types.Twice = codes ": named before"
 
 -- what is told of a fault
 abbrev pub fault_text : RunFault → List ℕ
 fault_text (run.Words words.Refused) = codes "words refused"
-fault_text (run.Schema entry rule) = codes "schema entry " ++ decimal entry ++ rule_text rule
+fault_text (run.Words words.TooManyStages) = codes "words: more than 16 stages"
+fault_text (run.Stage number fault) = codes "stage " ++ decimal number ++ codes ": " ++ stage_fault_text fault
+fault_text (run.Schema entry rule) = codes "schema entry " ++ decimal entry ++ entry_text rule
+fault_text (run.Plan number rule) = codes "stage " ++ decimal number ++ codes ": " ++ rule_text rule
 fault_text run.NoHeader = codes "no header"
 fault_text (run.TooManyColumns count) = codes "header has " ++ decimal count ++ codes " columns"
 fault_text (run.HeaderText column) = codes "header column " ++ decimal column ++ codes ": not UTF-8"

@@ -1,51 +1,55 @@
--- The blocks and the nodes that a run makes.
-use Rattle.std.specs.Prelude.{◌≡◌, ℕ, ◌+◌, List, [], ◌∷◌, length, Result, Ok, Err}
-use Rattle.fmt_string.specs.Table.{Column, Row}
-use Rattle.csv_read.specs.Chunks.{chunk_blocks}
+-- The links of a run: what it shows of them, and the blocks and the nodes that it makes.
+use Rattle.std.specs.Prelude.{◌≡◌, ℕ, nat_lt, List, [], length, Option, Result, Ok, Err, if◌then◌else◌}
+use Rattle.csv_model.specs.Batches.{batches_in}
+use Rattle.csv_model.specs.Header.{header_of}
+use Rattle.csv_model.specs.Reading.{Record, behind_header, records_of}
+use Rattle.csv_model.specs.declared.fault.HeaderFault.{HeaderFault}
 use Rattle.csv_read.specs.Entries.{entries_of}
+use Rattle.fmt_string.specs.Table.{Column}
+use Rattle.stage_chain.specs.Chains.{link_shows}
+use Rattle.stage_chain.specs.Runs.{ShowsAll, ShowsSome}
+use Rattle.stage_model.specs.Links.{Link, Links}
+use Rattle.stage_model.specs.Traffic.{run_blocks, run_nodes}
+use Rattle.stage_model.specs.Typing.{Stage, plan_of}
+use Rattle.stage_model.specs.declared.fault.PlanFault.{PlanFault}
+use Rattle.stream_face.specs.Shown.{Seen}
 use Rattle.unit_pass.specs.Tally.{risen}
-use Rattle.pipe_top.specs.Answer.{Asks, Request}
-use Rattle.csv_model.specs.Header.{Entry, header_of}
-use Rattle.csv_model.specs.Reading.{Record, behind_header, body, records_of}
+use Rattle.pipe_top.specs.Answer.{Asks, Request, input_limit}
+use Rattle.pipe_top.specs.declared.fault.RunFault.{RunFault}
 
--- what was read, and nothing where it was refused
-abbrev pub read_or_none : {X E : Type 0} → Result (List X) E → List X
-read_or_none (Ok xs) = xs
-read_or_none (Err fault) = []
+-- the links of stages over columns and the records behind a header, where the stages fit
+abbrev pub links_planned : Request → List Column → Result (List Stage) PlanFault → List Record → List Link
+links_planned request columns (Ok stages) records = Links columns (batches_in request.mark columns records request.batch) stages
+links_planned request columns (Err fault) records = []
 
--- the columns and the rows that the records of a text spell under entries and a mark for null
-abbrev pub columns_of : List Entry → List Record → List Column
-columns_of entries records = read_or_none (header_of entries records)
+-- where the header is taken
+abbrev pub links_behind_header : Request → Result (List Column) HeaderFault → List Record → List Link
+links_behind_header request (Ok columns) records = links_planned request columns (plan_of columns request.stages) records
+links_behind_header request (Err fault) records = []
 
-abbrev pub rows_of : List ℕ → List Entry → List Record → List Row
-rows_of mark entries records = read_or_none (body mark (columns_of entries records) (behind_header records))
+-- the links of a run over the records of a text
+abbrev pub links_of : Request → List Record → List Link
+links_of request records = links_behind_header request (header_of (entries_of request.entries) records) (behind_header records)
 
--- the nodes of the schema: the struct and a column each
-abbrev pub schema_nodes : List Column → ℕ
-schema_nodes columns = 1 + length columns
+-- the links of a run with what is asked for, over the bytes of an input: there are none where it is refused
+abbrev pub links_asked : Result Request RunFault → List ℕ → List Link
+links_asked (Ok request) bytes = if nat_lt input_limit (length bytes) then [] else links_of request (records_of bytes)
+links_asked (Err fault) bytes = []
 
--- the rows are one chunk, and there is none where there are no rows: its nodes are again the struct and a column each, and
--- its blocks those of the columns' encodings
-abbrev pub chunk_nodes_of : List Column → List Row → ℕ
-chunk_nodes_of columns [] = 0
-chunk_nodes_of columns (row ∷ rows) = 1 + length columns
-
-abbrev pub chunk_blocks_of : List Column → List Row → ℕ
-chunk_blocks_of columns [] = 0
-chunk_blocks_of columns (row ∷ rows) = chunk_blocks columns (row ∷ rows)
-
--- the blocks and the nodes of a run over these records, the first of which is the header: the schema is made once
-abbrev pub run_blocks : List ℕ → List Entry → List Record → ℕ
-run_blocks mark entries records = chunk_blocks_of (columns_of entries records) (rows_of mark entries records)
-
-abbrev pub run_nodes : List ℕ → List Entry → List Record → ℕ
-run_nodes mark entries records = schema_nodes (columns_of entries records) + chunk_nodes_of (columns_of entries records) (rows_of mark entries records)
-
--- the counts of blocks and nodes rise by those of a run that was asked for this
-pub record RequestTraffic (request : Request) (bytes : List ℕ) (old_blocks old_nodes blocks nodes : ℕ) : Type 0 where
-  pub blocks_are : blocks ≡ risen old_blocks (run_blocks request.mark (entries_of request.entries) (records_of bytes))
-  pub nodes_are : nodes ≡ risen old_nodes (run_nodes request.mark (entries_of request.entries) (records_of bytes))
+-- the counts of blocks and nodes rise by those of links
+pub record LinksTraffic (links : List Link) (old_blocks old_nodes blocks nodes : ℕ) : Type 0 where
+  pub blocks_are : blocks ≡ risen old_blocks (run_blocks links)
+  pub nodes_are : nodes ≡ risen old_nodes (run_nodes links)
 
 -- the blocks and the nodes that a run with these words over these bytes makes, which stop at the last value of a count
 abbrev pub IsTraffic : List (List ℕ) → List ℕ → ℕ → ℕ → Type 0
-IsTraffic words bytes blocks nodes = (request : Request) × Asks words (Ok request) × RequestTraffic request bytes 0 0 blocks nodes
+IsTraffic words bytes blocks nodes = (request : Request) × Asks words (Ok request) × LinksTraffic (links_asked (Ok request) bytes) 0 0 blocks nodes
+
+-- a run with these words over these bytes has shown each chunk of each link, once and in order
+abbrev pub IsShown : List (List ℕ) → List ℕ → Option (List Seen) → Option (List Seen) → Type 0
+IsShown words bytes before after = (request : Request) × Asks words (Ok request) × ShowsAll (link_shows (links_asked (Ok request) bytes)) before after
+
+-- it has shown the first chunks of each link, and nothing where there are no links
+abbrev pub IsShownInPart : List (List ℕ) → List ℕ → Option (List Seen) → Option (List Seen) → Type 0
+IsShownInPart words bytes before after =
+    (asked : Result Request RunFault) → Asks words asked → ShowsSome (link_shows (links_asked asked bytes)) before after

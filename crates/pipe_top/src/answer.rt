@@ -1,25 +1,39 @@
 //! The answer to the bytes of an input.
-ghost use Rattle.std.specs.Prelude.{◌≡◌, ◌⊎◌, ◌≤◌, vec_len, length, ℕ, List, IfErr, IfOk, OnOk, All, Ok, map};
-ghost use Rattle.csv_read.specs.Body.{HoldsBody};
-ghost use Rattle.csv_read.specs.Entries.{entries_of};
-ghost use Rattle.field_codec.specs.TextColumns.{AreAllowed, AreProper, IsAllowed};
+ghost use Rattle.std.specs.Prelude.{◌≡◌, ◌⊎◌, ◌≤◌, ◌*◌, ◌^◌, vec_len, length, ℕ, List, IfErr, IfOk, OnErr, OnOk, All, Ok, map, get_or, []};
+ghost use Rattle.std.specs.List.{AllByRecursion};
+ghost use Rattle.std.specs.Thread.{IsSync};
+ghost use Rattle.csv_model.specs.Batches.{batches_in};
 ghost use Rattle.csv_model.specs.Header.{header_of, most_columns};
 ghost use Rattle.csv_model.specs.Reading.{behind_header, records_of};
+ghost use Rattle.csv_read.specs.Entries.{entries_of};
+ghost use Rattle.csv_source.specs.Sources.{source_state, stream_of};
+ghost use Rattle.field_codec.specs.TextColumns.{AreAllowed, AreProper, IsAllowed, NamesDiffer};
 ghost use Rattle.fmt_string.specs.ColumnView.{column_of};
 ghost use Rattle.fmt_string.specs.Kinds.{KindOk};
-ghost use Rattle.unit_pass.specs.Tally.{risen};
-ghost use Rattle.unit_pass.specs.declared.pass.TheConstants.{CHUNK};
-ghost use Rattle.pipe_top.specs.Answer.{Fault, Text, answer_of_columns, answer_of_records, input_limit};
-ghost use Rattle.pipe_top.specs.Traffic.{run_blocks, run_nodes};
+ghost use Rattle.stage_chain.specs.Chains.{link_shows};
+ghost use Rattle.stage_chain.specs.Plans.{links_of as plan_links};
+ghost use Rattle.stage_chain.specs.Runs.{ShowsAll, ShowsSome};
+ghost use Rattle.stage_kernels.specs.Plain.{IsMade};
+ghost use Rattle.stage_model.specs.Typing.{plan_of};
+ghost use Rattle.stage_plan.specs.PlanWords.{IsPlan, columns_in};
+ghost use Rattle.unit_pass.specs.declared.pass.TheConstants.{ROOM, SUPPLY};
+ghost use Rattle.pipe_top.specs.Answer.{Fault, Request as ARequest, Text, answer_of_plan, answer_of_records, input_limit};
+ghost use Rattle.pipe_top.specs.Outcomes.{request_of};
+ghost use Rattle.pipe_top.specs.Stages.{IsNamed};
+ghost use Rattle.pipe_top.specs.Traffic.{LinksTraffic, links_of};
 
+use crate::asked::Request;
 use crate::fault::RunFault;
-use crate::text::table_text;
-use col_build::Builder;
-use csv_read::{BodyFault, Records, read_body, read_header};
-use fmt_string::{ColumnType, RowFault};
-use stage_plan::TypeEntry;
+use csv_read::{Records, read_header};
+use csv_source::CsvSource;
+use edge_io::Gate;
+use fmt_string::{ColumnType, clone_columns};
+use stage_chain::drive;
+use stage_plan::{Plan, StageText, TypeEntry, type_plan};
 use std::alloc::Global;
-use unit_pass::Pass;
+use std::thread::Threads;
+use stream_face::Tap;
+use unit_pass::{NoMemory, Pass, ROOM, SUPPLY};
 
 /// The columns that the header of a text names, or why it is refused. The records behind it are left.
 fn header_columns(
@@ -32,10 +46,12 @@ fn header_columns(
     ensures found { IfOk result (λ columns. header_of (entries_of entries.now) records.old.records ≡ Ok (map column_of columns.items)) }
     ensures some { IfOk result (λ columns. 1 ≤ vec_len columns) }
     ensures few { IfOk result (λ columns. vec_len columns ≤ most_columns) }
+    ensures differ { IfOk result (λ columns. NamesDiffer (map column_of columns.items)) }
     ensures proper { IfOk result (λ columns. AreProper (map column_of columns.items)) }
     ensures allowed { IfOk result (λ columns. AreAllowed (map column_of columns.items)) }
     ensures fault { IfErr result
-        (λ fault. (fault ≡ RunFault.NoMemory) ⊎ ((mark : List ℕ) → answer_of_records mark (entries_of entries.now) records.old.records ≡ Fault fault)) }
+        (λ fault. (fault ≡ RunFault.NoMemory)
+        ⊎ ((request : ARequest) → request.entries ≡ entries.now → answer_of_records request records.old.records ≡ Fault fault)) }
     ensures behind { OnOk result (records.new.records ≡ behind_header records.old.records) }
     ensures size { records.new.size ≤ records.old.size }
 {
@@ -45,56 +61,101 @@ fn header_columns(
     }
 }
 
-/// The columns that the records behind the header fill, or the first that is refused.
-fn body_columns(
+/// What stages are over columns, or why they don't fit.
+fn plan_stages(
     alloc: Global,
-    records: Records<'_>,
-    columns: &[ColumnType],
-    mark: &[u8],
-) -> Result<Vec<Builder>, RunFault>
-    requires short { records.size ≤ input_limit }
-    requires proper { AreProper (map column_of columns.now) }
-    requires allowed { AreAllowed (map column_of columns.now) }
-    ensures held { IfOk result (λ builders. HoldsBody mark.now builders.items (map column_of columns.now) records.entry.records) }
-    ensures fault { IfErr result
-        (λ fault. (fault ≡ RunFault.NoMemory) ⊎ (answer_of_columns mark.now (Ok (map column_of columns.now)) records.entry.records ≡ Fault fault)) }
+    columns: Vec<ColumnType>,
+    stages: &[StageText],
+) -> Result<Plan, RunFault>
+    requires proper { AreProper (map column_of columns.items) }
+    requires named { AllByRecursion IsNamed stages.now }
+    requires few { length stages.now ≤ 16 }
+    ensures found { IfOk result (IsPlan (map column_of columns.items) stages.now) }
+    ensures made { IfOk result (λ plan. AllByRecursion IsMade plan.steps.items) }
+    ensures few { IfOk result (λ plan. length plan.steps.items ≤ 16) }
+    ensures read { IfOk result (λ plan. get_or (plan_links plan) 0 [] ≡ map column_of columns.items) }
+    ensures links { IfOk result (λ plan. 1 ≤ vec_len plan.links) }
+    ensures fault { IfErr result (λ fault. (fault ≡ RunFault.NoMemory)
+        ⊎ ((mark : List ℕ) (records : List (List (List ℕ)))
+        → answer_of_plan mark (map column_of columns.items) (plan_of (map column_of columns.items) stages.now) records ≡ Fault fault)) }
 {
-    match read_body(alloc, records, columns, mark) {
-        Ok(builders) => Ok(builders),
-        Err(BodyFault::Row(RowFault::Ragged { row, found })) => Err(RunFault::Ragged {
-            row,
-            found,
-        }),
-        Err(BodyFault::Row(RowFault::Field { row, column })) => Err(RunFault::Field {
-            row,
-            column,
-        }),
-        Err(BodyFault::NoMemory) => Err(RunFault::NoMemory),
+    match type_plan(alloc, columns, stages) {
+        Ok(plan) => Ok(plan),
+        Err(fault) => Err(RunFault::from(fault)),
     }
 }
 
-/// The text of the table that a text spells under entries of flat column types and a mark for null, or its first fault.
-pub(crate) fn answer_input(
+/// The columns that a plan reads.
+fn read_columns(plan: &Plan) -> &[ColumnType]
+    requires { 1 ≤ vec_len plan.now.links }
+    ensures { columns_in result.now ≡ get_or (plan_links plan.now) 0 [] }
+{
+    plan.links[0].as_slice()
+}
+
+/// The records behind a header as a stream of chunks of the columns that a plan reads.
+fn source_of<'a>(
+    alloc: Global,
+    records: Records<'a>,
+    columns: &[ColumnType],
+    batch: u32,
+    mark: &[u8],
+) -> Result<CsvSource<'a>, NoMemory>
+    requires short { records.size ≤ 2 ^ 30 }
+    requires some { 1 ≤ length columns.now }
+    requires few { length columns.now ≤ most_columns }
+    requires differ { NamesDiffer (map column_of columns.now) }
+    requires proper { AreProper (map column_of columns.now) }
+    requires allowed { AreAllowed (map column_of columns.now) }
+    requires some_rows { 1 ≤ batch }
+    requires few_rows { batch ≤ 1000000 }
+    ensures { IfOk result (λ source. source_state source
+        ≡ stream_of (map column_of columns.now) (batches_in mark.now (map column_of columns.now) records.entry.records batch)) }
+{
+    let columns = clone_columns(alloc, columns)?;
+    CsvSource::start(alloc, records, columns, mark, batch)
+}
+
+/// The text of the table that stages make of the table that a text spells, or the first fault: of the header, of the stages
+/// over its columns, of the records.
+pub(crate) fn answer_input<R: Threads + Sync, T: Tap>(
+    rt: &R,
     alloc: Global,
     bytes: &[u8],
-    entries: &[TypeEntry],
-    mark: &[u8],
+    request: &Request,
     pass: &mut Pass,
+    tap: &mut T,
+    gate: &(dyn Gate + Sync),
 ) -> Result<Vec<u8>, RunFault>
+    requires shared { IsSync R.row }
     requires short { length bytes.now ≤ input_limit }
-    requires units { CHUNK ≤ pass.old.units }
-    requires proper { All (λ e. KindOk e.kind) entries.now }
-    requires allowed { All (λ e. IsAllowed e.kind) entries.now }
-    ensures text { IfOk result (λ text. answer_of_records mark.now (entries_of entries.now) (records_of bytes.now) ≡ Text text.items) }
+    requires units { 2 * ROOM ≤ pass.old.units }
+    requires proper { All (λ e. KindOk e.kind) request.now.entries.items }
+    requires allowed { All (λ e. IsAllowed e.kind) request.now.entries.items }
+    requires named { AllByRecursion IsNamed request.now.stages.items }
+    requires few { length request.now.stages.items ≤ 16 }
+    requires some_rows { 1 ≤ request.now.batch }
+    requires few_rows { request.now.batch ≤ 1000000 }
+    ensures text { IfOk result (λ text. answer_of_records (request_of request.now) (records_of bytes.now) ≡ Text text.items) }
     ensures fault { IfErr result
-        (λ fault. (fault ≡ RunFault.NoMemory) ⊎ (answer_of_records mark.now (entries_of entries.now) (records_of bytes.now) ≡ Fault fault)) }
+        (λ fault. (fault ≡ RunFault.NoMemory) ⊎ (answer_of_records (request_of request.now) (records_of bytes.now) ≡ Fault fault)) }
     ensures units { pass.new.units ≡ pass.old.units }
-    ensures blocks { OnOk result (pass.new.blocks ≡ risen pass.old.blocks (run_blocks mark.now (entries_of entries.now) (records_of bytes.now))) }
-    ensures nodes { OnOk result (pass.new.nodes ≡ risen pass.old.nodes (run_nodes mark.now (entries_of entries.now) (records_of bytes.now))) }
+    ensures counts { OnOk result (LinksTraffic (links_of (request_of request.now)
+        (records_of bytes.now)) pass.old.blocks pass.old.nodes pass.new.blocks pass.new.nodes) }
+    ensures shows { OnOk result (ShowsAll (link_shows (links_of (request_of request.now) (records_of bytes.now))) (T.seen tap.old) (T.seen tap.new)) }
+    ensures shows_some { OnErr result (ShowsSome (link_shows (links_of (request_of request.now) (records_of bytes.now))) (T.seen tap.old) (T.seen tap.new)) }
 {
+    stage_model::batches_give_the_whole();
+    let mark = request.mark.as_slice();
     let mut records = Records::start(alloc, bytes);
-    let columns = header_columns(alloc, &mut records, entries)?;
-    let builders = body_columns(alloc, records, &columns, mark)?;
-    let text = table_text(alloc, &columns, builders, mark, pass)?;
-    Ok(text)
+    let columns = match header_columns(alloc, &mut records, request.entries.as_slice()) {
+        Ok(columns) => columns,
+        Err(fault) => return Err(fault),
+    };
+    let plan = plan_stages(alloc, columns, request.stages.as_slice())?;
+    let source = source_of(alloc, records, read_columns(&plan), request.batch, mark)?;
+    match drive(rt, alloc, source, plan, mark, pass, tap, gate) {
+        Ok(text) => Ok(text),
+        Err(fault) => Err(RunFault::from(fault)),
+    }
 }

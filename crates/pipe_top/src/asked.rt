@@ -1,24 +1,28 @@
 //! What the words ask for.
-ghost use Rattle.std.specs.Prelude.{◌≡◌, ◌⊎◌, true, false, [], List, Result, All, Err, IfErr, IfOk, option_map};
+ghost use Rattle.std.specs.Prelude.{◌≡◌, ◌≤◌, ◌⊎◌, ◌∷◌, true, false, [], ℕ, List, Result, All, Ok, Err, IfErr, IfOk, length, map, option_map};
+ghost use Rattle.std.specs.List.{AllByRecursion};
 ghost use Rattle.std.specs.Option.{unwrap_or};
 ghost use Rattle.field_codec.specs.TextColumns.{IsAllowed};
 ghost use Rattle.fmt_string.specs.Kinds.{KindOk};
 ghost use Rattle.stage_plan.specs.declared.types.TypeEntry.{TypeEntry as AnEntry};
-ghost use Rattle.words.specs.Words.{texts_of, words_of};
-ghost use Rattle.pipe_top.specs.Answer.{Asks, EntriesAsk, Request as ARequest, RequestIs};
+ghost use Rattle.words.specs.Words.{options_of, texts_of, words_of};
+ghost use Rattle.pipe_top.specs.Answer.{Asks, EntriesAsk, Request as ARequest, RequestIs, StagesAsk, stages_from};
 ghost use Rattle.pipe_top.specs.Outcomes.{asked_of, entries_asked, is_early, wants_audit};
+ghost use Rattle.pipe_top.specs.Stages.{IsNamed};
 ghost use Rattle.pipe_top.specs.declared.fault.RunFault.{RunFault as AFault};
 
 use crate::fault::RunFault;
-use stage_plan::{TypeEntry, TypesFault, read_types};
+use stage_plan::{StageFault, StageText, TypeEntry, TypesFault, read_stage, read_types};
 use std::alloc::Global;
 use unit_pass::{Name, NoMemory};
-use words::{WordsError, read_words};
+use words::{Words, WordsError, read_words};
 
-/// What is asked for: types of columns by name, and the mark for null.
+/// What is asked for: types of columns by name, stages, the most rows of a batch, and the mark for null.
 #[derive(Drop)]
 pub(crate) struct Request {
     pub(crate) entries: Vec<TypeEntry>,
+    pub(crate) stages: Vec<StageText>,
+    pub(crate) batch: u32,
     pub(crate) mark: Name,
 }
 
@@ -29,7 +33,7 @@ pub(crate) struct Asked {
     pub(crate) request: Result<Request, RunFault>,
 }
 
-/// Reads the words and the schema text among them.
+/// Reads the words and the texts among them.
 pub(crate) fn read_asked(alloc: Global, words: &[String]) -> Asked
     ensures asks { (result.request ≡ Err RunFault.NoMemory) ⊎ Asks (texts_of words.now) (asked_of result.request) }
     ensures only { (result.request ≡ Err RunFault.NoMemory)
@@ -37,12 +41,15 @@ pub(crate) fn read_asked(alloc: Global, words: &[String]) -> Asked
     ensures early { IfErr result.request (λ fault. (is_early fault ≡ true) ⊎ (fault ≡ RunFault.NoMemory)) }
     ensures proper { IfOk result.request (λ r. All (λ e. KindOk e.kind) r.entries.items) }
     ensures allowed { IfOk result.request (λ r. All (λ e. IsAllowed e.kind) r.entries.items) }
+    ensures named { IfOk result.request (λ r. AllByRecursion IsNamed r.stages.items) }
+    ensures few { IfOk result.request (λ r. length r.stages.items ≤ 16) }
+    ensures batch { IfOk result.request (λ r. (1 ≤ r.batch) × (r.batch ≤ 1000000)) }
     ensures audit { (result.request ≡ Err RunFault.NoMemory) × (result.audit ≡ false) ⊎ (result.audit ≡ wants_audit (words_of (texts_of words.now))) }
 {
     match read_words(alloc, words) {
         Ok(read) => Asked {
             audit: read.audit,
-            request: read_request(alloc, read.schema, read.null),
+            request: read_request(alloc, &read),
         },
         Err(WordsError::Words(fault)) => refused(RunFault::Words(fault)),
         Err(WordsError::NoMemory) => refused(RunFault::NoMemory),
@@ -60,27 +67,88 @@ fn refused(fault: RunFault) -> Asked
     }
 }
 
-/// What a schema text and a mark for null ask for, where there are any: no mark is the empty one.
-fn read_request(
-    alloc: Global,
-    schema: Option<&str>,
-    null: Option<&str>,
-) -> Result<Request, RunFault>
-    ensures asks { (result ≡ Err RunFault.NoMemory)
-        ⊎ RequestIs (option_map (λ s. s.now) schema.entry) (unwrap_or (option_map (λ s. s.now) null.entry) []) (asked_of result) }
+/// What options ask for: a stage text is refused before the schema text.
+fn read_request(alloc: Global, options: &Words<'_>) -> Result<Request, RunFault>
+    requires few { length options.now.stages.items ≤ 16 }
+    ensures asks { (result ≡ Err RunFault.NoMemory) ⊎ RequestIs (options_of options.now) (asked_of result) }
     ensures only { (result ≡ Err RunFault.NoMemory)
-        ⊎ ((asked : Result ARequest AFault) → RequestIs (option_map (λ s. s.now) schema.entry) (unwrap_or (option_map (λ s. s.now) null.entry) []) asked
-        → asked ≡ asked_of result) }
+        ⊎ ((asked : Result ARequest AFault) → RequestIs (options_of options.now) asked → asked ≡ asked_of result) }
     ensures early { IfErr result (λ fault. (is_early fault ≡ true) ⊎ (fault ≡ RunFault.NoMemory)) }
     ensures proper { IfOk result (λ r. All (λ e. KindOk e.kind) r.entries.items) }
     ensures allowed { IfOk result (λ r. All (λ e. IsAllowed e.kind) r.entries.items) }
+    ensures named { IfOk result (λ r. AllByRecursion IsNamed r.stages.items) }
+    ensures few { IfOk result (λ r. length r.stages.items ≡ length options.now.stages.items) }
+    ensures batch { IfOk result (λ r. r.batch ≡ options.now.batch) }
 {
-    match read_entries(alloc, schema) {
+    match read_stages(alloc, options.stages.as_slice()) {
+        Ok(stages) => read_others(alloc, options, stages),
+        Err(fault) => Err(fault),
+    }
+}
+
+/// What options with these stages ask for: no mark is the empty one.
+fn read_others(
+    alloc: Global,
+    options: &Words<'_>,
+    stages: Vec<StageText>,
+) -> Result<Request, RunFault>
+    ensures asks { (result ≡ Err RunFault.NoMemory) ⊎ StagesAsk (options_of options.now) (Ok stages.items) (asked_of result) }
+    ensures only { (result ≡ Err RunFault.NoMemory)
+        ⊎ ((asked : Result ARequest AFault) → StagesAsk (options_of options.now) (Ok stages.items) asked → asked ≡ asked_of result) }
+    ensures early { IfErr result (λ fault. (is_early fault ≡ true) ⊎ (fault ≡ RunFault.NoMemory)) }
+    ensures proper { IfOk result (λ r. All (λ e. KindOk e.kind) r.entries.items) }
+    ensures allowed { IfOk result (λ r. All (λ e. IsAllowed e.kind) r.entries.items) }
+    ensures stages { IfOk result (λ r. r.stages.items ≡ stages.items) }
+    ensures batch { IfOk result (λ r. r.batch ≡ options.now.batch) }
+{
+    match read_entries(alloc, options.schema) {
         Ok(entries) => {
-            let mark = read_mark(alloc, null)?;
-            Ok(Request { entries, mark })
+            let mark = read_mark(alloc, options.null)?;
+            Ok(Request {
+                entries,
+                stages,
+                batch: options.batch,
+                mark,
+            })
         }
         Err(fault) => Err(fault),
+    }
+}
+
+/// The stages that texts spell, or the first that is none. They are counted from 1.
+fn read_stages(alloc: Global, texts: &[&str]) -> Result<Vec<StageText>, RunFault>
+    requires few { length texts.now ≤ 16 }
+    ensures found { IfOk result (λ stages. stages_from 1 (map (λ t. t.now) texts.now) ≡ Ok stages.items) }
+    ensures fault { IfErr result (λ fault. (fault ≡ RunFault.NoMemory) ⊎ (stages_from 1 (map (λ t. t.now) texts.now) ≡ Err fault)) }
+    ensures early { IfErr result (λ fault. (is_early fault ≡ true) ⊎ (fault ≡ RunFault.NoMemory)) }
+    ensures named { IfOk result (λ stages. AllByRecursion IsNamed stages.items) }
+    ensures count { IfOk result (λ stages. length stages.items ≡ length texts.now) }
+{
+    let mut stages = Vec::new(alloc);
+    for place in 0..texts.len() {
+        let stage = read_numbered(alloc, place as u32 + 1, texts[place])?;
+        match stages.push(stage) {
+            Ok(()) => {}
+            Err(_) => return Err(RunFault::NoMemory),
+        }
+    }
+    Ok(stages)
+}
+
+/// The stage that a text spells, where it has this number.
+fn read_numbered(alloc: Global, number: u32, text: &str) -> Result<StageText, RunFault>
+    ensures found { IfOk result (λ stage. stages_from number (text.now ∷ []) ≡ Ok (stage ∷ [])) }
+    ensures fault { IfErr result (λ fault. (fault ≡ RunFault.NoMemory) ⊎ (stages_from number (text.now ∷ []) ≡ Err fault)) }
+    ensures early { IfErr result (λ fault. (is_early fault ≡ true) ⊎ (fault ≡ RunFault.NoMemory)) }
+    ensures named { IfOk result IsNamed }
+{
+    match read_stage(alloc, text) {
+        Ok(stage) => Ok(stage),
+        Err(StageFault::NoMemory) => Err(RunFault::NoMemory),
+        Err(rule) => Err(RunFault::Stage {
+            stage: number,
+            rule,
+        }),
     }
 }
 

@@ -1,16 +1,23 @@
 //! Why a run wrote no text, or not all of it.
 use csv_model::HeaderFault;
-use stage_plan::TypesRule;
+use fmt_string::RowFault;
+use stage_chain::DriveFault;
+use stage_plan::{PlanFault, PlanRule, StageFault, TypesRule};
 use unit_pass::NoMemory;
 use words::WordsFault;
 
-///! Why a run wrote no text, or not all of it.
+/// Why a run wrote no text, or not all of it.
 #[derive(Clone, Copy, PartialEq, Eq, Debug)]
 pub enum RunFault {
     /// The words of the command were not taken.
     Words(WordsFault),
+    /// A stage text spells no stage, the first one. Stages are numbered from 1.
+    Stage { stage: u32, rule: StageFault },
     /// An entry of the schema text is at fault, the first one. Entries are numbered from 1.
     Schema { entry: u64, rule: TypesRule },
+    /// A stage doesn't fit the columns before it, the first one, by this rule. A struct in the output is the fault of the
+    /// stage behind the last.
+    Plan { stage: u32, rule: PlanRule },
     /// The input has no record, so no header.
     NoHeader,
     /// The header has more than 1,024 fields, so many.
@@ -60,6 +67,35 @@ impl From<HeaderFault> for RunFault {
             HeaderFault::Twice { column } => RunFault::HeaderTwice { column },
             HeaderFault::Unknown { entry } => RunFault::HeaderUnknown { entry },
             HeaderFault::NoMemory => RunFault::NoMemory,
+        }
+    }
+}
+
+impl From<PlanFault> for RunFault {
+    ghost use Rattle.std.specs.Prelude.{◌≡◌};
+    ghost use Rattle.pipe_top.specs.Answer.{fault_of_plan};
+
+    ghost from_gives = { λ fault given. given ≡ fault_of_plan fault };
+
+    fn from(fault: PlanFault) -> RunFault {
+        match fault {
+            PlanFault::At { stage, rule } => RunFault::Plan { stage, rule },
+            PlanFault::NoMemory => RunFault::NoMemory,
+        }
+    }
+}
+
+impl From<DriveFault> for RunFault {
+    ghost use Rattle.std.specs.Prelude.{◌≡◌};
+    ghost use Rattle.pipe_top.specs.Answer.{fault_of_chain};
+
+    ghost from_gives = { λ fault given. given ≡ fault_of_chain fault };
+
+    fn from(fault: DriveFault) -> RunFault {
+        match fault {
+            DriveFault::Row(RowFault::Ragged { row, found }) => RunFault::Ragged { row, found },
+            DriveFault::Row(RowFault::Field { row, column }) => RunFault::Field { row, column },
+            DriveFault::NoMemory => RunFault::NoMemory,
         }
     }
 }

@@ -1,11 +1,12 @@
 //! The text of a fault of a run, of which its line on the sink of diagnostics and its `Display` are made.
-ghost use Rattle.std.specs.Prelude.{◌≡◌, ◌++◌, decimal};
-ghost use Rattle.pipe_top.specs.Told.{fault_text, rule_text};
+ghost use Rattle.std.specs.Prelude.{◌≡◌, ◌++◌, codes, decimal};
+ghost use Rattle.stage_model.specs.FaultTexts.{rule_text, stage_fault_text};
+ghost use Rattle.pipe_top.specs.Told.{entry_text, fault_text};
 ghost use Rattle.pipe_top.specs.SaidTexts.{digits_of, said_text};
 
 use crate::fault::RunFault;
 use itoa::Buffer;
-use stage_plan::TypesRule;
+use stage_plan::{PlanRule, StageFault, TypesRule};
 use std::fmt;
 use words::WordsFault;
 
@@ -70,7 +71,10 @@ pub(crate) fn said_of(fault: RunFault) -> Said
 {
     match fault {
         RunFault::Words(WordsFault::Refused) => plain("words refused"),
-        RunFault::Schema { entry, rule } => counted("schema entry ", entry, rule_text(rule)),
+        RunFault::Words(WordsFault::TooManyStages) => plain("words: more than 16 stages"),
+        RunFault::Stage { stage, rule } => counted("stage ", stage as u64, stage_text(rule)),
+        RunFault::Schema { entry, rule } => counted("schema entry ", entry, entry_text(rule)),
+        RunFault::Plan { stage, rule } => counted("stage ", stage as u64, rule_text(rule)),
         RunFault::NoHeader => plain("no header"),
         RunFault::TooManyColumns { count } => counted("header has ", count, " columns"),
         RunFault::HeaderText { column } => {
@@ -95,9 +99,35 @@ pub(crate) fn said_of(fault: RunFault) -> Said
     }
 }
 
+/// What is told of a fault of a stage text.
+fn stage_text(fault: StageFault) -> &'static str
+    ensures { result.now ≡ codes ": " ++ stage_fault_text fault }
+{
+    match fault {
+        StageFault::UnknownStage => ": unknown stage",
+        StageFault::BadArguments => ": bad arguments",
+        StageFault::NoMemory => ": out of memory",
+    }
+}
+
+/// What is told of a stage that doesn't fit the columns before it.
+fn rule_text(rule: PlanRule) -> &'static str
+    ensures { result.now ≡ codes ": " ++ rule_text rule }
+{
+    match rule {
+        PlanRule::NoColumn => ": no such column",
+        PlanRule::SameName => ": same name twice",
+        PlanRule::WrongType => ": wrong column type",
+        PlanRule::BadConstant => ": bad constant",
+        PlanRule::NestedOutput => ": nested column in the output",
+        PlanRule::NoColumns => ": no column left",
+        PlanRule::TooWide => ": too many columns",
+    }
+}
+
 /// What is told of a fault of an entry.
-fn rule_text(rule: TypesRule) -> &'static str
-    ensures { result.now ≡ rule_text rule }
+fn entry_text(rule: TypesRule) -> &'static str
+    ensures { result.now ≡ entry_text rule }
 {
     match rule {
         TypesRule::BadEntry => ": not a column type",

@@ -4,6 +4,7 @@ use crate::tests::expect_outcome;
 use std::alloc::Global;
 use std::process::Abort;
 use std::test::Fail;
+use std::thread::Threads;
 
 // Each row has the words, a field, and the text of the value that the field spells in the column's type.
 
@@ -314,8 +315,8 @@ fn table_with(alloc: Global, field: &[u8]) -> Result<Vec<u8>, Fail> {
 }
 
 /// Runs over each row's field.
-fn expect_fields(
-    rt: &impl Abort,
+fn expect_fields<R: Threads + Sync + Abort>(
+    rt: &R,
     alloc: Global,
     rows: &[(&str, &[u8], Option<&[u8]>)],
 ) -> Result<(), Fail> {

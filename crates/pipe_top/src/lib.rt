@@ -1,16 +1,18 @@
 //! The top call, [`run`]: from the words of the command and the bytes of a source to the text of a sink.
 //!
-//! It reads the source to its end, takes the records of the CSV text, puts the values of their fields into one chunk, a
-//! struct of array structures, under the schema of its columns, takes both in as a stranger's would be taken, reads the
-//! values back from there in place, and writes the text of the table. It promises that on success the sink got exactly
-//! the text that the definitions give (`specs/Answer.antt`), that each refusal has its cause, and that each structure and
-//! each hold that was made is given up again on every path.
+//! It reads the source to its end, reads the records of the CSV text as a stream of chunks, each a struct of array structures
+//! under the schema of its columns, hands them from stage to stage over Arrow streams, each chunk of which is checked as a
+//! stranger's would be and shown to a tap, reads the values of the last stream from where they stand, and writes the text of
+//! the table. It promises that on success the sink got exactly the text that the definitions give (`specs/Answer.antt`),
+//! which knows nothing of chunks, that each refusal has its cause, and that each structure and each hold that was made is
+//! given up again on every path.
 //!
-//! The words may ask for types by a schema text, and for the audit's line. Each fault has a line of its own, which goes to
-//! a sink of diagnostics (`specs/Told.antt`); no line takes memory, and a failed write there changes nothing else.
+//! The words may ask for types by a schema text, for stages, and for the audit's line. Each fault has a line of its own, which
+//! goes to a sink of diagnostics (`specs/Told.antt`); no line takes memory, and a failed write there changes nothing else.
 //!
-//! What CSV means stands in `csv_model`, the words in `words`, schema texts in `stage_plan`, fields, chunks and their text
-//! in `csv_read` and `csv_write`, the structures in `raw_schema` and `raw_array`, the sources and sinks in `edge_io`.
+//! What CSV means stands in `csv_model`, the words in `words`, what stages mean in `stage_model`, their texts in `stage_plan`,
+//! the source in `csv_source`, the chain of stages in `stage_chain`, the structures in `raw_schema` and `raw_array`, the sources
+//! and sinks in `edge_io`.
 #![tactic(auto)]
 
 ghost use Rattle.std.specs.Prelude.{◌≡◌, ◌∷◌, ◌++◌, [], codes};
@@ -22,14 +24,14 @@ mod asked;
 mod fault;
 mod fault_text;
 mod laws;
-mod schema;
-mod text;
 mod told;
 mod top;
 
 pub use fault::RunFault;
 pub use laws::one_answer;
-pub use stage_plan::TypesRule;
+pub use record_tap::{OwnedValue, RecordTap, SeenChunk};
+pub use stage_chain::{DriveFault, drive};
+pub use stage_plan::{PlanRule, StageFault, TypesRule};
 pub use top::{Outcome, run};
 pub use words::WordsFault;
 
@@ -48,5 +50,7 @@ pub fn worked_answers()
 
 #[cfg(test)]
 mod field_tests;
+#[cfg(test)]
+mod stage_tests;
 #[cfg(test)]
 mod tests;

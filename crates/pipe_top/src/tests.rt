@@ -2,33 +2,52 @@
 ghost use Rattle.std.specs.Prelude.{◌≤◌};
 
 use crate::told::tell;
-use crate::{RunFault, TypesRule, WordsFault, run};
-use edge_io::{CountSource, MemSink, MemSource};
+use crate::{PlanRule, RunFault, StageFault, TypesRule, WordsFault, run};
+use edge_io::{CountSource, MemSink, MemSource, OpenGate};
 use std::alloc::Global;
 use std::process::Abort;
 use std::test::Fail;
+use std::thread::Threads;
+use stream_face::NoTap;
 use unit_pass::Audit;
 
 /// A source of these bytes.
-fn source_of(alloc: Global, bytes: &[u8], step: usize, fails: &[u64]) -> Result<MemSource, Fail>
+pub(crate) fn source_of(
+    alloc: Global,
+    bytes: &[u8],
+    step: usize,
+    fails: &[u64],
+) -> Result<MemSource, Fail>
     requires { 1 ≤ step }
 {
     Ok(MemSource::new(bytes.to_vec(alloc)?, step, fails.to_vec(alloc)?))
 }
 
-/// A sink with room for a hundred bytes.
-fn sink_of(alloc: Global, step: usize, fails: &[u64]) -> Result<MemSink, Fail>
+/// A sink with room for so many bytes.
+pub(crate) fn sink_with_room(
+    alloc: Global,
+    room: usize,
+    step: usize,
+    fails: &[u64],
+) -> Result<MemSink, Fail>
     requires { 1 ≤ step }
 {
-    match MemSink::new(alloc, 100, step, fails.to_vec(alloc)?) {
+    match MemSink::new(alloc, room, step, fails.to_vec(alloc)?) {
         Ok(sink) => Ok(sink),
         Err(_) => Err(Fail::from("memory")),
     }
 }
 
+/// A sink with room for a hundred bytes.
+pub(crate) fn sink_of(alloc: Global, step: usize, fails: &[u64]) -> Result<MemSink, Fail>
+    requires { 1 ≤ step }
+{
+    sink_with_room(alloc, 100, step, fails)
+}
+
 /// Runs without words and without a failing call, and expects this text, made with so many blocks and nodes.
-fn expect_table(
-    rt: &impl Abort,
+fn expect_table<R: Threads + Sync + Abort>(
+    rt: &R,
     alloc: Global,
     bytes: &[u8],
     traffic: (u64, u64),
@@ -37,7 +56,16 @@ fn expect_table(
     let mut source = source_of(alloc, bytes, 7, &[])?;
     let mut sink = sink_of(alloc, 5, &[])?;
     let mut errs = sink_of(alloc, 5, &[])?;
-    let outcome = run(alloc, &[], &mut source, &mut sink, &mut errs);
+    let outcome = run(
+        rt,
+        alloc,
+        &[],
+        &mut source,
+        &mut sink,
+        &mut errs,
+        &mut NoTap,
+        &OpenGate,
+    );
     assert_eq!(rt; outcome.fault, None, "the fault of {bytes:?}");
     assert_eq!(rt; outcome.status, 0, "the status of {bytes:?}");
     assert_eq!(rt; sink.taken(), text, "the text of {bytes:?}");
@@ -47,8 +75,8 @@ fn expect_table(
 }
 
 /// Runs without words and without a failing call, and expects this fault of the header or of a record.
-fn expect_refusal(
-    rt: &impl Abort,
+fn expect_refusal<R: Threads + Sync + Abort>(
+    rt: &R,
     alloc: Global,
     bytes: &[u8],
     fault: RunFault,
@@ -56,7 +84,16 @@ fn expect_refusal(
     let mut source = source_of(alloc, bytes, 7, &[])?;
     let mut sink = sink_of(alloc, 5, &[])?;
     let mut errs = sink_of(alloc, 5, &[])?;
-    let outcome = run(alloc, &[], &mut source, &mut sink, &mut errs);
+    let outcome = run(
+        rt,
+        alloc,
+        &[],
+        &mut source,
+        &mut sink,
+        &mut errs,
+        &mut NoTap,
+        &OpenGate,
+    );
     assert_eq!(rt; outcome.fault, Some(fault), "the fault of {bytes:?}");
     assert_eq!(rt; outcome.status, 4, "the status of {bytes:?}");
     assert_eq!(rt; sink.taken().len(), 0, "the text of {bytes:?}");
@@ -102,7 +139,16 @@ fn write_fault_leaves_a_prefix(rt: HostRuntime) -> Result<(), Fail> {
     let mut source = source_of(alloc, b"a\n1\n2\n", 7, &[])?;
     let mut sink = sink_of(alloc, 4, &[2])?;
     let mut errs = sink_of(alloc, 4, &[])?;
-    let outcome = run(alloc, &[], &mut source, &mut sink, &mut errs);
+    let outcome = run(
+        &rt,
+        alloc,
+        &[],
+        &mut source,
+        &mut sink,
+        &mut errs,
+        &mut NoTap,
+        &OpenGate,
+    );
     assert_eq!(rt; outcome.status, 7);
     assert_eq!(rt; outcome.fault, Some(RunFault::WriteFault { taken: 4 }));
     assert_eq!(rt; outcome.audit.left, 0);
@@ -120,11 +166,29 @@ fn read_fault_and_refused_words_write_nothing(rt: HostRuntime) -> Result<(), Fai
     let mut source = source_of(alloc, b"a,b\n1,\n", 2, &[2])?;
     let mut sink = sink_of(alloc, 4, &[])?;
     let mut errs = sink_of(alloc, 4, &[])?;
-    let failed = run(alloc, &[], &mut source, &mut sink, &mut errs);
+    let failed = run(
+        &rt,
+        alloc,
+        &[],
+        &mut source,
+        &mut sink,
+        &mut errs,
+        &mut NoTap,
+        &OpenGate,
+    );
     assert_eq!(rt; failed.fault, Some(RunFault::ReadFault));
     assert_eq!(rt; failed.status, 6);
-    let words = vec![in alloc; String::from_str(alloc, "x")?]?;
-    let refused = run(alloc, &words, &mut source, &mut sink, &mut errs);
+    let words = vec![in alloc; String::from_str(alloc, "--x")?]?;
+    let refused = run(
+        &rt,
+        alloc,
+        &words,
+        &mut source,
+        &mut sink,
+        &mut errs,
+        &mut NoTap,
+        &OpenGate,
+    );
     assert_eq!(rt; refused.fault, Some(RunFault::Words(WordsFault::Refused)));
     assert_eq!(rt; refused.status, 2);
     assert_eq!(rt; sink.taken().len(), 0);
@@ -137,7 +201,16 @@ fn an_input_past_the_limit_is_too_long(rt: HostRuntime) -> Result<(), Fail> {
     let mut source = CountSource::new(1_073_741_825);
     let mut sink = sink_of(alloc, 4, &[])?;
     let mut errs = sink_of(alloc, 4, &[])?;
-    let outcome = run(alloc, &[], &mut source, &mut sink, &mut errs);
+    let outcome = run(
+        &rt,
+        alloc,
+        &[],
+        &mut source,
+        &mut sink,
+        &mut errs,
+        &mut NoTap,
+        &OpenGate,
+    );
     assert_eq!(rt; outcome.fault, Some(RunFault::InputTooLong));
     assert_eq!(rt; outcome.status, 5);
     assert_eq!(rt; sink.taken().len(), 0);
@@ -145,7 +218,7 @@ fn an_input_past_the_limit_is_too_long(rt: HostRuntime) -> Result<(), Fail> {
 }
 
 /// The words of a line, apart by blanks.
-fn words_of(alloc: Global, line: &str) -> Result<Vec<String>, Fail> {
+pub(crate) fn words_of(alloc: Global, line: &str) -> Result<Vec<String>, Fail> {
     let mut words = Vec::new(alloc);
     for word in line.split(' ') {
         words.push(String::from_str(alloc, word)?)?;
@@ -154,7 +227,8 @@ fn words_of(alloc: Global, line: &str) -> Result<Vec<String>, Fail> {
 }
 
 /// Runs with these words over a text, and answers the outcome's status and fault and what was told.
-fn run_words(
+fn run_words<R: Threads + Sync>(
+    rt: &R,
     alloc: Global,
     line: &str,
     bytes: &[u8],
@@ -164,7 +238,16 @@ fn run_words(
     let mut source = source_of(alloc, bytes, 7, &[])?;
     let mut sink = sink_of(alloc, 5, &[])?;
     let mut errs = sink_of(alloc, 5, fails)?;
-    let outcome = run(alloc, &words, &mut source, &mut sink, &mut errs);
+    let outcome = run(
+        rt,
+        alloc,
+        &words,
+        &mut source,
+        &mut sink,
+        &mut errs,
+        &mut NoTap,
+        &OpenGate,
+    );
     Ok((outcome.status, outcome.fault, errs))
 }
 
@@ -178,7 +261,7 @@ fn words_and_schema_texts_are_refused_by_their_rules(rt: HostRuntime) -> Result<
         ("--audit --schema a:l;a:i", 2, TypesRule::Twice),
     ];
     for (line, entry, rule) in cases {
-        let (status, fault, _errs) = run_words(rt.alloc(), line, b"a,b\n1,\n", &[])?;
+        let (status, fault, _errs) = run_words(&rt, rt.alloc(), line, b"a,b\n1,\n", &[])?;
         assert_eq!(rt;
             fault,
             Some(RunFault::Schema { entry, rule }),
@@ -186,7 +269,7 @@ fn words_and_schema_texts_are_refused_by_their_rules(rt: HostRuntime) -> Result<
         );
         assert_eq!(rt; status, 3, "the status of {line}");
     }
-    let (status, fault, _errs) = run_words(rt.alloc(), "--audit --batch", b"a\n", &[])?;
+    let (status, fault, _errs) = run_words(&rt, rt.alloc(), "--audit --batch", b"a\n", &[])?;
     assert_eq!(rt; fault, Some(RunFault::Words(WordsFault::Refused)));
     assert_eq!(rt; status, 2);
     Ok(())
@@ -203,10 +286,17 @@ fn a_table_of_thousands_of_rows_comes_back(rt: HostRuntime) -> Result<(), Fail> 
     let words = words_of(alloc, "--schema a:l")?;
     let mut source = source_of(alloc, &bytes, 4096, &[])?;
     let mut errs = sink_of(alloc, 5, &[])?;
-    let Ok(mut sink) = MemSink::new(alloc, 20_000, 4096, Vec::new(alloc)) else {
-        return Err(Fail::from("memory"));
-    };
-    let outcome = run(alloc, &words, &mut source, &mut sink, &mut errs);
+    let mut sink = sink_with_room(alloc, 20_000, 4096, &[])?;
+    let outcome = run(
+        &rt,
+        alloc,
+        &words,
+        &mut source,
+        &mut sink,
+        &mut errs,
+        &mut NoTap,
+        &OpenGate,
+    );
     assert_eq!(rt; outcome.status, 0);
     assert_eq!(rt; sink.taken(), bytes.as_slice());
     assert_eq!(rt; outcome.audit.left, 0);
@@ -230,18 +320,18 @@ fn wide_header(alloc: Global, columns: u32) -> Result<Vec<u8>, Fail> {
 fn headers_are_refused_for_width_and_for_entries_of_no_column(rt: HostRuntime) -> Result<(), Fail> {
     let alloc = rt.alloc();
     let wide = wide_header(alloc, 1024)?;
-    let (status, fault, _errs) = run_words(alloc, "--audit", &wide, &[])?;
+    let (status, fault, _errs) = run_words(&rt, alloc, "--audit", &wide, &[])?;
     assert_eq!(rt; fault, Some(RunFault::TooManyColumns { count: 1025 }));
     assert_eq!(rt; status, 4);
-    let (status, fault, _errs) = run_words(alloc, "--schema q:u", b"a,b\n1,\n", &[])?;
+    let (status, fault, _errs) = run_words(&rt, alloc, "--schema q:u", b"a,b\n1,\n", &[])?;
     assert_eq!(rt; fault, Some(RunFault::HeaderUnknown { entry: 1 }));
     assert_eq!(rt; status, 4);
     Ok(())
 }
 
 /// Runs with these words, and expects this fault and this text.
-pub(crate) fn expect_outcome(
-    rt: &impl Abort,
+pub(crate) fn expect_outcome<R: Threads + Sync + Abort>(
+    rt: &R,
     alloc: Global,
     line: &str,
     bytes: &[u8],
@@ -252,7 +342,16 @@ pub(crate) fn expect_outcome(
     let mut source = source_of(alloc, bytes, 7, &[])?;
     let mut sink = sink_of(alloc, 5, &[])?;
     let mut errs = sink_of(alloc, 5, &[])?;
-    let outcome = run(alloc, &words, &mut source, &mut sink, &mut errs);
+    let outcome = run(
+        rt,
+        alloc,
+        &words,
+        &mut source,
+        &mut sink,
+        &mut errs,
+        &mut NoTap,
+        &OpenGate,
+    );
     assert_eq!(rt; outcome.fault, fault, "the fault of {line} over {bytes:?}");
     assert_eq!(rt; sink.taken(), text, "the text of {line} over {bytes:?}");
     assert_eq!(rt;
@@ -264,8 +363,8 @@ pub(crate) fn expect_outcome(
 }
 
 /// Runs with these words, and expects this text, made with so many blocks and nodes.
-fn expect_typed(
-    rt: &impl Abort,
+fn expect_typed<R: Threads + Sync + Abort>(
+    rt: &R,
     alloc: Global,
     line: &str,
     bytes: &[u8],
@@ -276,7 +375,16 @@ fn expect_typed(
     let mut source = source_of(alloc, bytes, 7, &[])?;
     let mut sink = sink_of(alloc, 5, &[])?;
     let mut errs = sink_of(alloc, 5, &[])?;
-    let outcome = run(alloc, &words, &mut source, &mut sink, &mut errs);
+    let outcome = run(
+        rt,
+        alloc,
+        &words,
+        &mut source,
+        &mut sink,
+        &mut errs,
+        &mut NoTap,
+        &OpenGate,
+    );
     assert_eq!(rt; outcome.fault, None, "the fault of {line} over {bytes:?}");
     assert_eq!(rt; sink.taken(), text, "the text of {line} over {bytes:?}");
     let made = (outcome.audit.blocks, outcome.audit.nodes);
@@ -392,7 +500,7 @@ fn fault_and_audit_are_told_line_by_line(rt: HostRuntime) -> Result<(), Fail> {
         ("--audit", b"", &[1], 4, b""),
     ];
     for (line, bytes, fails, expected, told) in cases {
-        let (status, _fault, errs) = run_words(rt.alloc(), line, bytes, fails)?;
+        let (status, _fault, errs) = run_words(&rt, rt.alloc(), line, bytes, fails)?;
         assert_eq!(rt; status, expected, "the status of {line} over {bytes:?}");
         assert_eq!(rt; errs.taken(), told, "what is told of {line} over {bytes:?}");
     }
@@ -401,10 +509,84 @@ fn fault_and_audit_are_told_line_by_line(rt: HostRuntime) -> Result<(), Fail> {
 
 #[test]
 fn each_fault_has_its_line(rt: HostRuntime) -> Result<(), Fail> {
-    let cases: [(RunFault, &[u8]); 14] = [
+    let cases: [(RunFault, &[u8]); 25] = [
         (
             RunFault::Words(WordsFault::Refused),
             b"arrowpipe: words refused\n",
+        ),
+        (
+            RunFault::Words(WordsFault::TooManyStages),
+            b"arrowpipe: words: more than 16 stages\n",
+        ),
+        (
+            RunFault::Stage {
+                stage: 1,
+                rule: StageFault::UnknownStage,
+            },
+            b"arrowpipe: stage 1: unknown stage\n",
+        ),
+        (
+            RunFault::Stage {
+                stage: 16,
+                rule: StageFault::BadArguments,
+            },
+            b"arrowpipe: stage 16: bad arguments\n",
+        ),
+        (
+            RunFault::Stage {
+                stage: 2,
+                rule: StageFault::NoMemory,
+            },
+            b"arrowpipe: stage 2: out of memory\n",
+        ),
+        (
+            RunFault::Plan {
+                stage: 1,
+                rule: PlanRule::NoColumn,
+            },
+            b"arrowpipe: stage 1: no such column\n",
+        ),
+        (
+            RunFault::Plan {
+                stage: 2,
+                rule: PlanRule::SameName,
+            },
+            b"arrowpipe: stage 2: same name twice\n",
+        ),
+        (
+            RunFault::Plan {
+                stage: 3,
+                rule: PlanRule::WrongType,
+            },
+            b"arrowpipe: stage 3: wrong column type\n",
+        ),
+        (
+            RunFault::Plan {
+                stage: 4,
+                rule: PlanRule::BadConstant,
+            },
+            b"arrowpipe: stage 4: bad constant\n",
+        ),
+        (
+            RunFault::Plan {
+                stage: 17,
+                rule: PlanRule::NestedOutput,
+            },
+            b"arrowpipe: stage 17: nested column in the output\n",
+        ),
+        (
+            RunFault::Plan {
+                stage: 5,
+                rule: PlanRule::NoColumns,
+            },
+            b"arrowpipe: stage 5: no column left\n",
+        ),
+        (
+            RunFault::Plan {
+                stage: 6,
+                rule: PlanRule::TooWide,
+            },
+            b"arrowpipe: stage 6: too many columns\n",
         ),
         (
             RunFault::Schema {

@@ -1,25 +1,31 @@
 //! The top call.
-ghost use Rattle.std.specs.Prelude.{◌≡◌, ◌<◌, ◌≤◌, ◌⊎◌, ◌++◌, true, false, All, Some, None, Ok, Err, IfOk, IfErr, IfSome, OnOk, OnErr, length, ℕ, List};
+ghost use Rattle.std.specs.Prelude.{◌≡◌, ◌<◌, ◌≤◌, ◌*◌, ◌⊎◌, ◌++◌, true, false, All, Some, None, Ok, Err, IfOk, IfErr, IfSome, OnOk, OnErr, length, ℕ, List};
+ghost use Rattle.std.specs.List.{AllByRecursion};
+ghost use Rattle.std.specs.Thread.{IsSync};
 ghost use Rattle.std.specs.Io.KnownBytes.{IsAtEnd, Keeps};
 ghost use Rattle.field_codec.specs.TextColumns.{IsAllowed};
 ghost use Rattle.fmt_string.specs.Kinds.{KindOk};
 ghost use Rattle.edge_io.specs.Edge.{LosesPrefix, Rose};
-ghost use Rattle.unit_pass.specs.declared.pass.TheConstants.{CHUNK};
+ghost use Rattle.unit_pass.specs.declared.pass.TheConstants.{ROOM};
 ghost use Rattle.words.specs.Words.{texts_of, words_of};
 ghost use Rattle.pipe_top.specs.Answer.{Asks, Fault, IsAnswer, IsAnswerTo, IsInput, Text, answer_to, input_limit, status_of};
 ghost use Rattle.pipe_top.specs.Outcomes.{AtWriteFault, GotFirst, GotText, asked_of, fault_in, is_decided, is_early, is_write_fault, request_of, wants_audit};
+ghost use Rattle.stage_chain.specs.Chains.{link_shows};
+ghost use Rattle.stage_chain.specs.Runs.{ShowsAll, ShowsSome};
+ghost use Rattle.pipe_top.specs.Stages.{IsNamed};
 ghost use Rattle.pipe_top.specs.Told.{Told, audit_if};
-ghost use Rattle.pipe_top.specs.Traffic.{IsTraffic, RequestTraffic};
+ghost use Rattle.pipe_top.specs.Traffic.{IsShown, IsShownInPart, IsTraffic, LinksTraffic, links_asked};
 ghost use Rattle.pipe_top.specs.declared.fault.RunFault.{RunFault as AFault};
 
 use crate::answer::answer_input;
 use crate::asked::{Asked, Request, read_asked};
 use crate::fault::RunFault;
 use crate::told::tell;
-use edge_io::{ReadFault, Sink, Source, WriteFault, read_all, write_all};
+use edge_io::{Gate, ReadFault, Sink, Source, WriteFault, read_all, write_all};
 use std::alloc::Global;
-use unit_pass::{Audit, Pass, open_desk};
-use words::WordsFault;
+use std::thread::Threads;
+use stream_face::Tap;
+use unit_pass::{Audit, Pass, ROOM, open_desk};
 
 /// The most bytes that are read.
 const INPUT_LIMIT: u64 = 1 << 30;
@@ -27,32 +33,41 @@ const INPUT_LIMIT: u64 = 1 << 30;
 /// What a run came to.
 #[derive(Clone, Copy, PartialEq, Eq, Debug)]
 pub struct Outcome {
-    /// A function of the fault: 0 without one; 2 for the words, 3 for the schema text, 4 for the header and the records,
-    /// 5 for an input that is too long, 6 and 7 for reading and writing, 9 for want of memory.
+    /// A function of the fault: 0 without one; 2 for the words, 3 for the stages and the schema text, 4 for the header and the
+    /// records, 5 for an input that is too long, 6 and 7 for reading and writing, 9 for want of memory.
     pub status: u8,
     pub fault: Option<RunFault>,
     /// The blocks and nodes that were made, and that none is left.
     pub audit: Audit,
 }
 
-/// Reads the source to its end and writes the text of the table that it spells.
+/// Reads the source to its end and writes the text of the table that the stages make of the table that it spells.
 ///
-/// `words` are those after the program's name: `[--schema TEXT] [--audit] [--null MARK]`. A column holds values of the type
-/// that the schema text asks for, and UTF-8 text where it asks for none; a field that equals the mark is a null, by default
-/// the empty one, and a null is written as the mark. The header's names are UTF-8 and
-/// differ, there are at most 1,024 of them, and each entry of the schema text names one of them.
+/// `words` are those after the program's name: `[--schema TEXT] [--batch N] [--audit] [--null MARK] [STAGE ...]`. A column
+/// holds values of the type that the schema text asks for, and UTF-8 text where it asks for none; a field that equals the
+/// mark is a null, by default the empty one, and a null is written as the mark. The header's names are UTF-8 and differ,
+/// there are at most 1,024 of them, and each entry of the schema text names one of them. There are at most 16 stages, each
+/// over the chunks of the one before it; the rows are read in chunks of at most `N` of them, 1,024 by default.
 ///
-/// The first of these faults is told: of the words, of the schema text, of reading, of the header, of the records.
+/// The first of these faults is told: of the words, of the stage texts, of the schema text, of reading, of the header, of the
+/// stages over its columns, of the records.
+///
+/// Each chunk that passes from the source or from a stage is checked and then shown to the tap: link 0 is the source's, link
+/// K that of stage K ("The Arrow C Stream Interface").
 ///
 /// To `errs` goes the line `arrowpipe: TEXT` of the fault, and then, with `--audit`, the line
 /// `audit blocks=B nodes=N left=0`.
-pub fn run<S: Source, K: Sink, E: Sink>(
+pub fn run<R: Threads + Sync, S: Source, K: Sink, E: Sink, T: Tap>(
+    rt: &R,
     alloc: Global,
     words: &[String],
     source: &mut S,
     sink: &mut K,
     errs: &mut E,
+    tap: &mut T,
+    gate: &(dyn Gate + Sync),
 ) -> Outcome
+    requires shared { IsSync R.row }
     // Success: the answer is a text, all of it is in the sink, and the source was read to its end.
     ensures text { result.fault ≡ None → (bytes : List ℕ) → IsInput (texts_of words.now) (S.left source.old) bytes
         → GotText (IsAnswer (texts_of words.now) bytes) (K.taken sink.old) (K.taken sink.new) }
@@ -60,7 +75,7 @@ pub fn run<S: Source, K: Sink, E: Sink>(
     // A fault of the words or of the input is exactly the answer's.
     ensures refused { IfSome result.fault (λ fault. is_decided fault ≡ true → (bytes : List ℕ) → IsInput (texts_of words.now) (S.left source.old) bytes
         → IsAnswer (texts_of words.now) bytes (Fault fault)) }
-    // The words and the schema text are refused exactly where they are at fault, whatever the source tells, which is then
+    // The words and the texts among them are refused exactly where they are at fault, whatever the source tells, which is then
     // as before.
     ensures refused_early { (fault : AFault) → Asks (texts_of words.now) (Err fault) → (result.fault ≡ Some fault) ⊎ (result.fault ≡ Some RunFault.NoMemory) }
     ensures refused_early_only { IfSome result.fault (λ fault. is_early fault ≡ true → Asks (texts_of words.now) (Err fault)) }
@@ -78,7 +93,13 @@ pub fn run<S: Source, K: Sink, E: Sink>(
     // The status is a function of the fault, and the source has lost a prefix.
     ensures status { result.status ≡ status_of result.fault }
     ensures prefix { LosesPrefix (S.left source.old) (S.left source.new) }
-    // Nothing is left, and on success as many blocks and nodes were made as the table needs.
+    // On success the tap was shown each chunk of each link, once and in order; else the first ones of each, and nothing where
+    // there are no links.
+    ensures shows { result.fault ≡ None → (bytes : List ℕ) → IsInput (texts_of words.now) (S.left source.old) bytes
+        → IsShown (texts_of words.now) bytes (T.seen tap.old) (T.seen tap.new) }
+    ensures shows_some { IfSome result.fault (λ _. (bytes : List ℕ) → IsInput (texts_of words.now) (S.left source.old) bytes
+        → IsShownInPart (texts_of words.now) bytes (T.seen tap.old) (T.seen tap.new)) }
+    // Nothing is left, and on success as many blocks and nodes were made as the links need.
     ensures audit { result.audit.left ≡ 0 }
     ensures audit_counts { result.fault ≡ None → (bytes : List ℕ) → IsInput (texts_of words.now) (S.left source.old) bytes
         → IsTraffic (texts_of words.now) bytes result.audit.blocks result.audit.nodes }
@@ -98,7 +119,7 @@ pub fn run<S: Source, K: Sink, E: Sink>(
         audit: wanted,
         request,
     } = read_asked(alloc, words);
-    let carried = carry_out(alloc, request, source, sink, &mut pass);
+    let carried = carry_out(rt, alloc, request, source, sink, &mut pass, tap, gate);
     let audit = desk.close(pass);
     let outcome = outcome_of(carried, audit);
     let _told = tell(errs, outcome.fault, &outcome.audit, wanted);
@@ -130,8 +151,10 @@ fn status(fault: RunFault) -> u8
     ensures { result ≡ status_of (Some fault) }
 {
     match fault {
-        RunFault::Words(WordsFault::Refused) => 2,
+        RunFault::Words(_) => 2,
+        RunFault::Stage { stage: _, rule: _ } => 3,
         RunFault::Schema { entry: _, rule: _ } => 3,
+        RunFault::Plan { stage: _, rule: _ } => 3,
         RunFault::NoHeader => 4,
         RunFault::TooManyColumns { count: _ } => 4,
         RunFault::HeaderText { column: _ } => 4,
@@ -165,16 +188,23 @@ fn read_input<S: Source>(alloc: Global, source: &mut S) -> Result<Vec<u8>, RunFa
 }
 
 /// Reads the source, makes the text and writes it, where the words are taken.
-fn carry_out<S: Source, K: Sink>(
+fn carry_out<R: Threads + Sync, S: Source, K: Sink, T: Tap>(
+    rt: &R,
     alloc: Global,
     request: Result<Request, RunFault>,
     source: &mut S,
     sink: &mut K,
     pass: &mut Pass,
+    tap: &mut T,
+    gate: &(dyn Gate + Sync),
 ) -> Result<(), RunFault>
-    requires units { CHUNK ≤ pass.old.units }
+    requires shared { IsSync R.row }
+    requires units { 2 * ROOM ≤ pass.old.units }
     requires proper { IfOk request (λ r. All (λ e. KindOk e.kind) r.entries.items) }
     requires allowed { IfOk request (λ r. All (λ e. IsAllowed e.kind) r.entries.items) }
+    requires named { IfOk request (λ r. AllByRecursion IsNamed r.stages.items) }
+    requires few { IfOk request (λ r. length r.stages.items ≤ 16) }
+    requires batch { IfOk request (λ r. (1 ≤ r.batch) × (r.batch ≤ 1000000)) }
     requires early { IfErr request (λ fault. (is_early fault ≡ true) ⊎ (fault ≡ RunFault.NoMemory)) }
     ensures text { OnOk result (IfSome (S.left source.old) (λ bytes. GotText (IsAnswerTo (asked_of request) bytes) (K.taken sink.old) (K.taken sink.new))) }
     ensures text_read_to_end { OnOk result (IsAtEnd (S.left source.new)) }
@@ -191,17 +221,15 @@ fn carry_out<S: Source, K: Sink>(
     ensures prefix { LosesPrefix (S.left source.old) (S.left source.new) }
     ensures units { pass.new.units ≡ pass.old.units }
     ensures counts { OnOk result (IfSome (S.left source.old)
-        (λ bytes. IfOk request (λ r. RequestTraffic (request_of r) bytes pass.old.blocks pass.old.nodes pass.new.blocks pass.new.nodes))) }
+        (λ bytes. LinksTraffic (links_asked (asked_of request) bytes) pass.old.blocks pass.old.nodes pass.new.blocks pass.new.nodes)) }
+    ensures shows { OnOk result (IfSome (S.left source.old) (λ bytes. ShowsAll (link_shows (links_asked (asked_of request) bytes)) (T.seen tap.old)
+        (T.seen tap.new))) }
+    ensures shows_some { OnErr result (IfSome (S.left source.old)
+        (λ bytes. ShowsSome (link_shows (links_asked (asked_of request) bytes)) (T.seen tap.old) (T.seen tap.new))) }
 {
     let request = request?;
     let bytes = read_input(alloc, source)?;
-    let text = answer_input(
-        alloc,
-        &bytes,
-        &request.entries,
-        request.mark.as_slice(),
-        pass,
-    )?;
+    let text = answer_input(rt, alloc, &bytes, &request, pass, tap, gate)?;
     match write_all(sink, &text) {
         Ok(()) => Ok(()),
         Err(WriteFault::Failed { taken }) => Err(RunFault::WriteFault { taken }),

@@ -1,4 +1,5 @@
 pub mod Rows
+pub mod Numbers
 pub mod Taken
 pub mod Worked
 pub mod Taking

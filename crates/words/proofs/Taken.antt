@@ -4,7 +4,8 @@ use Rattle.clap.specs.Words.{App, FailsBy, HasMatchesOf, Text, fault_of, found_o
 use Rattle.clap.specs.declared.error.Error.{Error}
 use Rattle.clap.specs.declared.error.kind.ErrorKind.TheVariants.{OutOfMemory}
 use Rattle.clap.specs.declared.parser.matches.ArgMatches.{ArgMatches}
-use Rattle.words.specs.Words.{ErrorOf, Explains, arrowpipe, options_in, words_of}
+use Rattle.words.specs.Words.{ErrorOf, Explains, Options, arrowpipe, given_in, options_if, options_of, words_of}
+use Rattle.words.specs.declared.Words.{Words}
 use Rattle.words.specs.declared.WordsFault.{WordsFault}
 use Rattle.words.specs.declared.WordsFault.TheVariants.{Refused}
 use Rattle.words.specs.declared.WordsError.{WordsError}
@@ -20,7 +21,7 @@ is_free_command = refl
 -- matches are those of words that are taken
 pub taken_words : (a : App) (ws : List Text) (r : Result ArgMatches Error) (m : ArgMatches) → a ≡ arrowpipe → r ≡ Ok m
     → (is_simple_and_free a ≡ true → FailsBy (fault_of a ws) r) → IfOk r (HasMatchesOf a ws)
-    → words_of ws ≡ Ok (options_in (rows_of (found_of m)))
+    → words_of ws ≡ options_if (given_in (rows_of (found_of m)))
 unfolding words_of
 taken_words a ws r m is ok fails has =
     let promised : FailsBy (fault_of a ws) (Ok m) = subst (FailsBy (fault_of a ws)) ok (fails (ap is_simple_and_free is ∙ is_free_command)) in
@@ -39,7 +40,16 @@ refused_words a ws r e x is err passes from =
     (ap (λ (y : App). takes y ws) is ∙ takes_words))
   where
     go : (x : WordsError) → ErrorOf (kind_of e) x → (b : Bool) → (b ≡ true → kind_of e ≡ OutOfMemory)
-        → Explains (cond b (Ok (options_in (matches_of arrowpipe ws))) (Err Refused)) x
+        → Explains (cond b (options_if (given_in (matches_of arrowpipe ws))) (Err Refused)) x
     go error.NoMemory from b memory = tt
     go (error.Words fault) from true memory = absurd (from.0 (memory refl))
     go (error.Words fault) from false memory = ap (λ (f : WordsFault). Err f) (sym from.1)
+
+-- what the words mean is what their matches ask for
+pub asked_options : (means asked : Result Options WordsFault) (r : Result Words WordsError) → means ≡ asked → IfOk r (λ w. asked ≡ Ok (options_of w))
+    → IfOk r (λ w. means ≡ Ok (options_of w))
+asked_options means asked (Ok w) is e = is ∙ e
+asked_options means asked (Err x) is e = tt
+
+pub asked_errs : (means asked : Result Options WordsFault) (r : Result Words WordsError) → means ≡ asked → IfErr r (Explains asked) → IfErr r (Explains means)
+asked_errs means asked r is e = subst (λ (m : Result Options WordsFault). IfErr r (Explains m)) (sym is) e

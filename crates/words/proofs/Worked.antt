@@ -1,17 +1,18 @@
 -- Worked words.
-use Rattle.std.proofs.Common.{◌≡◌, true, false, refl, codes, [], ◌∷◌, Some, None, Ok, Err}
+use Rattle.std.proofs.Common.{◌≡◌, true, false, refl, codes, replicate, List, [], ◌∷◌, Some, None, Ok, Err}
+use Rattle.clap.specs.Words.{Text}
 use Rattle.clap.proofs.OnLiterals.{clap_on_literals}
 use Rattle.words.specs.Words.{Options, words_of}
-use Rattle.words.specs.declared.WordsFault.TheVariants.{Refused}
+use Rattle.words.specs.declared.WordsFault.TheVariants.{Refused, TooManyStages}
 
 abbrev plain : Options
-plain = record { schema = None; audit = false; null = None }
+plain = record { schema = None; batch = 1024; audit = false; null = None; stages = [] }
 
 none_is : words_of [] ≡ Ok plain
 unfolding words_of clap_on_literals
 none_is = refl
 
--- behind `--` stand no options, and there is nothing
+-- `--` is no stage itself
 dashes_is : words_of (codes "--" ∷ []) ≡ Ok plain
 unfolding words_of clap_on_literals
 dashes_is = refl
@@ -64,10 +65,6 @@ flag_value_is : words_of (codes "--audit=true" ∷ []) ≡ Err Refused
 unfolding words_of clap_on_literals
 flag_value_is = refl
 
-after_dashes_is : words_of (codes "--" ∷ codes "--audit" ∷ []) ≡ Err Refused
-unfolding words_of clap_on_literals
-after_dashes_is = refl
-
 null_is : words_of (codes "--null" ∷ codes "NA" ∷ []) ≡ Ok (record plain { null = Some (codes "NA") })
 unfolding words_of clap_on_literals
 null_is = refl
@@ -88,20 +85,83 @@ repeated_null_is : words_of (codes "--null" ∷ codes "a" ∷ codes "--null" ∷
 unfolding words_of clap_on_literals
 repeated_null_is = refl
 
--- the command has no stages, and no option but these three
-stage_is : words_of (codes "select=a" ∷ []) ≡ Err Refused
-unfolding words_of clap_on_literals
-stage_is = refl
-
-batch_is : words_of (codes "--batch" ∷ codes "2" ∷ []) ≡ Err Refused
+batch_is : words_of (codes "--batch" ∷ codes "2" ∷ []) ≡ Ok (record plain { batch = 2 })
 unfolding words_of clap_on_literals
 batch_is = refl
 
-empty_word_is : words_of ([] ∷ []) ≡ Err Refused
+most_batch_is : words_of (codes "--batch=1000000" ∷ []) ≡ Ok (record plain { batch = 1000000 })
+unfolding words_of clap_on_literals
+most_batch_is = refl
+
+past_batch_is : words_of (codes "--batch=1000001" ∷ []) ≡ Err Refused
+unfolding words_of clap_on_literals
+past_batch_is = refl
+
+no_batch_is : words_of (codes "--batch=0" ∷ []) ≡ Err Refused
+unfolding words_of clap_on_literals
+no_batch_is = refl
+
+zero_first_is : words_of (codes "--batch=01" ∷ []) ≡ Err Refused
+unfolding words_of clap_on_literals
+zero_first_is = refl
+
+plus_first_is : words_of (codes "--batch=+1" ∷ []) ≡ Err Refused
+unfolding words_of clap_on_literals
+plus_first_is = refl
+
+minus_first_is : words_of (codes "--batch=-1" ∷ []) ≡ Err Refused
+unfolding words_of clap_on_literals
+minus_first_is = refl
+
+other_last_is : words_of (codes "--batch=1x" ∷ []) ≡ Err Refused
+unfolding words_of clap_on_literals
+other_last_is = refl
+
+empty_batch_is : words_of (codes "--batch=" ∷ []) ≡ Err Refused
+unfolding words_of clap_on_literals
+empty_batch_is = refl
+
+repeated_batch_is : words_of (codes "--batch" ∷ codes "1" ∷ codes "--batch" ∷ codes "1" ∷ []) ≡ Err Refused
+unfolding words_of clap_on_literals
+repeated_batch_is = refl
+
+stage_is : words_of (codes "select=a" ∷ []) ≡ Ok (record plain { stages = codes "select=a" ∷ [] })
+unfolding words_of clap_on_literals
+stage_is = refl
+
+-- stages stand before, between and behind options
+among_is : words_of (codes "a" ∷ codes "--audit" ∷ codes "b" ∷ codes "--batch" ∷ codes "7" ∷ codes "a" ∷ [])
+    ≡ Ok (record plain { batch = 7; audit = true; stages = codes "a" ∷ codes "b" ∷ codes "a" ∷ [] })
+unfolding words_of clap_on_literals
+among_is = refl
+
+-- behind `--` each word is a stage
+dashes_stage_is : words_of (codes "a" ∷ codes "--" ∷ codes "--audit" ∷ codes "--" ∷ [])
+    ≡ Ok (record plain { stages = codes "a" ∷ codes "--audit" ∷ codes "--" ∷ [] })
+unfolding words_of clap_on_literals
+dashes_stage_is = refl
+
+abbrev sixteen : List Text
+sixteen = replicate 16 (codes "a")
+
+sixteen_is : words_of sixteen ≡ Ok (record plain { stages = sixteen })
+unfolding words_of clap_on_literals
+sixteen_is = refl
+
+seventeen_is : words_of (codes "a" ∷ sixteen) ≡ Err TooManyStages
+unfolding words_of clap_on_literals
+seventeen_is = refl
+
+-- a number that is none comes before too many stages
+both_faults_is : words_of (codes "a" ∷ codes "--batch=0" ∷ sixteen) ≡ Err Refused
+unfolding words_of clap_on_literals
+both_faults_is = refl
+
+empty_word_is : words_of ([] ∷ []) ≡ Ok (record plain { stages = [] ∷ [] })
 unfolding words_of clap_on_literals
 empty_word_is = refl
 
-hyphen_word_is : words_of (codes "-" ∷ []) ≡ Err Refused
+hyphen_word_is : words_of (codes "-" ∷ []) ≡ Ok (record plain { stages = codes "-" ∷ [] })
 unfolding words_of clap_on_literals
 hyphen_word_is = refl
 

@@ -1,17 +1,19 @@
--- What the words of the command line mean: the matches that `clap` promises for a simple command, or a refusal.
-use Rattle.std.specs.Prelude.{◌≡◌, ◌≢◌, ⊤, Bool, true, false, List, [], map, Option, Some, option_map, Result, Ok, Err, if◌then◌else◌, codes, String}
-use Rattle.std.specs.Prelude.{string_bytes}
+-- What the words of the command line mean: the matches that `clap` promises for a simple command and the rules on them, or a refusal.
+use Rattle.std.specs.Prelude.{◌≡◌, ◌≢◌, ⊤, ◌==◌, ◌&&◌, ◌||◌, ℕ, nat_le, nat_lt, not, Bool, true, false, List, [], ◌∷◌, length, map, Option, None, Some}
+use Rattle.std.specs.Prelude.{option_map, Result, Ok, Err, if◌then◌else◌, codes, String, string_bytes}
 use Rattle.std.specs.Option.{option_map_or, unwrap_or}
-use Rattle.std.specs.Str.{bytes_eq}
+use Rattle.std.specs.Char.{is_ascii_digit}
+use Rattle.std.specs.Str.{all_ascii_digits, bytes_eq}
+use Rattle.std.specs.Str.Parse.{digits_value}
 use Rattle.std.specs.declared.alloc.Global.{Global}
-use Rattle.clap.specs.Words.{App, Row, Rule, Text, first_of, matches_of, new_app, new_rule, takes, with_rule}
+use Rattle.clap.specs.Words.{App, Row, Rule, Text, all_of, first_of, matches_of, new_app, new_rule, takes, with_rule}
 use Rattle.clap.specs.Simple.{on_top}
-use Rattle.clap.specs.declared.builder.action.ArgAction.TheVariants.{SetTrue}
+use Rattle.clap.specs.declared.builder.action.ArgAction.TheVariants.{Append, SetTrue}
 use Rattle.clap.specs.declared.error.kind.ErrorKind.{ErrorKind}
 use Rattle.clap.specs.declared.error.kind.ErrorKind.TheVariants.{OutOfMemory}
 use Rattle.words.specs.declared.Words.{Words}
 use Rattle.words.specs.declared.WordsFault.{WordsFault}
-use Rattle.words.specs.declared.WordsFault.TheVariants.{Refused}
+use Rattle.words.specs.declared.WordsFault.TheVariants.{Refused, TooManyStages}
 use Rattle.words.specs.declared.WordsError.{WordsError}
 use Rattle.words.specs.declared.WordsError.TheVariants as error
 
@@ -25,42 +27,129 @@ text_rule name = record (new_rule name) { long = Some name }
 abbrev pub flag_rule : Text → Rule
 flag_rule name = record (text_rule name) { action = Some SetTrue }
 
+-- words that stand alone, any number of them
+abbrev pub words_rule : Text → Rule
+words_rule name = record (new_rule name) { action = Some Append }
+
 -- the words stand after the program's name, and there is no help flag
 abbrev pub bare_command : App
 bare_command = on_top (λ s. record s { no_binary_name = true; disable_help_flag = true }) (new_app (codes "arrowpipe"))
 
-abbrev pub arrowpipe : App
-arrowpipe = with_rule (with_rule (with_rule bare_command (text_rule (codes "schema"))) (flag_rule (codes "audit"))) (text_rule (codes "null"))
+abbrev pub with_rules : App → List Rule → App
+with_rules command [] = command
+with_rules command (rule ∷ rules) = with_rules (with_rule command rule) rules
 
--- ---- what its matches mean
+abbrev pub arrowpipe : App
+arrowpipe =
+    with_rules bare_command
+    (text_rule (codes "schema") ∷
+    text_rule (codes "batch") ∷
+    flag_rule (codes "audit") ∷
+    text_rule (codes "null") ∷
+    words_rule (codes "stage") ∷
+    [])
+
+-- ---- what its matches hold
+
+-- the texts of the options, and the words that stand alone
+pub record Given : Type 0 where
+  pub schema : Option Text
+  pub batch : Option Text
+  pub audit : Bool
+  pub null : Option Text
+  pub stages : List Text
+
+abbrev pub flag_in : Text → List Row → Bool
+flag_in id rows = option_map_or (λ text. bytes_eq text (codes "true")) (first_of id rows) false
+
+abbrev pub texts_in : Text → List Row → List Text
+texts_in id rows = unwrap_or (all_of id rows) []
+
+abbrev pub given_in : List Row → Given
+given_in rows = record {
+  schema = first_of (codes "schema") rows;
+  batch = first_of (codes "batch") rows;
+  audit = flag_in (codes "audit") rows;
+  null = first_of (codes "null") rows;
+  stages = texts_in (codes "stage") rows;
+}
+
+-- ---- numbers
+
+-- a digit stands first, which is `0` only where it stands alone
+abbrev pub begins_number : Text → Bool
+begins_number [] = false
+begins_number (c ∷ cs) = is_ascii_digit c && (not (c == 48) || (length cs == 0))
+
+-- decimal digits without sign or leading zero
+abbrev pub is_number : Text → Bool
+is_number text = begins_number text && all_ascii_digits text
+
+-- the number, where it lies between these two
+abbrev pub number_between : ℕ → ℕ → Text → Option ℕ
+number_between least most text =
+    if is_number text && (nat_le least (digits_value 10 text) && nat_le (digits_value 10 text) most) then Some (digits_value 10 text) else None
+
+-- ---- what is asked for
 
 pub record Options : Type 0 where
   -- the text of `--schema`
   pub schema : Option Text
+  -- how many records a chunk has at most
+  pub batch : ℕ
   pub audit : Bool
   -- the text of `--null`
   pub null : Option Text
+  -- the texts of the stages, in order
+  pub stages : List Text
 
 -- the mark for null: the text of `--null`, and the empty text without it
 abbrev pub mark_of : Options → Text
 mark_of options = unwrap_or options.null []
 
-abbrev pub flag_in : Text → List Row → Bool
-flag_in id rows = option_map_or (λ text. bytes_eq text (codes "true")) (first_of id rows) false
+abbrev pub default_batch : ℕ
+default_batch = 1024
 
-abbrev pub options_in : List Row → Options
-options_in rows = record { schema = first_of (codes "schema") rows; audit = flag_in (codes "audit") rows; null = first_of (codes "null") rows }
+abbrev pub most_batch : ℕ
+most_batch = 1000000
+
+abbrev pub most_stages : ℕ
+most_stages = 16
+
+-- the number of `--batch`, where it is one
+abbrev pub batch_if : Option Text → Option ℕ
+batch_if None = Some default_batch
+batch_if (Some text) = number_between 1 most_batch text
+
+-- no more stages than may be
+abbrev pub few_stages : Options → Result Options WordsFault
+few_stages options = if nat_lt most_stages (length options.stages) then Err TooManyStages else Ok options
+
+abbrev pub with_batch : Given → Option ℕ → Result Options WordsFault
+with_batch given None = Err Refused
+with_batch given (Some batch) =
+    few_stages (record { schema = given.schema; batch = batch; audit = given.audit; null = given.null; stages = given.stages })
+
+-- the options, or why there are none: a number that is none is refused before stages are counted
+abbrev pub options_if : Given → Result Options WordsFault
+options_if given = with_batch given (batch_if given.batch)
 
 -- ---- the words
 
--- the options of the matches that clap promises, where it takes the words
+-- what the matches that clap promises ask for, where it takes the words
 unfoldable pub words_of : List Text → Result Options WordsFault
-words_of words = if takes arrowpipe words then Ok (options_in (matches_of arrowpipe words)) else Err Refused
+words_of words = if takes arrowpipe words then options_if (given_in (matches_of arrowpipe words)) else Err Refused
 
 -- ---- the program's values
 
 abbrev pub options_of : Words → Options
-options_of w = record { schema = option_map (λ s. s.now) w.schema; audit = w.audit; null = option_map (λ s. s.now) w.null }
+options_of w = record {
+  schema = option_map (λ s. s.now) w.schema;
+  batch = w.batch;
+  audit = w.audit;
+  null = option_map (λ s. s.now) w.null;
+  stages = map (λ s. s.now) w.stages.items;
+}
 
 -- the error is the fault, or memory ran out
 abbrev pub Explains : Result Options WordsFault → WordsError → Type 0

@@ -1,78 +1,202 @@
-use Rattle.std.proofs.Common.{◌≡◌, ◌∙◌, ◌+◌, List, Ok, ap, map, subst, sym}
+use Rattle.std.proofs.Common.{rules, arith, ◌≡◌, ◌∙◌, ◌⊎◌, ℕ, List, [], Some, None, Ok, Err, IfErr, OnErr, get_or, map, refl, sym, ap, subst, inl, inr}
+use Rattle.csv_model.specs.Batches.{batches_in}
 use Rattle.csv_model.specs.Text.{table_text}
-use Rattle.pipe_top.specs.Traffic.{chunk_blocks_of, chunk_nodes_of, schema_nodes}
-use Rattle.csv_read.specs.Body.{HoldRows, HoldsBody}
-use Rattle.csv_read.specs.Entries.{entries_of}
-use Rattle.field_codec.specs.TextColumns.{AreAllowed, AreProper}
 use Rattle.csv_model.specs.Header.{header_of}
 use Rattle.csv_model.specs.Reading.{Record, behind_header, records_of}
+use Rattle.csv_read.specs.Entries.{entries_of}
+use Rattle.csv_source.specs.Sources.{source_state, stream_of}
+use Rattle.field_codec.specs.TextColumns.{AreAllowed, AreProper}
 use Rattle.fmt_string.specs.ColumnView.{column_of}
-use Rattle.unit_pass.specs.Tally.{risen}
-use Rattle.pipe_top.specs.Answer.{Text}
-use Rattle.pipe_top.proofs.Bodies.{blocks-are, nodes-are, text-answer}
+use Rattle.fmt_string.specs.Parts.{joined_rows}
+use Rattle.fmt_string.specs.Table.{Column}
+use Rattle.stage_chain.specs.Chains.{chain_links, link_shows}
+use Rattle.stage_chain.specs.Faults.{IfRow}
+use Rattle.stage_chain.specs.Plans.{plan_stages}
+use Rattle.stage_chain.specs.Runs.{ShowsAll, ShowsSome}
+use Rattle.stage_chain.proofs.Planning.{plan-stages-are}
+use Rattle.stage_kernels.specs.Plain.{ArePlain}
+use Rattle.stage_kernels.specs.Structs.{column_structs}
+use Rattle.stage_model.specs.Links.{Whole}
+use Rattle.stage_model.specs.Stages.{table}
+use Rattle.stage_model.specs.Typing.{plan_of}
+use Rattle.stream_face.specs.Streams.{Stream}
+use Rattle.pipe_top.specs.Answer.{Fault, Text, answer_of_records, fault_of_row}
+use Rattle.pipe_top.specs.Outcomes.{request_of}
+use Rattle.pipe_top.proofs.Bodies.{driven-text, driven-told, source-is, told-here}
+use Rattle.pipe_top.proofs.Flat.{proper-flat, proper-plain}
+use Rattle.pipe_top.proofs.LinksMade.{chain-counts, chain-links-are}
 use Rattle.pipe_top.proofs.answer.answer_input.Goals as goal
 
-pub body_columns-requires-clause-proper : goal.body_columns-requires-clause-proper
-body_columns-requires-clause-proper c = subst (λ columns. AreProper (map column_of columns)) (sym c.deref.ensures.value) c.in_ok-columns.ensures.proper
+pub returns-in-Err-clause-fault : goal.returns-in-Err-clause-fault
+returns-in-Err-clause-fault g c =
+    told-here c.in-Err.fault (request_of c.args.request.now) c.as_slice.result.now c.start-records.result.records (records_of c.args.bytes.now)
+    c.in-Err.ensures.fault c.as_slice.ensures.value c.start-records.ensures.records
 
-pub body_columns-requires-clause-allowed : goal.body_columns-requires-clause-allowed
-body_columns-requires-clause-allowed c = subst (λ columns. AreAllowed (map column_of columns)) (sym c.deref.ensures.value) c.in_ok-columns.ensures.allowed
+pub source_of-requires-clause-proper : goal.source_of-requires-clause-proper
+source_of-requires-clause-proper g c =
+    let request = request_of c.args.request.now in
+    let records = records_of c.args.bytes.now in
+    let cols = map column_of c.in-Ok.columns.items in
+    let found : header_of (entries_of request.entries) records ≡ Ok cols =
+    subst (λ es. header_of (entries_of es) records ≡ Ok cols) c.as_slice.ensures.value
+    (subst (λ (rs : List Record). header_of (entries_of c.as_slice.result.now) rs ≡ Ok cols) c.start-records.ensures.records c.in-Ok.ensures.found) in
+    let behind = c.in-Ok.ensures.behind ∙ ap behind_header c.start-records.ensures.records in
+    let first : map column_of c.read_columns.result.now ≡ cols = c.read_columns.ensures ∙ c.in_ok-plan.ensures.read in
+    subst AreProper (sym first) c.in-Ok.ensures.proper
 
-pub table_text-requires-clause-proper : goal.table_text-requires-clause-proper
-table_text-requires-clause-proper c = subst (λ columns. AreProper (map column_of columns)) (sym c.deref-2.ensures.value) c.in_ok-columns.ensures.proper
+pub source_of-requires-clause-allowed : goal.source_of-requires-clause-allowed
+source_of-requires-clause-allowed g c =
+    let request = request_of c.args.request.now in
+    let records = records_of c.args.bytes.now in
+    let cols = map column_of c.in-Ok.columns.items in
+    let found : header_of (entries_of request.entries) records ≡ Ok cols =
+    subst (λ es. header_of (entries_of es) records ≡ Ok cols) c.as_slice.ensures.value
+    (subst (λ (rs : List Record). header_of (entries_of c.as_slice.result.now) rs ≡ Ok cols) c.start-records.ensures.records c.in-Ok.ensures.found) in
+    let behind = c.in-Ok.ensures.behind ∙ ap behind_header c.start-records.ensures.records in
+    let first : map column_of c.read_columns.result.now ≡ cols = c.read_columns.ensures ∙ c.in_ok-plan.ensures.read in
+    subst AreAllowed (sym first) c.in-Ok.ensures.allowed
 
-pub table_text-requires-clause-allowed : goal.table_text-requires-clause-allowed
-table_text-requires-clause-allowed c = subst (λ columns. AreAllowed (map column_of columns)) (sym c.deref-2.ensures.value) c.in_ok-columns.ensures.allowed
+pub drive-requires-clause-flat : goal.drive-requires-clause-flat
+drive-requires-clause-flat g c = λ _ _.
+    let request = request_of c.args.request.now in
+    let records = records_of c.args.bytes.now in
+    let cols = map column_of c.in-Ok.columns.items in
+    let found : header_of (entries_of request.entries) records ≡ Ok cols =
+    subst (λ es. header_of (entries_of es) records ≡ Ok cols) c.as_slice.ensures.value
+    (subst (λ (rs : List Record). header_of (entries_of c.as_slice.result.now) rs ≡ Ok cols) c.start-records.ensures.records c.in-Ok.ensures.found) in
+    let behind = c.in-Ok.ensures.behind ∙ ap behind_header c.start-records.ensures.records in
+    let first : map column_of c.read_columns.result.now ≡ cols = c.read_columns.ensures ∙ c.in_ok-plan.ensures.read in
+    let s = source_state c.in_ok-source.source in
+    let is : s ≡ stream_of cols (batches_in request.mark cols (behind_header records) request.batch) =
+    source-is s request.mark c.as_slice-mark.result.now cols (map column_of c.read_columns.result.now) (behind_header records) _ request.batch
+    c.in_ok-source.ensures c.as_slice-mark.ensures first behind in
+    ap (λ (m : Stream). column_structs m.columns) is ∙ proper-flat cols c.in-Ok.ensures.proper
 
-pub table_text-requires-clause-held : goal.table_text-requires-clause-held
-table_text-requires-clause-held c =
-    let text = records_of c.args.bytes.now in
-    let behind = c.in_ok-columns.ensures.behind ∙ ap behind_header c.start-records.ensures.records in
-    let held = subst (λ items. HoldsBody c.args.mark.now c.in_ok-builders.builders.items (map column_of items) (behind_header text)) c.deref.ensures.value
-    (subst (HoldsBody c.args.mark.now c.in_ok-builders.builders.items (map column_of c.deref.result.now)) behind c.in_ok-builders.ensures.held) in
-    (held.rows, subst (λ items. HoldRows c.in_ok-builders.builders.items (map column_of items) held.rows) (sym c.deref-2.ensures.value) held.held, held.few)
+pub drive-requires-clause-plain : goal.drive-requires-clause-plain
+drive-requires-clause-plain g c = λ _ _.
+    let request = request_of c.args.request.now in
+    let records = records_of c.args.bytes.now in
+    let cols = map column_of c.in-Ok.columns.items in
+    let found : header_of (entries_of request.entries) records ≡ Ok cols =
+    subst (λ es. header_of (entries_of es) records ≡ Ok cols) c.as_slice.ensures.value
+    (subst (λ (rs : List Record). header_of (entries_of c.as_slice.result.now) rs ≡ Ok cols) c.start-records.ensures.records c.in-Ok.ensures.found) in
+    let behind = c.in-Ok.ensures.behind ∙ ap behind_header c.start-records.ensures.records in
+    let first : map column_of c.read_columns.result.now ≡ cols = c.read_columns.ensures ∙ c.in_ok-plan.ensures.read in
+    let s = source_state c.in_ok-source.source in
+    let is : s ≡ stream_of cols (batches_in request.mark cols (behind_header records) request.batch) =
+    source-is s request.mark c.as_slice-mark.result.now cols (map column_of c.read_columns.result.now) (behind_header records) _ request.batch
+    c.in_ok-source.ensures c.as_slice-mark.ensures first behind in
+    subst (λ (m : Stream). ArePlain m.columns) (sym is) (proper-plain cols c.in-Ok.ensures.proper)
 
-pub returns-clause-text : goal.returns-clause-text
-returns-clause-text c =
-    let entries = entries_of c.args.entries.now in
-    let text = records_of c.args.bytes.now in
-    let columns = map column_of c.in_ok-columns.columns.items in
-    let all = c.start-records.ensures.records in
-    let found : header_of entries text ≡ Ok columns = subst (λ (rs : List Record). header_of entries rs ≡ Ok columns) all c.in_ok-columns.ensures.found in
-    let behind = c.in_ok-columns.ensures.behind ∙ ap behind_header all in
-    let held = subst (λ items. HoldsBody c.args.mark.now c.in_ok-builders.builders.items (map column_of items) (behind_header text)) c.deref.ensures.value
-    (subst (HoldsBody c.args.mark.now c.in_ok-builders.builders.items (map column_of c.deref.result.now)) behind c.in_ok-builders.ensures.held) in
-    let lent = subst (λ items. HoldRows c.in_ok-builders.builders.items (map column_of items) held.rows) (sym c.deref-2.ensures.value) held.held in
-    let written = c.in_ok-text.ensures.text held.rows lent held.few in
-    let same = ap (λ items. Text (table_text c.args.mark.now (record { columns = map column_of items; rows = held.rows }))) c.deref-2.ensures.value in
-    text-answer c.args.mark.now entries text columns found held.rows held.spelled ∙ sym same ∙ ap Text (sym written)
+pub returns-in-Ok-drive-clause-text : goal.returns-in-Ok-drive-clause-text
+returns-in-Ok-drive-clause-text g c =
+    let request = request_of c.args.request.now in
+    let records = records_of c.args.bytes.now in
+    let cols = map column_of c.in-Ok.columns.items in
+    let found : header_of (entries_of request.entries) records ≡ Ok cols =
+    subst (λ es. header_of (entries_of es) records ≡ Ok cols) c.as_slice.ensures.value
+    (subst (λ (rs : List Record). header_of (entries_of c.as_slice.result.now) rs ≡ Ok cols) c.start-records.ensures.records c.in-Ok.ensures.found) in
+    let behind = c.in-Ok.ensures.behind ∙ ap behind_header c.start-records.ensures.records in
+    let first : map column_of c.read_columns.result.now ≡ cols = c.read_columns.ensures ∙ c.in_ok-plan.ensures.read in
+    let plan = c.in_ok-plan.plan in
+    let stages = plan_stages plan in
+    let planned : plan_of cols request.stages ≡ Ok stages =
+    subst (λ ts. plan_of cols ts ≡ Ok stages) c.as_slice-2.ensures.value
+    (c.in_ok-plan.ensures.found.is ∙ ap Ok (sym (plan-stages-are cols c.as_slice-2.result.now plan c.in_ok-plan.ensures.found))) in
+    let s = source_state c.in_ok-source.source in
+    let is : s ≡ stream_of cols (batches_in request.mark cols (behind_header records) request.batch) =
+    source-is s request.mark c.as_slice-mark.result.now cols (map column_of c.read_columns.result.now) (behind_header records) _ request.batch
+    c.in_ok-source.ensures c.as_slice-mark.ensures first behind in
+    let ends = ap (λ (m : Stream). m.ending) (sym is) ∙ c.in-Ok-drive.ensures.ends in
+    driven-text request records cols found stages planned c.batches_give_the_whole.ensures ends
+    ∙ ap (λ (m : Stream). Text (table_text request.mark (Whole (table m.columns (joined_rows m.ahead)) stages))) (sym is)
+    ∙ ap (λ mark. Text (table_text mark (Whole (table s.columns (joined_rows s.ahead)) stages))) (sym c.as_slice-mark.ensures)
+    ∙ ap Text (sym c.in-Ok-drive.ensures.text)
 
-pub returns-clause-blocks : goal.returns-clause-blocks
-returns-clause-blocks c =
-    let entries = entries_of c.args.entries.now in
-    let text = records_of c.args.bytes.now in
-    let columns = map column_of c.in_ok-columns.columns.items in
-    let all = c.start-records.ensures.records in
-    let found : header_of entries text ≡ Ok columns = subst (λ (rs : List Record). header_of entries rs ≡ Ok columns) all c.in_ok-columns.ensures.found in
-    let behind = c.in_ok-columns.ensures.behind ∙ ap behind_header all in
-    let held = subst (λ items. HoldsBody c.args.mark.now c.in_ok-builders.builders.items (map column_of items) (behind_header text)) c.deref.ensures.value
-    (subst (HoldsBody c.args.mark.now c.in_ok-builders.builders.items (map column_of c.deref.result.now)) behind c.in_ok-builders.ensures.held) in
-    let lent = subst (λ items. HoldRows c.in_ok-builders.builders.items (map column_of items) held.rows) (sym c.deref-2.ensures.value) held.held in
-    c.in_ok-text.ensures.blocks held.rows lent
-    ∙ ap (λ items. risen c.args.pass.now.blocks (chunk_blocks_of (map column_of items) held.rows)) c.deref-2.ensures.value
-    ∙ ap (risen c.args.pass.now.blocks) (sym (blocks-are c.args.mark.now entries text columns found held.rows held.spelled))
+pub returns-in-Ok-drive-clause-counts : goal.returns-in-Ok-drive-clause-counts
+returns-in-Ok-drive-clause-counts g c =
+    let request = request_of c.args.request.now in
+    let records = records_of c.args.bytes.now in
+    let cols = map column_of c.in-Ok.columns.items in
+    let found : header_of (entries_of request.entries) records ≡ Ok cols =
+    subst (λ es. header_of (entries_of es) records ≡ Ok cols) c.as_slice.ensures.value
+    (subst (λ (rs : List Record). header_of (entries_of c.as_slice.result.now) rs ≡ Ok cols) c.start-records.ensures.records c.in-Ok.ensures.found) in
+    let behind = c.in-Ok.ensures.behind ∙ ap behind_header c.start-records.ensures.records in
+    let first : map column_of c.read_columns.result.now ≡ cols = c.read_columns.ensures ∙ c.in_ok-plan.ensures.read in
+    let plan = c.in_ok-plan.plan in
+    let stages = plan_stages plan in
+    let planned : plan_of cols request.stages ≡ Ok stages =
+    subst (λ ts. plan_of cols ts ≡ Ok stages) c.as_slice-2.ensures.value
+    (c.in_ok-plan.ensures.found.is ∙ ap Ok (sym (plan-stages-are cols c.as_slice-2.result.now plan c.in_ok-plan.ensures.found))) in
+    let s = source_state c.in_ok-source.source in
+    let is : s ≡ stream_of cols (batches_in request.mark cols (behind_header records) request.batch) =
+    source-is s request.mark c.as_slice-mark.result.now cols (map column_of c.read_columns.result.now) (behind_header records) _ request.batch
+    c.in_ok-source.ensures c.as_slice-mark.ensures first behind in
+    chain-counts request records cols found stages planned s c.args.pass.now c.drive.new.pass is c.in-Ok-drive.ensures.counts
 
-pub returns-clause-nodes : goal.returns-clause-nodes
-returns-clause-nodes c =
-    let entries = entries_of c.args.entries.now in
-    let text = records_of c.args.bytes.now in
-    let columns = map column_of c.in_ok-columns.columns.items in
-    let all = c.start-records.ensures.records in
-    let found : header_of entries text ≡ Ok columns = subst (λ (rs : List Record). header_of entries rs ≡ Ok columns) all c.in_ok-columns.ensures.found in
-    let behind = c.in_ok-columns.ensures.behind ∙ ap behind_header all in
-    let held = subst (λ items. HoldsBody c.args.mark.now c.in_ok-builders.builders.items (map column_of items) (behind_header text)) c.deref.ensures.value
-    (subst (HoldsBody c.args.mark.now c.in_ok-builders.builders.items (map column_of c.deref.result.now)) behind c.in_ok-builders.ensures.held) in
-    let lent = subst (λ items. HoldRows c.in_ok-builders.builders.items (map column_of items) held.rows) (sym c.deref-2.ensures.value) held.held in
-    c.in_ok-text.ensures.nodes held.rows lent
-    ∙ ap (λ items. risen c.args.pass.now.nodes (schema_nodes (map column_of items) + chunk_nodes_of (map column_of items) held.rows)) c.deref-2.ensures.value
-    ∙ ap (risen c.args.pass.now.nodes) (sym (nodes-are c.args.mark.now entries text columns found held.rows held.spelled))
+pub returns-in-Ok-drive-clause-shows : goal.returns-in-Ok-drive-clause-shows
+returns-in-Ok-drive-clause-shows g c =
+    let request = request_of c.args.request.now in
+    let records = records_of c.args.bytes.now in
+    let cols = map column_of c.in-Ok.columns.items in
+    let found : header_of (entries_of request.entries) records ≡ Ok cols =
+    subst (λ es. header_of (entries_of es) records ≡ Ok cols) c.as_slice.ensures.value
+    (subst (λ (rs : List Record). header_of (entries_of c.as_slice.result.now) rs ≡ Ok cols) c.start-records.ensures.records c.in-Ok.ensures.found) in
+    let behind = c.in-Ok.ensures.behind ∙ ap behind_header c.start-records.ensures.records in
+    let first : map column_of c.read_columns.result.now ≡ cols = c.read_columns.ensures ∙ c.in_ok-plan.ensures.read in
+    let plan = c.in_ok-plan.plan in
+    let stages = plan_stages plan in
+    let planned : plan_of cols request.stages ≡ Ok stages =
+    subst (λ ts. plan_of cols ts ≡ Ok stages) c.as_slice-2.ensures.value
+    (c.in_ok-plan.ensures.found.is ∙ ap Ok (sym (plan-stages-are cols c.as_slice-2.result.now plan c.in_ok-plan.ensures.found))) in
+    let s = source_state c.in_ok-source.source in
+    let is : s ≡ stream_of cols (batches_in request.mark cols (behind_header records) request.batch) =
+    source-is s request.mark c.as_slice-mark.result.now cols (map column_of c.read_columns.result.now) (behind_header records) _ request.batch
+    c.in_ok-source.ensures c.as_slice-mark.ensures first behind in
+    subst (λ links. ShowsAll (link_shows links) (g.T.Tap.seen c.args.tap.now) (g.T.Tap.seen c.drive.new.tap))
+    (chain-links-are request records cols found stages planned s is) c.in-Ok-drive.ensures.shows
+
+pub returns-in-Err-drive-clause-fault : goal.returns-in-Err-drive-clause-fault
+returns-in-Err-drive-clause-fault g c =
+    let request = request_of c.args.request.now in
+    let records = records_of c.args.bytes.now in
+    let cols = map column_of c.in-Ok.columns.items in
+    let found : header_of (entries_of request.entries) records ≡ Ok cols =
+    subst (λ es. header_of (entries_of es) records ≡ Ok cols) c.as_slice.ensures.value
+    (subst (λ (rs : List Record). header_of (entries_of c.as_slice.result.now) rs ≡ Ok cols) c.start-records.ensures.records c.in-Ok.ensures.found) in
+    let behind = c.in-Ok.ensures.behind ∙ ap behind_header c.start-records.ensures.records in
+    let first : map column_of c.read_columns.result.now ≡ cols = c.read_columns.ensures ∙ c.in_ok-plan.ensures.read in
+    let plan = c.in_ok-plan.plan in
+    let stages = plan_stages plan in
+    let planned : plan_of cols request.stages ≡ Ok stages =
+    subst (λ ts. plan_of cols ts ≡ Ok stages) c.as_slice-2.ensures.value
+    (c.in_ok-plan.ensures.found.is ∙ ap Ok (sym (plan-stages-are cols c.as_slice-2.result.now plan c.in_ok-plan.ensures.found))) in
+    let s = source_state c.in_ok-source.source in
+    let is : s ≡ stream_of cols (batches_in request.mark cols (behind_header records) request.batch) =
+    source-is s request.mark c.as_slice-mark.result.now cols (map column_of c.read_columns.result.now) (behind_header records) _ request.batch
+    c.in_ok-source.ensures c.as_slice-mark.ensures first behind in
+    driven-told request records cols found stages planned c.in-Err-drive.fault _ c.from.ensures
+    (subst (λ (m : Stream). IfRow c.in-Err-drive.fault (λ row. m.ending ≡ Some row)) is
+    (subst (λ r. IfErr r (λ e. IfRow e (λ row. s.ending ≡ Some row))) c.in-Err-drive.is c.drive.ensures.row))
+
+pub returns-in-Err-drive-clause-shows_some : goal.returns-in-Err-drive-clause-shows_some
+returns-in-Err-drive-clause-shows_some g c =
+    let request = request_of c.args.request.now in
+    let records = records_of c.args.bytes.now in
+    let cols = map column_of c.in-Ok.columns.items in
+    let found : header_of (entries_of request.entries) records ≡ Ok cols =
+    subst (λ es. header_of (entries_of es) records ≡ Ok cols) c.as_slice.ensures.value
+    (subst (λ (rs : List Record). header_of (entries_of c.as_slice.result.now) rs ≡ Ok cols) c.start-records.ensures.records c.in-Ok.ensures.found) in
+    let behind = c.in-Ok.ensures.behind ∙ ap behind_header c.start-records.ensures.records in
+    let first : map column_of c.read_columns.result.now ≡ cols = c.read_columns.ensures ∙ c.in_ok-plan.ensures.read in
+    let plan = c.in_ok-plan.plan in
+    let stages = plan_stages plan in
+    let planned : plan_of cols request.stages ≡ Ok stages =
+    subst (λ ts. plan_of cols ts ≡ Ok stages) c.as_slice-2.ensures.value
+    (c.in_ok-plan.ensures.found.is ∙ ap Ok (sym (plan-stages-are cols c.as_slice-2.result.now plan c.in_ok-plan.ensures.found))) in
+    let s = source_state c.in_ok-source.source in
+    let is : s ≡ stream_of cols (batches_in request.mark cols (behind_header records) request.batch) =
+    source-is s request.mark c.as_slice-mark.result.now cols (map column_of c.read_columns.result.now) (behind_header records) _ request.batch
+    c.in_ok-source.ensures c.as_slice-mark.ensures first behind in
+    subst (λ links. ShowsSome (link_shows links) (g.T.Tap.seen c.args.tap.now) (g.T.Tap.seen c.drive.new.tap))
+    (chain-links-are request records cols found stages planned s is) c.in-Err-drive.ensures.shows_some

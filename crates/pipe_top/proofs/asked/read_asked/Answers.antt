@@ -1,5 +1,5 @@
 use Rattle.std.proofs.Common.{◌≡◌, ◌⊎◌, ℕ, List, Result, Ok, Err, subst, sym, inl, inr}
-use Rattle.words.specs.Words.{Options, mark_of, words_of}
+use Rattle.words.specs.Words.{Options, words_of}
 use Rattle.pipe_top.specs.Answer.{Asks, OptionsAsk, Request, RequestIs}
 use Rattle.pipe_top.specs.Outcomes.{asked_of}
 use Rattle.pipe_top.specs.declared.asked.Request.{Request as AsksFor}
@@ -9,13 +9,13 @@ use Rattle.pipe_top.proofs.asked.read_asked.Goals as goal
 
 -- what the options alone ask for, the words ask for
 only-asked : (words : List (List ℕ)) (options : Options) (r : Result AsksFor RunFault) → words_of words ≡ Ok options
-    → (r ≡ Err run.NoMemory) ⊎ ((asked : Result Request RunFault) → RequestIs options.schema (mark_of options) asked → asked ≡ asked_of r)
+    → (r ≡ Err run.NoMemory) ⊎ ((asked : Result Request RunFault) → RequestIs options asked → asked ≡ asked_of r)
     → (r ≡ Err run.NoMemory) ⊎ ((asked : Result Request RunFault) → Asks words asked → asked ≡ asked_of r)
 only-asked words options r is (inl none) = inl none
 only-asked words options r is (inr only) = inr (λ asked asks. only asked (subst (λ w. OptionsAsk w asked) is asks))
 
 all-asked : (words : List (List ℕ)) (options : Options) (r : Result AsksFor RunFault) → words_of words ≡ Ok options
-    → (r ≡ Err run.NoMemory) ⊎ RequestIs options.schema (mark_of options) (asked_of r) → (r ≡ Err run.NoMemory) ⊎ Asks words (asked_of r)
+    → (r ≡ Err run.NoMemory) ⊎ RequestIs options (asked_of r) → (r ≡ Err run.NoMemory) ⊎ Asks words (asked_of r)
 all-asked words options r is (inl none) = inl none
 all-asked words options r is (inr asks) = inr (subst (λ w. OptionsAsk w (asked_of r)) (sym is) asks)
 

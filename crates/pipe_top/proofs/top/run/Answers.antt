@@ -1,5 +1,5 @@
 use Rattle.std.proofs.Common.{rules}
-use Rattle.pipe_top.proofs.Runs.{is-complete-fault, prefix-of-answer, refused-by-answer, silent-audit, told-all}
+use Rattle.pipe_top.proofs.Runs.{is-complete-fault, prefix-of-answer, refused-by-answer, shown-in-part, silent-audit, text-of-answer, told-all}
 use Rattle.pipe_top.proofs.top.run.Goals as goal
 
 pub returns-clause-diagnostics : goal.returns-clause-diagnostics
@@ -37,3 +37,16 @@ returns-clause-complete_fault g c bytes fault input answer no-read =
     let first = prefix-of-answer _ left request c.carry_out-carried.result _ carried.refused_early told asks _ _ carried.write_fault_prefix in
     is-complete-fault _ left request c.carry_out-carried.result _ carried.refused_early told asks c.read_asked-wanted.ensures.only
     _ c.outcome_of-outcome.result.status c.outcome_of-outcome.ensures.status (search rules) refused _ _ bytes fault (search rules) first input answer no-read
+
+pub returns-clause-text : goal.returns-clause-text
+returns-clause-text g c =
+    let carried = c.carry_out-carried.ensures in
+    text-of-answer _ (g.S.Source.left c.args.source.now) c.read_asked-wanted.result.request c.carry_out-carried.result _ carried.refused_early
+    c.outcome_of-outcome.ensures.fault
+    c.read_asked-wanted.ensures.asks _ _ carried.text
+
+pub returns-clause-shows_some : goal.returns-clause-shows_some
+returns-clause-shows_some g c =
+    let carried = c.carry_out-carried.ensures in
+    shown-in-part _ (g.S.Source.left c.args.source.now) c.read_asked-wanted.result.request c.carry_out-carried.result _ _ _
+    c.outcome_of-outcome.ensures.fault c.read_asked-wanted.ensures.only carried.shows_some
