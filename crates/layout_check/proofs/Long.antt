@@ -84,16 +84,6 @@ most n h = omega (arith, h)
 pub some_views : (own : ArrayMembers) → length own.buffers ≡ buffer_count Views (length own.buffers) → 3 ≤ length own.buffers
 some_views own e = least (length own.buffers) e
 
--- a buffer of views is as long as its need
-long-at : (own : ArrayMembers) (k : ℕ) → suc k < buffer_count Views (length own.buffers)
-    → first_below (buffer_absent Views own) (buffer_count Views (length own.buffers)) ≡ None
-    → first_below (buffer_short Views own) (buffer_count Views (length own.buffers)) ≡ None
-    → need Views own (suc k) ≤ length (bytes own (suc k))
-long-at own k h e f =
-    long_enough (buffer own (suc k)) (need Views own (suc k)) (suc k)
-    (first_below-none_at (buffer_absent Views own) (buffer_count Views (length own.buffers)) (suc k) h e)
-    (first_below-none_at (buffer_short Views own) (buffer_count Views (length own.buffers)) (suc k) h f)
-
 at_least : (n : ℕ) → 3 ≤ max 3 n
 at_least n = omega arith
 
@@ -103,32 +93,38 @@ at_most n k h = omega (arith, h)
 behind : (n : ℕ) → suc (suc (n - 3)) < max 3 n
 behind n = omega arith
 
-pub long-views : (own : ArrayMembers) → first_below (buffer_absent Views own) (buffer_count Views (length own.buffers)) ≡ None
-    → first_below (buffer_short Views own) (buffer_count Views (length own.buffers)) ≡ None → end own * view_width ≤ length (bytes own 1)
-long-views own e f = long-at own 0 (omega (arith, at_least (length own.buffers))) e f
-
 below : (k n a b : ℕ) → k < n → (if nat_lt k n then a else b) ≡ a
 below k n a b h = grind arith
 
 not_below : (n a b : ℕ) → (if nat_lt n n then a else b) ≡ b
 not_below n a b = grind arith
 
-pub long-lengths : (own : ArrayMembers) → first_below (buffer_absent Views own) (buffer_count Views (length own.buffers)) ≡ None
-    → first_below (buffer_short Views own) (buffer_count Views (length own.buffers)) ≡ None → lengths_need own ≤ length (data_lengths own)
-long-lengths own e f =
-    let here = long-at own (suc (data_buffers own)) (behind (length own.buffers)) e f in
-    let place : suc (suc (data_buffers own)) ≡ data_place (data_buffers own) = omega arith in
-    subst (λ p. lengths_need own ≤ length (bytes own p)) place
-    (subst (λ n. n ≤ length (bytes own (suc (suc (data_buffers own)))))
-    (not_below (data_buffers own) (data_length own (data_buffers own)) (lengths_need own)) here)
+module _ (own : ArrayMembers) (e : first_below (buffer_absent Views own) (buffer_count Views (length own.buffers)) ≡ None)
+    (f : first_below (buffer_short Views own) (buffer_count Views (length own.buffers)) ≡ None) where
+  -- a buffer of views is as long as its need
+  long-at : (k : ℕ) → suc k < buffer_count Views (length own.buffers) → need Views own (suc k) ≤ length (bytes own (suc k))
+  long-at k h =
+      long_enough (buffer own (suc k)) (need Views own (suc k)) (suc k)
+      (first_below-none_at (buffer_absent Views own) (buffer_count Views (length own.buffers)) (suc k) h e)
+      (first_below-none_at (buffer_short Views own) (buffer_count Views (length own.buffers)) (suc k) h f)
 
-pub long-named : (own : ArrayMembers) → first_below (buffer_absent Views own) (buffer_count Views (length own.buffers)) ≡ None
-    → first_below (buffer_short Views own) (buffer_count Views (length own.buffers)) ≡ None → AreThere own
-long-named own e f = λ k h.
-    let here = long-at own (suc k) (at_most (length own.buffers) k h) e f in
-    let place : suc (suc k) ≡ data_place k = omega arith in
-    subst (λ p. data_length own k ≤ length (bytes own p)) place
-    (subst (λ n. n ≤ length (bytes own (suc (suc k)))) (below k (data_buffers own) (data_length own k) (lengths_need own) h) here)
+  pub long-views : end own * view_width ≤ length (bytes own 1)
+  long-views = long-at 0 (omega (arith, at_least (length own.buffers)))
+
+  pub long-lengths : lengths_need own ≤ length (data_lengths own)
+  long-lengths =
+      let here = long-at (suc (data_buffers own)) (behind (length own.buffers)) in
+      let place : suc (suc (data_buffers own)) ≡ data_place (data_buffers own) = omega arith in
+      subst (λ p. lengths_need own ≤ length (bytes own p)) place
+      (subst (λ n. n ≤ length (bytes own (suc (suc (data_buffers own)))))
+      (not_below (data_buffers own) (data_length own (data_buffers own)) (lengths_need own)) here)
+
+  pub long-named : AreThere own
+  long-named = λ k h.
+      let here = long-at (suc k) (at_most (length own.buffers) k h) in
+      let place : suc (suc k) ≡ data_place k = omega arith in
+      subst (λ p. data_length own k ≤ length (bytes own p)) place
+      (subst (λ n. n ≤ length (bytes own (suc (suc k)))) (below k (data_buffers own) (data_length own k) (lengths_need own) h) here)
 
 pub ruleset long = (long-bytes, long-data, long-list, long-validity, some_views, long-views, long-lengths, long-named)
 

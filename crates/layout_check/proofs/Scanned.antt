@@ -56,30 +56,39 @@ part_of d from here next to a b c =
     ∙ part d from (here - from) (next - here) (to - next)
     ∙ ap (λ n. take (next - here) (drop n d)) place
 
--- the places of an item's data: from, here, next, to
-pub from-here : (wide : Bool) (own : ArrayMembers) (i : ℕ) → offsets_fall wide own ≡ None → i < items own
-    → natural (offset wide own (first own)) ≤ natural (offset wide own (first own + i))
-from-here wide own i e h =
-    natural-rise (offset wide own (first own)) (offset wide own (first own + i)) (offsets-start wide own i e h).0 (offsets-start wide own i e h).1
+module _ (wide : Bool) (own : ArrayMembers) (i : ℕ) (e : offsets_fall wide own ≡ None) (h : i < items own) where
+  -- the places of an item's data: from, here, next, to
+  pub from-here : natural (offset wide own (first own)) ≤ natural (offset wide own (first own + i))
+  from-here = natural-rise (offset wide own (first own)) (offset wide own (first own + i)) (offsets-start wide own i e h).0 (offsets-start wide own i e h).1
 
-pub here-next : (wide : Bool) (own : ArrayMembers) (i : ℕ) → offsets_fall wide own ≡ None → i < items own
-    → natural (offset wide own (first own + i)) ≤ natural (offset wide own (first own + i + 1))
-here-next wide own i e h =
-    natural-rise (offset wide own (first own + i)) (offset wide own (first own + i + 1)) (offsets-from wide own i e h) (offsets-rise wide own i e h)
+  pub here-next : natural (offset wide own (first own + i)) ≤ natural (offset wide own (first own + i + 1))
+  here-next = natural-rise (offset wide own (first own + i)) (offset wide own (first own + i + 1)) (offsets-from wide own i e h) (offsets-rise wide own i e h)
 
-pub next-to : (wide : Bool) (own : ArrayMembers) (i : ℕ) → offsets_fall wide own ≡ None → i < items own
-    → natural (offset wide own (first own + i + 1)) ≤ natural (offset wide own (end own))
-next-to wide own i e h =
-    natural-rise (offset wide own (first own + i + 1)) (offset wide own (end own))
-    (offsets-next wide own i e h) (offsets-last wide own i e h)
+  pub next-to : natural (offset wide own (first own + i + 1)) ≤ natural (offset wide own (end own))
+  next-to = natural-rise (offset wide own (first own + i + 1)) (offset wide own (end own)) (offsets-next wide own i e h) (offsets-last wide own i e h)
 
-pub item-part : (wide : Bool) (own : ArrayMembers) (i : ℕ) → offsets_fall wide own ≡ None → i < items own
-    → take (natural (offset wide own (first own + i + 1)) - natural (offset wide own (first own + i)))
-    (drop (natural (offset wide own (first own + i)) - natural (offset wide own (first own))) (used_data wide own)) ≡ data_of wide own i
-item-part wide own i e h =
-    part_of (bytes own 2) (natural (offset wide own (first own))) (natural (offset wide own (first own + i))) (natural (offset wide own (first own + i + 1)))
-    (natural (offset wide own (end own)))
-    (from-here wide own i e h) (here-next wide own i e h) (next-to wide own i e h)
+  pub item-part : take (natural (offset wide own (first own + i + 1)) - natural (offset wide own (first own + i)))
+      (drop (natural (offset wide own (first own + i)) - natural (offset wide own (first own))) (used_data wide own)) ≡ data_of wide own i
+  item-part =
+      part_of (bytes own 2) (natural (offset wide own (first own))) (natural (offset wide own (first own + i))) (natural (offset wide own (first own + i + 1)))
+      (natural (offset wide own (end own)))
+      from-here here-next next-to
+
+  -- a part of a text, between two places where characters begin
+  pub text-between : IsUtf8 (used_data wide own)
+      → AreBorders wide (bytes own 1) (first own) (natural (offset wide own (first own))) (used_data wide own) (items own + 1)
+      → IsUtf8 (data_of wide own i)
+  text-between u b =
+      let from = natural (offset wide own (first own)) in
+      let here = natural (offset wide own (first own + i)) in
+      let next = natural (offset wide own (first own + i + 1)) in
+      let place : first own + (i + 1) ≡ first own + i + 1 = omega arith in
+      let size : (next - from) - (here - from) ≡ next - here = omega (arith, from-here, here-next) in
+      let there : IsCharBoundary (used_data wide own) (next - from) =
+      subst (λ p. IsCharBoundary (used_data wide own) (natural (offset wide own p) - from)) place (b.at (i + 1) (omega (arith, h))) in
+      subst IsUtf8 (ap (λ n. take n (drop (here - from) (used_data wide own))) size ∙ item-part)
+      (IsUtf8-between (used_data wide own) (here - from) (next - from) u (omega (arith, from-here, here-next))
+      (b.at i (omega (arith, h))) there)
 
 -- ---- texts
 
@@ -96,21 +105,6 @@ ascii-passes wide own e h = first_below-all (not_text wide own) (items own) (λ 
     text-passes (is_valid own i) (data_of wide own i) i
     (subst IsUtf8 (item-part wide own i e l) (IsUtf8-from_ascii (take size (drop before (used_data wide own)))
     (IsAscii-take (drop before (used_data wide own)) size (IsAscii-drop (used_data wide own) before h)))))
-
-pub text-between : (wide : Bool) (own : ArrayMembers) (i : ℕ) → offsets_fall wide own ≡ None → i < items own → IsUtf8 (used_data wide own)
-    → AreBorders wide (bytes own 1) (first own) (natural (offset wide own (first own))) (used_data wide own) (items own + 1)
-    → IsUtf8 (data_of wide own i)
-text-between wide own i e l u b =
-    let from = natural (offset wide own (first own)) in
-    let here = natural (offset wide own (first own + i)) in
-    let next = natural (offset wide own (first own + i + 1)) in
-    let place : first own + (i + 1) ≡ first own + i + 1 = omega arith in
-    let size : (next - from) - (here - from) ≡ next - here = omega (arith, from-here wide own i e l, here-next wide own i e l) in
-    let there : IsCharBoundary (used_data wide own) (next - from) =
-    subst (λ p. IsCharBoundary (used_data wide own) (natural (offset wide own p) - from)) place (b.at (i + 1) (omega (arith, l))) in
-    subst IsUtf8 (ap (λ n. take n (drop (here - from) (used_data wide own))) size ∙ item-part wide own i e l)
-    (IsUtf8-between (used_data wide own) (here - from) (next - from) u (omega (arith, from-here wide own i e l, here-next wide own i e l))
-    (b.at i (omega (arith, l))) there)
 
 pub borders-pass : (wide : Bool) (own : ArrayMembers) → offsets_fall wide own ≡ None → IsUtf8 (used_data wide own)
     → AreBorders wide (bytes own 1) (first own) (natural (offset wide own (first own))) (used_data wide own) (items own + 1)

@@ -12,6 +12,7 @@ use Rattle.tree_model.specs.Tree.{Tree, Released, Live, Trees, trees, MaybeTree,
 use Rattle.tree_model.specs.Tree.{option_tree}
 use Rattle.tree_model.proofs.Lists.{trees-tree_list}
 use Rattle.raw_schema.specs.Members.{SchemaMembers, SchemaTree, members_of}
+use Rattle.layout_check.specs.declared.rule.SchemaRule.{SchemaRule}
 use Rattle.layout_check.specs.declared.rule.SchemaRule.TheVariants as rules
 use Rattle.layout_check.specs.Kinds.{tree_count}
 use Rattle.layout_check.specs.Schemas.{MetaFits, ChildrenFit, IndexFits, IsPairNode, IsPairSchema, MapFits, FailsHere}
@@ -35,11 +36,6 @@ fails-deep level (Live s kids dict) h = omega (arith, h)
 pub fails-released : (level : ℕ) (t : SchemaTree) → level ≤ 64 → t ≡ Released → FailsHere level t rules.Released
 fails-released level t low e = subst (λ u. FailsHere level u rules.Released) (sym e) low
 
-pub fails-format : (level : ℕ) (t : SchemaTree) (rule : FormatRule) (place : ℕ) → IsLive t → level ≤ 64
-    → FormatFaultIs (members_of t).format rule place → FailsHere level t (rules.Format (format.At rule place))
-fails-format level Released rule place live low h = absurd live
-fails-format level (Live s kids dict) rule place live low h = (low, h)
-
 refused : (m : Option (List ℕ)) (fault : MetaFault) → MetaRefused m fault → (bytes : List ℕ) × (m ≡ Some bytes) × MetaFaultIs bytes fault
 refused None fault h = absurd h
 refused (Some bytes) fault h = (bytes, refl, h)
@@ -52,44 +48,34 @@ fails-meta_live level s kids dict kind (meta.Short p) low is b = (low, kind, is,
 fails-meta_live level s kids dict kind (meta.Negative p) low is b = (low, kind, is, b.0, b.1, b.2)
 fails-meta_live level s kids dict kind (meta.Trailing p) low is b = (low, kind, is, b.0, b.1, b.2)
 
-pub fails-meta : (level : ℕ) (t : SchemaTree) (kind : DataType) (fault : MetaFault) → IsLive t → level ≤ 64
-    → FormatIs (members_of t).format kind → MetaRefused (members_of t).metadata fault → FailsHere level t (rules.Meta fault)
-fails-meta level Released kind fault live low is h = absurd live
-fails-meta level (Live s kids dict) kind fault live low is h = fails-meta_live level s kids dict kind fault low is (refused s.metadata fault h)
+-- a live node, put together again from its parts
+as_live : (t : SchemaTree) → IsLive t → Live (members_of t) (trees (children_of t)) (maybe_tree (dictionary_of t)) ≡ t
+as_live Released live = absurd live
+as_live (Live s kids dict) live = λ i. Live s (trees-tree_list kids i) (same_dictionary dict i)
 
-pub fails-children : (level : ℕ) (t : SchemaTree) (kind : DataType) → IsLive t → level ≤ 64 → FormatIs (members_of t).format kind
-    → MetaFits (members_of t).metadata
-    → (ChildrenFit kind (trees (children_of t)) → ⊥) → FailsHere level t rules.ChildCount
-fails-children level Released kind live low is fits unmet = absurd live
-fails-children level (Live s kids dict) kind live low is fits unmet =
-    (low, kind, is, fits, λ met. unmet (subst (λ ks. ChildrenFit kind ks) (sym (trees-tree_list kids)) met))
+module _ (level : ℕ) (t : SchemaTree) (live : IsLive t) (low : level ≤ 64) where
+  at_live : (rule : SchemaRule) → FailsHere level (Live (members_of t) (trees (children_of t)) (maybe_tree (dictionary_of t))) rule → FailsHere level t rule
+  at_live rule h = subst (λ u. FailsHere level u rule) (as_live t live) h
 
-pub fails-index : (level : ℕ) (t : SchemaTree) (kind : DataType) → IsLive t → level ≤ 64 → FormatIs (members_of t).format kind
-    → MetaFits (members_of t).metadata
-    → ChildrenFit kind (trees (children_of t)) → (IndexFits kind (maybe_tree (dictionary_of t)) → ⊥) → FailsHere level t rules.DictIndexType
-fails-index level Released kind live low is fits some unmet = absurd live
-fails-index level (Live s kids dict) kind live low is fits some unmet = (
-  low,
-  kind,
-  is,
-  fits,
-  subst (λ ks. ChildrenFit kind ks) (trees-tree_list kids) some,
-  λ met. unmet (subst (λ d. IndexFits kind d) (sym (same_dictionary dict)) met),
-)
+  pub fails-format : (rule : FormatRule) (place : ℕ) → FormatFaultIs (members_of t).format rule place → FailsHere level t (rules.Format (format.At rule place))
+  fails-format rule place h = at_live (rules.Format (format.At rule place)) (low, h)
 
-pub fails-map : (level : ℕ) (t : SchemaTree) (kind : DataType) → IsLive t → level ≤ 64 → FormatIs (members_of t).format kind → MetaFits (members_of t).metadata
-    → ChildrenFit kind (trees (children_of t)) → IndexFits kind (maybe_tree (dictionary_of t)) → (MapFits kind (trees (children_of t)) → ⊥)
-    → FailsHere level t rules.MapShape
-fails-map level Released kind live low is fits some index unmet = absurd live
-fails-map level (Live s kids dict) kind live low is fits some index unmet = (
-  low,
-  kind,
-  is,
-  fits,
-  subst (λ ks. ChildrenFit kind ks) (trees-tree_list kids) some,
-  subst (λ d. IndexFits kind d) (same_dictionary dict) index,
-  λ met. unmet (subst (λ ks. MapFits kind ks) (sym (trees-tree_list kids)) met),
-)
+  module _ (kind : DataType) (is : FormatIs (members_of t).format kind) where
+    pub fails-meta : (fault : MetaFault) → MetaRefused (members_of t).metadata fault → FailsHere level t (rules.Meta fault)
+    fails-meta fault h = at_live (rules.Meta fault)
+        (fails-meta_live level (members_of t) (trees (children_of t)) (maybe_tree (dictionary_of t)) kind fault low is
+        (refused (members_of t).metadata fault h))
+
+    module _ (fits : MetaFits (members_of t).metadata) where
+      pub fails-children : (ChildrenFit kind (trees (children_of t)) → ⊥) → FailsHere level t rules.ChildCount
+      fails-children unmet = at_live rules.ChildCount (low, kind, is, fits, unmet)
+
+      pub fails-index : ChildrenFit kind (trees (children_of t)) → (IndexFits kind (maybe_tree (dictionary_of t)) → ⊥) → FailsHere level t rules.DictIndexType
+      fails-index some unmet = at_live rules.DictIndexType (low, kind, is, fits, some, unmet)
+
+      pub fails-map : ChildrenFit kind (trees (children_of t)) → IndexFits kind (maybe_tree (dictionary_of t)) → (MapFits kind (trees (children_of t)) → ⊥)
+          → FailsHere level t rules.MapShape
+      fails-map some index unmet = at_live rules.MapShape (low, kind, is, fits, some, index, unmet)
 
 pub ruleset fails = (fails-deep, fails-released, fails-format, fails-meta, fails-children, fails-index, fails-map)
 

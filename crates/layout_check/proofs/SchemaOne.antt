@@ -143,79 +143,6 @@ meta_refused level s kids dict (meta.Short p) h = (h.3, h.4, h.5)
 meta_refused level s kids dict (meta.Negative p) h = (h.3, h.4, h.5)
 meta_refused level s kids dict (meta.Trailing p) h = (h.3, h.4, h.5)
 
--- a rule fails only where those before it are met
-apart : FormatLaw → MetaLaw → (level : ℕ) (s : SchemaMembers) (kids : Trees SchemaMembers) (dict : MaybeTree SchemaMembers) (a b : SchemaRule) → rank a < rank b
-    → FailsHere level (Live s kids dict) a → FailsHere level (Live s kids dict) b → ⊥
-unfolding rank
-apart formats metas level s kids dict rules.Deep b lt first second = omega (arith, first, on_level level s kids dict b second lt)
-apart formats metas level s kids dict rules.Released b lt first second = first
-apart formats metas level s kids dict (rules.Format (format.At rule place)) b lt first second =
-    let k = formatted level s kids dict b second lt in
-    no_kind formats s.format k.0 rule place k.1 first.1
-apart formats metas level s kids dict (rules.Format format.NoMemory) b lt first second = first
-apart formats metas level s kids dict (rules.Meta fault) b lt first second =
-    no_pairs metas s.metadata fault (meta_refused level s kids dict fault first) (meta_fits level s kids dict b second lt)
-apart formats metas level s kids dict rules.ChildCount b lt first second =
-    let k = children_fit level s kids dict b second lt in
-    first.4 (subst (λ kind. ChildrenFit kind kids) (one_kind formats s.format k.0 first.1 k.1 first.2) k.2)
-apart formats metas level s kids dict rules.DictIndexType rules.MapShape lt first second =
-    first.5 (subst (λ kind. IndexFits kind dict) (one_kind formats s.format second.1 first.1 second.2 first.2) second.5)
-apart formats metas level s kids dict rules.MapShape b lt first second = absurd (omega (arith, lt, rank_most b))
-apart formats metas level s kids dict a b lt first second = absurd (omega (arith, lt))
-
-level_with : FormatLaw → MetaLaw → (level : ℕ) (s : SchemaMembers) (kids : Trees SchemaMembers) (dict : MaybeTree SchemaMembers) (a b : SchemaRule)
-    → rank a ≡ rank b
-    → FailsHere level (Live s kids dict) a → FailsHere level (Live s kids dict) b → a ≡ b
-unfolding rank
-level_with formats metas level s kids dict rules.Deep rules.Deep e first second = refl
-level_with formats metas level s kids dict rules.Released b e first second = absurd first
-level_with formats metas level s kids dict (rules.Format (format.At a p)) (rules.Format (format.At b q)) e first second =
-    ap rules.Format (one_format_fault formats s.format a p b q first.1 second.1)
-level_with formats metas level s kids dict (rules.Format format.NoMemory) b e first second = absurd first
-level_with formats metas level s kids dict (rules.Format (format.At a p)) (rules.Format format.NoMemory) e first second = absurd second
-level_with formats metas level s kids dict (rules.Meta a) (rules.Meta b) e first second =
-    ap rules.Meta (one_meta_fault metas s.metadata a b (meta_refused level s kids dict a first) (meta_refused level s kids dict b second))
-level_with formats metas level s kids dict rules.ChildCount rules.ChildCount e first second = refl
-level_with formats metas level s kids dict rules.DictIndexType rules.DictIndexType e first second = refl
-level_with formats metas level s kids dict rules.MapShape rules.MapShape e first second = refl
-level_with formats metas level s kids dict a b e first second = absurd (omega (arith, e))
-
-one_rule-live : FormatLaw → MetaLaw → (level : ℕ) (s : SchemaMembers) (kids : Trees SchemaMembers) (dict : MaybeTree SchemaMembers) (a b : SchemaRule)
-    → FailsHere level (Live s kids dict) a → FailsHere level (Live s kids dict) b → a ≡ b
-one_rule-live formats metas level s kids dict a b first second =
-    elim (cases_lt (rank a) (rank b)) [
-      | inl lt ↦ absurd (apart formats metas level s kids dict a b lt first second)
-      | inr le ↦ elim (cases_lt (rank b) (rank a)) [
-        | inl lt ↦ absurd (apart formats metas level s kids dict b a lt second first)
-        | inr ge ↦ level_with formats metas level s kids dict a b (omega (arith, le, ge)) first second
-      ]
-    ]
-
-one_rule-released : (level : ℕ) (a b : SchemaRule) → FailsHere level Released a → FailsHere level Released b → a ≡ b
-one_rule-released level rules.Deep rules.Deep first second = refl
-one_rule-released level rules.Deep rules.Released first second = absurd (omega (arith, first, second))
-one_rule-released level rules.Released rules.Deep first second = absurd (omega (arith, first, second))
-one_rule-released level rules.Released rules.Released first second = refl
-one_rule-released level rules.Deep b first second = absurd second
-one_rule-released level rules.Released b first second = absurd second
-one_rule-released level a b first second = absurd first
-
--- a node that meets each rule fails at none
-no_rule : FormatLaw → MetaLaw
-    → (level : ℕ) (s : SchemaMembers) (kids : Trees SchemaMembers) (dict : MaybeTree SchemaMembers) (kind : DataType) (rule : SchemaRule)
-    → NodeIs level s kids dict kind → FailsHere level (Live s kids dict) rule → ⊥
-no_rule formats metas level s kids dict kind rules.Deep node h = omega (arith, node.on_level, h)
-no_rule formats metas level s kids dict kind rules.Released node h = h
-no_rule formats metas level s kids dict kind (rules.Format (format.At rule place)) node h = no_kind formats s.format kind rule place node.format h.1
-no_rule formats metas level s kids dict kind (rules.Format format.NoMemory) node h = h
-no_rule formats metas level s kids dict kind (rules.Meta fault) node h = no_pairs metas s.metadata fault (meta_refused level s kids dict fault h) node.meta
-no_rule formats metas level s kids dict kind rules.ChildCount node h =
-    h.4 (subst (λ k. ChildrenFit k kids) (one_kind formats s.format kind h.1 node.format h.2) node.children)
-no_rule formats metas level s kids dict kind rules.DictIndexType node h =
-    h.5 (subst (λ k. IndexFits k dict) (one_kind formats s.format kind h.1 node.format h.2) node.index)
-no_rule formats metas level s kids dict kind rules.MapShape node h =
-    h.6 (subst (λ k. MapFits k kids) (one_kind formats s.format kind h.1 node.format h.2) node.map)
-
 -- ---- the kinds of a tree
 
 mutual
@@ -244,37 +171,7 @@ mutual
   dict_once formats level (present dict) (present a) absent first second = absurd second
   dict_once formats level (present dict) (present a) (present b) first second = λ i. present (typed_once formats level dict a b first second i)
 
--- ---- a tree of kinds, and a fault
-
-mutual
-  typed_sound : FormatLaw → MetaLaw → (level : ℕ) (t : SchemaTree) (a : KindTree) (path : Steps) (rule : SchemaRule) → TypedFrom level t a
-      → FaultFrom level t path rule → ⊥
-  typed_sound formats metas level Released a path rule typed fails = typed
-  typed_sound formats metas level (Live s kids dict) Released path rule typed fails = typed
-  typed_sound formats metas level (Live s kids dict) (Live a us ad) [] rule typed fails = no_rule formats metas level s kids dict a rule typed.0 fails
-  typed_sound formats metas level (Live s kids dict) (Live a us ad) (step ∷ path) rule typed fails =
-      elim (fails.1) [
-        | inl below ↦ kids_sound formats metas (level + 1) kids us 0 step path rule typed.1 below
-        | inr below ↦ dict_sound formats metas (level + 1) dict ad path rule typed.2 below.2
-      ]
-
-  kids_sound : FormatLaw → MetaLaw → (level : ℕ) (kids : Trees SchemaMembers) (us : Trees DataType) (k step : ℕ) (path : Steps) (rule : SchemaRule)
-      → KidsTyped level kids us → KidFault level kids k step path rule → ⊥
-  kids_sound formats metas level no_trees us k step path rule typed fails = fails
-  kids_sound formats metas level (more_trees kid kids) no_trees k step path rule typed fails = typed
-  kids_sound formats metas level (more_trees kid kids) (more_trees a us) k step path rule typed fails =
-      elim fails [
-        | inl here ↦ typed_sound formats metas level kid a path rule typed.0 here.1
-        | inr later ↦ kids_sound formats metas level kids us (suc k) step path rule typed.1 later.1
-      ]
-
-  dict_sound : FormatLaw → MetaLaw → (level : ℕ) (dict : MaybeTree SchemaMembers) (a : MaybeTree DataType) (path : Steps) (rule : SchemaRule)
-      → DictTyped level dict a → DictFault level dict path rule → ⊥
-  dict_sound formats metas level absent a path rule typed fails = fails
-  dict_sound formats metas level (present dict) absent path rule typed fails = typed
-  dict_sound formats metas level (present dict) (present a) path rule typed fails = typed_sound formats metas level dict a path rule typed fails
-
--- ---- two faults
+-- ---- the places of two faults
 
 abbrev SamePlace : Steps → SchemaRule → Steps → SchemaRule → Type 0
 SamePlace p a q b = (p ≡ q) × (a ≡ b)
@@ -289,57 +186,163 @@ behind : (s : ℕ) (p : Steps) (a : SchemaRule) (t : ℕ) (q : Steps) (b : Schem
     → SamePlace (s ∷ p) a (t ∷ q) b
 behind s p a t q b se te h = ((λ i. (se ∙ sym te) i ∷ h.0 i), h.1)
 
-mutual
-  fault_once : FormatLaw → MetaLaw → (level : ℕ) (t : SchemaTree) (p : Steps) (a : SchemaRule) (q : Steps) (b : SchemaRule)
-      → FaultFrom level t p a → FaultFrom level t q b → SamePlace p a q b
-  fault_once formats metas level Released [] a [] b first second = (refl, one_rule-released level a b first second)
-  fault_once formats metas level Released (step ∷ p) a q b first second = absurd first
-  fault_once formats metas level Released [] a (step ∷ q) b first second = absurd second
-  fault_once formats metas level (Live s kids dict) [] a [] b first second = (refl, one_rule-live formats metas level s kids dict a b first second)
-  fault_once formats metas level (Live s kids dict) [] a (step ∷ q) b first second =
-      absurd (no_rule formats metas level s kids dict second.0.0 a second.0.1 first)
-  fault_once formats metas level (Live s kids dict) (step ∷ p) a [] b first second =
-      absurd (no_rule formats metas level s kids dict first.0.0 b first.0.1 second)
-  fault_once formats metas level (Live s kids dict) (step ∷ p) a (other ∷ q) b first second =
-      elim (first.1) [
-        | inl f ↦ elim (second.1) [
-          | inl g ↦ longer step p a other q b (kid_once formats metas (level + 1) kids 0 step p a other q b f g)
-          | inr g ↦ absurd (kids_sound formats metas (level + 1) kids g.1.0 0 step p a g.1.1 f)
-        ]
-        | inr f ↦ elim (second.1) [
-          | inl g ↦ absurd (kids_sound formats metas (level + 1) kids f.1.0 0 other q b f.1.1 g)
-          | inr g ↦ behind step p a other q b f.0 g.0 (dict_fault_once formats metas (level + 1) dict p a q b f.2 g.2)
+one_rule-released : (level : ℕ) (a b : SchemaRule) → FailsHere level Released a → FailsHere level Released b → a ≡ b
+one_rule-released level rules.Deep rules.Deep first second = refl
+one_rule-released level rules.Deep rules.Released first second = absurd (omega (arith, first, second))
+one_rule-released level rules.Released rules.Deep first second = absurd (omega (arith, first, second))
+one_rule-released level rules.Released rules.Released first second = refl
+one_rule-released level rules.Deep b first second = absurd second
+one_rule-released level rules.Released b first second = absurd second
+one_rule-released level a b first second = absurd first
+
+-- ---- a reading of formats, and one of metadata
+module _ (formats : FormatLaw) (metas : MetaLaw) where
+  -- a rule fails only where those before it are met
+  apart : (level : ℕ) (s : SchemaMembers) (kids : Trees SchemaMembers) (dict : MaybeTree SchemaMembers) (a b : SchemaRule) → rank a < rank b
+      → FailsHere level (Live s kids dict) a → FailsHere level (Live s kids dict) b → ⊥
+  unfolding rank
+  apart level s kids dict rules.Deep b lt first second = omega (arith, first, on_level level s kids dict b second lt)
+  apart level s kids dict rules.Released b lt first second = first
+  apart level s kids dict (rules.Format (format.At rule place)) b lt first second =
+      let k = formatted level s kids dict b second lt in
+      no_kind formats s.format k.0 rule place k.1 first.1
+  apart level s kids dict (rules.Format format.NoMemory) b lt first second = first
+  apart level s kids dict (rules.Meta fault) b lt first second =
+      no_pairs metas s.metadata fault (meta_refused level s kids dict fault first) (meta_fits level s kids dict b second lt)
+  apart level s kids dict rules.ChildCount b lt first second =
+      let k = children_fit level s kids dict b second lt in
+      first.4 (subst (λ kind. ChildrenFit kind kids) (one_kind formats s.format k.0 first.1 k.1 first.2) k.2)
+  apart level s kids dict rules.DictIndexType rules.MapShape lt first second =
+      first.5 (subst (λ kind. IndexFits kind dict) (one_kind formats s.format second.1 first.1 second.2 first.2) second.5)
+  apart level s kids dict rules.MapShape b lt first second = absurd (omega (arith, lt, rank_most b))
+  apart level s kids dict a b lt first second = absurd (omega (arith, lt))
+
+  level_with : (level : ℕ) (s : SchemaMembers) (kids : Trees SchemaMembers) (dict : MaybeTree SchemaMembers) (a b : SchemaRule)
+      → rank a ≡ rank b
+      → FailsHere level (Live s kids dict) a → FailsHere level (Live s kids dict) b → a ≡ b
+  unfolding rank
+  level_with level s kids dict rules.Deep rules.Deep e first second = refl
+  level_with level s kids dict rules.Released b e first second = absurd first
+  level_with level s kids dict (rules.Format (format.At a p)) (rules.Format (format.At b q)) e first second =
+      ap rules.Format (one_format_fault formats s.format a p b q first.1 second.1)
+  level_with level s kids dict (rules.Format format.NoMemory) b e first second = absurd first
+  level_with level s kids dict (rules.Format (format.At a p)) (rules.Format format.NoMemory) e first second = absurd second
+  level_with level s kids dict (rules.Meta a) (rules.Meta b) e first second =
+      ap rules.Meta (one_meta_fault metas s.metadata a b (meta_refused level s kids dict a first) (meta_refused level s kids dict b second))
+  level_with level s kids dict rules.ChildCount rules.ChildCount e first second = refl
+  level_with level s kids dict rules.DictIndexType rules.DictIndexType e first second = refl
+  level_with level s kids dict rules.MapShape rules.MapShape e first second = refl
+  level_with level s kids dict a b e first second = absurd (omega (arith, e))
+
+  one_rule-live : (level : ℕ) (s : SchemaMembers) (kids : Trees SchemaMembers) (dict : MaybeTree SchemaMembers) (a b : SchemaRule)
+      → FailsHere level (Live s kids dict) a → FailsHere level (Live s kids dict) b → a ≡ b
+  one_rule-live level s kids dict a b first second =
+      elim (cases_lt (rank a) (rank b)) [
+        | inl lt ↦ absurd (apart level s kids dict a b lt first second)
+        | inr le ↦ elim (cases_lt (rank b) (rank a)) [
+          | inl lt ↦ absurd (apart level s kids dict b a lt second first)
+          | inr ge ↦ level_with level s kids dict a b (omega (arith, le, ge)) first second
         ]
       ]
 
-  kid_once : FormatLaw → MetaLaw → (level : ℕ) (kids : Trees SchemaMembers) (k s : ℕ) (p : Steps) (a : SchemaRule) (t : ℕ) (q : Steps) (b : SchemaRule)
-      → KidFault level kids k s p a → KidFault level kids k t q b → SameStep s p a t q b
-  kid_once formats metas level no_trees k s p a t q b first second = absurd first
-  kid_once formats metas level (more_trees kid kids) k s p a t q b (inl first) (inl second) =
-      let same = fault_once formats metas level kid p a q b first.1 second.1 in
-      (first.0 ∙ sym second.0, same.0, same.1)
-  kid_once formats metas level (more_trees kid kids) k s p a t q b (inl first) (inr second) =
-      absurd (typed_sound formats metas level kid second.0.0 p a second.0.1 first.1)
-  kid_once formats metas level (more_trees kid kids) k s p a t q b (inr first) (inl second) =
-      absurd (typed_sound formats metas level kid first.0.0 q b first.0.1 second.1)
-  kid_once formats metas level (more_trees kid kids) k s p a t q b (inr first) (inr second) =
-      kid_once formats metas level kids (suc k) s p a t q b first.1 second.1
+  -- a node that meets each rule fails at none
+  no_rule : (level : ℕ) (s : SchemaMembers) (kids : Trees SchemaMembers) (dict : MaybeTree SchemaMembers) (kind : DataType) (rule : SchemaRule)
+      → NodeIs level s kids dict kind → FailsHere level (Live s kids dict) rule → ⊥
+  no_rule level s kids dict kind rules.Deep node h = omega (arith, node.on_level, h)
+  no_rule level s kids dict kind rules.Released node h = h
+  no_rule level s kids dict kind (rules.Format (format.At rule place)) node h = no_kind formats s.format kind rule place node.format h.1
+  no_rule level s kids dict kind (rules.Format format.NoMemory) node h = h
+  no_rule level s kids dict kind (rules.Meta fault) node h = no_pairs metas s.metadata fault (meta_refused level s kids dict fault h) node.meta
+  no_rule level s kids dict kind rules.ChildCount node h =
+      h.4 (subst (λ k. ChildrenFit k kids) (one_kind formats s.format kind h.1 node.format h.2) node.children)
+  no_rule level s kids dict kind rules.DictIndexType node h =
+      h.5 (subst (λ k. IndexFits k dict) (one_kind formats s.format kind h.1 node.format h.2) node.index)
+  no_rule level s kids dict kind rules.MapShape node h =
+      h.6 (subst (λ k. MapFits k kids) (one_kind formats s.format kind h.1 node.format h.2) node.map)
 
-  dict_fault_once : FormatLaw → MetaLaw → (level : ℕ) (dict : MaybeTree SchemaMembers) (p : Steps) (a : SchemaRule) (q : Steps) (b : SchemaRule)
-      → DictFault level dict p a → DictFault level dict q b → SamePlace p a q b
-  dict_fault_once formats metas level absent p a q b first second = absurd first
-  dict_fault_once formats metas level (present dict) p a q b first second = fault_once formats metas level dict p a q b first second
+  -- a tree of kinds, and a fault
 
--- ---- the whole
+  mutual
+    typed_sound : (level : ℕ) (t : SchemaTree) (a : KindTree) (path : Steps) (rule : SchemaRule) → TypedFrom level t a
+        → FaultFrom level t path rule → ⊥
+    typed_sound level Released a path rule typed fails = typed
+    typed_sound level (Live s kids dict) Released path rule typed fails = typed
+    typed_sound level (Live s kids dict) (Live a us ad) [] rule typed fails = no_rule level s kids dict a rule typed.0 fails
+    typed_sound level (Live s kids dict) (Live a us ad) (step ∷ path) rule typed fails =
+        elim (fails.1) [
+          | inl below ↦ kids_sound (level + 1) kids us 0 step path rule typed.1 below
+          | inr below ↦ dict_sound (level + 1) dict ad path rule typed.2 below.2
+        ]
 
-pub one_answer : FormatLaw → MetaLaw → (schema : SchemaTree) (first second : Result KindTree FirstFault) → SchemaReads schema first
-    → SchemaReads schema second → first ≡ second
-one_answer formats metas schema (Ok a) (Ok b) first second = ap Ok (typed_once formats 1 schema a b first second)
-one_answer formats metas schema (Ok a) (Err g) first second = absurd (typed_sound formats metas 1 schema a g.path g.rule first second)
-one_answer formats metas schema (Err f) (Ok b) first second = absurd (typed_sound formats metas 1 schema b f.path f.rule second first)
-one_answer formats metas schema (Err f) (Err g) first second =
-    let same = fault_once formats metas 1 schema f.path f.rule g.path g.rule first second in
-    λ i. Err (record { path = same.0 i; rule = same.1 i })
+    kids_sound : (level : ℕ) (kids : Trees SchemaMembers) (us : Trees DataType) (k step : ℕ) (path : Steps) (rule : SchemaRule)
+        → KidsTyped level kids us → KidFault level kids k step path rule → ⊥
+    kids_sound level no_trees us k step path rule typed fails = fails
+    kids_sound level (more_trees kid kids) no_trees k step path rule typed fails = typed
+    kids_sound level (more_trees kid kids) (more_trees a us) k step path rule typed fails =
+        elim fails [
+          | inl here ↦ typed_sound level kid a path rule typed.0 here.1
+          | inr later ↦ kids_sound level kids us (suc k) step path rule typed.1 later.1
+        ]
+
+    dict_sound : (level : ℕ) (dict : MaybeTree SchemaMembers) (a : MaybeTree DataType) (path : Steps) (rule : SchemaRule)
+        → DictTyped level dict a → DictFault level dict path rule → ⊥
+    dict_sound level absent a path rule typed fails = fails
+    dict_sound level (present dict) absent path rule typed fails = typed
+    dict_sound level (present dict) (present a) path rule typed fails = typed_sound level dict a path rule typed fails
+
+  -- two faults
+
+  mutual
+    fault_once : (level : ℕ) (t : SchemaTree) (p : Steps) (a : SchemaRule) (q : Steps) (b : SchemaRule)
+        → FaultFrom level t p a → FaultFrom level t q b → SamePlace p a q b
+    fault_once level Released [] a [] b first second = (refl, one_rule-released level a b first second)
+    fault_once level Released (step ∷ p) a q b first second = absurd first
+    fault_once level Released [] a (step ∷ q) b first second = absurd second
+    fault_once level (Live s kids dict) [] a [] b first second = (refl, one_rule-live level s kids dict a b first second)
+    fault_once level (Live s kids dict) [] a (step ∷ q) b first second =
+        absurd (no_rule level s kids dict second.0.0 a second.0.1 first)
+    fault_once level (Live s kids dict) (step ∷ p) a [] b first second =
+        absurd (no_rule level s kids dict first.0.0 b first.0.1 second)
+    fault_once level (Live s kids dict) (step ∷ p) a (other ∷ q) b first second =
+        elim (first.1) [
+          | inl f ↦ elim (second.1) [
+            | inl g ↦ longer step p a other q b (kid_once (level + 1) kids 0 step p a other q b f g)
+            | inr g ↦ absurd (kids_sound (level + 1) kids g.1.0 0 step p a g.1.1 f)
+          ]
+          | inr f ↦ elim (second.1) [
+            | inl g ↦ absurd (kids_sound (level + 1) kids f.1.0 0 other q b f.1.1 g)
+            | inr g ↦ behind step p a other q b f.0 g.0 (dict_fault_once (level + 1) dict p a q b f.2 g.2)
+          ]
+        ]
+
+    kid_once : (level : ℕ) (kids : Trees SchemaMembers) (k s : ℕ) (p : Steps) (a : SchemaRule) (t : ℕ) (q : Steps) (b : SchemaRule)
+        → KidFault level kids k s p a → KidFault level kids k t q b → SameStep s p a t q b
+    kid_once level no_trees k s p a t q b first second = absurd first
+    kid_once level (more_trees kid kids) k s p a t q b (inl first) (inl second) =
+        let same = fault_once level kid p a q b first.1 second.1 in
+        (first.0 ∙ sym second.0, same.0, same.1)
+    kid_once level (more_trees kid kids) k s p a t q b (inl first) (inr second) =
+        absurd (typed_sound level kid second.0.0 p a second.0.1 first.1)
+    kid_once level (more_trees kid kids) k s p a t q b (inr first) (inl second) =
+        absurd (typed_sound level kid first.0.0 q b first.0.1 second.1)
+    kid_once level (more_trees kid kids) k s p a t q b (inr first) (inr second) =
+        kid_once level kids (suc k) s p a t q b first.1 second.1
+
+    dict_fault_once : (level : ℕ) (dict : MaybeTree SchemaMembers) (p : Steps) (a : SchemaRule) (q : Steps) (b : SchemaRule)
+        → DictFault level dict p a → DictFault level dict q b → SamePlace p a q b
+    dict_fault_once level absent p a q b first second = absurd first
+    dict_fault_once level (present dict) p a q b first second = fault_once level dict p a q b first second
+
+  -- the whole
+
+  pub one_answer : (schema : SchemaTree) (first second : Result KindTree FirstFault) → SchemaReads schema first
+      → SchemaReads schema second → first ≡ second
+  one_answer schema (Ok a) (Ok b) first second = ap Ok (typed_once formats 1 schema a b first second)
+  one_answer schema (Ok a) (Err g) first second = absurd (typed_sound 1 schema a g.path g.rule first second)
+  one_answer schema (Err f) (Ok b) first second = absurd (typed_sound 1 schema b f.path f.rule second first)
+  one_answer schema (Err f) (Err g) first second =
+      let same = fault_once 1 schema f.path f.rule g.path g.rule first second in
+      λ i. Err (record { path = same.0 i; rule = same.1 i })
 
 abbrev pub AnswerLaw : Type 0
 AnswerLaw = (schema : SchemaTree) (first second : Result KindTree FirstFault) → SchemaReads schema first → SchemaReads schema second → first ≡ second

@@ -62,29 +62,6 @@ pair_of_structs (more_trees a no_trees) dict e = absurd (omega (arith, e))
 pair_of_structs (more_trees a (more_trees b no_trees)) dict e = tt
 pair_of_structs (more_trees a (more_trees b (more_trees c cs))) dict e = absurd (omega (arith, e))
 
-pair_of : FormatLaw → SpellingLaw → (level : ℕ) (kid : SchemaTree) (a : KindTree) → TypedFrom level kid a → IsPairNode kid → IsPairOfColumns a
-pair_of formats spells level Released a h pair = absurd h
-pair_of formats spells level (Live s kids dict) Released h pair = absurd h
-pair_of formats spells level (Live s kids dict) (Live kind us ad) h pair =
-    let text : FormatIs s.format kinds.Struct = subst (λ (x : List ℕ). FormatIs x kinds.Struct) (sym pair.0) (spells kinds.Struct tt) in
-    let is : kinds.Struct ≡ kind = one_kind formats s.format kinds.Struct kind text h.0.format in
-    subst (λ k. IsPairOfColumns (Live k us ad)) is (pair_of_structs us ad (same_count (level + 1) kids us h.1 ∙ pair.1))
-
-map_child : FormatLaw → SpellingLaw → (level : ℕ) (kids : Trees SchemaMembers) (us : Trees DataType) → KidsTyped level kids us → tree_count us ≡ 1
-    → IsPairSchema kids → IsOneChild us IsPairOfColumns
-map_child formats spells level no_trees us h e pair = absurd pair
-map_child formats spells level (more_trees kid kids) no_trees h e pair = absurd h
-map_child formats spells level (more_trees kid kids) (more_trees a no_trees) h e pair = pair_of formats spells level kid a h.0 pair
-map_child formats spells level (more_trees kid kids) (more_trees a (more_trees b vs)) h e pair = absurd (omega (arith, e))
-
-children_valid : FormatLaw → SpellingLaw → (level : ℕ) (kind : DataType) (kids : Trees SchemaMembers) (us : Trees DataType) → KidsTyped level kids us
-    → ChildrenFit kind kids → MapFits kind kids → KidsOk kind us
-children_valid formats spells level (kinds.List wide) kids us h fit pair = one_child us (same_count level kids us h ∙ fit)
-children_valid formats spells level (kinds.FixedList size) kids us h fit pair = one_child us (same_count level kids us h ∙ fit)
-children_valid formats spells level kinds.Map kids us h fit pair = map_child formats spells level kids us h (same_count level kids us h ∙ fit) pair
-children_valid formats spells level kinds.Struct kids us h fit pair = tt
-children_valid formats spells level kind kids us h fit pair = no_child us (same_count level kids us h ∙ fit)
-
 index_valid : (level : ℕ) (kind : DataType) (dict : MaybeTree SchemaMembers) (a : MaybeTree DataType) → DictTyped level dict a
     → IndexFits kind dict → DictOk kind a
 index_valid level kind absent absent h fit = tt
@@ -93,31 +70,56 @@ index_valid level kind (present dict) absent h fit = absurd h
 index_valid level (kinds.Int bits signed) (present dict) (present a) h fit = tt
 index_valid level kind (present dict) (present a) h fit = absurd fit
 
--- ---- all nodes
+-- ---- a reading of formats that reads each spelling back
+module _ (formats : FormatLaw) (spells : SpellingLaw) where
+  pair_of : (level : ℕ) (kid : SchemaTree) (a : KindTree) → TypedFrom level kid a → IsPairNode kid → IsPairOfColumns a
+  pair_of level Released a h pair = absurd h
+  pair_of level (Live s kids dict) Released h pair = absurd h
+  pair_of level (Live s kids dict) (Live kind us ad) h pair =
+      let text : FormatIs s.format kinds.Struct = subst (λ (x : List ℕ). FormatIs x kinds.Struct) (sym pair.0) (spells kinds.Struct tt) in
+      let is : kinds.Struct ≡ kind = one_kind formats s.format kinds.Struct kind text h.0.format in
+      subst (λ k. IsPairOfColumns (Live k us ad)) is (pair_of_structs us ad (same_count (level + 1) kids us h.1 ∙ pair.1))
 
-mutual
-  nodes_valid : FormatLaw → SpellingLaw → ValidLaw → (level : ℕ) (t : SchemaTree) (a : KindTree) → TypedFrom level t a → NodesOk a
-  nodes_valid formats spells valid level Released a h = absurd h
-  nodes_valid formats spells valid level (Live s kids dict) Released h = absurd h
-  nodes_valid formats spells valid level (Live s kids dict) (Live kind us ad) h = (
-    valid s.format kind h.0.format,
-    children_valid formats spells (level + 1) kind kids us h.1 h.0.children h.0.map,
-    index_valid (level + 1) kind dict ad h.2 h.0.index,
-    all_valid formats spells valid (level + 1) kids us h.1,
-    dict_valid formats spells valid (level + 1) dict ad h.2,
-  )
+  map_child : (level : ℕ) (kids : Trees SchemaMembers) (us : Trees DataType) → KidsTyped level kids us → tree_count us ≡ 1
+      → IsPairSchema kids → IsOneChild us IsPairOfColumns
+  map_child level no_trees us h e pair = absurd pair
+  map_child level (more_trees kid kids) no_trees h e pair = absurd h
+  map_child level (more_trees kid kids) (more_trees a no_trees) h e pair = pair_of level kid a h.0 pair
+  map_child level (more_trees kid kids) (more_trees a (more_trees b vs)) h e pair = absurd (omega (arith, e))
 
-  all_valid : FormatLaw → SpellingLaw → ValidLaw → (level : ℕ) (kids : Trees SchemaMembers) (us : Trees DataType) → KidsTyped level kids us → AllNodesOk us
-  all_valid formats spells valid level kids no_trees h = tt
-  all_valid formats spells valid level no_trees (more_trees a us) h = absurd h
-  all_valid formats spells valid level (more_trees kid kids) (more_trees a us) h =
-      (nodes_valid formats spells valid level kid a h.0, all_valid formats spells valid level kids us h.1)
+  children_valid : (level : ℕ) (kind : DataType) (kids : Trees SchemaMembers) (us : Trees DataType) → KidsTyped level kids us
+      → ChildrenFit kind kids → MapFits kind kids → KidsOk kind us
+  children_valid level (kinds.List wide) kids us h fit pair = one_child us (same_count level kids us h ∙ fit)
+  children_valid level (kinds.FixedList size) kids us h fit pair = one_child us (same_count level kids us h ∙ fit)
+  children_valid level kinds.Map kids us h fit pair = map_child level kids us h (same_count level kids us h ∙ fit) pair
+  children_valid level kinds.Struct kids us h fit pair = tt
+  children_valid level kind kids us h fit pair = no_child us (same_count level kids us h ∙ fit)
 
-  dict_valid : FormatLaw → SpellingLaw → ValidLaw → (level : ℕ) (dict : MaybeTree SchemaMembers) (a : MaybeTree DataType)
-      → DictTyped level dict a → DictNodesOk a
-  dict_valid formats spells valid level dict absent h = tt
-  dict_valid formats spells valid level absent (present a) h = absurd h
-  dict_valid formats spells valid level (present dict) (present a) h = nodes_valid formats spells valid level dict a h
+  -- all nodes
+  module _ (valid : ValidLaw) where
+    mutual
+      nodes_valid : (level : ℕ) (t : SchemaTree) (a : KindTree) → TypedFrom level t a → NodesOk a
+      nodes_valid level Released a h = absurd h
+      nodes_valid level (Live s kids dict) Released h = absurd h
+      nodes_valid level (Live s kids dict) (Live kind us ad) h = (
+        valid s.format kind h.0.format,
+        children_valid (level + 1) kind kids us h.1 h.0.children h.0.map,
+        index_valid (level + 1) kind dict ad h.2 h.0.index,
+        all_valid (level + 1) kids us h.1,
+        dict_valid (level + 1) dict ad h.2,
+      )
 
-pub kinds_valid : FormatLaw → SpellingLaw → ValidLaw → (schema : SchemaTree) (typed : KindTree) → TypedOf schema typed → TypedOk typed
-kinds_valid formats spells valid schema typed h = (omega (arith, typed_levels 1 schema typed h), nodes_valid formats spells valid 1 schema typed h)
+      all_valid : (level : ℕ) (kids : Trees SchemaMembers) (us : Trees DataType) → KidsTyped level kids us → AllNodesOk us
+      all_valid level kids no_trees h = tt
+      all_valid level no_trees (more_trees a us) h = absurd h
+      all_valid level (more_trees kid kids) (more_trees a us) h =
+          (nodes_valid level kid a h.0, all_valid level kids us h.1)
+
+      dict_valid : (level : ℕ) (dict : MaybeTree SchemaMembers) (a : MaybeTree DataType)
+          → DictTyped level dict a → DictNodesOk a
+      dict_valid level dict absent h = tt
+      dict_valid level absent (present a) h = absurd h
+      dict_valid level (present dict) (present a) h = nodes_valid level dict a h
+
+    pub kinds_valid : (schema : SchemaTree) (typed : KindTree) → TypedOf schema typed → TypedOk typed
+    kinds_valid schema typed h = (omega (arith, typed_levels 1 schema typed h), nodes_valid 1 schema typed h)

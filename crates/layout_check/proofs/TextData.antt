@@ -73,85 +73,79 @@ not_below a b h k = trans-≤ℤ (pos 0) a b h k
 
 pub ruleset naturals = (natural-rise, natural-within, not_below)
 
-fall_parts : (wide : Bool) (own : ArrayMembers) (i : ℕ) → offsets_fall wide own ≡ None → i < items own
-    → (is_negative (offset wide own (first own)) ≡ false) × (first_below (offset_falls wide own) (items own) ≡ None)
-fall_parts wide own i e h =
-    parts (end own == 0) (offset wide own (first own)) (first_below (offset_falls wide own) (items own)) (not_zero (end own) (omega (arith, h))) e
-
 steps : (wide : Bool) (own : ArrayMembers) → first_below (offset_falls wide own) (items own) ≡ None
     → (i : ℕ) → i < items own → offset wide own (first own + i) ≤ℤ offset wide own (first own + i + 1)
 steps wide own e i h =
     no_fall i (offset wide own (first own + i)) (offset wide own (first own + i + 1)) (first_below-none_at (offset_falls wide own) (items own) i h e)
-
--- each offset of an item is at least 0, no more than the next one, and within the data
-pub offsets-from : (wide : Bool) (own : ArrayMembers) (i : ℕ) → offsets_fall wide own ≡ None → i < items own → pos 0 ≤ℤ offset wide own (first own + i)
-offsets-from wide own i e h =
-    let p = fall_parts wide own i e h in
-    let start : first own ≡ first own + 0 = omega arith in
-    let place : first own + 0 + i ≡ first own + i = omega arith in
-    trans-≤ℤ (pos 0) (offset wide own (first own + 0)) (offset wide own (first own + i))
-    (subst (λ k. pos 0 ≤ℤ offset wide own k) start (not_negative (offset wide own (first own)) p.0))
-    (subst (λ k. offset wide own (first own + 0) ≤ℤ offset wide own k) place
-    (rise (offset wide own) (first own) (items own) (steps wide own p.1) 0 i (omega (arith, h))))
-
-pub offsets-rise : (wide : Bool) (own : ArrayMembers) (i : ℕ) → offsets_fall wide own ≡ None → i < items own
-    → offset wide own (first own + i) ≤ℤ offset wide own (first own + i + 1)
-offsets-rise wide own i e h = steps wide own (fall_parts wide own i e h).1 i h
-
--- the first offset is at least 0, and no more than an item's
-pub offsets-start : (wide : Bool) (own : ArrayMembers) (i : ℕ) → offsets_fall wide own ≡ None → i < items own
-    → (pos 0 ≤ℤ offset wide own (first own)) × (offset wide own (first own) ≤ℤ offset wide own (first own + i))
-offsets-start wide own i e h =
-    let p = fall_parts wide own i e h in
-    let start : first own + 0 ≡ first own = omega arith in
-    let place : first own + 0 + i ≡ first own + i = omega arith in (
-      not_negative (offset wide own (first own)) p.0,
-      subst (λ k. offset wide own k ≤ℤ offset wide own (first own + i)) start
-          (subst (λ k. offset wide own (first own + 0) ≤ℤ offset wide own k) place
-          (rise (offset wide own) (first own) (items own) (steps wide own p.1) 0 i (omega (arith, h)))),
-    )
-
-pub offsets-next : (wide : Bool) (own : ArrayMembers) (i : ℕ) → offsets_fall wide own ≡ None → i < items own → pos 0 ≤ℤ offset wide own (first own + i + 1)
-offsets-next wide own i e h =
-    trans-≤ℤ (pos 0) (offset wide own (first own + i)) (offset wide own (first own + i + 1)) (offsets-from wide own i e h) (offsets-rise wide own i e h)
-
-pub offsets-last : (wide : Bool) (own : ArrayMembers) (i : ℕ) → offsets_fall wide own ≡ None → i < items own
-    → offset wide own (first own + i + 1) ≤ℤ offset wide own (end own)
-offsets-last wide own i e h =
-    let here : first own + (i + 1) ≡ first own + i + 1 = omega arith in
-    let last : first own + (i + 1) + (items own - (i + 1)) ≡ end own = omega (arith, h) in
-    subst (λ k. offset wide own k ≤ℤ offset wide own (end own)) here
-    (subst (λ k. offset wide own (first own + (i + 1)) ≤ℤ offset wide own k) last
-    (rise (offset wide own) (first own) (items own) (steps wide own (fall_parts wide own i e h).1) (i + 1) (items own - (i + 1)) (omega (arith, h))))
 
 within : (places found needed size : ℕ) (z : ℤ) → 0 < places → needed ≤ found
     → (if (places == 0) || nat_lt found needed then 0 else natural z) ≤ size → z ≤ℤ pos size
 within places found needed size (pos n) h l e = grind arith
 within places found needed size (negsuc n) h l e = grind arith
 
-pub offsets-within : (wide : Bool) (own : ArrayMembers) (i : ℕ) → offsets_fall wide own ≡ None → i < items own
-    → offsets_need wide (end own) ≤ length (bytes own 1) → data_need wide own ≤ length (bytes own 2)
-    → offset wide own (first own + i + 1) ≤ℤ pos (length (bytes own 2))
-offsets-within wide own i e h long stored =
-    trans-≤ℤ (offset wide own (first own + i + 1)) (offset wide own (end own)) (pos (length (bytes own 2)))
-    (offsets-last wide own i e h)
-    (within (end own) (length (bytes own 1)) (offsets_need wide (end own)) (length (bytes own 2)) (offset wide own (end own)) (omega (arith, h)) long stored)
+-- ---- the offsets of an item
+module _ (wide : Bool) (own : ArrayMembers) (i : ℕ) (e : offsets_fall wide own ≡ None) (h : i < items own) where
+  fall_parts : (is_negative (offset wide own (first own)) ≡ false) × (first_below (offset_falls wide own) (items own) ≡ None)
+  fall_parts = parts (end own == 0) (offset wide own (first own)) (first_below (offset_falls wide own) (items own)) (not_zero (end own) (omega (arith, h))) e
 
--- the offsets at the borders of a window of some items
-pub border-from : (wide : Bool) (own : ArrayMembers) → offsets_fall wide own ≡ None → 0 < items own → pos 0 ≤ℤ offset wide own (first own)
-border-from wide own e h = (offsets-start wide own 0 e h).0
+  -- each offset of an item is at least 0, no more than the next one, and within the data
+  pub offsets-from : pos 0 ≤ℤ offset wide own (first own + i)
+  offsets-from =
+      let start : first own ≡ first own + 0 = omega arith in
+      let place : first own + 0 + i ≡ first own + i = omega arith in
+      trans-≤ℤ (pos 0) (offset wide own (first own + 0)) (offset wide own (first own + i))
+      (subst (λ k. pos 0 ≤ℤ offset wide own k) start (not_negative (offset wide own (first own)) fall_parts.0))
+      (subst (λ k. offset wide own (first own + 0) ≤ℤ offset wide own k) place
+      (rise (offset wide own) (first own) (items own) (steps wide own fall_parts.1) 0 i (omega (arith, h))))
 
-pub border-rise : (wide : Bool) (own : ArrayMembers) → offsets_fall wide own ≡ None → 0 < items own → offset wide own (first own) ≤ℤ offset wide own (end own)
-border-rise wide own e h =
-    trans-≤ℤ (offset wide own (first own)) (offset wide own (first own + 0)) (offset wide own (end own)) (offsets-start wide own 0 e h).1
-    (trans-≤ℤ (offset wide own (first own + 0)) (offset wide own (first own + 0 + 1)) (offset wide own (end own)) (offsets-rise wide own 0 e h)
-    (offsets-last wide own 0 e h))
+  pub offsets-rise : offset wide own (first own + i) ≤ℤ offset wide own (first own + i + 1)
+  offsets-rise = steps wide own fall_parts.1 i h
 
-pub border-within : (wide : Bool) (own : ArrayMembers) → offsets_fall wide own ≡ None → 0 < items own
-    → offsets_need wide (end own) ≤ length (bytes own 1) → data_need wide own ≤ length (bytes own 2)
-    → offset wide own (end own) ≤ℤ pos (length (bytes own 2))
-border-within wide own e h long stored =
-    within (end own) (length (bytes own 1)) (offsets_need wide (end own)) (length (bytes own 2)) (offset wide own (end own)) (omega (arith, h)) long stored
+  -- the first offset is at least 0, and no more than an item's
+  pub offsets-start : (pos 0 ≤ℤ offset wide own (first own)) × (offset wide own (first own) ≤ℤ offset wide own (first own + i))
+  offsets-start =
+      let start : first own + 0 ≡ first own = omega arith in
+      let place : first own + 0 + i ≡ first own + i = omega arith in (
+        not_negative (offset wide own (first own)) fall_parts.0,
+        subst (λ k. offset wide own k ≤ℤ offset wide own (first own + i)) start
+            (subst (λ k. offset wide own (first own + 0) ≤ℤ offset wide own k) place
+            (rise (offset wide own) (first own) (items own) (steps wide own fall_parts.1) 0 i (omega (arith, h)))),
+      )
+
+  pub offsets-next : pos 0 ≤ℤ offset wide own (first own + i + 1)
+  offsets-next = trans-≤ℤ (pos 0) (offset wide own (first own + i)) (offset wide own (first own + i + 1)) offsets-from offsets-rise
+
+  pub offsets-last : offset wide own (first own + i + 1) ≤ℤ offset wide own (end own)
+  offsets-last =
+      let here : first own + (i + 1) ≡ first own + i + 1 = omega arith in
+      let last : first own + (i + 1) + (items own - (i + 1)) ≡ end own = omega (arith, h) in
+      subst (λ k. offset wide own k ≤ℤ offset wide own (end own)) here
+      (subst (λ k. offset wide own (first own + (i + 1)) ≤ℤ offset wide own k) last
+      (rise (offset wide own) (first own) (items own) (steps wide own fall_parts.1) (i + 1) (items own - (i + 1)) (omega (arith, h))))
+
+  pub offsets-within : offsets_need wide (end own) ≤ length (bytes own 1) → data_need wide own ≤ length (bytes own 2)
+      → offset wide own (first own + i + 1) ≤ℤ pos (length (bytes own 2))
+  offsets-within long stored =
+      trans-≤ℤ (offset wide own (first own + i + 1)) (offset wide own (end own)) (pos (length (bytes own 2)))
+      offsets-last
+      (within (end own) (length (bytes own 1)) (offsets_need wide (end own)) (length (bytes own 2)) (offset wide own (end own)) (omega (arith, h)) long stored)
+
+-- ---- the borders of a window
+module _ (wide : Bool) (own : ArrayMembers) (e : offsets_fall wide own ≡ None) (h : 0 < items own) where
+  -- the offsets at the borders of a window of some items
+  pub border-from : pos 0 ≤ℤ offset wide own (first own)
+  border-from = (offsets-start wide own 0 e h).0
+
+  pub border-rise : offset wide own (first own) ≤ℤ offset wide own (end own)
+  border-rise =
+      trans-≤ℤ (offset wide own (first own)) (offset wide own (first own + 0)) (offset wide own (end own)) (offsets-start wide own 0 e h).1
+      (trans-≤ℤ (offset wide own (first own + 0)) (offset wide own (first own + 0 + 1)) (offset wide own (end own)) (offsets-rise wide own 0 e h)
+      (offsets-last wide own 0 e h))
+
+  pub border-within : offsets_need wide (end own) ≤ length (bytes own 1) → data_need wide own ≤ length (bytes own 2)
+      → offset wide own (end own) ≤ℤ pos (length (bytes own 2))
+  border-within long stored =
+      within (end own) (length (bytes own 1)) (offsets_need wide (end own)) (length (bytes own 2)) (offset wide own (end own)) (omega (arith, h)) long stored
 
 pub ruleset borders_lie = (border-from, border-rise, border-within)
 

@@ -16,7 +16,11 @@ use Rattle.layout_check.proofs.Roots.{level_in, lawful-level_in, root-live, root
 use Rattle.layout_check.proofs.Roots.{root-dictionary, tree_items-items}
 use Rattle.layout_check.proofs.ReadWithin.{item-stored, child-needed, item-children, item-view, item-index, child-lawful, dictionary-lawful, live-of, few-of}
 
-pub root_holds : (typed : KindTree) (array : ArrayTree) → IsLive typed → LayoutOk typed array → RootHolds typed array
+-- what holds of each lawful array whose type is there
+abbrev pub OfLawful : (KindTree → ArrayTree → Type 0) → Type 0
+OfLawful Holds = (typed : KindTree) (array : ArrayTree) → IsLive typed → LayoutOk typed array → Holds typed array
+
+pub root_holds : OfLawful RootHolds
 root_holds Released array live h = absurd live
 root_holds (Live kind kids dict) array live h =
     let t = level_in kind kids dict in
@@ -38,7 +42,7 @@ within [] k live = absurd live
 within (t ∷ ts) zero live = omega arith
 within (t ∷ ts) (suc k) live = omega (arith, within ts k live)
 
-pub parts_hold : (typed : KindTree) (array : ArrayTree) → IsLive typed → LayoutOk typed array → PartsHold typed array
+pub parts_hold : OfLawful PartsHold
 parts_hold Released array live h = absurd live
 parts_hold (Live kind kids dict) array live h =
     let t = level_in kind kids dict in
@@ -49,7 +53,7 @@ parts_hold (Live kind kids dict) array live h =
       dict = dictionary-lawful t array ok;
     }
 
-pub items_hold : (typed : KindTree) (array : ArrayTree) → IsLive typed → LayoutOk typed array → ItemsHold typed array
+pub items_hold : OfLawful ItemsHold
 items_hold Released array live h = absurd live
 items_hold (Live kind kids dict) array live h =
     let t = level_in kind kids dict in

@@ -1,10 +1,10 @@
 -- What passes over the views say of each, where those of large data buffers are tested a buffer at a time.
-use Rattle.std.proofs.Common.{◌≡◌, ◌≢◌, ℕ, ◌+◌, ◌-◌, ◌<◌, ◌≤◌, ◌&&◌, Bool, true, false, ℤ, pos, negsuc, List, take, drop, None, inl, inr, refl, ap, ◌∙◌, sym}
+use Rattle.std.proofs.Common.{◌≡◌, ◌≢◌, ℕ, ◌+◌, ◌<◌, ◌≤◌, ◌&&◌, Bool, true, false, ℤ, pos, negsuc, take, drop, None, inl, inr, refl, ap, ◌∙◌, sym}
 use Rattle.std.proofs.Common.{subst, true≢false, arith}
 use Rattle.std.specs.Prelude.{IsTrue, IsUtf8, nat_lt, ◌≤ℤ◌}
 use Rattle.std.proofs.lemmas.Bool.{cases_eq}
 use Rattle.raw_array.specs.Members.{ArrayMembers}
-use Rattle.layout_check.specs.Layout.{natural, items, is_valid, data_buffers, data_length}
+use Rattle.layout_check.specs.Layout.{natural, is_valid, data_buffers, data_length}
 use Rattle.layout_check.specs.Views.{view_length, view_buffer, view_offset, is_long}
 use Rattle.layout_check.specs.Rules.{first_below, view_not_text}
 use Rattle.layout_check.specs.Within.{NamedWithin, DataWithin}

@@ -48,6 +48,7 @@ abbrev pub one_if : {X : Type 0} → Option X → ℕ
 one_if (Some x) = 1
 one_if None = 0
 
+-- ---- buffers
 -- an absent buffer of which so many bytes are needed
 abbrev pub missing : ℕ → ArrayMembers → ℕ → Option Numbers
 missing needed own k = fault_if (not (is_some (buffer own k)) && nat_lt 0 needed) k (pos 0) (pos needed)
@@ -72,6 +73,7 @@ abbrev pub first_below : (ℕ → Option Numbers) → ℕ → Option Numbers
 first_below f zero = None
 first_below f (suc n) = option_or (first_below f n) (f n)
 
+-- ---- offsets
 -- item i, counted from a place of the offsets on: its offset is above the next one
 abbrev pub falls_in : Bool → List ℕ → ℕ → ℕ → Option Numbers
 falls_in wide offsets start i =
@@ -99,6 +101,7 @@ abbrev pub offsets_fall_if : Option Bool → ArrayMembers → Option Numbers
 offsets_fall_if None own = None
 offsets_fall_if (Some wide) own = offsets_fall wide own
 
+-- ---- nulls
 -- how many of the window's first n items are null
 abbrev pub null_total : ArrayMembers → ℕ → ℕ
 null_total own zero = 0
@@ -214,6 +217,7 @@ abbrev pub prefixes_wrong : Layout → ArrayMembers → Option Numbers
 prefixes_wrong Views own = first_below (prefix_wrong own) (items own)
 prefixes_wrong _ own = None
 
+-- ---- the rules of a node, in order
 abbrev pub length_if : Option ArrayTree → Option ℤ
 length_if None = None
 length_if (Some array) = live_length array

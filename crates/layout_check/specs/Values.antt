@@ -75,6 +75,7 @@ item kinds.Map kids a children i = listed false kids a children i
 item kinds.BinaryView kids a children i = Bytes (view_data a i)
 item kinds.Utf8View kids a children i = Bytes (view_data a i)
 
+-- ---- the items of an array
 -- the item of an array with a dictionary is the dictionary's item at the stored index
 abbrev pub item_or_entry : Option Reader → DataType → List Reader → ArrayMembers → List ArrayTree → Option ArrayTree → ℕ → Value
 item_or_entry None kind kids a children dictionary i = item kind kids a children i

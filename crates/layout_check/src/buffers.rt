@@ -4,7 +4,7 @@ ghost use Rattle.std.specs.Prelude.{◌≡◌, None, not, ◌&&◌, is_some, nat
 ghost use Rattle.bit_pack.specs.Packed.{offset_width};
 ghost use Rattle.tree_model.specs.Tree.{IsLive};
 ghost use Rattle.raw_array.specs.Members.{ArrayTree, members_of};
-ghost use Rattle.layout_check.specs.NodeView.{own_of};
+ghost use Rattle.layout_check.specs.NodeView.{AreReadable, own_of};
 ghost use Rattle.layout_check.specs.Layout.{natural, items, offset, end, bytes, offsets_need, data_need, named_need, need, buffer_count};
 ghost use Rattle.layout_check.specs.Rules.{missing, too_short, offsets_fall_if, is_behind_offsets, buffer_absent, fault_if, offset_falls, offsets_fall};
 ghost use Rattle.layout_check.specs.Rules.{buffer_short, first_below};
@@ -274,8 +274,7 @@ pub fn offsets_fall(wide: bool, node: &FormedNode) -> Option<Numbers>
 /// The offsets of a layout that has some, once its buffers are long enough.
 #[tactic(auto, using(crate::proofs::Long::long))]
 pub fn layout_falls(node: &FormedNode) -> Option<Numbers>
-    requires there { first_below (buffer_absent node.now.layout (own_of node.now)) (buffer_count node.now.layout (length (own_of node.now).buffers)) ≡ None }
-    requires enough { first_below (buffer_short node.now.layout (own_of node.now)) (buffer_count node.now.layout (length (own_of node.now).buffers)) ≡ None }
+    requires buffers { AreReadable node.now.layout (own_of node.now) }
     ensures { result ≡ offsets_fall_if (is_behind_offsets node.now.layout) (own_of node.now) }
 {
     match node.layout {

@@ -2,9 +2,9 @@
 ghost use Rattle.std.specs.Prelude.{◌≡◌, None, ◌^◌, ◌<◌, length, Option};
 ghost use Rattle.tree_model.specs.Tree.{IsLive, children_of};
 ghost use Rattle.raw_array.specs.Members.{ArrayTree};
-ghost use Rattle.layout_check.specs.NodeView.{own_of};
+ghost use Rattle.layout_check.specs.NodeView.{AreReadable, own_of};
 ghost use Rattle.layout_check.specs.Layout.{buffer_count};
-ghost use Rattle.layout_check.specs.Rules.{buffer_absent, buffer_short, first_below, items_need, short_child, live_length, child_short};
+ghost use Rattle.layout_check.specs.Rules.{items_need, short_child, live_length, child_short};
 
 use crate::buffers::{last_offset, wide_need};
 use crate::layout::Layout;
@@ -15,8 +15,7 @@ use raw_array::RawArray;
 /// How many items an array needs of each child.
 #[tactic(auto, using(crate::proofs::Long::long))]
 fn items_need(node: &FormedNode) -> u128
-    requires there { first_below (buffer_absent node.now.layout (own_of node.now)) (buffer_count node.now.layout (length (own_of node.now).buffers)) ≡ None }
-    requires enough { first_below (buffer_short node.now.layout (own_of node.now)) (buffer_count node.now.layout (length (own_of node.now).buffers)) ≡ None }
+    requires buffers { AreReadable node.now.layout (own_of node.now) }
     ensures need { result ≡ items_need node.now.layout (own_of node.now) }
     ensures bound { result < 2 ^ 97 }
 {
@@ -64,8 +63,7 @@ pub fn first_short(needed: u128, array: &RawArray) -> Option<Numbers>
 
 /// The first child that is too short.
 pub fn children_short(node: &FormedNode) -> Option<Numbers>
-    requires there { first_below (buffer_absent node.now.layout (own_of node.now)) (buffer_count node.now.layout (length (own_of node.now).buffers)) ≡ None }
-    requires enough { first_below (buffer_short node.now.layout (own_of node.now)) (buffer_count node.now.layout (length (own_of node.now).buffers)) ≡ None }
+    requires buffers { AreReadable node.now.layout (own_of node.now) }
     ensures { result ≡ child_short (items_need node.now.layout (own_of node.now)) 0 (children_of node.now.array.now) }
 {
     first_short(items_need(node), node.array)

@@ -13,7 +13,7 @@ use crate::laws::lawful_root;
 use crate::layout::layout_of;
 use crate::node::FormedNode;
 use crate::nulls::null_total;
-use crate::rule::{LayoutFault, LayoutRule, Numbers, Path, ruled};
+use crate::rule::{Failing, LayoutFault, LayoutRule, Numbers, Path};
 use crate::typed::Typed;
 use crate::walk::check_array;
 use fmt_string::DataType;
@@ -98,5 +98,6 @@ fn top_ruled(rule: LayoutRule, left: u64) -> Result<(), LayoutFault>
         left: i128::from(left),
         right: 0,
     };
-    ruled(&Path::root(), rule, Some(numbers))
+    let failing = Failing { rule, numbers };
+    Err(failing.at(&Path::root()))
 }

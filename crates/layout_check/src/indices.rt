@@ -4,9 +4,9 @@ ghost use Rattle.bit_pack.specs.Packed.{IsWidth};
 ghost use Rattle.fmt_string.specs.Kinds.{KindOk};
 ghost use Rattle.tree_model.specs.Tree.{IsLive, dictionary_of};
 ghost use Rattle.raw_array.specs.Members.{ArrayTree};
-ghost use Rattle.layout_check.specs.NodeView.{own_of};
-ghost use Rattle.layout_check.specs.Layout.{IsLongIfPresent, layout_of, items, end, stored_number, bytes, buffer_count};
-ghost use Rattle.layout_check.specs.Rules.{fault_if, is_outside, buffer_absent, buffer_short, first_below, index_wrong, indices_wrong, length_if};
+ghost use Rattle.layout_check.specs.NodeView.{AreReadable, own_of};
+ghost use Rattle.layout_check.specs.Layout.{IsLongIfPresent, layout_of, items, end, stored_number, bytes};
+ghost use Rattle.layout_check.specs.Rules.{fault_if, is_outside, first_below, index_wrong, indices_wrong, length_if};
 
 use crate::node::FormedNode;
 use crate::nulls::is_valid;
@@ -114,8 +114,7 @@ fn dictionary_total(array: &RawArray) -> Option<i64>
 pub fn indices_wrong(kind: &DataType, node: &FormedNode) -> Option<Numbers>
     requires layout { node.now.layout ≡ layout_of kind.now }
     requires type_ok { KindOk kind.now }
-    requires there { first_below (buffer_absent node.now.layout (own_of node.now)) (buffer_count node.now.layout (length (own_of node.now).buffers)) ≡ None }
-    requires enough { first_below (buffer_short node.now.layout (own_of node.now)) (buffer_count node.now.layout (length (own_of node.now).buffers)) ≡ None }
+    requires buffers { AreReadable node.now.layout (own_of node.now) }
     ensures { result ≡ indices_wrong kind.now (own_of node.now) (length_if (dictionary_of node.now.array.now)) }
 {
     let total = dictionary_total(node.array)?;

@@ -1,9 +1,9 @@
 //! The rules of arrays and schemas, and where one fails.
-ghost use Rattle.std.specs.Prelude.{◌≡◌, ◌↔◌, ◌+◌, ◌<◌, [], ◌∷◌, ◌++◌, None, OnOk, IsTrue, nat_eq};
+ghost use Rattle.std.specs.Prelude.{◌≡◌, ◌↔◌, ◌+◌, ◌<◌, ◌≤◌, ℕ, [], ◌∷◌, ◌++◌, None, OnOk, IsTrue, nat_eq};
 ghost use Rattle.std.specs.Cmp.{on_equiv, on_per, partial_equiv_from_equiv};
 ghost use Rattle.std.specs.Cmp.Lexicographic.{nat_list_eq_equiv, pointwise};
-ghost use Rattle.layout_check.specs.Found.{steps_of, found};
-ghost use Rattle.layout_check.specs.Walk.{fault_at};
+ghost use Rattle.layout_check.specs.Found.{fault_of, fault_there, found_at, steps_of};
+ghost use Rattle.layout_check.specs.Walk.{Steps, fault_at};
 
 use fmt_string::FormatFault;
 use schema_meta::MetaFault;
@@ -112,6 +112,26 @@ impl Path {
         }
     }
 
+    /// Goes down to a part of the node there.
+    pub(crate) fn push(&mut self, step: u32)
+        requires { self.old.depth < 64 }
+        ensures way { steps_of self.new ≡ steps_of self.old ++ step ∷ [] }
+        ensures depth { self.new.depth ≡ self.old.depth + 1 }
+    {
+        self.steps[self.depth as usize] = step;
+        self.depth += 1;
+    }
+
+    /// Goes back up to the node that the last step led from.
+    pub(crate) fn pop(&mut self)
+        requires some { 1 ≤ self.old.depth }
+        requires within { self.old.depth ≤ 64 }
+        ensures way { (way : Steps) (step : ℕ) → steps_of self.old ≡ way ++ step ∷ [] → steps_of self.new ≡ way }
+        ensures depth { self.new.depth + 1 ≡ self.old.depth }
+    {
+        self.depth -= 1;
+    }
+
     /// The steps from the root to the node.
     pub fn way(&self) -> &[u32]
         ensures { result.now ≡ steps_of self.now }
@@ -157,19 +177,36 @@ pub struct LayoutFault {
     pub right: i128,
 }
 
+/// The rule that fails at a node, with the rule's place and numbers. It has no way to the node, so that it is small: a walk has
+/// one for all its nodes.
+#[derive(Clone, Copy)]
+pub(crate) struct Failing {
+    pub(crate) rule: LayoutRule,
+    pub(crate) numbers: Numbers,
+}
+
+impl Failing {
+    /// The fault of the rule at this node.
+    pub(crate) fn at(self, path: &Path) -> LayoutFault
+        ensures { fault_of result ≡ fault_there (steps_of path.now) self }
+    {
+        LayoutFault {
+            path: *path,
+            rule: self.rule,
+            place: self.numbers.place,
+            left: self.numbers.left,
+            right: self.numbers.right,
+        }
+    }
+}
+
 /// A rule's answer at a node.
-pub fn ruled(path: &Path, rule: LayoutRule, fault: Option<Numbers>) -> Result<(), LayoutFault>
-    ensures fault { found result ≡ fault_at (steps_of path.now) rule fault }
+pub(crate) fn ruled(rule: LayoutRule, fault: Option<Numbers>) -> Result<(), Failing>
+    ensures fault { (path : Steps) → found_at path result ≡ fault_at path rule fault }
     ensures passed { OnOk result (fault ≡ None) }
 {
     match fault {
         None => Ok(()),
-        Some(numbers) => Err(LayoutFault {
-            path: *path,
-            rule,
-            place: numbers.place,
-            left: numbers.left,
-            right: numbers.right,
-        }),
+        Some(numbers) => Err(Failing { rule, numbers }),
     }
 }

@@ -3,11 +3,11 @@ ghost use Rattle.std.specs.Prelude.{◌≡◌, ◌↔◌, None, IsTrue, IsUtf8, 
 ghost use Rattle.std.specs.Str.{is_utf8};
 ghost use Rattle.std.specs.Str.Lossy.{utf8_valid_len};
 ghost use Rattle.bit_pack.specs.Packed.{offset_width};
-ghost use Rattle.layout_check.specs.NodeView.{own_of};
+ghost use Rattle.layout_check.specs.NodeView.{AreReadable, own_of};
 ghost use Rattle.layout_check.specs.Layout.{IsLongIfPresent, natural, data_between, layout_of, first, items, offset, end, data_of, bytes, offsets_need};
-ghost use Rattle.layout_check.specs.Layout.{data_need, buffer_count};
+ghost use Rattle.layout_check.specs.Layout.{data_need};
 ghost use Rattle.layout_check.specs.Scans.{used_data};
-ghost use Rattle.layout_check.specs.Rules.{fault_if, buffer_absent, buffer_short, first_below, offsets_fall, offsets_fall_if, is_behind_offsets, not_text};
+ghost use Rattle.layout_check.specs.Rules.{fault_if, first_below, offsets_fall, offsets_fall_if, is_behind_offsets, not_text};
 ghost use Rattle.layout_check.specs.Rules.{texts_wrong, views_misplaced};
 
 use crate::buffers::offset_of;
@@ -226,8 +226,7 @@ fn text_wrong(wide: bool, node: &FormedNode) -> Option<Numbers>
 #[tactic(auto, using(crate::proofs::Long::long))]
 pub fn texts_wrong(kind: &DataType, node: &FormedNode) -> Option<Numbers>
     requires layout { node.now.layout ≡ layout_of kind.now }
-    requires there { first_below (buffer_absent node.now.layout (own_of node.now)) (buffer_count node.now.layout (length (own_of node.now).buffers)) ≡ None }
-    requires enough { first_below (buffer_short node.now.layout (own_of node.now)) (buffer_count node.now.layout (length (own_of node.now).buffers)) ≡ None }
+    requires buffers { AreReadable node.now.layout (own_of node.now) }
     requires rise { offsets_fall_if (is_behind_offsets node.now.layout) (own_of node.now) ≡ None }
     requires placed { views_misplaced node.now.layout (own_of node.now) ≡ None }
     ensures { result ≡ texts_wrong kind.now (own_of node.now) }

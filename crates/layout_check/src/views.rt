@@ -1,12 +1,12 @@
 //! The rules on the places and the prefixes of views, item by item.
 ghost use Rattle.std.specs.Prelude.{◌≡◌, ◌==◌, not, nat_lt, None, IsTrue, true, ◌+◌, ◌*◌, ◌^◌, ◌<◌, ◌≤◌, ◌≤ℤ◌, pos, length, Option};
 ghost use Rattle.bit_pack.specs.Packed.{meant};
-ghost use Rattle.layout_check.specs.NodeView.{own_of};
-ghost use Rattle.layout_check.specs.Layout.{buffer_count, layout_of, items, end, bytes, is_valid, IsLongIfPresent, view_width, data_buffers, data_lengths};
+ghost use Rattle.layout_check.specs.NodeView.{AreReadable, own_of};
+ghost use Rattle.layout_check.specs.Layout.{layout_of, items, end, bytes, is_valid, IsLongIfPresent, view_width, data_buffers, data_lengths};
 ghost use Rattle.layout_check.specs.Layout.{lengths_need, data_length};
 ghost use Rattle.layout_check.specs.Views.{view_number, view_length, view_prefix, view_buffer, view_offset, view_data, is_long};
 ghost use Rattle.layout_check.specs.Rules.{fault, fault_if, is_outside, first_below, named_outside, view_outside, misplaced, prefix_wrong, views_misplaced};
-ghost use Rattle.layout_check.specs.Rules.{prefixes_wrong, buffer_absent, buffer_short};
+ghost use Rattle.layout_check.specs.Rules.{prefixes_wrong};
 ghost use Rattle.layout_check.specs.Within.{DataWithin, AreThere};
 
 use crate::layout::Layout;
@@ -258,8 +258,7 @@ pub fn first_wrong_prefix(node: &FormedNode) -> Option<Numbers>
 /// The rule on the places of views, once the buffers are long enough.
 #[tactic(auto, using(crate::proofs::Long::long))]
 pub fn views_misplaced(node: &FormedNode) -> Option<Numbers>
-    requires there { first_below (buffer_absent node.now.layout (own_of node.now)) (buffer_count node.now.layout (length (own_of node.now).buffers)) ≡ None }
-    requires enough { first_below (buffer_short node.now.layout (own_of node.now)) (buffer_count node.now.layout (length (own_of node.now).buffers)) ≡ None }
+    requires buffers { AreReadable node.now.layout (own_of node.now) }
     ensures { result ≡ views_misplaced node.now.layout (own_of node.now) }
 {
     match node.layout {
@@ -271,8 +270,7 @@ pub fn views_misplaced(node: &FormedNode) -> Option<Numbers>
 /// The rule on prefixes, once each valid view names data.
 #[tactic(auto, using(crate::proofs::Long::long))]
 pub fn prefixes_wrong(node: &FormedNode) -> Option<Numbers>
-    requires there { first_below (buffer_absent node.now.layout (own_of node.now)) (buffer_count node.now.layout (length (own_of node.now).buffers)) ≡ None }
-    requires enough { first_below (buffer_short node.now.layout (own_of node.now)) (buffer_count node.now.layout (length (own_of node.now).buffers)) ≡ None }
+    requires buffers { AreReadable node.now.layout (own_of node.now) }
     requires placed { views_misplaced node.now.layout (own_of node.now) ≡ None }
     ensures { result ≡ prefixes_wrong node.now.layout (own_of node.now) }
 {

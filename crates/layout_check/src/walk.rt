@@ -1,5 +1,5 @@
 //! The walk over an array and its kinds: the rules of each node in preorder.
-ghost use Rattle.std.specs.Prelude.{◌≡◌, IsOk, ◌↔◌, ◌≤ℤ◌, pos, ◌+◌, ◌-◌, ◌^◌, ◌<◌, ◌≤◌, length, map, OnOk, [], None, Option};
+ghost use Rattle.std.specs.Prelude.{◌≡◌, IsOk, ◌↔◌, ◌≤ℤ◌, pos, ◌+◌, ◌-◌, ◌^◌, ◌<◌, ◌≤◌, length, map, OnOk, [], ◌∷◌, ◌++◌, None, Option};
 ghost use Rattle.std.specs.Global.{Box};
 ghost use Rattle.tree_model.specs.Tree.{IsLive, children_of, dictionary_of, trees, maybe_tree, Depth, depth_of_all, depth_of_maybe};
 ghost use Rattle.raw_array.specs.Members.{ArrayTree, members_of};
@@ -9,10 +9,10 @@ ghost use Rattle.layout_check.specs.Rules.{one_if};
 ghost use Rattle.layout_check.specs.declared.typed.Typed.{out-Typed};
 ghost use Rattle.layout_check.specs.TypedView.{live_node, typed_of, kids_of, dict_in};
 ghost use Rattle.layout_check.specs.Layout.{layout_of, buffer_count};
-ghost use Rattle.layout_check.specs.Rules.{buffer_rules, form_rules, item_rules, first_below, buffer_absent, buffer_short, offsets_fall_if, is_behind_offsets};
-ghost use Rattle.layout_check.specs.NodeView.{own_of};
-ghost use Rattle.layout_check.specs.Found.{steps_of, found};
-ghost use Rattle.layout_check.specs.Walk.{LayoutOk, rules_fault, first_fault, fault_from, own_fault, children_fault, dictionary_fault};
+ghost use Rattle.layout_check.specs.Rules.{buffer_rules, form_rules, item_rules, offsets_fall_if, is_behind_offsets};
+ghost use Rattle.layout_check.specs.NodeView.{AreReadable, own_of};
+ghost use Rattle.layout_check.specs.Found.{steps_of, found, found_at};
+ghost use Rattle.layout_check.specs.Walk.{LayoutOk, Steps, rules_fault, first_fault, fault_from, own_fault, children_fault, dictionary_fault};
 
 use crate::buffers::{buffers_absent, buffers_short, layout_falls};
 use crate::children::children_short;
@@ -21,7 +21,7 @@ use crate::indices::indices_wrong;
 use crate::layout::layout_of;
 use crate::node::FormedNode;
 use crate::nulls::nulls_wrong;
-use crate::rule::{DICTIONARY_STEP, LayoutFault, LayoutRule, Numbers, Path, ruled};
+use crate::rule::{DICTIONARY_STEP, Failing, LayoutFault, LayoutRule, Numbers, Path, ruled};
 use crate::texts::texts_wrong;
 use crate::typed::Typed;
 use crate::views::{prefixes_wrong, views_misplaced};
@@ -36,26 +36,32 @@ pub fn check_array(typed: &Typed, array: &RawArray) -> Result<(), LayoutFault>
     ensures fault { found result ≡ first_fault (typed_of typed.now) array.now }
     ensures lawful { IsOk result ↔ LayoutOk (typed_of typed.now) array.now }
 {
-    check_from(typed, array, &Path::root())
+    let mut path = Path::root();
+    match check_from(typed, array, &mut path) {
+        Ok(()) => Ok(()),
+        Err(failing) => Err(failing.at(&path)),
+    }
 }
 
 #[cycle(check)]
 #[tactic(auto, using(crate::proofs::Faults::walks))]
-fn check_from(typed: &Typed, array: &RawArray, path: &Path) -> Result<(), LayoutFault>
-    requires levels { path.now.depth + Depth (typed_of typed.now) ≤ 64 }
+fn check_from(typed: &Typed, array: &RawArray, path: &mut Path) -> Result<(), Failing>
+    requires levels { path.old.depth + Depth (typed_of typed.now) ≤ 64 }
     requires types { NodesOk (typed_of typed.now) }
-    ensures { found result ≡ fault_from (typed_of typed.now) (steps_of path.now) array.now }
+    ensures fault { found_at (steps_of path.new) result ≡ fault_from (typed_of typed.now) (steps_of path.old) array.now }
+    ensures way { OnOk result (steps_of path.new ≡ steps_of path.old) }
+    ensures depth { OnOk result (path.new.depth ≡ path.old.depth) }
 {
-    check_own(typed, array, path)?;
+    check_own(typed, array)?;
     check_children(&typed.kids, array, path)?;
     check_dictionary(&typed.dict, array, path)
 }
 
 /// The rules of the node itself.
 #[tactic(auto, using(crate::proofs::Faults::own_rules))]
-fn check_own(typed: &Typed, array: &RawArray, path: &Path) -> Result<(), LayoutFault>
+fn check_own(typed: &Typed, array: &RawArray) -> Result<(), Failing>
     requires type_ok { KindOk (out-Typed typed.now).kind }
-    ensures fault { found result ≡ own_fault (typed_of typed.now) (steps_of path.now) array.now }
+    ensures fault { (path : Steps) → found_at path result ≡ own_fault (typed_of typed.now) path array.now }
     ensures live { OnOk result (IsLive array.now) }
     ensures children { OnOk result (length (children_of array.now) ≡ length (out-Typed typed.now).kids.items) }
     ensures few { OnOk result (length (out-Typed typed.now).kids.items < 2 ^ 32 - 1) }
@@ -66,56 +72,48 @@ fn check_own(typed: &Typed, array: &RawArray, path: &Path) -> Result<(), LayoutF
             left: 0,
             right: 0,
         };
-        return ruled(path, LayoutRule::Released, Some(none));
+        return ruled(LayoutRule::Released, Some(none));
     }
-    check_form(typed, array, path)?;
+    check_form(typed, array)?;
     let node = FormedNode::of(layout_of(&typed.kind), array);
-    check_buffers(typed, &node, path)?;
-    check_items(typed, &node, path)
+    check_buffers(typed, &node)?;
+    check_items(typed, &node)
 }
 
 /// The rules of a live node's buffers.
-fn check_buffers(typed: &Typed, node: &FormedNode, path: &Path) -> Result<(), LayoutFault>
+fn check_buffers(typed: &Typed, node: &FormedNode) -> Result<(), Failing>
     requires layout { node.now.layout ≡ layout_of (out-Typed typed.now).kind }
-    ensures fault { found result ≡ rules_fault buffer_rules (steps_of path.now) (live_node typed.now node.now.array.now) }
-    ensures there { OnOk result
-        (first_below (buffer_absent node.now.layout (own_of node.now)) (buffer_count node.now.layout (length (own_of node.now).buffers)) ≡ None) }
-    ensures enough { OnOk result
-        (first_below (buffer_short node.now.layout (own_of node.now)) (buffer_count node.now.layout (length (own_of node.now).buffers)) ≡ None) }
+    ensures fault { (path : Steps) → found_at path result ≡ rules_fault buffer_rules path (live_node typed.now node.now.array.now) }
+    ensures buffers { OnOk result (AreReadable node.now.layout (own_of node.now)) }
     ensures rise { OnOk result (offsets_fall_if (is_behind_offsets node.now.layout) (own_of node.now) ≡ None) }
 {
-    ruled(path, LayoutRule::BufferAbsent, buffers_absent(node))?;
-    ruled(path, LayoutRule::BufferShort, buffers_short(node))?;
-    ruled(path, LayoutRule::OffsetsFall, layout_falls(node))
+    ruled(LayoutRule::BufferAbsent, buffers_absent(node))?;
+    ruled(LayoutRule::BufferShort, buffers_short(node))?;
+    ruled(LayoutRule::OffsetsFall, layout_falls(node))
 }
 
 /// The rules of a live node's items, once its buffers are long enough.
-fn check_items(typed: &Typed, node: &FormedNode, path: &Path) -> Result<(), LayoutFault>
+fn check_items(typed: &Typed, node: &FormedNode) -> Result<(), Failing>
     requires type_ok { KindOk (out-Typed typed.now).kind }
     requires layout { node.now.layout ≡ layout_of (out-Typed typed.now).kind }
-    requires there { first_below (buffer_absent node.now.layout (own_of node.now)) (buffer_count node.now.layout (length (own_of node.now).buffers)) ≡ None }
-    requires enough { first_below (buffer_short node.now.layout (own_of node.now)) (buffer_count node.now.layout (length (own_of node.now).buffers)) ≡ None }
+    requires buffers { AreReadable node.now.layout (own_of node.now) }
     requires rise { offsets_fall_if (is_behind_offsets node.now.layout) (own_of node.now) ≡ None }
-    ensures { found result ≡ rules_fault item_rules (steps_of path.now) (live_node typed.now node.now.array.now) }
+    ensures { (path : Steps) → found_at path result ≡ rules_fault item_rules path (live_node typed.now node.now.array.now) }
 {
-    ruled(path, LayoutRule::ChildShort, children_short(node))?;
-    ruled(path, LayoutRule::NullCount, nulls_wrong(node))?;
-    ruled(path, LayoutRule::ViewPlace, views_misplaced(node))?;
-    ruled(path, LayoutRule::ViewPrefix, prefixes_wrong(node))?;
-    ruled(path, LayoutRule::NotText, texts_wrong(&typed.kind, node))?;
-    ruled(
-        path,
-        LayoutRule::IndexRange,
-        indices_wrong(&typed.kind, node),
-    )?;
-    ruled(path, LayoutRule::WindowTooLong, window_too_long(node.stop))
+    ruled(LayoutRule::ChildShort, children_short(node))?;
+    ruled(LayoutRule::NullCount, nulls_wrong(node))?;
+    ruled(LayoutRule::ViewPlace, views_misplaced(node))?;
+    ruled(LayoutRule::ViewPrefix, prefixes_wrong(node))?;
+    ruled(LayoutRule::NotText, texts_wrong(&typed.kind, node))?;
+    ruled(LayoutRule::IndexRange, indices_wrong(&typed.kind, node))?;
+    ruled(LayoutRule::WindowTooLong, window_too_long(node.stop))
 }
 
 /// The rules of a live node's form: its numbers, and how many parts it has.
 #[tactic(auto, using(crate::proofs::Faults::form))]
-fn check_form(typed: &Typed, array: &RawArray, path: &Path) -> Result<(), LayoutFault>
+fn check_form(typed: &Typed, array: &RawArray) -> Result<(), Failing>
     requires live { IsLive array.now }
-    ensures fault { found result ≡ rules_fault form_rules (steps_of path.now) (live_node typed.now array.now) }
+    ensures fault { (path : Steps) → found_at path result ≡ rules_fault form_rules path (live_node typed.now array.now) }
     ensures length { OnOk result (pos 0 ≤ℤ (members_of array.now).length) }
     ensures offset { OnOk result (pos 0 ≤ℤ (members_of array.now).offset) }
     ensures buffers { OnOk result
@@ -123,36 +121,44 @@ fn check_form(typed: &Typed, array: &RawArray, path: &Path) -> Result<(), Layout
     ensures children { OnOk result (length (children_of array.now) ≡ length (out-Typed typed.now).kids.items) }
     ensures few { OnOk result (length (out-Typed typed.now).kids.items < 2 ^ 32 - 1) }
 {
-    ruled(path, LayoutRule::NegativeLength, negative(array.length()))?;
-    ruled(path, LayoutRule::NegativeOffset, negative(array.offset()))?;
+    ruled(LayoutRule::NegativeLength, negative(array.length()))?;
+    ruled(LayoutRule::NegativeOffset, negative(array.offset()))?;
     ruled(
-        path,
         LayoutRule::BufferCount,
         buffers_wrong(layout_of(&typed.kind), array),
     )?;
-    ruled(
-        path,
-        LayoutRule::ChildCount,
-        children_wrong(&typed.kids, array),
-    )?;
-    ruled(
-        path,
-        LayoutRule::Dictionary,
-        dictionary_wrong(&typed.dict, array),
-    )
+    ruled(LayoutRule::ChildCount, children_wrong(&typed.kids, array))?;
+    ruled(LayoutRule::Dictionary, dictionary_wrong(&typed.dict, array))
+}
+
+/// The same of a part of the node, to which this step leads.
+#[cycle(check)]
+fn check_part(typed: &Typed, array: &RawArray, path: &mut Path, step: u32) -> Result<(), Failing>
+    requires levels { path.old.depth + 1 + Depth (typed_of typed.now) ≤ 64 }
+    requires types { NodesOk (typed_of typed.now) }
+    ensures fault { found_at (steps_of path.new) result ≡ fault_from (typed_of typed.now) (steps_of path.old ++ step ∷ []) array.now }
+    ensures way { OnOk result (steps_of path.new ≡ steps_of path.old) }
+    ensures depth { OnOk result (path.new.depth ≡ path.old.depth) }
+{
+    path.push(step);
+    check_from(typed, array, path)?;
+    path.pop();
+    Ok(())
 }
 
 #[cycle(check)]
-fn check_children(kids: &[Typed], array: &RawArray, path: &Path) -> Result<(), LayoutFault>
-    requires levels { path.now.depth + 1 + depth_of_all (trees (map typed_of kids.now)) ≤ 64 }
+fn check_children(kids: &[Typed], array: &RawArray, path: &mut Path) -> Result<(), Failing>
+    requires levels { path.old.depth + 1 + depth_of_all (trees (map typed_of kids.now)) ≤ 64 }
     requires types { AllNodesOk (trees (map typed_of kids.now)) }
     requires few { length kids.now < 2 ^ 32 - 1 }
     requires live { IsLive array.now }
     requires children { length (children_of array.now) ≡ length kids.now }
-    ensures { found result ≡ children_fault (map typed_of kids.now) 0 (steps_of path.now) (children_of array.now) }
+    ensures fault { found_at (steps_of path.new) result ≡ children_fault (map typed_of kids.now) 0 (steps_of path.old) (children_of array.now) }
+    ensures way { OnOk result (steps_of path.new ≡ steps_of path.old) }
+    ensures depth { OnOk result (path.new.depth ≡ path.old.depth) }
 {
     for i in 0..kids.len() {
-        check_from(&kids[i], array.child(i), &path.down(i as u32))?;
+        check_part(&kids[i], array.child(i), path, i as u32)?;
     }
     Ok(())
 }
@@ -161,15 +167,17 @@ fn check_children(kids: &[Typed], array: &RawArray, path: &Path) -> Result<(), L
 fn check_dictionary(
     dict: &Option<Box<Typed>>,
     array: &RawArray,
-    path: &Path,
-) -> Result<(), LayoutFault>
-    requires levels { path.now.depth + 1 + depth_of_maybe (maybe_tree (dict_in dict.now)) ≤ 64 }
+    path: &mut Path,
+) -> Result<(), Failing>
+    requires levels { path.old.depth + 1 + depth_of_maybe (maybe_tree (dict_in dict.now)) ≤ 64 }
     requires types { DictNodesOk (maybe_tree (dict_in dict.now)) }
     requires live { IsLive array.now }
-    ensures { found result ≡ dictionary_fault (dict_in dict.now) (steps_of path.now) (dictionary_of array.now) }
+    ensures fault { found_at (steps_of path.new) result ≡ dictionary_fault (dict_in dict.now) (steps_of path.old) (dictionary_of array.now) }
+    ensures way { OnOk result (steps_of path.new ≡ steps_of path.old) }
+    ensures depth { OnOk result (path.new.depth ≡ path.old.depth) }
 {
     match (dict, array.dictionary()) {
-        (Some(dict), Some(dictionary)) => check_from(dict, dictionary, &path.down(DICTIONARY_STEP)),
+        (Some(dict), Some(dictionary)) => check_part(dict, dictionary, path, DICTIONARY_STEP),
         _ => Ok(()),
     }
 }

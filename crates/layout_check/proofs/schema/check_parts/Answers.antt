@@ -15,7 +15,7 @@ returns-then-not-children_fit-clause-fault c =
     let not_children : c.children_fit.result ≡ false = search rules in
     let unmet = refuted c.children_fit.result (ChildrenFit kind (trees (children_of schema))) not_children c.children_fit.ensures.1 in
     subst (FaultHere level schema (steps_of c.args.path.now)) (sym c.at.ensures)
-    (refl, fails-children level schema kind c.requires.live low c.requires.format c.requires.meta unmet)
+    (refl, fails-children level schema c.requires.live low kind c.requires.format c.requires.meta unmet)
 
 pub returns-then-not-index_fits-clause-fault : goal.returns-then-not-index_fits-clause-fault
 returns-then-not-index_fits-clause-fault c =
@@ -28,7 +28,7 @@ returns-then-not-index_fits-clause-fault c =
     let not_index : c.index_fits.result ≡ false = search rules in
     let unmet = refuted c.index_fits.result (IndexFits kind (maybe_tree (dictionary_of schema))) not_index c.index_fits.ensures.1 in
     subst (FaultHere level schema (steps_of c.args.path.now)) (sym c.at-then-not-index_fits.ensures)
-    (refl, fails-index level schema kind c.requires.live low c.requires.format c.requires.meta children unmet)
+    (refl, fails-index level schema c.requires.live low kind c.requires.format c.requires.meta children unmet)
 
 pub returns-then-not-map_fits-clause-fault : goal.returns-then-not-map_fits-clause-fault
 returns-then-not-map_fits-clause-fault c =
@@ -43,4 +43,4 @@ returns-then-not-map_fits-clause-fault c =
     let not_map : c.map_fits.result ≡ false = search rules in
     let unmet = refuted c.map_fits.result (MapFits kind (trees (children_of schema))) not_map c.map_fits.ensures.1 in
     subst (FaultHere level schema (steps_of c.args.path.now)) (sym c.at-then-not-map_fits.ensures)
-    (refl, fails-map level schema kind c.requires.live low c.requires.format c.requires.meta children index unmet)
+    (refl, fails-map level schema c.requires.live low kind c.requires.format c.requires.meta children index unmet)

@@ -1,7 +1,6 @@
-use Rattle.std.proofs.Common.{rules, ◌≡◌, ◌<◌, subst, arith}
-use Rattle.std.specs.Prelude.{IsTrue}
+use Rattle.std.proofs.Common.{rules, ◌≡◌, subst, arith}
 use Rattle.raw_array.specs.Members.{members_of}
-use Rattle.layout_check.specs.Layout.{items, data_buffers}
+use Rattle.layout_check.specs.Layout.{data_buffers}
 use Rattle.layout_check.specs.Scans.{PassBefore}
 use Rattle.layout_check.proofs.Placed.{view-within}
 use Rattle.layout_check.proofs.ViewPasses.{passes-all}

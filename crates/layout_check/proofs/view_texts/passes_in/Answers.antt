@@ -1,9 +1,8 @@
-use Rattle.std.proofs.Common.{rules, ◌≡◌, sym, subst, take, drop}
+use Rattle.std.proofs.Common.{rules, ◌≡◌, subst, take, drop}
 use Rattle.std.specs.Prelude.{IsTrue, IsUtf8}
 use Rattle.raw_array.specs.Members.{members_of}
 use Rattle.layout_check.specs.Layout.{natural, is_valid}
 use Rattle.layout_check.specs.Views.{view_length, view_buffer, view_offset, is_long}
-use Rattle.layout_check.specs.Scans.{sized_data}
 use Rattle.layout_check.proofs.ViewPasses.{part-passes}
 use Rattle.layout_check.proofs.view_texts.passes_in.Goals as goal
 

@@ -5,8 +5,8 @@ use Rattle.layout_check.proofs.Levels.{levels-kid, kid-ok}
 use Rattle.layout_check.proofs.Faults.{children_fault-step}
 use Rattle.layout_check.proofs.walk.+check.Goals as goal
 
-pub check_children-check_from-requires : goal.check_children-check_from-requires
-check_children-check_from-requires t c =
+pub check_children-check_part-requires : goal.check_children-check_part-requires
+check_children-check_part-requires t c =
     let kids = c.args.kids.now in
     let i = c.loop-i.i in
     let kid = c.index-kids-i.result in
@@ -16,8 +16,8 @@ check_children-check_from-requires t c =
     let ok = kid-ok kids i kid inside c.requires.types in
     search rules
 
-pub check_children-returns-in_err-check_from : goal.check_children-returns-in_err-check_from
-check_children-returns-in_err-check_from t c =
+pub check_children-returns-in_err-check_part-clause-fault : goal.check_children-returns-in_err-check_part-clause-fault
+check_children-returns-in_err-check_part-clause-fault t c =
     let kids = c.args.kids.now in
     let i = c.loop-i.i in
     let kid = c.index-kids-i.result in
