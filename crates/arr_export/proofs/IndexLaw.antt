@@ -25,6 +25,7 @@ use Rattle.arr_export.proofs.NodeRules.{below-none, both-none, no-fault}
 use Rattle.arr_export.proofs.Nulls.{own, valid-at}
 use Rattle.arr_export.proofs.Steady.{steady}
 
+-- ---- an index, and the item that it looks up
 -- an index that is a place of so many items is none outside of them
 inside : (total index : ℤ) → IsPlaceOf (natural total) (Whole index) → is_outside total index ≡ false
 inside (pos n) (pos place) is = ap not (lt-ltb place n is)
@@ -61,6 +62,7 @@ live-count : (dictionary : ArrayTree) (n : ℤ) → live_length dictionary ≡ S
 live-count Released n e = cc
 live-count (Live own children dictionary) n e = let same : own.length ≡ n = cc in ap natural (sym same)
 
+-- ---- a column of indices
 module _ (bits : ℕ) (signed : Bool) (values : List Value) (type : KindTree) (dictionary : ArrayTree) (fits : Fits (kinds.Int bits signed) values)
     (places : All (IsPlaceOf (tree_items dictionary)) values) where
   r : Reads (kinds.Int bits signed) values

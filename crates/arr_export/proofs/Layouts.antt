@@ -127,6 +127,7 @@ module _ (wide : Bool) (values : List Value) (small : length (concat (map bytes_
       (offset-first wide (map bytes_of values) small)
       ∙ below-none (offset_falls wide members) (length values) rise-at)
 
+  -- ---- offsets that are lawful, and the data between them
   pub offsets-ok : BuffersOk (ByOffsets wide) (own values (by_offsets wide values))
   offsets-ok =
       let members = own values (by_offsets wide values) in

@@ -13,6 +13,7 @@ use Rattle.layout_check.specs.Rules.{null_total as null_items}
 use Rattle.arr_export.specs.ArrayTrees.{made_if}
 use Rattle.arr_export.proofs.BitBytes.{bits-of, length-bit_bytes}
 
+-- ---- the validity of each item
 -- the members of a column with these values, whatever stands behind the validity bitmap
 abbrev pub own : List Value → List (Option Buffer) → ArrayMembers
 own values rest = record {
@@ -57,6 +58,7 @@ valid-at values rest i lt =
     ∙ ap (is_valid_by (validity_of values)) place
     ∙ valid-if (null_total values == 0) values i lt (eqb-true (null_total values) 0)
 
+-- ---- how many items are null
 null_total-push : (values : List Value) (value : Value) → null_total (values ++ value ∷ []) ≡ null_total values + (if not (is_null value) then 0 else 1)
 null_total-push [] Null = refl
 null_total-push [] (Truth truth) = refl

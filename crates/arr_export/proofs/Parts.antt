@@ -17,6 +17,7 @@ use Rattle.col_build.specs.Finished.{AreMade, IsEncoded, IsMade, IsWhole}
 use Rattle.col_build.specs.declared.built.Built.{Built}
 use Rattle.arr_export.specs.ArrayTrees.{AreIndicesIf, IsColumn, column_tree, made, made_buffers, made_if}
 
+-- ---- finished buffers
 whole-of : (view : BufView) (content : List ℕ) → IsWhole view content → buffer_of view ≡ made content
 whole-of view content is =
     let from : view.start ≡ 0 = is.start in
@@ -61,6 +62,7 @@ three wide (Some form) values = three-by wide form values
 pub few-buffers : (views : List (Option BufView)) (kind : DataType) (values : List Value) → AreMade views (encoded kind values).buffers → length views ≤ 3
 few-buffers views kind values are = omega (arith, same-count views (encoded kind values).buffers are, three (is_wide kind) (form_of kind) values)
 
+-- ---- the cost and the depth of columns
 -- buffers have no more holds than there are buffers
 made-holds : (contents : List (Option (List ℕ))) → holds_of (made_buffers contents) ≤ length contents
 made-holds [] = omega arith

@@ -14,6 +14,7 @@ use Rattle.layout_check.specs.ColumnSchema.{SchemaOf, column_schema, member_sche
 use Rattle.layout_check.specs.ColumnKinds.{type_of_columns, type_of_kind, types_of_columns, types_of_members}
 use Rattle.fmt_string.specs.ColumnForms.{AreColumnKinds, IsColumnKind, MembersAreColumns}
 
+-- ---- the schema of a column
 abbrev Spelled : Type 0
 Spelled = (kind : DataType) → KindOk kind → FormatIs (spelling_of kind) kind
 
@@ -78,6 +79,7 @@ mutual
   columns-of spelled level (more_members name kind rest) ok fits =
       (column spelled level name kind ok.0 (omega (arith, fits)), columns-of spelled level rest ok.1 (omega (arith, fits)))
 
+-- ---- the schema of all columns
 all-columns : Spelled → (level : ℕ) (columns : List Column) → All (λ c. AreColumnKinds c.kind) columns
     → level + depth_of_all (trees (map schema_of_column columns)) ≤ 65
     → KidsTyped level (trees (map schema_of_column columns)) (trees (types_of_columns columns))

@@ -12,6 +12,7 @@ use Rattle.layout_check.specs.declared.rule.Numbers.{Numbers}
 use Rattle.layout_check.proofs.Lawful.{left-none, right-none}
 use Rattle.arr_export.proofs.NodeRules.{both-none}
 
+-- ---- the rules of a node
 pub first_some-append : {X Y : Type 0} → (f : X → Option Y) (xs ys : List X) → first_some f xs ≡ None → first_some f ys ≡ None → first_some f (xs ++ ys) ≡ None
 first_some-append f [] ys e g = g
 first_some-append f (x ∷ xs) ys e g =
@@ -40,6 +41,7 @@ node-steady : (p q : Steps) (n : Option Node) → node_fault p n ≡ None → no
 node-steady p q None e = cc
 node-steady p q (Some n) e = rules-steady p q n in_order e
 
+-- ---- walks over trees
 abbrev pub Steady : Walk → Type 0
 Steady walk = (p q : Steps) (array : ArrayTree) → first_some visit_fault (walk p array) ≡ None → first_some visit_fault (walk q array) ≡ None
 

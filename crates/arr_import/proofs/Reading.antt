@@ -352,6 +352,7 @@ home-entry t e array start count i live v w d =
     ∙ home-node (kind_of t) (kids_of t) w.typed array w.array start count i live d.array v
     ∙ ap (λ u. home_of u (index_at (kind_of t) (members_of array) (start + i))) (sym d.whole)
 
+-- ---- items at home
 -- else the item is at home
 home-null_node : (kind : DataType) (kids : List KindTree) (dict : Option KindTree) (array : ArrayTree) (start count i : ℕ)
     → is_valid (members_of array) (start + i) ≡ false
@@ -459,6 +460,7 @@ row-field t e array j k live h l =
     ap (λ r. get_or r k Null) (row-typed t e array j live)
     ∙ field-at (kids_of t) (children_of array) k (first (members_of array) + j) h l
 
+-- ---- the row of a struct's item
 item-row : (kind : DataType) (kids : List KindTree) (own : ArrayMembers) (children : List ArrayTree) (j : ℕ)
     → IsStructValue (item kind (readers (trees kids)) own children j)
     → (kind ≡ kinds.Struct) × (item kind (readers (trees kids)) own children j ≡ Fields (values (field_items (readers (trees kids)) children (first own + j))))

@@ -57,6 +57,7 @@ passes path n [] all = refl
 passes path n (rule ∷ others) all =
     both-none (fault_by path n rule) (first_some (fault_by path n) others) (ap (fault_at path rule) all.0) (passes path n others all.1)
 
+-- ---- the rules of a node that passes
 -- a node that no rule fails
 pub record NodeOk (n : Node) : Type 0 where
   pub length_ok : fails rules.NegativeLength n ≡ None

@@ -11,6 +11,7 @@ use Rattle.layout_check.specs.Layout.{buffer, bytes_or_none, first, is_valid, is
 use Rattle.array_laws.proofs.PlaceRules.{Buffers, data_at, view_at}
 use Rattle.layout_check.specs.Values.{Reader, child_item, dictionary_item, each, field_items, item, item_or_entry}
 
+-- ---- an item of the array's own
 abbrev number_by : ℕ → Bool → Buffers → ℕ → Value
 number_by width signed bs p = Whole (meant width signed (number_at (bytes_or_none (bs 1)) (p * width) width))
 
@@ -74,6 +75,7 @@ item-by kinds.Map kids a children i = refl
 item-by kinds.BinaryView kids a children i = refl
 item-by kinds.Utf8View kids a children i = refl
 
+-- ---- an item of the dictionary, and any item
 abbrev entry_by : Option Reader → DataType → Buffers → ℕ → (ℕ → Value) → (ℕ → List Value) → (ℕ → Value) → Value
 entry_by None kind bs p child fields entry = item_by kind bs p child fields
 entry_by (Some read) (kinds.Int width signed) bs p child fields entry =

@@ -119,6 +119,7 @@ outside_said bs n p i =
     else if is_long (length_at bs p) then named_said bs n p i
     else None
 
+-- ---- the rules of views
 if-steady : (test : Bool) (a b : Option Numbers) → (a ≡ None → b ≡ None) → (if test then a else None) ≡ None → (if test then b else None) ≡ None
 if-steady true a b step e = step e
 if-steady false a b step e = refl
@@ -205,6 +206,7 @@ prefixes-by_place (FixedItems size) = no-rule
 prefixes-by_place ByChildren = no-rule
 prefixes-by_place Views = one-rule prefix_wrong prefix-by_place
 
+-- ---- texts and indices
 pub texts-by_place : (kind : DataType) → EachByPlace (texts_wrong kind)
 texts-by_place kinds.Null = no-rule
 texts-by_place kinds.Bool = no-rule

@@ -21,6 +21,7 @@ use Rattle.array_laws.proofs.PlaceRules.{below-same, each-shown, indices-by_plac
 use Rattle.array_laws.proofs.ShownParts.{funext, shown-bytes}
 use Rattle.array_laws.proofs.Sizes.{count-same, count_of, counts_nulls, named-same, nulls-in, offset-same}
 
+-- ---- buffers, offsets and nulls
 module _ (m : ArrayMembers) where
   need-shown : (l : Layout) (k : ℕ) → need l (shown_members m) k ≡ need l m k
   need-shown l zero = refl

@@ -26,6 +26,7 @@ abbrev ShowsIf : Option Walk → Type 0
 ShowsIf None = Unit {0}
 ShowsIf (Some walk) = Shows walk
 
+-- ---- children, dictionaries and whole trees
 children-shown : (walks : List Walk) → AllShow walks → (k : ℕ) (path : Steps) (ts : Trees ArrayMembers)
     → first_some visit_fault (walk_children walks k path (tree_list (map_trees shown_members ts)))
     ≡ first_some visit_fault (walk_children walks k path (tree_list ts))

@@ -177,6 +177,7 @@ module _ (m w : ArrayMembers) (off len : ℕ) (p : IsPart m w off len) where
   items-le ByChildren falls = end-part
   items-le Views falls = omega arith
 
+  -- ---- the offsets and the nulls of the part
   fall-part : (wide : Bool) → offsets_fall wide m ≡ None → offsets_fall wide w ≡ None
   fall-part wide falls =
       fall-by (end w == 0) (offset wide w (first w)) (first_below (offset_falls wide w) (items w)) (λ e.

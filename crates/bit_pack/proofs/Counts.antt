@@ -7,6 +7,7 @@ use Rattle.std.proofs.lemmas.Nat.{ones-le}
 use Rattle.std.proofs.lemmas.Nat.Bits.{bit_at-lt, bit_at-suc, bit_at_lowest}
 use Rattle.bit_pack.specs.Packed.{bit, clear_count}
 
+-- ---- counts in parts
 -- a count in two parts
 pub count_parts : (bytes : List ℕ) (first a b : ℕ) → clear_count bytes first (a + b) ≡ clear_count bytes first a + clear_count bytes (first + a) b
 count_parts bytes first a zero = let e : a + 0 ≡ a = omega arith in ap (clear_count bytes first) e ∙ omega arith
@@ -35,6 +36,7 @@ three_parts bytes from len first end low mid high =
       at_two,
     )
 
+-- ---- bits that are set, and bits that are clear
 -- how many of the bits are set
 abbrev set_count : List ℕ → ℕ → ℕ → ℕ
 set_count bytes first zero = 0

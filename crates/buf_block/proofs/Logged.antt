@@ -16,6 +16,7 @@ use Rattle.buf_block.specs.BlockLog.{DeedTakenOrDue, HoldersCanLetGo}
 use Rattle.buf_block.proofs.Keeps.{splits, gives_back}
 use Rattle.buf_block.proofs.Shown.{made_whole, shows_ok, away, home_here, split_is_step, let_go_is_step, exchange_is_step, read_is_step}
 
+-- ---- where the deed is gone
 -- 1 once the deed is gone
 abbrev gone : Deed → ℕ
 gone Home = 0
@@ -39,6 +40,7 @@ gone-given false d seat home = refl
 zero_more : (n : ℕ) → 0 + n ≡ n
 zero_more n = omega arith
 
+-- ---- a step, and the machine that follows it
 -- what one step of a block is to the machine
 record Followed (h : Holders) (b : BlockStep) (t : Scene) : Type 0 where
   rule : IsBlock t.table
@@ -98,6 +100,7 @@ follows s h (b ∷ log) t rule shown (m, does, later) =
       count = omega arith;
     }
 
+-- ---- what holds of a whole log
 module _ (log : List BlockStep) (t : Scene) (run : Log made log t) where
   all : Told first_holders log t
   all = follows made first_holders log t made_whole.0 made_whole.1 run

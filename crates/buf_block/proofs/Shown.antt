@@ -61,33 +61,34 @@ IsFirstFull (slot ∷ slots) = IsFull slot.1
 taken_out : slot_with_deed ≡ slot_without_deed → ⊥
 taken_out e = subst IsFirstFull e tt
 
-at_home : (s : State SlotState Grip) → IsBlock s → 1 ≤ total s.views → s.homes ≡ slot_at false
-at_home s r more = r.slot ∙ ap slot_at (ne_eqb (total s.views) 0 (λ e. omega arith))
-
-none_was_last : (s : State SlotState Grip) → IsBlock s → 1 ≤ total s.views → (seat : ℕ) → WasLast s.views seat → ⊥
-none_was_last s r more seat l = let none_left = r.last seat l.0 l.1 l.2 in omega arith
-
 one_was_last : (s : State SlotState Grip) → IsBlock s → (seat other : ℕ) → WasLast s.views seat → WasLast s.views other → other ≡ seat
 one_was_last s r seat other l m = r.once other seat m.0 l.0 m.1 l.1 m.2 l.2
 
 hands_here : (hands : Hands) (seat : ℕ) (slots : List (ℕ × SlotState)) → hands_with hands seat slots seat ≡ slots
 hands_here hands seat slots = ap (λ (b : Bool). if b then slots else hands seat) (eq-eqb seat seat refl)
 
--- a block that has some amount shows a state whose deed is at home
-shows_home : (s : State SlotState Grip) (hands : Hands) (h : Holders) → IsBlock s → 1 ≤ total s.views → h.amounts ≡ amounts_of s.views
-    → h.deed ≡ Home → Shows s hands h
-shows_home s hands h r more same home = record {
-  amounts = same;
-  home = ((λ _. at_home s r more), (λ _. home));
-  due = λ seat. (
-    (λ due. absurd (home_is_not_due h.deed seat home due)),
-    (λ (l : WasLast s.views seat × (hands seat ≡ slot_with_deed)). absurd (none_was_last s r more seat l.0)),
-  );
-  gone = (
-    (λ gone. absurd (home_is_not_gone h.deed home gone)),
-    (λ (l : (seat : ℕ) × WasLast s.views seat × (hands seat ≡ slot_without_deed)). absurd (none_was_last s r more l.0 l.1)),
-  );
-}
+-- a block that has some amount
+module _ (s : State SlotState Grip) (r : IsBlock s) (more : 1 ≤ total s.views) where
+  at_home : s.homes ≡ slot_at false
+  at_home = r.slot ∙ ap slot_at (ne_eqb (total s.views) 0 (λ e. omega arith))
+
+  none_was_last : (seat : ℕ) → WasLast s.views seat → ⊥
+  none_was_last seat l = let none_left = r.last seat l.0 l.1 l.2 in omega arith
+
+  -- it shows a state whose deed is at home
+  shows_home : (hands : Hands) (h : Holders) → h.amounts ≡ amounts_of s.views → h.deed ≡ Home → Shows s hands h
+  shows_home hands h same home = record {
+    amounts = same;
+    home = ((λ _. at_home), (λ _. home));
+    due = λ seat. (
+      (λ due. absurd (home_is_not_due h.deed seat home due)),
+      (λ (l : WasLast s.views seat × (hands seat ≡ slot_with_deed)). absurd (none_was_last seat l.0)),
+    );
+    gone = (
+      (λ gone. absurd (home_is_not_gone h.deed home gone)),
+      (λ (l : (seat : ℕ) × WasLast s.views seat × (hands seat ≡ slot_without_deed)). absurd (none_was_last l.0 l.1)),
+    );
+  }
 
 -- ---- a block between two steps
 
@@ -117,7 +118,7 @@ shows_one s hands h k a b =
     λ i. record { amounts = amounts i; deed = deeds i }
 
 pub made_whole : MadeWhole
-made_whole = (begins, shows_home first_state empty_hands (record { amounts = 4294967296 ∷ []; deed = Home }) begins (omega arith) refl refl)
+made_whole = (begins, shows_home first_state begins (omega arith) empty_hands (record { amounts = 4294967296 ∷ []; deed = Home }) refl refl)
 
 -- ---- a seat that holds an amount
 
@@ -181,9 +182,10 @@ module _ (s : State SlotState Grip) (hands : Hands) (h : Holders) (seat amount :
   shows_given false t w slots r views some_left back =
       let w_is : w ≡ done amount false = ap (λ (m : Grip × List (ℕ × SlotState)). m.0) back in
       let left : total t.views ≢ 0 = λ e. true≢false (sym (eq-eqb (total t.views) 0 e) ∙ some_left) in
-      shows_home t (hands_with hands seat slots) (record { amounts = set h.amounts seat 0; deed = h.deed }) r (omega arith)
+      shows_home t r (omega arith) (hands_with hands seat slots) (record { amounts = set h.amounts seat 0; deed = h.deed })
       (rest_amounts w (ap (λ (v : Grip). v.amount) w_is) ∙ ap amounts_of (sym views)) home_here
 
+-- ---- each step is the machine's
 pub split_is_the_tables : SplitIsTheTables
 split_is_the_tables seat amount p = p
 
@@ -197,7 +199,7 @@ split_is_step s hands h seat amount k more =
     let whole_is : total t.views ≡ total s.views = ap (λ (l : List ℕ). get_or l 0 0) (sym same ∙ k.rule.word) in
     let enough : nat_lt 1 (amount_of h seat) ≡ true = search rules in (
       is_true _ _ _ enough (inl (refl, refl)),
-      shows_home t (hands_with hands (length s.views) []) (after_split h seat 1) kept (omega arith) (split_amounts s hands h seat amount k)
+      shows_home t kept (omega arith) (hands_with hands (length s.views) []) (after_split h seat 1) (split_amounts s hands h seat amount k)
           (home_here s hands h seat amount k),
     )
 

@@ -12,6 +12,7 @@ use Rattle.buf_block.specs.declared.rule.Grip.{Grip}
 use Rattle.buf_block.specs.Block.{holding, total, SlotState, slot_with_deed, slot_without_deed, IsBlock, GivesBack}
 use Rattle.buf_block.specs.BlockView.{Hands, empty_hands, hands_with, WasLast, Shows, first_state, split_at, less_by}
 
+-- ---- a block, and the steps of its seats
 -- a block between two steps: its table's state, and the slots in the hands of its seats
 pub record Scene : Type 0 where
   pub table : State SlotState Grip
@@ -61,6 +62,7 @@ Does s (takes_deed seat) t =
     × (record { table = s.table; hands = hands_with s.hands seat slot_without_deed } ≡ t)
 Does s (reads seat) t = (amount : ℕ) × HasAmount s seat amount × (s ≡ t)
 
+-- ---- logs of steps
 -- these steps, one after another, lead from s to t
 abbrev pub Log : Scene → List BlockStep → Scene → Type 0
 Log s [] t = s ≡ t

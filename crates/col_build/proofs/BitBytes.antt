@@ -8,6 +8,7 @@ pub value-small : (flag : Bool) → bit_value flag ≤ 1
 value-small true = omega arith
 value-small false = omega arith
 
+-- ---- a bit that begins a byte
 -- a bit that begins a byte
 pub bits-begin : (flags : List Bool) (q : ℕ) (flag : Bool) → length flags ≡ 8 * q → bit_bytes (flags ++ flag ∷ []) ≡ bit_bytes flags ++ bit_value flag ∷ []
 bits-begin [] q flag e = ap (λ n. n ∷ []) (omega arith)
@@ -28,6 +29,7 @@ byte-small (flag ∷ flags) =
     let power : 2 ^ suc (length flags) ≡ 2 ^ length flags * 2 = pow-suc 2 (length flags) in
     omega (arith, power, value-small flag, byte-small flags)
 
+-- ---- a bit within a byte
 -- flags end so many bits into a byte, which has no other bit set
 pub record EndsWithin (flags : List Bool) (q r : ℕ) : Type 0 where
   pub there : length (bit_bytes flags) ≡ q + 1
@@ -104,6 +106,7 @@ bits-more (a ∷ b ∷ c ∷ d ∷ f ∷ g ∷ h ∷ i ∷ flags) zero r flag e 
 bits-more (a ∷ b ∷ c ∷ d ∷ f ∷ g ∷ h ∷ i ∷ flags) (suc q) r flag e some less =
     ap (λ bytes. byte_of (a ∷ b ∷ c ∷ d ∷ f ∷ g ∷ h ∷ i ∷ []) ∷ bytes) (bits-more flags q r flag (omega arith) some less)
 
+-- ---- whole bytes, and the bits above them
 -- the length of whole bytes
 pub whole-length : (flags : List Bool) (q : ℕ) → length flags ≡ 8 * q → length (bit_bytes flags) ≡ q
 whole-length [] q e = omega arith

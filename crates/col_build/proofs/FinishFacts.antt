@@ -72,25 +72,6 @@ held-in-place builder kind values holds other =
     in-place (is_wide kind) (form_of kind) values builder.offsets.items builder.bytes.items holds.fits.flat (subst Other is other) (subst Has is holds.bytes)
     ∙ ap (λ v. v ∷ if_some builder.bytes.items ∷ []) (sym holds.validity)
 
-pub held-between : (builder : Builder) (offsets : List ℕ) (kind : DataType) (values : List Value) (wide text : Bool) → Holds builder kind values
-    → builder.shape ≡ shapes.Between wide text
-    → offsets ≡ offset_bytes wide (map bytes_of values)
-    → (encoded kind values).buffers ≡ if_some builder.validity.items ∷ if_some offsets ∷ if_some builder.bytes.items ∷ []
-held-between builder offsets kind values wide text holds is begun =
-    let Has : Shape → Type 0 = λ shape. HasBytes shape values builder.offsets.items builder.bytes.items in
-    let bytes = subst Has is holds.bytes in
-    between (is_wide kind) (form_of kind) values offsets builder.bytes.items wide text holds.fits.flat
-    (sym (shaped builder kind values holds) ∙ is) begun bytes.1
-    ∙ ap (λ v. v ∷ if_some offsets ∷ if_some builder.bytes.items ∷ []) (sym holds.validity)
-
--- the offsets of a builder that holds values
-pub offsets-held : (builder : Builder) (kind : DataType) (values : List Value) (wide text : Bool) → Holds builder kind values
-    → builder.shape ≡ shapes.Between wide text
-    → HasOffsets wide (map bytes_of values) builder.offsets.items
-offsets-held builder kind values wide text holds is =
-    let Has : Shape → Type 0 = λ shape. HasBytes shape values builder.offsets.items builder.bytes.items in
-    (subst Has is holds.bytes).0
-
 -- ---- how many there are
 
 pub count-two : (a b : List ℕ) → present_count (if_some a ∷ if_some b ∷ []) ≡ count_if a + count_if b
@@ -102,6 +83,35 @@ count-two (x ∷ a) (y ∷ b) = omega arith
 pub count-three : (a b c : List ℕ) → present_count (if_some a ∷ if_some b ∷ if_some c ∷ []) ≡ count_if a + count_if b + count_if c
 count-three [] b c = omega (arith, count-two b c)
 count-three (x ∷ a) b c = omega (arith, count-two b c)
+
+pub blocks-in-place : (builder : Builder) (kind : DataType) (values : List Value) → Holds builder kind values → (IsBetween builder.shape → ⊥)
+    → count_if builder.validity.items + count_if builder.bytes.items ≡ blocks_of kind values
+blocks-in-place builder kind values holds other =
+    sym (ap present_count (held-in-place builder kind values holds other) ∙ count-two builder.validity.items builder.bytes.items)
+
+-- ---- a builder of items between offsets, and its values
+module _ (builder : Builder) (kind : DataType) (values : List Value) (wide text : Bool) (holds : Holds builder kind values)
+    (is : builder.shape ≡ shapes.Between wide text) where
+  bytes-held : HasBytes (shapes.Between wide text) values builder.offsets.items builder.bytes.items
+  bytes-held = let Has : Shape → Type 0 = λ shape. HasBytes shape values builder.offsets.items builder.bytes.items in subst Has is holds.bytes
+
+  pub held-between : (offsets : List ℕ) → offsets ≡ offset_bytes wide (map bytes_of values)
+      → (encoded kind values).buffers ≡ if_some builder.validity.items ∷ if_some offsets ∷ if_some builder.bytes.items ∷ []
+  held-between offsets begun =
+      between (is_wide kind) (form_of kind) values offsets builder.bytes.items wide text holds.fits.flat
+      (sym (shaped builder kind values holds) ∙ is) begun bytes-held.1
+      ∙ ap (λ v. v ∷ if_some offsets ∷ if_some builder.bytes.items ∷ []) (sym holds.validity)
+
+  -- its offsets
+  pub offsets-held : HasOffsets wide (map bytes_of values) builder.offsets.items
+  offsets-held = bytes-held.0
+
+  pub blocks-between : count_if builder.validity.items + count_if (offset_bytes wide (map bytes_of values)) + count_if builder.bytes.items ≡ blocks_of kind values
+  blocks-between =
+      sym (
+      ap present_count (held-between (offset_bytes wide (map bytes_of values)) refl)
+      ∙ count-three builder.validity.items (offset_bytes wide (map bytes_of values)) builder.bytes.items
+      )
 
 -- ---- what is built and what stays
 
@@ -148,17 +158,3 @@ same-but-holds old new kind values wide text is same holds =
       bytes = subst HasNew (sym (same.shape ∙ is)) (same.offsets, same.bytes ∙ bytes.1);
       fits = holds.fits;
     }
-
-pub blocks-in-place : (builder : Builder) (kind : DataType) (values : List Value) → Holds builder kind values → (IsBetween builder.shape → ⊥)
-    → count_if builder.validity.items + count_if builder.bytes.items ≡ blocks_of kind values
-blocks-in-place builder kind values holds other =
-    sym (ap present_count (held-in-place builder kind values holds other) ∙ count-two builder.validity.items builder.bytes.items)
-
-pub blocks-between : (builder : Builder) (kind : DataType) (values : List Value) (wide text : Bool) → Holds builder kind values
-    → builder.shape ≡ shapes.Between wide text
-    → count_if builder.validity.items + count_if (offset_bytes wide (map bytes_of values)) + count_if builder.bytes.items ≡ blocks_of kind values
-blocks-between builder kind values wide text holds is =
-    sym (
-    ap present_count (held-between builder (offset_bytes wide (map bytes_of values)) kind values wide text holds is refl)
-    ∙ count-three builder.validity.items (offset_bytes wide (map bytes_of values)) builder.bytes.items
-    )

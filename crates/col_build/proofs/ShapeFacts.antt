@@ -17,6 +17,7 @@ use Rattle.col_build.specs.declared.shape.Shape.TheVariants as shapes
 use Rattle.fmt_string.specs.Storage.{storage_of}
 use Rattle.col_build.specs.declared.item.PushFault.TheVariants.{OutOfRange, NotText}
 
+-- ---- shapes of forms, and numbers of whole bytes
 -- the shape of a form, whose offsets may be wide
 abbrev pub shape_of : Bool → Form → Shape
 shape_of wide Truths = shapes.Truths
@@ -74,6 +75,7 @@ form-ok (kinds.Duration tick) ok = of-bits 64 true (inr (inr (inr refl)))
 form-ok kinds.IntervalMonths ok = of-bits 32 true (inr (inr (inl refl)))
 form-ok _ ok = tt
 
+-- ---- the fault of an item, form by form
 range : (fits : Bool) → (if not (fits && true) then Some OutOfRange else None) ≡ range_fault fits
 range true = refl
 range false = refl
@@ -151,6 +153,7 @@ fault-of-form wide (Decimals precision places) values (Bytes b) ok = refl
 fault-of-form wide (Decimals precision places) values (Items vs) ok = refl
 fault-of-form wide (Decimals precision places) values (Fields vs) ok = refl
 
+-- ---- the fault and the shape of a type's item
 of-kind : (wide : Bool) (form : Option Form) (values : List Value) (value : Value) → HasForm form → FormOk form
     → fault_if wide form values value ≡ shape_fault (shape_if wide form) (byte_total values) value
 of-kind wide None values value flat ok = absurd flat

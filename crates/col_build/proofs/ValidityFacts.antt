@@ -9,6 +9,7 @@ use Rattle.fmt_string.specs.Value.{Value, Null, Truth, Whole, Bits, Bytes, Items
 use Rattle.col_build.specs.Encoding.{bit_bytes, if_some, is_null, null_total, validity_of}
 use Rattle.col_build.specs.Holding.{HasValidity}
 
+-- ---- how many values are null
 abbrev pub flags_of : List Value → List Bool
 flags_of values = map (λ value. not (is_null value)) values
 
@@ -53,6 +54,7 @@ all-valid ((Bytes b) ∷ values) none = ap (λ flags. true ∷ flags) (all-valid
 all-valid ((Items vs) ∷ values) none = ap (λ flags. true ∷ flags) (all-valid values none)
 all-valid ((Fields vs) ∷ values) none = ap (λ flags. true ∷ flags) (all-valid values none)
 
+-- ---- the bitmap where it is there
 bits-some : (flags : List Bool) → flags ≢ [] → bit_bytes flags ≢ []
 bits-some [] some = λ none. some refl
 bits-some (a ∷ []) some = λ none. cc
@@ -85,6 +87,7 @@ pushed-some : (flags : List Bool) (flag : Bool) → flags ++ flag ∷ [] ≢ []
 pushed-some [] flag = λ none. cc
 pushed-some (f ∷ flags) flag = λ none. cc
 
+-- ---- one more value
 -- the bits of one more value, where one is null
 shown-pushed : (new : List ℕ) (values : List Value) (value : Value) (flags : List Bool) (flag : Bool) → null_total (values ++ value ∷ []) ≢ 0
     → flags_of values ≡ flags → not (is_null value) ≡ flag

@@ -145,6 +145,7 @@ all-longer n k (c ∷ cs) le all =
     let head = All-head (λ column. k ≤ tree_items column) c cs all in
     All-cons (λ column. n ≤ tree_items column) c cs (omega (arith, le, head)) (all-longer n k cs le (All-tail (λ column. k ≤ tree_items column) c cs all))
 
+-- ---- the struct's columns in its place
 module _ (types fields : List KindTree) (t : ArrayTree) (place : ℕ)
     (live : AreLive types) (live_fields : AreLive fields) (ok : LayoutOk (table_type types) t) (lt : place < length types)
     (is : get_or types place Released ≡ table_type fields) where

@@ -36,6 +36,7 @@ row-long [] (c ∷ cs) i a = absurd a
 row-long (type ∷ types) [] i a = absurd a
 row-long (type ∷ types) (c ∷ cs) i a = ap suc (row-long types cs i a.2)
 
+-- ---- the table with the new column
 module _ (types : List KindTree) (t : ArrayTree) (place : ℕ) (type : KindTree) (column : ArrayTree)
     (live : AreLive types) (ok : LayoutOk (table_type types) t) (one_live : IsLive type) (one_ok : LayoutOk type column) where
   new-lawful : CutFacts types t → AreLawful (replaced place type types) (replaced place column (cut_children t))

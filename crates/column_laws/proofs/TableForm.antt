@@ -18,6 +18,7 @@ use Rattle.column_laws.proofs.PackedColumns.{unpack-chunk, unpack-rows}
 use Rattle.fmt_string.specs.Parts.{AreWithin, IsFields, member_columns, packed, packed_columns, picked, unpacked, unpacked_columns}
 use Rattle.column_laws.specs.Picking.{AreLive, Packed, Unpacked, packed_types, unpacked_types}
 
+-- ---- the types of the new columns
 pub within-types : (columns : List Column) (picks : List ℕ) → AreWithin (length columns) picks → AreWithin (length (types_of_columns columns)) picks
 within-types columns picks within = λ k lt. let e = within k lt in let f = length-map columns type_of_column in omega (arith, e, f)
 
@@ -56,6 +57,7 @@ struct-at columns none place fields lt is = sym (type-at columns none place lt) 
 few : (columns : List Column) (place : ℕ) → place < length columns → place < length (types_of_columns columns)
 few columns place lt = let f = length-map columns type_of_column in omega (arith, lt, f)
 
+-- ---- the laws, over the columns of a table
 module _ (columns : List Column) (t : ArrayTree) (ok : ChunkOk (type_of_columns columns) t) where
   abbrev types : List KindTree
   types = types_of_columns columns

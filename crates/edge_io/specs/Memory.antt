@@ -9,6 +9,7 @@ use Rattle.edge_io.specs.declared.memory.MemSource.{MemSource}
 use Rattle.edge_io.specs.declared.memory.MemSink.{MemSink}
 use Rattle.edge_io.specs.declared.counted.CountSource.{CountSource}
 
+-- ---- calls that fail, and answers
 -- the number of the call after so many
 abbrev pub next_call : ℕ → ℕ
 next_call calls = min (calls + 1) (2 ^ 64 - 1)
@@ -29,6 +30,7 @@ write_answer true count = took.Failed
 write_answer false zero = took.Failed
 write_answer false (suc count) = took.Bytes (suc count)
 
+-- ---- a source in memory
 -- a source: the bytes not yet given, the most that a call gives, the calls that fail, and how many calls there were
 abbrev pub bytes_left : MemSource → List ℕ
 bytes_left s = drop s.at s.bytes.items
@@ -51,6 +53,7 @@ pub record ReadOnce (old new : MemSource) : Type 0 where
   pub fails : failing_reads new ≡ failing_reads old
   pub calls : reads_made new ≡ next_call (reads_made old)
 
+-- ---- a sink in memory
 -- a sink: the bytes taken, how many more it takes, the most that a call takes, the calls that fail, and how many there were
 abbrev pub bytes_taken : MemSink → List ℕ
 bytes_taken s = s.taken.items
@@ -75,6 +78,7 @@ pub record WroteOnce (old new : MemSink) : Type 0 where
   pub fails : failing_writes new ≡ failing_writes old
   pub calls : writes_made new ≡ next_call (writes_made old)
 
+-- ---- a source that counts
 -- how many bytes a counting source has not yet given
 abbrev pub count_left : CountSource → ℕ
 count_left s = s.left

@@ -35,15 +35,6 @@ pub record Front (text : List ℕ) (count value : ℕ) : Type 0 where
 pub front_none : (text : List ℕ) → Front text 0 0
 front_none text = record { digits = λ k none. absurd (omega (arith, none)); writes = refl }
 
-pub front_more : (text : List ℕ) (count value next : ℕ) → Front text count value → count < length text → is_ascii_digit (get_or text count 0) ≡ true
-    → next ≡ value * 10 + (get_or text count 0 - 48) → Front text (count + 1) next
-front_more text count value next front within is e = record {
-  digits = below_more (λ k. is_ascii_digit (get_or text k 0) ≡ true) count front.digits is;
-  writes = e ∙ ap (λ (x : ℕ). x * 10 + (get_or text count 0 - 48)) front.writes
-      ∙ ap (λ (x : ℕ). digits_value 10 (take count text) * 10 + x) (sym (digit_is (get_or text count 0) is).value)
-      ∙ sym (digits_value_more 10 text count within);
-}
-
 pub front_len : (text : List ℕ) (count value : ℕ) → Front text count value → count ≤ length text
     → (count < length text → is_ascii_digit (get_or text count 0) ≡ false) → count ≡ prefix_len is_ascii_digit text
 front_len text count value front within ends = sym (prefix_len_is is_ascii_digit text count 0 within front.digits ends)
@@ -57,30 +48,34 @@ more_small value count digit next small one e =
 pub few_digits : (count most : ℕ) → count ≤ most → 10 ^ count ≤ 10 ^ most
 few_digits count most few = pow-le-pow_right {n = 10} (omega arith) {i = count} {j = most} few
 
--- ---- a number that grows too large
+-- ---- a digit that follows the front, and a number that grows too large
+module _ (text : List ℕ) (count value : ℕ) (front : Front text count value) (within : count < length text) (is : is_ascii_digit (get_or text count 0) ≡ true) where
+  pub front_more : (next : ℕ) → next ≡ value * 10 + (get_or text count 0 - 48) → Front text (count + 1) next
+  front_more next e = record {
+    digits = below_more (λ k. is_ascii_digit (get_or text k 0) ≡ true) count front.digits is;
+    writes = e ∙ ap (λ (x : ℕ). x * 10 + (get_or text count 0 - 48)) front.writes
+        ∙ ap (λ (x : ℕ). digits_value 10 (take count text) * 10 + x) (sym (digit_is (get_or text count 0) is).value)
+        ∙ sym (digits_value_more 10 text count within);
+  }
 
-past_front : (text : List ℕ) (count number : ℕ) → Front text count number → count < length text → is_ascii_digit (get_or text count 0) ≡ true
-    → count < prefix_len is_ascii_digit text
-past_front text count number front within is =
-    let more = front_more text count number (number * 10 + (get_or text count 0 - 48)) front within is refl in
-    elim (cases_lt (prefix_len is_ascii_digit text) (count + 1)) [
-      | inl early ↦
-          let stops : is_ascii_digit (get_or text (prefix_len is_ascii_digit text) 0) ≡ false =
-          prefix_len_stops is_ascii_digit text 0 (omega (arith, early, within)) in
-          absurd (false≢true (sym stops ∙ more.digits (prefix_len is_ascii_digit text) early))
-      | inr late ↦ omega (arith, late)
-    ]
+  one_more : Front text (count + 1) (value * 10 + (get_or text count 0 - 48))
+  one_more = front_more (value * 10 + (get_or text count 0 - 48)) refl
 
-pub front_large : (text : List ℕ) (count number : ℕ) → Front text count number → count < length text
-    → is_ascii_digit (get_or text count 0) ≡ true → 10 ^ 37 ≤ number
-    → 10 ^ 38 ≤ digits_value 10 (take (prefix_len is_ascii_digit text) text)
-front_large text count number front within is large =
-    let more = front_more text count number (number * 10 + (get_or text count 0 - 48)) front within is refl in
-    let past = past_front text count number front within is in
-    let len = prefix_len is_ascii_digit text in
-    let same : digits_value 10 (take (count + 1) (take len text)) ≡ digits_value 10 (take (count + 1) text) =
-    ap (digits_value 10) (take-take (count + 1) len text (omega (arith, past))) in
-    omega (arith, digits_value-take-le 10 (take len text) (count + 1) (omega arith), same, more.writes, large)
+  past_front : count < prefix_len is_ascii_digit text
+  past_front = elim (cases_lt (prefix_len is_ascii_digit text) (count + 1)) [
+    | inl early ↦
+        let stops : is_ascii_digit (get_or text (prefix_len is_ascii_digit text) 0) ≡ false =
+        prefix_len_stops is_ascii_digit text 0 (omega (arith, early, within)) in
+        absurd (false≢true (sym stops ∙ one_more.digits (prefix_len is_ascii_digit text) early))
+    | inr late ↦ omega (arith, late)
+  ]
+
+  pub front_large : 10 ^ 37 ≤ value → 10 ^ 38 ≤ digits_value 10 (take (prefix_len is_ascii_digit text) text)
+  front_large large =
+      let len = prefix_len is_ascii_digit text in
+      let same : digits_value 10 (take (count + 1) (take len text)) ≡ digits_value 10 (take (count + 1) text) =
+      ap (digits_value 10) (take-take (count + 1) len text (omega (arith, past_front))) in
+      omega (arith, digits_value-take-le 10 (take len text) (count + 1) (omega arith), same, one_more.writes, large)
 
 -- ---- a text of digits alone
 

@@ -10,6 +10,7 @@ use Rattle.std.proofs.lemmas.List.{append-nil, take_at, drop_at}
 use Rattle.std.proofs.Math.Nat.{pow-succ', pow-zero, pow-le-pow_right, div-div-eq-div-mul}
 use Rattle.fmt_string.specs.FieldText.{last_digits, point_text}
 
+-- ---- the digits of a number
 glyph_is : (d : ℕ) → d < 10 → digit_glyph false d ≡ 48 + d
 glyph_is d small = rw (lt-ltb d 10 small) refl
 
@@ -43,6 +44,7 @@ split_digits (suc more) n small long = elim (cases_lt n 10) [
       ∙ ap (λ (x : ℕ). decimal x ++ (last_digits 10 more (n / 10) ++ digit)) front
 ]
 
+-- ---- zeros before the digits
 one_zero : List ℕ
 one_zero = 48 ∷ []
 
@@ -98,53 +100,58 @@ length-last_digits zero n = refl
 length-last_digits (suc count) n =
     omega (arith, length-append (last_digits 10 count (n / 10)) (digit_glyph false (n % 10) ∷ []), length-last_digits count (n / 10))
 
-pub pointed : (places n : ℕ) → n < 10 ^ 64 → 0 < places → places < length (decimal n)
-    → point_text places n ≡ take (length (decimal n) - places) (decimal n) ++ (46 ∷ drop (length (decimal n) - places) (decimal n))
-pointed zero n small some long = absurd (omega (arith, some))
-pointed (suc more) n small some long =
-    let whole : List ℕ = decimal (n / 10 ^ suc more) in
-    let fraction : List ℕ = last_digits 10 (suc more) n in
-    let split = split_digits (suc more) n small long in
-    let count : length (decimal n) - suc more ≡ length whole =
-    omega (arith, ap (λ (ds : List ℕ). length ds) split, length-append whole fraction, length-last_digits (suc more) n) in
-    let front : take (length (decimal n) - suc more) (decimal n) ≡ whole =
-    ap (λ (k : ℕ). take k (decimal n)) count ∙ ap (λ (ds : List ℕ). take (length whole) ds) split ∙ take_at whole fraction (length whole) refl in
-    let behind : drop (length (decimal n) - suc more) (decimal n) ≡ fraction =
-    ap (λ (k : ℕ). drop k (decimal n)) count ∙ ap (λ (ds : List ℕ). drop (length whole) ds) split ∙ drop_at whole fraction (length whole) refl in
-    ap (λ (ds : List ℕ). ds ++ (46 ∷ fraction)) (sym front) ∙ ap (λ (ds : List ℕ). take (length (decimal n) - suc more) (decimal n) ++ (46 ∷ ds)) (sym behind)
+point_is : (places n : ℕ) → 0 < places → point_text places n ≡ decimal (n / 10 ^ places) ++ (46 ∷ last_digits 10 places n)
+point_is zero n some = absurd (omega (arith, some))
+point_is (suc more) n some = refl
 
-pub zero_pointed : (places n : ℕ) → n < 10 ^ 64 → 0 < places → length (decimal n) ≤ places
-    → point_text places n ≡ 48 ∷ 46 ∷ (replicate (places - length (decimal n)) 48 ++ decimal n)
-zero_pointed zero n small some short = absurd (omega (arith, some))
-zero_pointed (suc more) n small some short =
-    ap (λ (x : ℕ). decimal x ++ (46 ∷ last_digits 10 (suc more) n)) (none_before (suc more) n small short)
-    ∙ ap (λ (ds : List ℕ). ds ++ (46 ∷ last_digits 10 (suc more) n)) (decimal_digit 0 (omega arith))
-    ∙ ap (λ (ds : List ℕ). 48 ∷ 46 ∷ ds) (padded_digits (suc more) n small short)
+module _ (places n : ℕ) (small : n < 10 ^ 64) (some : 0 < places) where
+  pub pointed : places < length (decimal n)
+      → point_text places n ≡ take (length (decimal n) - places) (decimal n) ++ (46 ∷ drop (length (decimal n) - places) (decimal n))
+  pointed long =
+      let whole : List ℕ = decimal (n / 10 ^ places) in
+      let fraction : List ℕ = last_digits 10 places n in
+      let split = split_digits places n small long in
+      let count : length (decimal n) - places ≡ length whole =
+      omega (arith, ap (λ (ds : List ℕ). length ds) split, length-append whole fraction, length-last_digits places n) in
+      let front : take (length (decimal n) - places) (decimal n) ≡ whole =
+      ap (λ (k : ℕ). take k (decimal n)) count ∙ ap (λ (ds : List ℕ). take (length whole) ds) split ∙ take_at whole fraction (length whole) refl in
+      let behind : drop (length (decimal n) - places) (decimal n) ≡ fraction =
+      ap (λ (k : ℕ). drop k (decimal n)) count ∙ ap (λ (ds : List ℕ). drop (length whole) ds) split ∙ drop_at whole fraction (length whole) refl in
+      point_is places n some
+      ∙ ap (λ (ds : List ℕ). ds ++ (46 ∷ fraction)) (sym front)
+      ∙ ap (λ (ds : List ℕ). take (length (decimal n) - places) (decimal n) ++ (46 ∷ ds)) (sym behind)
 
-pub pointed_after : (places n : ℕ) (room digits whole fraction first second third : List ℕ) → n < 10 ^ 64 → 0 < places → digits ≡ decimal n
-    → places < length digits
-    → whole ≡ take (length digits - places) digits → fraction ≡ drop (length digits - places) digits
-    → first ≡ room ++ whole → second ≡ first ++ (46 ∷ []) → third ≡ second ++ fraction → third ≡ room ++ point_text places n
-pointed_after places n room digits whole fraction first second third small some is long front behind one two three =
-    let point : List ℕ = 46 ∷ [] in
-    let long' : places < length (decimal n) = subst (λ (ds : List ℕ). places < length ds) is long in
-    let front' : whole ≡ take (length (decimal n) - places) (decimal n) = front ∙ ap (λ (ds : List ℕ). take (length ds - places) ds) is in
-    let behind' : fraction ≡ drop (length (decimal n) - places) (decimal n) = behind ∙ ap (λ (ds : List ℕ). drop (length ds - places) ds) is in
-    three ∙ ap (λ (ds : List ℕ). ds ++ fraction) (two ∙ ap (λ (ds : List ℕ). ds ++ point) one)
-    ∙ append_assoc (room ++ whole) point fraction
-    ∙ append_assoc room whole (46 ∷ fraction)
-    ∙ ap (λ (ds : List ℕ). room ++ (ds ++ (46 ∷ fraction))) front'
-    ∙ ap (λ (ds : List ℕ). room ++ (take (length (decimal n) - places) (decimal n) ++ (46 ∷ ds))) behind'
-    ∙ ap (λ (ds : List ℕ). room ++ ds) (sym (pointed places n small some long'))
+  pub zero_pointed : length (decimal n) ≤ places → point_text places n ≡ 48 ∷ 46 ∷ (replicate (places - length (decimal n)) 48 ++ decimal n)
+  zero_pointed short =
+      point_is places n some
+      ∙ ap (λ (x : ℕ). decimal x ++ (46 ∷ last_digits 10 places n)) (none_before places n small short)
+      ∙ ap (λ (ds : List ℕ). ds ++ (46 ∷ last_digits 10 places n)) (decimal_digit 0 (omega arith))
+      ∙ ap (λ (ds : List ℕ). 48 ∷ 46 ∷ ds) (padded_digits places n small short)
 
-pub zero_pointed_after : (places n : ℕ) (room digits first second third : List ℕ) → n < 10 ^ 64 → 0 < places → digits ≡ decimal n → length digits ≤ places
-    → first ≡ room ++ (48 ∷ 46 ∷ []) → second ≡ first ++ replicate (places - length digits) 48 → third ≡ second ++ digits → third ≡ room ++ point_text places n
-zero_pointed_after places n room digits first second third small some is short one two three =
-    let front : List ℕ = 48 ∷ 46 ∷ [] in
-    let zeros : List ℕ = replicate (places - length digits) 48 in
-    let short' : length (decimal n) ≤ places = subst (λ (ds : List ℕ). length ds ≤ places) is short in
-    three ∙ ap (λ (ds : List ℕ). ds ++ digits) (two ∙ ap (λ (ds : List ℕ). ds ++ zeros) one)
-    ∙ append_assoc (room ++ front) zeros digits
-    ∙ append_assoc room front (zeros ++ digits)
-    ∙ ap (λ (ds : List ℕ). room ++ (48 ∷ 46 ∷ (replicate (places - length ds) 48 ++ ds))) is
-    ∙ ap (λ (ds : List ℕ). room ++ ds) (sym (zero_pointed places n small some short'))
+  pub pointed_after : (room digits whole fraction first second third : List ℕ) → digits ≡ decimal n → places < length digits
+      → whole ≡ take (length digits - places) digits → fraction ≡ drop (length digits - places) digits
+      → first ≡ room ++ whole → second ≡ first ++ (46 ∷ []) → third ≡ second ++ fraction → third ≡ room ++ point_text places n
+  pointed_after room digits whole fraction first second third is long front behind one two three =
+      let point : List ℕ = 46 ∷ [] in
+      let long' : places < length (decimal n) = subst (λ (ds : List ℕ). places < length ds) is long in
+      let front' : whole ≡ take (length (decimal n) - places) (decimal n) = front ∙ ap (λ (ds : List ℕ). take (length ds - places) ds) is in
+      let behind' : fraction ≡ drop (length (decimal n) - places) (decimal n) = behind ∙ ap (λ (ds : List ℕ). drop (length ds - places) ds) is in
+      three ∙ ap (λ (ds : List ℕ). ds ++ fraction) (two ∙ ap (λ (ds : List ℕ). ds ++ point) one)
+      ∙ append_assoc (room ++ whole) point fraction
+      ∙ append_assoc room whole (46 ∷ fraction)
+      ∙ ap (λ (ds : List ℕ). room ++ (ds ++ (46 ∷ fraction))) front'
+      ∙ ap (λ (ds : List ℕ). room ++ (take (length (decimal n) - places) (decimal n) ++ (46 ∷ ds))) behind'
+      ∙ ap (λ (ds : List ℕ). room ++ ds) (sym (pointed long'))
+
+  pub zero_pointed_after : (room digits first second third : List ℕ) → digits ≡ decimal n → length digits ≤ places
+      → first ≡ room ++ (48 ∷ 46 ∷ []) → second ≡ first ++ replicate (places - length digits) 48 → third ≡ second ++ digits
+      → third ≡ room ++ point_text places n
+  zero_pointed_after room digits first second third is short one two three =
+      let front : List ℕ = 48 ∷ 46 ∷ [] in
+      let zeros : List ℕ = replicate (places - length digits) 48 in
+      let short' : length (decimal n) ≤ places = subst (λ (ds : List ℕ). length ds ≤ places) is short in
+      three ∙ ap (λ (ds : List ℕ). ds ++ digits) (two ∙ ap (λ (ds : List ℕ). ds ++ zeros) one)
+      ∙ append_assoc (room ++ front) zeros digits
+      ∙ append_assoc room front (zeros ++ digits)
+      ∙ ap (λ (ds : List ℕ). room ++ (48 ∷ 46 ∷ (replicate (places - length ds) 48 ++ ds))) is
+      ∙ ap (λ (ds : List ℕ). room ++ ds) (sym (zero_pointed short'))

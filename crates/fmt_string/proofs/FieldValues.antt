@@ -46,6 +46,7 @@ truth_read true other v e = subst (λ (x : Value). IsOfForm Truths x) (same_some
 truth_read false true v e = subst (λ (x : Value). IsOfForm Truths x) (same_some (Truth false) v e) tt
 truth_read false false v e = absurd cc
 
+-- ---- hexadecimal digits
 decimal_below : (c : ℕ) → 48 ≤ c → c ≤ 57 → digit_value c < 16
 decimal_below c low high = rw (le-ltb c 48 low, lt-ltb c 58 (omega arith)) (omega arith)
 
@@ -102,6 +103,7 @@ size_of true zero = refl
 size_of true (suc n) = refl
 size_of false n = refl
 
+-- ---- each form
 form_read : (form : Form) (text : List ℕ) (v : Value) → IsFlatForm form → read_form form text ≡ Some v → IsOfForm form v
 form_read Truths text v flat e = truth_read _ _ v e
 form_read (Wholes bits signed) text v flat e =

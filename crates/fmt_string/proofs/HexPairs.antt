@@ -9,6 +9,7 @@ use Rattle.fmt_string.specs.FieldText.{hex_bytes}
 use Rattle.hex.specs.Hex.{decode_pairs, decode_sized, ◌>>=◌, hex_digit_value}
 use Rattle.hex.specs.declared.error.FromHexError.{FromHexError}
 
+-- ---- one digit, by its range
 DigitIs : ℕ → Type 0
 DigitIs c = MatchOption (hex_digit_value c) (is_ascii_hexdigit c ≡ false) (λ v. (is_ascii_hexdigit c ≡ true) × (digit_value c ≡ v))
 
@@ -78,6 +79,7 @@ digit_cases c = elim (cases_lt c 48) [
   ]
 ]
 
+-- ---- pairs of digits
 -- the bytes that are decoded are those that are read
 abbrev DecodesAs : Result (List ℕ) FromHexError → Option (List ℕ) → Type 0
 DecodesAs decoded bytes = MatchResult decoded (λ bs. bytes ≡ Some bs) (λ e. bytes ≡ None)

@@ -145,6 +145,7 @@ not_both text v w rest h split true is =
       | inr n ↦ let yes : starts_with nat_eq w v ≡ true = begins w v n.0 n.1 in absurd cc
     ]
 
+-- ---- a keyword among words that are apart
 apart_from : (w : List ℕ) (ks : List Keyword) (i : ℕ) (d : Keyword) → list_all (apart w) (map (λ k. k.word) ks) ≡ true → i < length ks
     → apart w (get_or ks i d).word ≡ true
 apart_from w [] i d all lt = absurd (omega arith)

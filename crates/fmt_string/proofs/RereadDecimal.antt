@@ -189,6 +189,7 @@ scale_fits : (start lp n : ℕ) (z : ℤ) (wide : Bool) → FitsSigned w32 z →
 unfolding of_scale
 scale_fits start lp n z wide h = rw (fits_yes z h) refl
 
+-- ---- widths, known and unknown
 -- a known width
 at_width : (start lp ls n : ℕ) (z : ℤ) (wide : Bool) → of_width start lp ls n z (width_of wide) ≡ of_precision start lp n z wide
 unfolding of_width

@@ -144,6 +144,7 @@ number (c ∷ cs) = elim (cases_Bool (is_ascii_digit c)) [
   | inr none ↦ inl (inl (digit_out c none))
 ]
 
+-- ---- numbers with a sign
 -- a number in front that a minus may begin, and the rest
 record Signed (text : List ℕ) : Type 0 where
   digits : List ℕ
@@ -228,6 +229,7 @@ most_same : (wide : Bool) → most_at (width_of wide) ≡ most_precise wide
 most_same false = refl
 most_same true = refl
 
+-- ---- decimals with all their numbers
 module _ (text : List ℕ) (all : Parts) (n : ℕ) (z : ℤ) where
   out_of_range : (width : ℕ) → PartsAre all n z width → text ≡ parts_text all → (rule : FormatRule) (p : ℕ) → RangeFails rule all n z width p → Decimal text
   out_of_range width are spelled rule p fails = inr (rule, p, inr (inr (inr (all, n, z, width, are, spelled, fails))))
@@ -284,6 +286,7 @@ module _ (text : List ℕ) (all : Parts) (n : ℕ) (z : ℤ) where
         ]
       ]
 
+-- ---- behind the scale
 spelling : (p s w : List ℕ) → p ++ (44 ∷ (s ++ w)) ≡ parts_text (parts p s w)
 spelling p s w = sym (simp append_assoc)
 
@@ -358,6 +361,7 @@ module _ (text p s : List ℕ) (n : ℕ) (z : ℤ) (p_is : IsNumber p n) (s_is :
         )
   ]
 
+-- ---- behind the precision
 behind_precision : (text p more : List ℕ) (n : ℕ) → NumberThen text p more n → Decimal text
 behind_precision text p [] n then = inr (rules.BadNumber, length p, inr (inl (refl, p, [], n, then, λ h. h, refl)))
 behind_precision text p (c ∷ cs) n then = elim (equal c 44) [

@@ -94,6 +94,7 @@ numbers precision scale wide least most fits = record {
   is = refl;
 }
 
+-- ---- each type
 pub spelled : (kind : DataType) → KindOk kind → FormatIs (spelling_of kind) kind
 spelled kinds.Null ok = alone (codes "n") kinds.Null (0, lit< tt, refl)
 spelled kinds.Bool ok = alone (codes "b") kinds.Bool (1, lit< tt, refl)

@@ -195,6 +195,7 @@ mutual
   least_of_maybe-one_lower (present t) absent a = absurd a
   least_of_maybe-one_lower (present t) (present u) a = LeastAmount-one_lower t u a
 
+-- ---- the least amount of trees that are alike
 least_of-like : (bs cs : List (Option Buffer)) → LikeBuffers bs cs → least_of cs ≤ least_of bs
 least_of-like [] [] a = omega arith
 least_of-like [] (c ∷ cs) a = absurd a

@@ -22,6 +22,7 @@ use Rattle.stream_face.specs.declared.fault.StreamFault.TheVariants as faults
 use Rattle.stream_face.specs.Failures.{why}
 use Rattle.stream_face.specs.Faults.{IsOwnFault, code_of}
 
+-- ---- what is seen of a link
 pub nil : {A : Type 0} (xs : List A) → is_nil xs ≡ true → xs ≡ []
 nil [] e = refl
 nil (x ∷ xs) e = absurd (cc)
@@ -63,6 +64,7 @@ joints-none old new link out before after none shows =
     let k : [] ≡ new link = sym none ∙ h ∙ ap (λ xs. xs ++ new link) e in
     sym k
 
+-- ---- what a checked stream shows
 -- a refusal of the checked stream shows no more than its inner stream did
 pub Shows-raw_refused : (s n : Stream) (link : ℕ) (code refusal : ℤ) (out left : ArrayTree) (before after : Option (List Seen)) → s.joints link ≡ []
     → refusal ≢ pos 0 → Shows s.joints n.joints code out before after → Shows (raw_joints link s) (raw_joints link n) refusal left before after
@@ -113,6 +115,7 @@ Shows-raw_live s n link code schema kinds out before middle after works live non
     let rows_are = chunk.2.rows_are in
     Shows-raw_chunk s n link chunk.0 out before middle after none chunk.1 same (rw works at shows) live (rw (known, typed, rows_are) at told)
 
+-- ---- failures, answers and refusals
 -- where the checked stream has not failed, nor has its inner stream
 pub inner_works : (f : Option StreamFault) (inner said : Option Refusal) → refusal_or f inner said ≡ None → inner ≡ None
 inner_works None inner said e = e

@@ -5,6 +5,7 @@ use Rattle.clap.proofs.OnLiterals.{clap_on_literals}
 use Rattle.words.specs.Words.{Options, words_of}
 use Rattle.words.specs.declared.WordsFault.TheVariants.{Refused, TooManyStages}
 
+-- ---- the schema, and the audit
 abbrev plain : Options
 plain = record { schema = None; batch = 1024; audit = false; null = None; stages = [] }
 
@@ -65,6 +66,7 @@ flag_value_is : words_of (codes "--audit=true" ∷ []) ≡ Err Refused
 unfolding words_of clap_on_literals
 flag_value_is = refl
 
+-- ---- the text of null, and the size of a batch
 null_is : words_of (codes "--null" ∷ codes "NA" ∷ []) ≡ Ok (record plain { null = Some (codes "NA") })
 unfolding words_of clap_on_literals
 null_is = refl
@@ -125,6 +127,7 @@ repeated_batch_is : words_of (codes "--batch" ∷ codes "1" ∷ codes "--batch" 
 unfolding words_of clap_on_literals
 repeated_batch_is = refl
 
+-- ---- stages, and other words
 stage_is : words_of (codes "select=a" ∷ []) ≡ Ok (record plain { stages = codes "select=a" ∷ [] })
 unfolding words_of clap_on_literals
 stage_is = refl

@@ -11,6 +11,7 @@ use Rattle.raw_array.proofs.Children.{cost_of_first}
 use Rattle.raw_array.proofs.+shared.Goals as goal
 use Rattle.raw_array.proofs.+shared.Goals.{array::RawArray::shared-in-Released, array::RawArray::shared-in-Live+in-Ok, array::RawArray::shared-in-Live+in-Err}
 
+-- ---- the invariant of the array
 pub array::RawArray::shared-invariant_of-result : goal.array::RawArray::shared-invariant_of-result
 array::RawArray::shared-invariant_of-result t c =
     let was = subst Bounded (ap tree_of c.in-Live.is) c.self.invariant in
@@ -30,6 +31,7 @@ array::RawArray::shared-invariant_of-self t c =
           subst (λ s. Bounded (tree_of s.state)) (sym w.self-inside-is) like
     ]
 
+-- ---- its children, one by one
 pub share::shared_all-shared_child-requires : goal.share::shared_all-shared_child-requires
 share::shared_all-shared_child-requires t c =
     let ts = values_of c.args.children.now in
@@ -78,6 +80,7 @@ share::shared_all-loop-i-preserved t c =
       search rules,
     )
 
+-- ---- all its children
 pub share::shared_all-returns-clause-trees : goal.share::shared_all-returns-clause-trees
 share::shared_all-returns-clause-trees t c =
     let ts = values_of c.args.children.now in

@@ -12,6 +12,7 @@ use Rattle.arr_export.proofs.Costs.{depth-here, few-columns, map-more, nodes-her
 use Rattle.arr_export.proofs.Rows.{struct-kinds, struct-schema}
 use Rattle.arr_export.proofs.columns.+schema.Goals as goal
 
+-- ---- a column that is a struct
 pub column_schema-struct_schema-requires : goal.column_schema-struct_schema-requires
 column_schema-struct_schema-requires t c =
     let is : column_schema c.args.name.now (kind_of c.args.kind.now)
@@ -55,6 +56,7 @@ column_schema-returns-in_ok-name-in-Columns-clause-nodes t c =
     ≡ 1 + nodes_of_all (code_schemas c.as_slice.result.now) = omega (arith, ap Nodes is) in
     rw nodes c.struct_schema.ensures.nodes
 
+-- ---- the columns of a struct
 pub struct_schema-built-requires-clause-few_children : goal.struct_schema-built-requires-clause-few_children
 struct_schema-built-requires-clause-few_children t c =
     let count : length c.in_ok-children.children.items ≡ length c.args.columns.now =

@@ -16,7 +16,7 @@ pub loop-place-preserved : goal.loop-place-preserved
 loop-place-preserved c =
     let is = sym c.is_ascii_digit.ensures.value ∙ c.if-not-is_ascii_digit.false in
     record {
-      front = front_more c.args.text.now c.loop-place.place c.loop-place.value _ c.loop-place.invariant.front (omega arith) is
+      front = front_more c.args.text.now c.loop-place.place c.loop-place.value c.loop-place.invariant.front (omega arith) is _
           (ap (λ x. c.loop-place.value * 10 + x) c.from.ensures);
       small = omega (arith, (digit_is (get_or c.args.text.now c.loop-place.place 0) is).high, c.from.ensures, c.if-value-ge-LAST_STEP.false);
     }

@@ -20,7 +20,7 @@ loop-place-preserved c =
     let is = sym c.is_ascii_digit.ensures.value ∙ c.if-not-is_ascii_digit.false in
     let e = ap (λ x. c.loop-place.value * 10 + x) c.from.ensures in
     record {
-      front = front_more c.args.text.now c.loop-place.place c.loop-place.value _ c.loop-place.invariant.front (omega arith) is e;
+      front = front_more c.args.text.now c.loop-place.place c.loop-place.value c.loop-place.invariant.front (omega arith) is _ e;
       small = more_small c.loop-place.value c.loop-place.place c.from.result _ c.loop-place.invariant.small
           (omega (arith, (digit_is (get_or c.args.text.now c.loop-place.place 0) is).high, c.from.ensures)) (omega arith);
     }

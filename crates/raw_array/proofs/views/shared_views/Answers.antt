@@ -7,6 +7,7 @@ use Rattle.raw_array.proofs.Buffers.{length-buffers_of, least_of-get_or, holds_o
 use Rattle.raw_array.proofs.ViewLists.{view_at, one_lowered, still_one_lower, one_shared, holds_of-first, holds_of-more}
 use Rattle.raw_array.proofs.views.shared_views.Goals as goal
 
+-- ---- one view
 pub shared_view-requires-clause-amount : goal.shared_view-requires-clause-amount
 shared_view-requires-clause-amount c =
     let bs = buffers_of c.args.buffers.now.items in
@@ -37,6 +38,7 @@ returns-in-Err-clause-one_lower c =
     let at = view_at bs c.loop-i.buffers.items i c.loop-i.invariant.0 inside c.index_mut.result.now (search rules) in
     still_one_lower bs c.loop-i.buffers.items i c.loop-i.invariant.0 inside c.shared_view.new.buffer (c.in-Err.ensures.kept ∙ at)
 
+-- ---- the views, one by one, and all of them
 pub loop-i-preserved : goal.loop-i-preserved
 loop-i-preserved c =
     let bs = buffers_of c.args.buffers.now.items in

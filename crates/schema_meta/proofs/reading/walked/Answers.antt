@@ -34,9 +34,9 @@ returns-in_err-at-clause-fault c =
     (begun_split c.args.bytes.now c.in_ok-count.count c.loop.at c.loop.counter done so_far))
 
 pub returns-clause-found : goal.returns-clause-found
-returns-clause-found c = ended_whole c.args.bytes.now c.in_ok-count.count c.loop.at c.loop.counter c.ended.result c.loop.invariant.0 c.loop.invariant.1
-    (omega arith) c.ended.ensures.found
+returns-clause-found c = ended_whole c.args.bytes.now c.in_ok-count.count c.loop.at c.loop.counter c.loop.invariant.0 c.loop.invariant.1 (omega arith)
+    c.ended.result c.ended.ensures.found
 
 pub returns-clause-fault : goal.returns-clause-fault
-returns-clause-fault c = ended_trailing c.args.bytes.now c.in_ok-count.count c.loop.at c.loop.counter c.ended.result c.loop.invariant.0 c.loop.invariant.1
-    (omega arith) c.ended.ensures.fault
+returns-clause-fault c = ended_trailing c.args.bytes.now c.in_ok-count.count c.loop.at c.loop.counter c.loop.invariant.0 c.loop.invariant.1 (omega arith)
+    c.ended.result c.ended.ensures.fault

@@ -10,6 +10,7 @@ use Rattle.col_build.proofs.ValidityFacts.{nulls-few}
 use Rattle.col_build.specs.declared.shape.Shape.TheVariants as shapes
 use Rattle.col_build.proofs.builder.Builder.finish.Goals as goal
 
+-- ---- what both ways of finishing ask
 pub finish_offsets-requires-clause-nulls : goal.finish_offsets-requires-clause-nulls
 finish_offsets-requires-clause-nulls c =
     let holds = c.requires.holds.2 in
@@ -31,6 +32,7 @@ finish_in_place-requires c =
       nulls = omega (arith, holds.nulls, holds.fits.few, nulls-few c.requires.holds.1);
     }
 
+-- ---- items between offsets
 pub returns-in-Between-clause-encoded : goal.returns-in-Between-clause-encoded
 returns-in-Between-clause-encoded c =
     let self = c.args.self in
@@ -39,7 +41,7 @@ returns-in-Between-clause-encoded c =
     (λ built made kind values holds.
     let items = map bytes_of values in
     encoded-built self kind values (if_some self.validity.items ∷ if_some (offset_bytes wide items) ∷ if_some self.bytes.items ∷ []) built holds
-    (held-between self (offset_bytes wide items) kind values wide c.in-Between.text holds c.in-Between.is refl)
+    (held-between self kind values wide c.in-Between.text holds c.in-Between.is (offset_bytes wide items) refl)
     (made items (offsets-held self kind values wide c.in-Between.text holds c.in-Between.is)))
     c.finish_offsets.ensures.built
 
@@ -67,6 +69,7 @@ returns-in-Between-clause-blocks c =
     omega (arith, count, rises (map bytes_of values) (offsets-held self kind values c.in-Between.wide c.in-Between.text holds c.in-Between.is)))
     c.finish_offsets.ensures.blocks
 
+-- ---- items in place
 pub returns-in_default : goal.returns-in_default
 returns-in_default c =
     let self = c.args.self in

@@ -43,6 +43,7 @@ use Rattle.raw_place.specs.contracts.row.Row.lend as f
 use Rattle.raw_place.proofs.row.Row.lend.Statement.{statement}
 use Rattle.raw_place.proofs.row.Row.lend.Code as code
 
+-- ---- the row but for one of its values
 -- the row but for its i-th value
 module _ (E : El) {M : Type 1} {𝓤 : Ura M} (𝓛 : Logic 𝓤) (r : Row E.row.Denot E.al.row.Denot) (i rb ro b o : ℕ) (hv : Val) where
   abbrev Left : SProp 𝓤
@@ -65,6 +66,7 @@ module _ (E : El) {M : Type 1} {𝓤 : Ura M} (𝓛 : Logic 𝓤) (r : Row E.row
       move ! (1 ∷ 0 ∷ []) $ fjoin ! $
       fpack ! (List Val) (λ us. fsep (cell_at full_share rows.mir us rb ro) (rows.own_val (changed r i w) us)) (vec_val E hv b o r.len r.room ∷ []) $ done !
 
+-- ---- the call that lends it
 pub lend_spec : {M : Type 1} → statement M
 lend_spec 𝓤 𝓛 𝓜 𝓡 wired T A of_value of_heap g d drops allocates destroys =
     let E : El = record { row = T; laws = of_value; al = record { row = A; laws = of_heap; g = g; d = d; drops = drops } } in

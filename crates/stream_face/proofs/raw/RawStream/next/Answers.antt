@@ -12,6 +12,7 @@ use Rattle.stream_face.proofs.Joints.{nil, inner_works, not_failed, joints-none,
 use Rattle.stream_face.proofs.Joints.{works_before, Shows-raw_refused, Shows-raw_live}
 use Rattle.stream_face.proofs.raw.RawStream.next.Goals as goal
 
+-- ---- the inner stream refuses
 pub returns-then-code-ne0-clause-why : goal.returns-then-code-ne0-clause-why
 returns-then-code-ne0-clause-why g c = λ _.
     let raw = c.args.self.now in
@@ -28,6 +29,7 @@ returns-then-code-ne0-clause-shows g c = λ fresh.
     Shows-raw_refused s (g.S.ArrayStream.state c.get_next-code.new.self) raw.link c.get_next-code.result
     _ c.get_next-code.new.out _ _ _ none (search rules) (c.get_next-code.ensures.shows inner)
 
+-- ---- the chunk passes the check
 pub invariant_of-self-in-Ok-clause-own_link : goal.invariant_of-self-in-Ok-clause-own_link
 invariant_of-self-in-Ok-clause-own_link g c = λ live lawful works.
     let raw = c.args.self.now in
@@ -68,6 +70,7 @@ returns-in-Ok-clause-shows g c = λ fresh.
     (Shows-raw_live s n raw.link c.get_next-code.result raw.known.schema (raw_kinds raw) c.get_next-code.new.out _ _ _ zero live none call.keeps.columns
     (call.answers inner) (call.shows inner) known kinds c.in-Ok.ensures.seen)
 
+-- ---- the chunk is refused
 -- over a lawful stream the check doesn't refuse
 pub returns-in-Err-clause-answers : goal.returns-in-Err-clause-answers
 returns-in-Err-clause-answers g c = λ fresh.
