@@ -8,6 +8,7 @@ use Rattle.csv_model.specs.Reading.{Record, body_from, row_of, with_row}
 use Rattle.csv_read.specs.BodyRows.{with_rows}
 use Rattle.csv_read.proofs.Widths.{ok-row}
 
+-- ---- the first records, and a fault among them
 -- each record spells a row
 pub rows-count : (mark : List ℕ) (number : ℕ) (columns : List Column) (records : List Record) (rows : List Row)
     → body_from mark number columns records ≡ Ok rows → length rows ≡ length records
@@ -50,6 +51,7 @@ refused mark number (suc batch) columns (fields ∷ records) fault is =
     (rows_before mark (number + 1) columns records) batch fault
     (λ g e. refused mark (number + 1) batch columns records g e) is
 
+-- ---- rows behind those of other records
 pub none-before : (spelled : Result (List Row) RowFault) → with_rows [] spelled ≡ spelled
 none-before (Ok rows) = refl
 none-before (Err fault) = refl

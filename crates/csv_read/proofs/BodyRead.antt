@@ -90,6 +90,7 @@ pub rows-few : (mark : List ℕ) (number batch : ℕ) (columns : List Column) (f
     → RowsSoFar mark number batch columns from made to → made.rows ≤ 2 ^ 30
 rows-few mark number batch columns from to made small so_far = omega (arith, so_far.few, so_far.holds.height, small)
 
+-- ---- one more record
 -- the next record is the first of those that are still to come
 take-next : (others : ℕ) (records rest : List Record) (fields : Record) → records ≡ fields ∷ rest → take (suc others) records ≡ fields ∷ take others rest
 take-next others records rest fields is = ap (take (suc others)) is
@@ -132,6 +133,7 @@ one-read mark number batch columns from before after old new fields n so_far bel
       short = λ j within. omega (arith, so_far.short j within, column-push j rows added.values, added.short j within, field-short fields j, takes.bytes);
     }
 
+-- ---- the last record, and one that is refused
 none-of : {A : Type 0} (n : ℕ) (xs : List A) → xs ≡ [] → (take n xs ≡ []) × (drop n xs ≡ [])
 none-of zero xs is = (refl, is)
 none-of (suc n) xs is = (ap (take (suc n)) is, ap (drop (suc n)) is)

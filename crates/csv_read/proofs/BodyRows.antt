@@ -109,6 +109,7 @@ field-room forms builders fields room j f b within =
       bytes = room.bytes j inside;
     }
 
+-- ---- the values of a record's fields
 -- the fields from a place on are the one there and those behind it
 split : {X : Type 0} (xs : List X) (j : ℕ) (d : X) → j < length xs → drop j xs ≡ get_or xs j d ∷ drop (j + 1) xs
 split [] j d within = absurd (omega arith)
@@ -153,6 +154,7 @@ field-refused mark forms old new columns rows fields number j f b held so_far wi
     (values-at mark number columns fields j no_column column.kind None inside there column.flat (none column.kind column.in_form))
     ∙ ap (λ (n : ℕ). Err (row.Field number n)) place
 
+-- ---- fields that were added
 -- no field is added yet
 pub no-fields : (mark : List ℕ) (forms : List FieldForm) (builders : List Builder) (fields : Record) (number : ℕ)
     → AddsFields mark forms fields number 0 builders builders

@@ -38,6 +38,7 @@ from-each builders columns rows held =
     hold-from 0 builders columns rows held.count
     (λ j b c small. subst (λ n. HoldsKind (get_or builders j b) (get_or columns j c).kind (column_values n rows)) (omega arith) (held.each j b c small))
 
+-- ---- what the builders hold
 kind-some : (builder : Builder) (kind : Kind) (values : List Value) → HoldsKind builder kind values → HoldsSome builder
 kind-some builder (Flat kind) values holds = (kind, values, holds)
 kind-some builder (Dict kind) values holds = absurd holds

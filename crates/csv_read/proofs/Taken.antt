@@ -92,6 +92,7 @@ module _ (wide : Bool) (values : List Value) (text : List ℕ) (small : byte_tot
   sized : (bytes : List ℕ) → hex_bytes text ≡ Some bytes → length bytes ≤ length text
   sized bytes e = omega (arith, hex-long text bytes e)
 
+  -- ---- a value of each form
   form-taken : (kind : DataType) (form : Form) (v : Value) → form_of kind ≡ Some form → IsFlatForm form → IsValueOf kind v
       → read_form form text ≡ Some v → IsTaken form v
   form-taken kind Truths v is flat of e = truth-taken _ _ v e

@@ -65,7 +65,10 @@ fn expect_batches(
 fn batches_have_their_rows(rt: HostRuntime) -> Result<(), Fail> {
     let alloc = rt.alloc();
     for (text, batch, lengths, wanted) in &BATCHES {
-        let named = columns_of(alloc, &mut Records::start(alloc, b"a,b\n"), "a:l")?;
+        let mut header = Records::start(alloc, b"a,b\n")
+            .ok()
+            .ok_or("there is memory")?;
+        let named = columns_of(alloc, &mut header, "a:l")?;
         assert!(rt; text.len() <= 100 && *batch >= 1);
         let Ok(records) = Records::behind_header(alloc, *text) else {
             return Err(Fail::from("the header is left out"));

@@ -108,7 +108,7 @@ static FAULTS: [(&[u8], &str, RowFault); 16] = [
 fn first_record_that_spells_no_row_is_named(rt: HostRuntime) -> Result<(), Fail> {
     let alloc = rt.alloc();
     for (text, asked, wanted) in &FAULTS {
-        let mut records = Records::start(alloc, *text);
+        let mut records = Records::start(alloc, *text).ok().ok_or("there is memory")?;
         let named = columns_of(alloc, &mut records, *asked)?;
         assert!(rt; text.len() <= 100);
         match read_body(alloc, records, named.as_slice(), b"") {
@@ -150,7 +150,7 @@ static BODIES: [(&[u8], &str, usize, i64); 8] = [
 fn each_column_holds_a_value_a_row(rt: HostRuntime) -> Result<(), Fail> {
     let alloc = rt.alloc();
     for (text, asked, columns, rows) in &BODIES {
-        let mut records = Records::start(alloc, *text);
+        let mut records = Records::start(alloc, *text).ok().ok_or("there is memory")?;
         let named = columns_of(alloc, &mut records, *asked)?;
         assert!(rt; text.len() <= 1000);
         match read_body(alloc, records, named.as_slice(), b"") {
@@ -203,7 +203,7 @@ static UTF8: [(&[u8], Option<RowFault>); 10] = [
 fn a_text_beside_others_is_utf8(rt: HostRuntime) -> Result<(), Fail> {
     let alloc = rt.alloc();
     for (text, wanted) in &UTF8 {
-        let mut records = Records::start(alloc, *text);
+        let mut records = Records::start(alloc, *text).ok().ok_or("there is memory")?;
         let named = columns_of(alloc, &mut records, "b:l")?;
         assert!(rt; text.len() <= 100);
         match read_body(alloc, records, named.as_slice(), b"") {

@@ -17,7 +17,8 @@ use unit_pass::NoMemory;
 /// [`read_body`](crate::read_body) or a [`BatchReader`](crate::BatchReader) goes on behind it.
 #[derive(Drop)]
 pub struct Records<'a> {
-    reader: Reader<&'a [u8]>,
+    // In a place of its own: a reader is large, and the records are moved about.
+    reader: Box<Reader<&'a [u8]>>,
     // The record that was read last.
     row: ByteRecord,
     // No record is left.
@@ -31,22 +32,23 @@ impl<'a> Model for Records<'a> {
 
     ghost Value = { RecordsLeft };
 
-    ghost view = { λ s. record { row = fields_of s.row; size = size_ahead s.ended s.reader; records = records_ahead s.ended s.reader } };
+    ghost view = { λ s. record { row = fields_of s.row; size = size_ahead s.ended s.reader.value; records = records_ahead s.ended s.reader.value } };
 
-    ghost invariant = { λ s. s.ended ≡ false → IsReading s.reader };
+    ghost invariant = { λ s. s.ended ≡ false → IsReading s.reader.value };
 }
 
 impl<'a> Records<'a> {
     /// Stands before the header of a text. The text is read by `csv`'s default settings after one byte order mark.
-    pub fn start(alloc: Global, bytes: &'a [u8]) -> Records<'a>
-        ensures records { result.records ≡ records_of bytes.now }
-        ensures size { result.size ≤ length bytes.now }
+    pub fn start(alloc: Global, bytes: &'a [u8]) -> Result<Records<'a>, NoMemory>
+        ensures records { IfOk result (λ records. records.records ≡ records_of bytes.now) }
+        ensures size { IfOk result (λ records. records.size ≤ length bytes.now) }
     {
-        Records {
-            reader: start_reading(alloc, bytes),
+        let reader = Box::new(alloc, start_reading(alloc, bytes))?;
+        Ok(Records {
+            reader,
             row: ByteRecord::new(alloc),
             ended: false,
-        }
+        })
     }
 
     /// Stands behind the header of a text. A text of no records has none behind it.
@@ -54,7 +56,7 @@ impl<'a> Records<'a> {
         ensures records { IfOk result (λ records. records.records ≡ behind_header (records_of bytes.now)) }
         ensures size { IfOk result (λ records. records.size ≤ length bytes.now) }
     {
-        let mut records = Records::start(alloc, bytes);
+        let mut records = Records::start(alloc, bytes)?;
         let _found = records.next()?;
         Ok(records)
     }
@@ -71,7 +73,7 @@ impl<'a> Records<'a> {
         if self.ended {
             return Ok(false);
         }
-        let found = next_record(&mut self.reader, &mut self.row);
+        let found = next_record(&mut *self.reader, &mut self.row);
         self.ended = !matches!(found, Ok(true));
         found
     }

@@ -35,7 +35,11 @@ fn first_fault_of_a_header_is_named(rt: HostRuntime) -> Result<(), Fail> {
             Some(asked) => read_types(alloc, *asked).ok().ok_or("the types are read")?,
             None => Vec::new(alloc),
         };
-        match read_header(alloc, &mut Records::start(alloc, *text), entries.as_slice()) {
+        match read_header(
+            alloc,
+            &mut Records::start(alloc, *text).ok().ok_or("there is memory")?,
+            entries.as_slice(),
+        ) {
             Ok(_) => assert!(rt; false),
             Err(fault) => assert_eq!(rt; fault, *wanted),
         }
@@ -74,8 +78,9 @@ static COLUMNS: [(&[u8], &str, usize, &[u8], &str); 5] = [
 fn columns_have_the_types_that_are_asked_for(rt: HostRuntime) -> Result<(), Fail> {
     let alloc = rt.alloc();
     for (text, asked, count, name, kind) in &COLUMNS {
+        let mut records = Records::start(alloc, *text).ok().ok_or("there is memory")?;
         let entries = read_types(alloc, *asked).ok().ok_or("the types are read")?;
-        let columns = read_header(alloc, &mut Records::start(alloc, *text), entries.as_slice())
+        let columns = read_header(alloc, &mut records, entries.as_slice())
             .ok()
             .ok_or("the header is read")?;
         assert_eq!(rt; columns.len(), *count);
@@ -110,12 +115,24 @@ fn long_header(rt: &HostRuntime, count: usize) -> Result<String, Fail> {
 fn a_header_has_at_most_1024_columns(rt: HostRuntime) -> Result<(), Fail> {
     let alloc = rt.alloc();
     let most = long_header(&rt, 1024)?;
-    let columns = read_header(alloc, &mut Records::start(alloc, most.as_bytes()), &[])
-        .ok()
-        .ok_or("the header is read")?;
+    let columns = read_header(
+        alloc,
+        &mut Records::start(alloc, most.as_bytes())
+            .ok()
+            .ok_or("there is memory")?,
+        &[],
+    )
+    .ok()
+    .ok_or("the header is read")?;
     assert_eq!(rt; columns.len(), 1024);
     let more = long_header(&rt, 1025)?;
-    match read_header(alloc, &mut Records::start(alloc, more.as_bytes()), &[]) {
+    match read_header(
+        alloc,
+        &mut Records::start(alloc, more.as_bytes())
+            .ok()
+            .ok_or("there is memory")?,
+        &[],
+    ) {
         Ok(_) => assert!(rt; false),
         Err(fault) => assert_eq!(rt; fault, HeaderFault::TooManyColumns { count: 1025 }),
     }

@@ -68,6 +68,7 @@ any-front : (first rest : List ℕ) → 1 ≤ length first → one_if_any (first
 any-front [] rest some = absurd (omega (arith, some))
 any-front (byte ∷ first) rest some = refl
 
+-- ---- the bytes of items, form by form
 -- null, or a value of the form
 abbrev IsOrNull : Option Form → Value → Type 0
 IsOrNull form Null = Unit {0}
@@ -127,6 +128,7 @@ float-some bits width wide (Bytes bytes) is = absurd is
 float-some bits width wide (Items items) is = absurd is
 float-some bits width wide (Fields fields) is = absurd is
 
+-- ---- items of one size
 sized-length : (size : ℕ) (value : Value) → IsOrNull (Some (SizedHex size)) value → length (stored_item size value) ≡ size
 sized-length size Null is = length-replicate {A = ℕ} size 0
 sized-length size (Bytes bytes) is = is.0

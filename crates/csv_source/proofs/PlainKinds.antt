@@ -17,6 +17,7 @@ use Rattle.arr_export.specs.SchemaSize.{AreFlat}
 use Rattle.layout_check.specs.ColumnSchema.{KindsOk}
 use Rattle.stream_face.specs.Lawful.{DictsHaveBytes, column_leaves, leaves}
 
+-- ---- the forms of flat kinds
 some-form : (form : Option Form) → is_some form ≡ true → HasForm form
 some-form None is = absurd (false≢true is)
 some-form (Some form) is = tt
@@ -56,6 +57,7 @@ flat-kind kinds.Map ok has = absurd has
 flat-kind kinds.BinaryView ok has = absurd has
 flat-kind kinds.Utf8View ok has = absurd has
 
+-- ---- plain columns
 -- plain values of a flat column kind
 pub record IsPlain (column : Column) : Type 0 where
   pub kind : DataType

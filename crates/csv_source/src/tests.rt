@@ -35,7 +35,7 @@ fn source_of<'a>(
     let Ok(entries) = read_types(alloc, asked) else {
         return Err(Fail::from("the types are read"));
     };
-    let mut records = Records::start(alloc, text);
+    let mut records = Records::start(alloc, text).ok().ok_or("there is memory")?;
     let Ok(columns) = read_header(alloc, &mut records, entries.as_slice()) else {
         return Err(Fail::from("the header is read"));
     };

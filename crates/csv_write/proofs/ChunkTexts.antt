@@ -160,6 +160,7 @@ other-bits mark size (Bytes bytes) other = refl
 other-bits mark size (Items items) other = refl
 other-bits mark size (Fields fields) other = refl
 
+-- ---- an item where the form is of bytes
 -- forms of bytes
 abbrev IsOfBytes : Form → Type 0
 IsOfBytes Text = Unit {0}
@@ -196,6 +197,7 @@ other-bytes mark form v of other = other-text mark form v (bytes-none form v of 
 
 pub ruleset other_texts = (other-truth, other-whole, other-decimal, other-bits, other-bytes)
 
+-- ---- the fields of a row
 kind-proper : (form : FieldForm) (kind : Kind) → IsFormOf form kind → IsProper form
 kind-proper form (Flat kind) h = h.1
 kind-proper form (Dict kind) h = h.1

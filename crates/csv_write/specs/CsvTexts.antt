@@ -25,6 +25,6 @@ AreFormsOf forms columns = AllZip (λ form column. IsFormOf form column.kind) fo
 
 -- the text is one of these columns under a mark for null, and so much of it is written
 pub record HasText (text : CsvText) (mark : List ℕ) (columns : List Column) (written : List ℕ) : Type 0 where
-  pub lines : HasLines text.writer written
+  pub lines : HasLines text.writer.value written
   pub forms : AreFormsOf text.forms.items columns
   pub marked : text.mark ≡ mark

@@ -27,7 +27,8 @@ use unit_pass::{Name, NoMemory};
 /// by `HasText` which columns it is of and what it has written. After a `NoMemory` it is good for nothing but to be dropped.
 #[derive(Drop)]
 pub struct CsvText {
-    writer: Writer<Vec<u8>>,
+    // In a place of its own: a writer of records is large, and a text in the making is moved about.
+    writer: Box<Writer<Vec<u8>>>,
     forms: Vec<FieldForm>,
     // Where the text of a field is put together.
     room: Vec<u8>,
@@ -46,6 +47,7 @@ impl CsvText {
         let forms = column_forms(alloc, columns)?;
         let mut writer = new_writer(alloc);
         write_names(&mut writer, columns)?;
+        let writer = Box::new(alloc, writer)?;
         Ok(CsvText {
             writer,
             forms,
@@ -66,7 +68,7 @@ impl CsvText {
         let columns = chunk_columns(alloc, &self.forms, &chunk)?;
         let rows = count_rows(&chunk);
         write_rows(
-            &mut self.writer,
+            &mut *self.writer,
             &columns,
             rows,
             self.mark.as_slice(),
@@ -85,6 +87,6 @@ impl CsvText {
             room: _,
             mark: _,
         } = self;
-        finish_lines(writer)
+        finish_lines(Box::into_inner(writer))
     }
 }

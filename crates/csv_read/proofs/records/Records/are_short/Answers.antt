@@ -10,7 +10,7 @@ returns-clause-count c =
     let turn : InTurn =
     record { next = law.next; end = law.end; between = law.between; shorter = law.shorter; bytes = law.bytes; count = law.count } in
     let inside = c.self.inside in
-    subst (λ (s : RecordsLeft). length s.records ≤ s.size) c.self.view_is (ahead-short turn inside.ended inside.reader c.self.invariant).count
+    subst (λ (s : RecordsLeft). length s.records ≤ s.size) c.self.view_is (ahead-short turn inside.ended inside.reader.value c.self.invariant).count
 
 pub returns-clause-bytes : goal.returns-clause-bytes
 returns-clause-bytes c =
@@ -18,4 +18,4 @@ returns-clause-bytes c =
     let turn : InTurn =
     record { next = law.next; end = law.end; between = law.between; shorter = law.shorter; bytes = law.bytes; count = law.count } in
     let inside = c.self.inside in
-    subst (λ (s : RecordsLeft). field_bytes s.records ≤ s.size) c.self.view_is (ahead-short turn inside.ended inside.reader c.self.invariant).bytes
+    subst (λ (s : RecordsLeft). field_bytes s.records ≤ s.size) c.self.view_is (ahead-short turn inside.ended inside.reader.value c.self.invariant).bytes

@@ -1,11 +1,11 @@
-use Rattle.std.proofs.Common.{◌++◌, ◌∙◌, map, length, ap, sym, subst, arith}
+use Rattle.std.proofs.Common.{rules, ◌≡◌, ◌++◌, ◌∙◌, map, length, ap, sym, subst, arith}
 use Rattle.std.specs.List.{concat}
 use Rattle.csv.specs.Writing.{default_writer, row_text}
 use Rattle.tree_model.specs.Tree.{children_of}
 use Rattle.arr_import.specs.Cols.{window_of}
 use Rattle.csv_write.specs.ChunkTexts.{HasRow, rows_at}
 use Rattle.csv_write.specs.CsvTexts.{AreFormsOf, IsFormOf}
-use Rattle.csv_write.specs.Lines.{HasLines}
+use Rattle.csv_write.specs.Lines.{HasLines, MemoryWriter}
 use Rattle.csv_write.proofs.ChunkTexts.{kids-long, lines-are, rows-there, zip-long}
 use Rattle.csv_write.proofs.csv_text.CsvText.add.Goals as goal
 
@@ -36,8 +36,10 @@ returns c mark columns written h is =
     ∙ ap (λ cs. concat (map (row_text default_writer) (rows_at mark cs c.count_rows-rows.result))) c.deref-2.ensures.value
     ∙ ap (λ n. concat (map (row_text default_writer) (rows_at mark ts n))) c.count_rows-rows.ensures.count
     ∙ lines-are mark ts c.deref.result.now columns w c.in_ok-columns.ensures forms in
+    let old : c.deref_mut.result.now ≡ c.args.self.now.writer.value = search rules in
+    let lines = subst (λ (w : MemoryWriter). HasLines w written) (sym old) h.lines in
     record {
-      lines = subst (λ text. HasLines c.write_rows.new.writer (written ++ text)) same (c.in_ok-write_rows.ensures written h.lines);
+      lines = subst (λ text. HasLines c.write_rows.new.writer (written ++ text)) same (c.in_ok-write_rows.ensures written lines);
       forms = h.forms;
       marked = h.marked;
     }
