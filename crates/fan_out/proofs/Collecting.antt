@@ -1,0 +1,68 @@
+-- The answers that workers left, collected.
+use Rattle.std.proofs.Common.{◌≡◌, ◌≢◌, ◌∙◌, ap, arith, subst, sym, ℕ, ℤ, ◌+◌, ◌<◌, Ok, Option, Some}
+use Rattle.std.proofs.Common.{All, List, [], ◌∷◌, ◌++◌, length, get_or, set, length-set, length-append, get_or-set_same}
+use Rattle.std.proofs.lemmas.List.{get_or-set_other, get_or_append_left, get_or_default}
+use Rattle.std.proofs.Math.Seq.{get_or-append_seam}
+use Rattle.std.specs.Prelude.{IfSome, IfOk, Result}
+use mathlib.Core.Logic.{dite}
+use native.Mathlib.Decide.{ℕ_discrete}
+use Rattle.unit_pass.specs.declared.NoMemory.{NoMemory}
+use Rattle.fmt_string.specs.Table.{Row}
+use Rattle.layout_check.specs.Kinds.{KindTree}
+use Rattle.layout_check.specs.Values.{rows_of}
+use Rattle.fan_out.specs.declared.piece.Piece.{Piece}
+use Rattle.fan_out.specs.Pieces.{GivesPiece, GivesPieces}
+use Rattle.fan_out.specs.Workers.{IsReady, IsDone, SameTrees, Collected}
+use Rattle.fan_out.proofs.Ready.{an_item}
+
+module _ {O : Type 0} where
+  -- an answer is taken out of piece i
+  pub same_set : (ps qs : List (Piece O)) (i : ℕ) (x y : Piece O)
+      → SameTrees ps qs → i < length qs → y.tree ≡ (get_or qs i x).tree → y.pass ≡ (get_or qs i x).pass → SameTrees ps (set qs i y)
+  same_set ps qs i x y s inside tree pass = (length-set qs i y ∙ s.0, each)
+    where
+      here : (d : Piece O) → get_or qs i x ≡ get_or qs i d
+      here d = get_or_default qs i x d inside
+
+      each : (w : ℕ) (d : Piece O) → w < length ps
+          → ((get_or (set qs i y) w d).tree ≡ (get_or ps w d).tree) × ((get_or (set qs i y) w d).pass ≡ (get_or ps w d).pass)
+      each w d h = dite (ℕ_discrete w i)
+          (λ (e : w ≡ i). let new : get_or (set qs i y) w d ≡ y = ap (λ (k : ℕ). get_or (set qs i y) k d) e ∙ get_or-set_same qs i y d inside in
+          let old : get_or qs i x ≡ get_or qs w d = here d ∙ ap (λ (k : ℕ). get_or qs k d) (sym e) in (
+            ap (λ (p : Piece O). p.tree) new ∙ tree ∙ ap (λ (p : Piece O). p.tree) old ∙ (s.1 w d h).0,
+            ap (λ (p : Piece O). p.pass) new ∙ pass ∙ ap (λ (p : Piece O). p.pass) old ∙ (s.1 w d h).1,
+          ))
+          (λ (ne : w ≢ i). let new : get_or (set qs i y) w d ≡ get_or qs w d = get_or-set_other qs i w y d ne in
+          (ap (λ (p : Piece O). p.tree) new ∙ (s.1 w d h).0, ap (λ (p : Piece O). p.pass) new ∙ (s.1 w d h).1))
+
+  -- the answer of piece n is added
+  pub collected_more : (n : ℕ) (ps : List (Piece O)) (outs more : List O) (out : O)
+      → Collected n ps outs → more ≡ outs ++ out ∷ [] → ((d : Piece O) → (get_or ps n d).answer ≡ Some (Ok out)) → Collected (n + 1) ps more
+  collected_more n ps outs more out c is new = subst (Collected (n + 1) ps) (sym is) (length-append outs (out ∷ []) ∙ ap (λ (k : ℕ). k + 1) c.0, each)
+    where
+      each : (w : ℕ) (d : Piece O) (e : O) → w < n + 1 → (get_or ps w d).answer ≡ Some (Ok (get_or (outs ++ out ∷ []) w e))
+      each w d e h = dite (ℕ_discrete w n)
+          (λ (same : w ≡ n). let at = ap (λ (k : ℕ). get_or (outs ++ out ∷ []) k e) (same ∙ sym c.0) in
+          let here = at ∙ get_or-append_seam outs out [] e in
+          ap (λ (k : ℕ). (get_or ps k d).answer) same ∙ new d ∙ ap (λ (o : O). Some (Ok o)) (sym here))
+          (λ (ne : w ≢ n). let less : w < n = omega arith in let inside : w < length outs = let l = c.0 in omega arith in
+          c.1 w d e less ∙ ap (λ (o : O). Some (Ok o)) (sym (get_or_append_left outs (out ∷ []) e w inside)))
+
+  answered : (P : O → Type 0) (a : Option (Result O NoMemory)) (out : O) → IfSome a (λ r. IfOk r P) → a ≡ Some (Ok out) → P out
+  answered P a out p e = subst (λ (x : Option (Result O NoMemory)). IfSome x (λ (r : Result O NoMemory). IfOk r P)) e p
+
+  module _ (gives : List Row → ℤ → ℤ → O → Type 0) (typed : KindTree) (ps qs : List (Piece O))
+      (done : (w : ℕ) (d : Piece O) → w < length ps → IsDone gives typed (length ps) w (get_or ps w d) (get_or qs w d)) where
+    -- where all have answered, the answers are those on the pieces of the rows
+    pub gathered : (rows : List Row) (cost : ℕ) → All (λ p. IsReady typed rows cost p) ps
+        → (n : ℕ) → n ≡ length ps → (outs : List O) → Collected n qs outs → GivesPieces (gives rows) (length rows) (length ps) outs
+    gathered rows cost ready n is outs c = (c.0 ∙ is, each)
+      where
+        each : (w : ℕ) (e : O) → w < length ps → GivesPiece (gives rows) (length rows) (length ps) w (get_or outs w e)
+        each w e h =
+            let d : Piece O = an_item ps (omega arith) in
+            let r = done w d h in
+            let rs : List Row = rows_of typed (get_or ps w d).tree in
+            let P : O → Type 0 = GivesPiece (gives rs) (length rs) (length ps) w in
+            let told = answered P (get_or qs w d).answer (get_or outs w e) r.answer (c.1 w d e (omega (arith, is))) in
+            subst (λ (rs : List Row). GivesPiece (gives rs) (length rs) (length ps) w (get_or outs w e)) (ready w d h).chunk.rows told

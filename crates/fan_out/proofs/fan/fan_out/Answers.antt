@@ -1,0 +1,41 @@
+use Rattle.std.proofs.Common.{rules, arith, ◌≡◌, ℕ, ◌+◌, ◌-◌, ◌≤◌, ◌*◌, ap, sym, ◌∙◌}
+use Rattle.std.proofs.Math.Nat.{mul-le-mul_right}
+use Rattle.raw_array.specs.Members.{Cost, LeastAmount, LoweredBy}
+use Rattle.fan_out.proofs.Lists.{always_on_ok}
+use Rattle.fan_out.proofs.fan.fan_out.Goals as goal
+use Rattle.fan_out.proofs.fan.fan_out.Goals.{then-workers-eq1-via-then-workers-eq1, then-workers-eq1-via-else-workers-eq1+then-least_amount-from}
+
+pub returns-then-workers-eq1-clause-like : goal.returns-then-workers-eq1-clause-like
+returns-then-workers-eq1-clause-like g c = c.like_trees_are_ordered.ensures.reflexive c.args.chunk.now
+
+pub returns-then-workers-eq1-clause-lowered : goal.returns-then-workers-eq1-clause-lowered
+returns-then-workers-eq1-clause-lowered g c =
+    always_on_ok c.in_turn.result _
+    (λ enough. elim c.then-workers-eq1.branch [
+      | then-workers-eq1-via-then-workers-eq1 w ↦
+          let one : c.args.workers ≡ 1 = search (rules, w) in
+          let none : c.args.workers - 1 ≡ 0 = omega (arith, one) in
+          sym (ap (λ (n : ℕ). LoweredBy n c.args.chunk.now) none ∙ c.shares_add_up.ensures.none c.args.chunk.now)
+      | then-workers-eq1-via-else-workers-eq1+then-least_amount-from w ↦
+          let less : LeastAmount c.args.chunk.now + 1 ≤ c.args.workers = search (rules, w) in
+          absurd (omega (arith, less, enough))
+    ])
+
+pub in_threads-requires-clause-cost : goal.in_threads-requires-clause-cost
+in_threads-requires-clause-cost g c κs within =
+    let once : 1 * Cost c.args.chunk.now ≤ c.args.workers * Cost c.args.chunk.now = mul-le-mul_right (Cost c.args.chunk.now) c.requires.workers.0 in
+    let units = c.requires.units in
+    let most = c.units-supply.ensures.bounded in
+    let is = c.cost-cost.ensures in
+    omega (arith, once, units, most, is)
+
+pub returns-clause-lawful : goal.returns-clause-lawful
+returns-clause-lawful g c =
+    c.trees_that_show_the_same.ensures.chunk _ _ _ (c.shares_show_the_same.ensures.like _ _ c.in_threads.ensures.like) c.requires.chunk
+
+pub returns-clause-rows : goal.returns-clause-rows
+returns-clause-rows g c =
+    sym (c.trees_that_show_the_same.ensures.rows _ _ _ (c.shares_show_the_same.ensures.like _ _ c.in_threads.ensures.like))
+
+pub returns-clause-cost : goal.returns-clause-cost
+returns-clause-cost g c = c.like_trees_are_ordered.ensures.cost _ _ c.in_threads.ensures.like

@@ -1,0 +1,47 @@
+use Rattle.std.proofs.Common.{rules, arith, ◌≡◌, ℕ, ◌-◌, ◌≤◌, ◌*◌, length, get_or, ap, sym, ◌∙◌, subst}
+use Rattle.std.proofs.Math.Nat.{mul-le-mul_right}
+use Rattle.std.specs.Prelude.{IfOk}
+use Rattle.unit_pass.specs.declared.pass.TheConstants.{SUPPLY}
+use Rattle.layout_check.specs.TypedView.{typed_of}
+use Rattle.layout_check.specs.Values.{rows_of}
+use Rattle.raw_array.specs.Members.{Like, LoweredBy}
+use Rattle.fan_out.specs.Pieces.{GivesPieces}
+use Rattle.fan_out.proofs.Lists.{always_on_ok}
+use Rattle.fan_out.proofs.Ready.{an_item, can_run, unspent}
+use Rattle.fan_out.proofs.fan.in_threads.Goals as goal
+use Rattle.fan_out.proofs.fan.in_threads.Goals.{After-put}
+
+pub run_pieces-tree-requires-clause-pieces : goal.run_pieces-tree-requires-clause-pieces
+run_pieces-tree-requires-clause-pieces g c κs within =
+    let typed = typed_of c.args.typed.now in
+    let once : 1 * c.args.cost ≤ c.args.workers * c.args.cost = mul-le-mul_right c.args.cost c.requires.workers.0 in
+    let units = c.requires.units in
+    let most = c.units-supply.ensures.bounded in
+    let small : c.args.cost ≤ SUPPLY = omega (arith, once, units, most) in
+    can_run typed (rows_of typed c.args.chunk.now) c.args.cost (g.J.Job.fits c.args.job.now typed) _ c.requires.fits small c.in-Ok.ensures.ready
+
+pub run_pieces-tree-requires-clause-unspent : goal.run_pieces-tree-requires-clause-unspent
+run_pieces-tree-requires-clause-unspent g c κs within =
+    let typed = typed_of c.args.typed.now in
+    unspent typed (rows_of typed c.args.chunk.now) c.args.cost _ c.in-Ok.ensures.ready
+
+-- the chunk is back, and its amounts are one lower for each share
+back : (g : _) (c : After-put g) → c.put.new.self ≡ LoweredBy (c.args.workers - 1) c.args.chunk.now
+back g c =
+    let d = an_item c.in-Ok.pieces.items (let l = c.in-Ok.ensures.len in search rules) in
+    c.put.ensures ∙ c.run_pieces-tree.ensures.tree d
+    ∙ ap (λ (n : ℕ). (get_or c.in-Ok.pieces.items (n - 1) d).tree) c.in-Ok.ensures.len ∙ c.in-Ok.ensures.last d
+
+pub returns-clause-answers : goal.returns-clause-answers
+returns-clause-answers g c =
+    let typed = typed_of c.args.typed.now in
+    let rows = rows_of typed c.args.chunk.now in
+    subst (λ (n : ℕ). IfOk c.run_pieces-tree.result.1 (λ v. GivesPieces (g.J.Job.gives c.args.job.now typed rows) (length rows) n v.items))
+    c.in-Ok.ensures.len (c.run_pieces-tree.ensures.answers rows c.in-Ok.ensures.ready)
+
+pub returns-clause-like : goal.returns-clause-like
+returns-clause-like g c =
+    subst (Like c.args.chunk.now) (sym (back g c)) (c.like_trees_are_ordered.ensures.lowered_by (c.args.workers - 1) c.args.chunk.now)
+
+pub returns-clause-lowered : goal.returns-clause-lowered
+returns-clause-lowered g c = always_on_ok c.run_pieces-tree.result.1 _ (back g c)

@@ -1,0 +1,26 @@
+-- The answers of a job on the pieces of a chunk.
+use Rattle.std.specs.Prelude.{◌<◌, slice_index_or, ◌≡◌, ℕ, ℤ, pos, ◌+◌, List, length}
+use Rattle.fmt_string.specs.Table.{Row}
+use Rattle.raw_array.specs.Members.{ArrayTree, Cost}
+use Rattle.layout_check.specs.Kinds.{KindTree}
+use Rattle.layout_check.specs.Values.{rows_of}
+use Rattle.layout_check.specs.Walk.{ChunkOk}
+use Rattle.array_laws.specs.Pieces.{border}
+
+-- an answer that a job may give (from, to, answer) on piece w of so many rows, cut for so many workers
+abbrev pub GivesPiece : {O : Type 0} → (ℤ → ℤ → O → Type 0) → ℕ → ℕ → ℕ → O → Type 0
+GivesPiece gives rows workers w out = gives (pos (border rows workers w)) (pos (border rows workers (w + 1))) out
+
+-- the answers of a job on the first n of the pieces, in order
+abbrev pub GivesFirst : {O : Type 0} → (ℤ → ℤ → O → Type 0) → ℕ → ℕ → ℕ → List O → Type 0
+GivesFirst {O} gives rows workers n outs = (length outs ≡ n) × ((w : ℕ) (e : O) → w < n → GivesPiece gives rows workers w (slice_index_or outs w e))
+
+-- the answers of a job on the pieces, one for each worker, in order
+abbrev pub GivesPieces : {O : Type 0} → (ℤ → ℤ → O → Type 0) → ℕ → ℕ → List O → Type 0
+GivesPieces gives rows workers outs = GivesFirst gives rows workers workers outs
+
+-- a chunk of these rows, whose release gives back so many units
+pub record IsChunk (typed : KindTree) (table : List Row) (units : ℕ) (t : ArrayTree) : Type 0 where
+  pub lawful : ChunkOk typed t
+  pub rows : rows_of typed t ≡ table
+  pub cost : Cost t ≡ units

@@ -1,0 +1,28 @@
+//! A job done on the pieces of a chunk, in threads.
+//!
+//! [`fan_out`] cuts the rows of a chunk into as many pieces as there are workers, and answers what a [`Job`] gives on each
+//! piece, in order. Each worker but the last reads a share of the chunk (a second tree over the same blocks), which it then
+//! releases, in a thread of its own where one can be had; the last piece is done in the caller's thread on the chunk
+//! itself. What a job gives is said by the chunk's types and rows and by the window alone, so neither the number of workers
+//! nor the threads change it. [`pieces_are_in_order`] says that the pieces are the whole, for a caller that joins answers.
+//!
+//! The units of a worker come from the caller's pass and are all back at the end. Left to others: which jobs there are, and
+//! what the answers are joined to.
+#![tactic(auto)]
+
+mod fan;
+mod job;
+mod laws;
+mod piece;
+mod pieces;
+mod run;
+mod share;
+
+pub use fan::fan_out;
+pub use job::Job;
+pub use laws::pieces_are_in_order;
+
+#[cfg(test)]
+mod hold_tests;
+#[cfg(test)]
+mod tests;
