@@ -1,0 +1,9 @@
+pub mod TreeText
+pub mod Standing
+pub mod Answers
+pub mod FaultTexts
+pub mod Report
+pub mod Worked
+pub mod LineView
+pub mod Below
+pub mod Cursors
