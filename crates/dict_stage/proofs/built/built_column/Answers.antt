@@ -1,0 +1,46 @@
+use Rattle.std.proofs.Common.{ap, arith}
+use Rattle.tree_model.specs.Tree.{maybe_tree}
+use Rattle.raw_array.specs.Members.{cost_of_maybe, holds_of}
+use Rattle.raw_array.specs.View.{buffers_of}
+use Rattle.raw_array.proofs.Buffers.{holds_of-count}
+use Rattle.stage_filter.proofs.ColumnCosts.{few-blocks, finished-holds}
+use Rattle.dict_stage.proofs.built.built_column.Goals as goal
+
+pub export_column-requires-clause-units : goal.export_column-requires-clause-units
+export_column-requires-clause-units c =
+    let held = c.requires.holds in
+    omega (arith, c.in-Ok.ensures.units held.0 held.1 held.2, few-blocks held.0 held.1, c.requires.units)
+
+pub give_up-requires : goal.give_up-requires
+give_up-requires c =
+    let held = c.requires.holds in
+    let made = c.in-Ok.ensures.encoded held.0 held.1 held.2 in
+    let same = ap (λ views. holds_of (buffers_of views)) c.in-Err-export_column.ensures.buffers_back in
+    let kept = ap (λ d. cost_of_maybe (maybe_tree d)) c.in-Err-export_column.ensures.dictionary_back in
+    omega (
+      arith,
+      same,
+      kept,
+      finished-holds _ _ made.buffers,
+      c.in-Ok.ensures.units held.0 held.1 held.2,
+      c.in-Err-export_column.ensures.units,
+      c.requires.room,
+      holds_of-count c.in-Err-export_column.built.buffers.items,
+    )
+
+pub returns-in-Err-export_column-clause-units_back : goal.returns-in-Err-export_column-clause-units_back
+returns-in-Err-export_column-clause-units_back c =
+    let held = c.requires.holds in
+    let made = c.in-Ok.ensures.encoded held.0 held.1 held.2 in
+    let same = ap (λ views. holds_of (buffers_of views)) c.in-Err-export_column.ensures.buffers_back in
+    let kept = ap (λ d. cost_of_maybe (maybe_tree d)) c.in-Err-export_column.ensures.dictionary_back in
+    omega (
+      arith,
+      same,
+      kept,
+      finished-holds _ _ made.buffers,
+      c.in-Ok.ensures.units held.0 held.1 held.2,
+      c.in-Err-export_column.ensures.units,
+      c.give_up.ensures.units,
+      holds_of-count c.in-Err-export_column.built.buffers.items,
+    )

@@ -1,0 +1,42 @@
+use Rattle.std.proofs.Common.{◌∙◌, ap, sym, subst, length, arith, List, IfOk}
+use Rattle.fmt_string.specs.ColumnView.{kind_of}
+use Rattle.fmt_string.specs.Parts.{column_values}
+use Rattle.fmt_string.specs.Value.{Value}
+use Rattle.tree_model.specs.Tree.{children_of}
+use Rattle.layout_check.specs.Kinds.{KindTree}
+use Rattle.layout_check.specs.TypedView.{typed_of}
+use Rattle.layout_check.specs.Values.{rows_of}
+use Rattle.layout_check.specs.Walk.{LayoutOk}
+use Rattle.arr_import.specs.Cols.{window_of}
+use Rattle.arr_import.specs.Window.{IsStruct}
+use Rattle.dict_stage.specs.Recoded.{IsRecoded}
+use Rattle.dict_stage.proofs.Chunks.{can-recode, kids-long, own-values}
+use Rattle.dict_stage.proofs.chunk.new_column.Goals as goal
+
+pub of-rows-requires-clause-lawful : goal.of-rows-requires-clause-lawful
+of-rows-requires-clause-lawful c =
+    let can = c.requires.chunk in subst (λ (t : KindTree). LayoutOk t c.args.chunk.now) (sym can.typed_is) can.ok.0
+
+pub child-requires-clause-kind : goal.child-requires-clause-kind
+child-requires-clause-kind c =
+    let can = c.requires.chunk in
+    subst IsStruct (sym (ap (λ w. w.typed) c.of-rows.ensures.window ∙ can.typed_is)) tt
+
+pub child-requires-clause-inside : goal.child-requires-clause-inside
+child-requires-clause-inside c =
+    let can = c.requires.chunk in
+    let types = ap (λ t. length (children_of t)) (ap (λ w. w.typed) c.of-rows.ensures.window ∙ can.typed_is) in
+    omega (arith, types, kids-long can.columns, can.inside)
+
+pub recoded_column-requires-clause-items : goal.recoded_column-requires-clause-items
+recoded_column-requires-clause-items c =
+    let can = c.requires.chunk in
+    can-recode (kind_of c.args.kind.now) (window_of c.child.result) (column_values c.args.place (rows_of (typed_of c.args.typed.now) c.args.chunk.now))
+    (own-values (typed_of c.args.typed.now) c.args.chunk.now c.args.place (window_of c.of-rows.result) (window_of c.child.result) c.of-rows.ensures.window
+    c.child.ensures.window c.child.ensures.fields) can.texts
+
+pub returns-clause-made : goal.returns-clause-made
+returns-clause-made c =
+    subst (λ (vs : List Value). IfOk c.recoded_column.result (λ column. IsRecoded (kind_of c.args.kind.now) vs column c.args.pass.now c.recoded_column.new.pass))
+    (own-values (typed_of c.args.typed.now) c.args.chunk.now c.args.place (window_of c.of-rows.result) (window_of c.child.result) c.of-rows.ensures.window
+    c.child.ensures.window c.child.ensures.fields) c.recoded_column.ensures.made

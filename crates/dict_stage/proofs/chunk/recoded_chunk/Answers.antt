@@ -1,0 +1,9 @@
+use Rattle.fmt_string.specs.ColumnView.{kind_of}
+use Rattle.layout_check.specs.TypedView.{typed_of}
+use Rattle.dict_stage.proofs.Chunks.{column-fits}
+use Rattle.dict_stage.proofs.chunk.recoded_chunk.Goals as goal
+
+pub replaced-requires-clause-column : goal.replaced-requires-clause-column
+replaced-requires-clause-column c =
+    column-fits (kind_of c.args.kind.now) (typed_of c.args.typed.now) c.args.chunk c.in-Ok.column c.args.place c.requires.chunk.texts
+    c.in-Ok.ensures.made.tree_is

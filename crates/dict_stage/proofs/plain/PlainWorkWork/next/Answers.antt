@@ -1,0 +1,114 @@
+use Rattle.std.proofs.Common.{rules, ◌≡◌, ◌∙◌, ◌+◌, map, length, false, List, pos, IsTrue, sym, ap, subst, arith}
+use Rattle.std.proofs.lemmas.List.{length-map}
+use Rattle.fmt_string.specs.ColumnView.{column_of, kind_of}
+use Rattle.fmt_string.specs.Parts.{column_values}
+use Rattle.fmt_string.specs.Table.{Kind}
+use Rattle.fmt_string.specs.declared.kind.ColumnType.{ColumnType}
+use Rattle.tree_model.specs.Tree.{IsLive}
+use Rattle.raw_array.specs.Members.{ArrayTree}
+use Rattle.unit_pass.specs.Tally.{risen}
+use Rattle.layout_check.specs.ColumnKinds.{type_of_columns}
+use Rattle.layout_check.specs.TypedView.{typed_of}
+use Rattle.layout_check.specs.Values.{rows_of}
+use Rattle.column_laws.specs.Picking.{Replaced}
+use Rattle.stage_model.specs.Traffic.{Made, kind_blocks, kind_nodes}
+use Rattle.stage_model.specs.Typing.{column_at}
+use Rattle.stream_face.specs.Lawful.{LawfulColumns}
+use Rattle.stream_face.specs.Meaning.{meaning}
+use Rattle.stream_face.proofs.Joints.{live_unless}
+use Rattle.stage_filter.proofs.Filtered.{fresh}
+use Rattle.dict_stage.specs.Indices.{recoded_tree}
+use Rattle.dict_stage.specs.Recoded.{CanRecodeChunk}
+use Rattle.dict_stage.proofs.Streams.{can, columns-after, kind-is, made-chunk, many, ready, recode-answers, recode-counts, told-plain}
+use Rattle.dict_stage.proofs.plain.PlainWorkWork.next.Goals as goal
+
+pub kind_at-kind-requires : goal.kind_at-kind-requires
+kind_at-kind-requires g c =
+    let up = meaning g.U.ArrayStream.state c.args.up.now in
+    let w = c.args.self.now in
+    let told = told-plain w.column w.out up.columns c.requires.fits (c.lawful_facts.ensures.columns c.requires.lawful) in
+    let long = many false w.column w.out up.columns told in
+    let here = ap (length {A = ColumnType}) c.as_slice.ensures in
+    omega (arith, long, here, length-map w.out column_of, told.recodes.within)
+
+pub recoded_chunk-requires-clause-chunk : goal.recoded_chunk-requires-clause-chunk
+recoded_chunk-requires-clause-chunk g c =
+    let up = meaning g.U.ArrayStream.state c.args.up.now in
+    let n = meaning g.U.ArrayStream.state c.next-code.new.self in
+    let call = c.next-code.ensures in
+    let w = c.args.self.now in
+    let out = c.next-code.new.out in
+    let live : IsLive out = search (rules, live_unless) in
+    let none : c.next-code.result ≡ pos 0 = search rules in
+    let lawful = c.typed.ensures.lawful (subst IsTrue (sym call.keeps.lawful) c.requires.lawful) in
+    let types : typed_of c.typed.result.now ≡ type_of_columns up.columns = c.typed.ensures.kinds ∙ lawful ∙ ap type_of_columns call.keeps.columns in
+    let told = told-plain w.column w.out up.columns c.requires.fits (c.lawful_facts.ensures.columns c.requires.lawful) in
+    let answers = call.answers (fresh up n c.next-code.result _ _ _ _ c.requires.lawful call.repeats call.tells none) in
+    let is = ready false w.column w.out up n c.next-code.result out live answers told (c.lawful_facts.ensures.columns c.requires.lawful)
+    (c.lawful_facts.ensures.tables c.requires.lawful) in
+    let kind : kind_of c.kind_at-kind.result.now ≡ (column_at (map column_of w.out) w.column).kind =
+    c.kind_at-kind.ensures ∙ ap (λ (cs : List ColumnType). (column_at (map column_of cs) w.column).kind) c.as_slice.ensures in
+    subst (CanRecodeChunk (kind_of c.kind_at-kind.result.now) w.column (typed_of c.typed.result.now)) (sym c.move_out.ensures.moved)
+    (can false w.column w.out up (answers.chunk live).0 out (kind_of c.kind_at-kind.result.now) (typed_of c.typed.result.now) is kind types)
+
+pub returns-in-Ok-clause-answers : goal.returns-in-Ok-clause-answers
+returns-in-Ok-clause-answers g c = λ fresh_is.
+    let up = meaning g.U.ArrayStream.state c.args.up.now in
+    let n = meaning g.U.ArrayStream.state c.next-code.new.self in
+    let call = c.next-code.ensures in
+    let w = c.args.self.now in
+    let out = c.next-code.new.out in
+    let live : IsLive out = search (rules, live_unless) in
+    let lawful = c.typed.ensures.lawful (subst IsTrue (sym call.keeps.lawful) c.requires.lawful) in
+    let types : typed_of c.typed.result.now ≡ type_of_columns up.columns = c.typed.ensures.kinds ∙ lawful ∙ ap type_of_columns call.keeps.columns in
+    let told = told-plain w.column w.out up.columns c.requires.fits (c.lawful_facts.ensures.columns c.requires.lawful) in
+    let answers = call.answers fresh_is in
+    let before : LawfulColumns up.columns = c.lawful_facts.ensures.columns c.requires.lawful in
+    let is = ready false w.column w.out up n c.next-code.result out live answers told before (c.lawful_facts.ensures.tables c.requires.lawful) in
+    let kind : kind_of c.kind_at-kind.result.now ≡ (column_at (map column_of w.out) w.column).kind =
+    c.kind_at-kind.ensures ∙ ap (λ (cs : List ColumnType). (column_at (map column_of cs) w.column).kind) c.as_slice.ensures in
+    let tree : c.put.new.self ≡ Replaced out w.column
+    (recoded_tree (kind_of c.kind_at-kind.result.now) (column_values w.column (rows_of (typed_of c.typed.result.now) out))) =
+    c.put.ensures ∙ c.in-Ok.ensures.tree
+    ∙ ap (λ (t : ArrayTree). Replaced t w.column
+    (recoded_tree (kind_of c.kind_at-kind.result.now) (column_values w.column (rows_of (typed_of c.typed.result.now) t)))) c.move_out.ensures.moved in
+    let after = columns-after false w.column w.out up.columns told c.column_schemas_are_lawful.ensures c.schema_is_small.ensures.small
+    c.schema_is_small.ensures.not_deep before in
+    recode-answers up n (map column_of w.out) c.next-code.result out _ c.put.new.self w.column live answers
+    (made-chunk c.recoded_chunks_have_their_rows.ensures false w.column w.out up (answers.chunk live).0 out c.put.new.self (kind_of c.kind_at-kind.result.now)
+    (typed_of c.typed.result.now) is after kind types tree)
+    tree
+
+pub returns-in-Ok-clause-counts : goal.returns-in-Ok-clause-counts
+returns-in-Ok-clause-counts g c = λ fresh_is _.
+    let up = meaning g.U.ArrayStream.state c.args.up.now in
+    let n = meaning g.U.ArrayStream.state c.next-code.new.self in
+    let call = c.next-code.ensures in
+    let w = c.args.self.now in
+    let out = c.next-code.new.out in
+    let live : IsLive out = search (rules, live_unless) in
+    let none : c.next-code.result ≡ pos 0 = search rules in
+    let lawful = c.typed.ensures.lawful (subst IsTrue (sym call.keeps.lawful) c.requires.lawful) in
+    let types : typed_of c.typed.result.now ≡ type_of_columns up.columns = c.typed.ensures.kinds ∙ lawful ∙ ap type_of_columns call.keeps.columns in
+    let told = told-plain w.column w.out up.columns c.requires.fits (c.lawful_facts.ensures.columns c.requires.lawful) in
+    let answers = call.answers fresh_is in
+    let kind : kind_of c.kind_at-kind.result.now ≡ (column_at (map column_of w.out) w.column).kind =
+    c.kind_at-kind.ensures ∙ ap (λ (cs : List ColumnType). (column_at (map column_of cs) w.column).kind) c.as_slice.ensures in
+    let moved : c.move_out.result ≡ out = c.move_out.ensures.moved in
+    let tree : c.put.new.self ≡ Replaced out w.column
+    (recoded_tree (kind_of c.kind_at-kind.result.now) (column_values w.column (rows_of (typed_of c.typed.result.now) out))) =
+    c.put.ensures ∙ c.in-Ok.ensures.tree
+    ∙ ap (λ (t : ArrayTree). Replaced t w.column
+    (recoded_tree (kind_of c.kind_at-kind.result.now) (column_values w.column (rows_of (typed_of c.typed.result.now) t)))) moved in
+    let read = ap (λ t. rows_of t out) types ∙ (answers.chunk live).2.rows_are in
+    let middle = c.next-code.new.pass in
+    let blocks : c.recoded_chunk.new.pass.blocks
+    ≡ risen middle.blocks (kind_blocks Made (kind_of c.kind_at-kind.result.now) (column_values w.column (rows_of (typed_of c.typed.result.now) out))) =
+    c.in-Ok.ensures.blocks
+    ∙ ap (λ (t : ArrayTree). risen middle.blocks
+    (kind_blocks Made (kind_of c.kind_at-kind.result.now) (column_values w.column (rows_of (typed_of c.typed.result.now) t)))) moved in
+    let nodes : c.recoded_chunk.new.pass.nodes ≡ risen middle.nodes 2 =
+    c.in-Ok.ensures.nodes
+    ∙ ap (λ (k : Kind). risen middle.nodes (kind_nodes Made k + 1)) (kind ∙ kind-is false w.column w.out up.columns told) in
+    recode-counts up n (map column_of w.out) w.column 2 (kind_of c.kind_at-kind.result.now) (typed_of c.typed.result.now) c.next-code.result out _
+    c.put.new.self c.args.pass.now middle c.recoded_chunk.new.pass live answers (call.counts fresh_is none) tree kind read blocks nodes

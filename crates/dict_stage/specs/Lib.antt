@@ -1,0 +1,4 @@
+pub mod Indices
+pub mod Texts
+pub mod Recoded
+pub mod Fits

@@ -1,0 +1,64 @@
+-- Distinct texts, numbered in the order in which they come.
+use Rattle.std.specs.Prelude.{◌≡◌, ℕ, ◌^◌, ◌≤◌, pos, if◌then◌else◌, List, [], ◌∷◌, ◌++◌, map}
+use Rattle.std.specs.List.{position_or_len}
+use Rattle.std.specs.Str.{bytes_eq}
+use Rattle.std.specs.HashSet.{HashSet}
+use Rattle.fmt_string.specs.ColumnForms.{IsColumnKind}
+use Rattle.fmt_string.specs.Value.{Value, Null, Whole, Bytes}
+use Rattle.fmt_string.specs.declared.kind.DataType.{DataType}
+use Rattle.col_build.specs.Holding.{Holds}
+use Rattle.layout_check.specs.Values.{each, value_at}
+use Rattle.arr_import.specs.Window.{Window, items_of}
+use Rattle.stage_model.specs.Dictionary.{has_bytes}
+use Rattle.stream_face.specs.Lawful.{AreValues, HasBytes}
+use Rattle.dict_stage.specs.declared.coder.Coder.{Coder}
+use denote.Ref.{Bor}
+
+-- null, or bytes
+abbrev pub IsText : Value → Type 0
+IsText Null = Unit {0}
+IsText (Bytes text) = Unit {0}
+IsText _ = ⊥
+
+-- the items of a column of texts or bytes
+pub record HasTexts (type : DataType) (w : Window) : Type 0 where
+  pub is : IsColumnKind type
+  pub bytes : HasBytes type
+  pub items : AreValues type (items_of w)
+  pub few : w.count ≤ 2 ^ 30
+
+-- the first items of a window
+abbrev pub first_items : Window → ℕ → List Value
+first_items w count = each (value_at w.typed w.array) w.start count
+
+-- ---- distinct texts
+
+-- those that a set lends, in its order
+abbrev pub texts_in : {S : Type 0} → HashSet (Bor (List ℕ)) S → List (List ℕ)
+texts_in set = map (λ text. text.now) set.keys
+
+-- with one more behind them, unless it is among them
+abbrev pub texts_with : List (List ℕ) → List ℕ → List (List ℕ)
+texts_with texts text = if has_bytes texts text then texts else texts ++ text ∷ []
+
+-- the number of a text
+abbrev pub number_of : List (List ℕ) → List ℕ → ℕ
+number_of texts text = position_or_len (λ t. bytes_eq t text) texts
+
+-- the texts after values
+abbrev pub texts_after : List (List ℕ) → List Value → List (List ℕ)
+texts_after texts [] = texts
+texts_after texts (Bytes text ∷ values) = texts_after (texts_with texts text) values
+texts_after texts (_ ∷ values) = texts_after texts values
+
+-- the index of a value, and null of a null
+abbrev pub index_by : List (List ℕ) → Value → Value
+index_by texts (Bytes text) = Whole (pos (number_of texts text))
+index_by texts _ = Null
+
+-- ---- the making
+
+-- the distinct texts so far, and a builder of them
+pub record Codes (coder : Coder) (type : DataType) (texts : List (List ℕ)) : Type 0 where
+  pub lends : texts_in coder.texts ≡ texts
+  pub holds : Holds coder.entries type (map Bytes texts)

@@ -1,0 +1,95 @@
+//! A column that is made anew: of its values as they are, or of their indices into a dictionary.
+ghost use Rattle.std.specs.Prelude.{◌≡◌, ◌+◌, ◌≤◌, IfOk, OnErr};
+ghost use Rattle.fmt_string.specs.ColumnView.{kind_of};
+ghost use Rattle.fmt_string.specs.Table.{Flat, Dict};
+ghost use Rattle.unit_pass.specs.declared.pass.TheConstants.{SUPPLY};
+ghost use Rattle.col_build.specs.Holding.{Holds};
+ghost use Rattle.arr_import.specs.Cols.{window_of};
+ghost use Rattle.arr_import.specs.Window.{items_of};
+ghost use Rattle.dict_stage.specs.Recoded.{CanRecode, IsRecoded};
+ghost use Rattle.dict_stage.specs.Texts.{HasTexts};
+
+use crate::built::built_column;
+use crate::coder::coded;
+use crate::item::{count, item_of, push};
+use arr_import::Col;
+use col_build::Builder;
+use fmt_string::{ColKind, DataType, clone_kind, storage_of};
+use raw_array::RawArray;
+use std::alloc::Global;
+use unit_pass::{NoMemory, Pass, SUPPLY};
+
+/// A builder that holds the items of a column.
+fn plain_items(alloc: Global, kind: &DataType, items: &Col<'_>) -> Result<Builder, NoMemory>
+    requires { HasTexts kind.now (window_of items.now) }
+    ensures { IfOk result (λ builder. Holds builder kind.now (items_of (window_of items.now))) }
+{
+    let mut builder = Builder::new(alloc, clone_kind(alloc, kind)?);
+    let storage = storage_of(kind);
+    for i in 0..count(items) {
+        push(&mut builder, storage, item_of(items, i))?;
+    }
+    Ok(builder)
+}
+
+/// The array of the items of a column, as they are. On want of memory all units are back.
+fn plain_column(
+    alloc: Global,
+    kind: &DataType,
+    items: &Col<'_>,
+    pass: &mut Pass,
+) -> Result<RawArray, NoMemory>
+    requires items { HasTexts kind.now (window_of items.now) }
+    requires units { 8 ≤ pass.old.units }
+    requires room { pass.old.units ≤ SUPPLY }
+    ensures made { IfOk result (λ array. IsRecoded (Flat kind.now) (items_of (window_of items.now)) array pass.old pass.new) }
+    ensures units_back { OnErr result (pass.new.units ≡ pass.old.units) }
+{
+    let builder = plain_items(alloc, kind, items)?;
+    match built_column(alloc, builder, None, pass) {
+        Ok(array) => Ok(array),
+        Err(NoMemory) => Err(NoMemory),
+    }
+}
+
+/// The array of the indices of a column's items into their dictionary, which it owns ("Arrow Columnar Format",
+/// "Dictionary-encoded Layout"). On want of memory all units are back.
+fn dict_column(
+    alloc: Global,
+    kind: &DataType,
+    items: &Col<'_>,
+    pass: &mut Pass,
+) -> Result<RawArray, NoMemory>
+    requires items { HasTexts kind.now (window_of items.now) }
+    requires units { 8 ≤ pass.old.units }
+    requires room { pass.old.units ≤ SUPPLY }
+    ensures made { IfOk result (λ array. IsRecoded (Dict kind.now) (items_of (window_of items.now)) array pass.old pass.new) }
+    ensures units_back { OnErr result (pass.new.units ≡ pass.old.units) }
+{
+    let builders = coded(alloc, kind, items)?;
+    let dictionary = built_column(alloc, builders.entries, None, pass)?;
+    match built_column(alloc, builders.indices, Some(dictionary), pass) {
+        Ok(array) => Ok(array),
+        Err(NoMemory) => Err(NoMemory),
+    }
+}
+
+/// The array of a column's items as a column of the kind, which is of texts or bytes. On want of memory all units are back.
+pub(crate) fn recoded_column(
+    alloc: Global,
+    kind: &ColKind,
+    items: &Col<'_>,
+    pass: &mut Pass,
+) -> Result<RawArray, NoMemory>
+    requires items { CanRecode (kind_of kind.now) (window_of items.now) }
+    requires units { 8 ≤ pass.old.units }
+    requires room { pass.old.units ≤ SUPPLY }
+    ensures made { IfOk result (λ array. IsRecoded (kind_of kind.now) (items_of (window_of items.now)) array pass.old pass.new) }
+    ensures units_back { OnErr result (pass.new.units ≡ pass.old.units) }
+{
+    match kind {
+        ColKind::Flat(kind) => plain_column(alloc, kind, items, pass),
+        ColKind::Dict(kind) => dict_column(alloc, kind, items, pass),
+        ColKind::Columns(_) => unreachable!(),
+    }
+}

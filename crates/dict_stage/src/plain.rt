@@ -1,0 +1,83 @@
+//! The work that takes a column's dictionary away.
+ghost use Rattle.std.specs.Prelude.{◌≡◌, map};
+ghost use Rattle.fmt_string.specs.ColumnView.{column_of};
+ghost use Rattle.stage_kernels.specs.Dues.{due_with};
+ghost use Rattle.stage_model.specs.Stages.{chunks_after};
+ghost use Rattle.stage_model.specs.declared.stage.Step.TheVariants as steps;
+ghost use Rattle.dict_stage.specs.Fits.{PlainFits};
+
+use crate::chunk::{kind_at, recoded_chunk};
+use crate::laws::recoded_chunks_have_their_rows;
+use arr_export::column_schemas_are_lawful;
+use edge_io::Gate;
+use raw_array::RawArray;
+use raw_schema::RawSchema;
+use stages::{OutColumns, Work};
+use std::alloc::Global;
+use std::thread::Threads;
+use stream_face::{ArrayStream, RawStream, Tap};
+use unit_pass::{NoMemory, Pass};
+
+/// A column with a dictionary, as its values.
+#[derive(Drop)]
+pub struct PlainWork {
+    column: usize,
+    out: OutColumns,
+}
+
+impl PlainWork {
+    /// Takes the dictionary of the column of a number, from 0; `out` are the columns, without it. Takes no memory.
+    pub fn new(column: usize, out: OutColumns) -> PlainWork
+        ensures column { result.column ≡ column }
+        ensures out { result.out ≡ out }
+    {
+        PlainWork { column, out }
+    }
+}
+
+impl Work for PlainWork {
+    ghost columns = { λ w before. map column_of w.out };
+
+    ghost fits = { λ w before. PlainFits w.column w.out before };
+
+    ghost ahead = { λ w up. chunks_after (steps.Plain w.column) up.ending up.ahead };
+
+    ghost due = { λ w up. due_with (steps.Plain w.column) (map column_of w.out) (chunks_after (steps.Plain w.column) up.ending up.ahead) up.due };
+
+    fn schema(&self, alloc: Global, pass: &mut Pass) -> Result<RawSchema, NoMemory> {
+        self.out.schema(alloc, pass)
+    }
+
+    fn next<U: ArrayStream, R: Threads + Sync, T: Tap>(
+        &mut self,
+        up: &mut RawStream<U>,
+        rt: &R,
+        alloc: Global,
+        out: &mut RawArray,
+        pass: &mut Pass,
+        tap: &mut T,
+        gate: &(dyn Gate + Sync),
+    ) -> Result<i32, NoMemory> {
+        up.lawful_facts();
+        self.out.schema_is_small();
+        let code = up.next(rt, alloc, out, pass, tap, gate);
+        if code != 0 || out.is_released() {
+            return Ok(code);
+        }
+        column_schemas_are_lawful();
+        recoded_chunks_have_their_rows();
+        let kind = kind_at(self.out.as_slice(), self.column);
+        match recoded_chunk(alloc, kind, up.typed(), out.move_out(), self.column, pass) {
+            Ok(made) => {
+                out.put(made);
+                Ok(0)
+            }
+            Err(NoMemory) => Err(NoMemory),
+        }
+    }
+
+    fn lawful_facts(&self) {
+        self.out.schema_is_small();
+        column_schemas_are_lawful();
+    }
+}
