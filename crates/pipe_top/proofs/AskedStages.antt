@@ -12,6 +12,7 @@ use Rattle.pipe_top.specs.Stages.{IsNamed}
 use Rattle.pipe_top.specs.declared.fault.RunFault.{RunFault}
 use Rattle.pipe_top.specs.declared.fault.RunFault.TheVariants as run
 
+-- ---- stages before others
 abbrev Read : Type 0
 Read = Result (List StageText) RunFault
 
@@ -46,6 +47,7 @@ named-push (first ∷ stages) stage all named = (all.0, named-push stages stage 
 pub none-read : (texts : List (Bor (List ℕ))) → ReadTo texts 0 []
 none-read texts = record { is = onto-none (stages_from 1 (spelled texts)); named = tt; count = refl }
 
+-- ---- one text before others
 -- a stage alone is the first of more
 first-of-more : (number : ℕ) (r : Result StageText StageFault) (stage : StageText) (rest : Read)
     → ◌≡◌ {A = Read} (stage_before number r (Ok [])) (Ok (stage ∷ []))

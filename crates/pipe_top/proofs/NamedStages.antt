@@ -66,7 +66,7 @@ all-words = (
         (λ arguments. read-filter-named (cut_at comma arguments)),
         (
           (λ arguments. read-pack-named (cut_at comma arguments)),
-          ((λ arguments. unpack-named (names_in arguments)), tt),
+          ((λ arguments. unpack-named (names_in arguments)), ((λ arguments. tt), tt)),
         ),
       ),
     ),

@@ -21,7 +21,7 @@ named-step columns (texts.Pack made names) named = tt
 named-step columns (texts.Unpack name) named = tt
 named-step columns (texts.Dict name) named = absurd named
 named-step columns (texts.Plain name) named = absurd named
-named-step columns (texts.Totals names) named = absurd named
+named-step columns (texts.Totals names) named = tt
 
 step-same : (columns : List Column) (text : StageText) (stage : Stage) → stage_over columns text ≡ Ok stage → step_of columns text ≡ stage.step
 step-same columns text stage e =

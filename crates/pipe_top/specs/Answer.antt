@@ -28,6 +28,7 @@ use Rattle.words.specs.declared.WordsFault.{WordsFault}
 use Rattle.pipe_top.specs.declared.fault.RunFault.{RunFault}
 use Rattle.pipe_top.specs.declared.fault.RunFault.TheVariants as run
 
+-- ---- the faults of a run
 -- the text that is to be written, or the fault that is to be told
 pub data Answer : Type 0 where
   Text : List ℕ → Answer
@@ -57,6 +58,7 @@ abbrev pub fault_of_chain : DriveFault → RunFault
 fault_of_chain (chain.Row fault) = fault_of_row fault
 fault_of_chain chain.NoMemory = run.NoMemory
 
+-- ---- what is asked for, and its answer
 -- what is asked for: types of columns by name, stages, the most rows of a batch, and the mark for null
 pub record Request : Type 0 where
   pub entries : List TypeEntry

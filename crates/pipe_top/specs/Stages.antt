@@ -6,5 +6,4 @@ use Rattle.stage_model.specs.declared.stage.StageText.TheVariants as texts
 abbrev pub IsNamed : StageText → Type 0
 IsNamed (texts.Dict name) = ⊥
 IsNamed (texts.Plain name) = ⊥
-IsNamed (texts.Totals names) = ⊥
 IsNamed _ = Unit {0}

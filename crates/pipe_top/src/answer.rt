@@ -147,7 +147,7 @@ pub(crate) fn answer_input<R: Threads + Sync, T: Tap>(
 {
     stage_model::batches_give_the_whole();
     let mark = request.mark.as_slice();
-    let mut records = Records::start(alloc, bytes);
+    let mut records = Records::start(alloc, bytes)?;
     let columns = match header_columns(alloc, &mut records, request.entries.as_slice()) {
         Ok(columns) => columns,
         Err(fault) => return Err(fault),

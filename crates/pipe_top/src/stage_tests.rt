@@ -73,7 +73,7 @@ const PAYMENTS: &[u8] =
 
 // Each row has the words, an input, the blocks and nodes that are made, and the text that is written.
 
-static TABLES: [(&str, &[u8], (u64, u64), &[u8]); 9] = [
+static TABLES: [(&str, &[u8], (u64, u64), &[u8]); 14] = [
     (
         "--schema id:l;amount:d:10,2;paid:b select=id,name,paid filter=paid,eq,true",
         PAYMENTS,
@@ -117,6 +117,36 @@ static TABLES: [(&str, &[u8], (u64, u64), &[u8]); 9] = [
         b"n\n1\n",
         (1, 6),
         b"n\n",
+    ),
+    (
+        "--schema id:l;amount:d:10,2;paid:b filter=paid,eq,true totals=id,amount",
+        PAYMENTS,
+        (18, 38),
+        b"id_count,id_sum,id_min,id_max,amount_count,amount_sum,amount_min,amount_max\n2,4,1,3,2,4.50,1.25,3.25\n",
+    ),
+    (
+        "--schema n:l --batch 2 totals=n",
+        b"n\n1\n-7\n3\n\"\"\n5\n",
+        (8, 18),
+        b"n_count,n_sum,n_min,n_max\n4,2,-7,5\n",
+    ),
+    (
+        "--schema id:l totals=id",
+        b"id\n-9223372036854775808\n-9223372036854775808\n",
+        (5, 14),
+        b"id_count,id_sum,id_min,id_max\n2,-18446744073709551616,-9223372036854775808,-9223372036854775808\n",
+    ),
+    (
+        "--schema id:l totals=id",
+        b"id\n",
+        (6, 12),
+        b"id_count,id_sum,id_min,id_max\n0,0,,\n",
+    ),
+    (
+        "--null ~ --schema id:l totals=id",
+        b"id\n",
+        (6, 12),
+        b"id_count,id_sum,id_min,id_max\n0,0,~,~\n",
     ),
 ];
 
@@ -186,13 +216,13 @@ static REFUSED: [(&str, &[u8], RunFault, &[u8]); 14] = [
         b"arrowpipe: stage 2: unknown stage\n",
     ),
     (
-        "--schema a:l totals=a",
+        "totals=a",
         b"a\n1\n",
-        RunFault::Stage {
+        RunFault::Plan {
             stage: 1,
-            rule: StageFault::UnknownStage,
+            rule: PlanRule::WrongType,
         },
-        b"arrowpipe: stage 1: unknown stage\n",
+        b"arrowpipe: stage 1: wrong column type\n",
     ),
     (
         "select",

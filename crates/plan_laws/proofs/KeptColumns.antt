@@ -1,18 +1,24 @@
 -- What holds of the columns before a stage, and their measures, behind it.
-use Rattle.std.proofs.Common.{arith, ◌≡◌, ◌≤◌, ◌<◌, ◌+◌, ◌∙◌, ℕ, zero, suc, List, [], ◌∷◌, ◌++◌, length, map, get_or, take, drop, refl, sym, ap, subst}
-use Rattle.std.proofs.Common.{take-append-drop}
-use Rattle.std.specs.List.{All}
-use Rattle.std.proofs.lemmas.List.{drop_more, map-append}
+use Rattle.std.proofs.Common.{arith, rules, ◌≡◌, ◌≤◌, ◌<◌, ◌+◌, ◌*◌, ◌∙◌, ℕ, zero, suc, pos, Bool, true, false, true≢false, List, [], ◌∷◌, ◌++◌, length, map, get_or}
+use Rattle.std.proofs.Common.{take, drop, refl, sym, ap, subst, inr, take-append-drop}
+use Rattle.std.specs.Int.{w32}
+use Rattle.std.specs.List.{All, flat_map, list_all}
+use Rattle.std.specs.Prelude.{FitsSigned, codes, ◌&&◌}
+use Rattle.std.proofs.lemmas.Bool.{ltb-false}
+use Rattle.std.proofs.lemmas.List.{drop_more, length-append, map-append}
 use Rattle.std.proofs.lemmas.List.Elements.{All-append, All-cons, All-drop, All-get_or, All-head, All-nil, All-tail, All-take}
 use Rattle.fmt_string.specs.ColumnForms.{AreColumnKinds}
 use Rattle.fmt_string.specs.ColumnView.{members}
 use Rattle.fmt_string.specs.Parts.{AreWithin, member_columns, packed_columns, picked, unpacked_columns}
-use Rattle.fmt_string.specs.Table.{Column, Kind, Columns, Members, no_members, more_members}
+use Rattle.fmt_string.specs.Table.{Column, Kind, Flat, Dict, Columns, Members, no_members, more_members}
+use Rattle.fmt_string.specs.declared.kind.DataType.{DataType}
+use Rattle.fmt_string.specs.declared.kind.DataType.TheVariants as kinds
 use Rattle.arr_move.specs.TreeActs.{Distinct}
-use Rattle.stage_model.specs.Typing.{FitsColumns, HasColumns, IsStageOver, Stage, column_at, no_column}
+use Rattle.stage_model.specs.Typing.{FitsColumns, HasColumns, IsStageOver, Stage, column, column_at, columns_after, is_summed, most_columns, no_column, rules_of}
+use Rattle.stage_model.specs.Typing.{scale_of, step_of, totals_columns}
 use Rattle.stage_model.specs.declared.stage.Step.{Step}
 use Rattle.stage_model.specs.declared.stage.Step.TheVariants as steps
-use Rattle.stage_model.proofs.Numbers.{stages-fit}
+use Rattle.stage_model.proofs.Numbers.{none-fails, stages-fit}
 use Rattle.stage_model.proofs.StageColumns.{stages-have}
 use Rattle.stream_face.specs.Lawful.{column_leaves, leaves}
 use Rattle.stage_kernels.specs.Plain.{ArePlain, HasNoDict, IsMade}
@@ -54,19 +60,42 @@ unpack-kept P unpacks place fields columns lt is all =
     (unpacks fields (subst P is (All-get_or (λ c. P c.kind) columns place no_column lt all))))
     (All-drop (λ c. P c.kind) (place + 1) columns all)
 
-step-keeps : (P : Kind → Type 0) → Packs P → Unpacks P → (columns : List Column) (step : Step) (after : List Column) → IsMade step
+-- it holds of the kinds of a column's totals where it holds of the column's own
+abbrev Totalled : (Kind → Type 0) → Type 0
+Totalled P = (c : Column) → is_summed c.kind ≡ true → P c.kind → AreAll P (totals_columns c)
+
+abbrev AreSummed : List Column → Type 0
+AreSummed columns = list_all (λ c. is_summed c.kind) columns ≡ true
+
+first-of : (a b : Bool) → (a && b) ≡ true → a ≡ true
+first-of true b e = refl
+first-of false b e = absurd (true≢false (sym e))
+
+rest-of : (a b : Bool) → (a && b) ≡ true → b ≡ true
+rest-of true b e = e
+rest-of false b e = absurd (true≢false (sym e))
+
+totals-kept : (P : Kind → Type 0) → Totalled P → (columns : List Column) → AreSummed columns → AreAll P columns → AreAll P (flat_map totals_columns columns)
+totals-kept P totals [] summed all = All-nil (λ c. P c.kind)
+totals-kept P totals (c ∷ cs) summed all =
+    All-append (λ c. P c.kind) (totals_columns c) (flat_map totals_columns cs)
+    (totals c (first-of (is_summed c.kind) (list_all (λ c. is_summed c.kind) cs) summed) (All-head (λ c. P c.kind) c cs all))
+    (totals-kept P totals cs (rest-of (is_summed c.kind) (list_all (λ c. is_summed c.kind) cs) summed) (All-tail (λ c. P c.kind) c cs all))
+
+step-keeps : (P : Kind → Type 0) → Packs P → Unpacks P → Totalled P → (columns : List Column) (step : Step) (after : List Column) → IsMade step
     → FitsColumns (length columns) step → HasColumns columns step after → AreAll P columns → AreAll P after
-step-keeps P packs unpacks columns (steps.Select picks) after made fits has all =
+step-keeps P packs unpacks totals columns (steps.Select picks) after made fits has all =
     subst (AreAll P) (sym has) (all-picked (λ c. P c.kind) picks columns fits all)
-step-keeps P packs unpacks columns (steps.Slice off len) after made fits has all = subst (AreAll P) (sym has) all
-step-keeps P packs unpacks columns (steps.Filter place test constant) after made fits has all = subst (AreAll P) (sym has.0) all
-step-keeps P packs unpacks columns (steps.Pack rest picks) after made fits (name, is) all =
+step-keeps P packs unpacks totals columns (steps.Slice off len) after made fits has all = subst (AreAll P) (sym has) all
+step-keeps P packs unpacks totals columns (steps.Filter place test constant) after made fits has all = subst (AreAll P) (sym has.0) all
+step-keeps P packs unpacks totals columns (steps.Pack rest picks) after made fits (name, is) all =
     subst (AreAll P) (sym is) (pack-kept P packs name columns rest picks fits.0 fits.1 all)
-step-keeps P packs unpacks columns (steps.Unpack place) after made fits (fields, kind, is) all =
+step-keeps P packs unpacks totals columns (steps.Unpack place) after made fits (fields, kind, is) all =
     subst (AreAll P) (sym is) (unpack-kept P unpacks place fields columns fits kind all)
-step-keeps P packs unpacks columns (steps.Dict place) after made fits has all = absurd made
-step-keeps P packs unpacks columns (steps.Plain place) after made fits has all = absurd made
-step-keeps P packs unpacks columns (steps.Totals places) after made fits has all = absurd made
+step-keeps P packs unpacks totals columns (steps.Dict place) after made fits has all = absurd made
+step-keeps P packs unpacks totals columns (steps.Plain place) after made fits has all = absurd made
+step-keeps P packs unpacks totals columns (steps.Totals places) after made fits (summed, is) all =
+    subst (AreAll P) (sym is) (totals-kept P totals (picked no_column places columns) summed (all-picked (λ c. P c.kind) places columns fits all))
 
 -- ---- kinds
 
@@ -81,10 +110,30 @@ kinds-unpack no_members all = All-nil (λ c. AreColumnKinds c.kind)
 kinds-unpack (more_members name kind rest) all =
     All-cons (λ c. AreColumnKinds c.kind) (record { name = name; kind = kind }) (member_columns rest) all.0 (kinds-unpack rest all.1)
 
+zero-fits : FitsSigned w32 (pos 0)
+zero-fits = search (rules, arith)
+
+scale-fits : (kind : Kind) → AreColumnKinds kind → FitsSigned w32 (scale_of kind)
+scale-fits (Flat (kinds.Decimal precision scale wide)) is = is.0.2
+scale-fits (Flat _) is = zero-fits
+scale-fits (Dict type) is = zero-fits
+scale-fits (Columns fields) is = zero-fits
+
+kinds-totals : Totalled AreColumnKinds
+kinds-totals c summed is =
+    let P = λ (c : Column). AreColumnKinds c.kind in
+    let count = column (c.name ++ codes "_count") (Flat (kinds.Int 64 true)) in
+    let sum = column (c.name ++ codes "_sum") (Flat (kinds.Decimal 38 (scale_of c.kind) false)) in
+    let least = column (c.name ++ codes "_min") c.kind in
+    let most = column (c.name ++ codes "_max") c.kind in
+    All-cons P count (sum ∷ least ∷ most ∷ []) (inr (inr (inr refl)), tt)
+    (All-cons P sum (least ∷ most ∷ []) ((omega arith, omega arith, scale-fits c.kind is), tt)
+    (All-cons P least (most ∷ []) is (All-cons P most [] is (All-nil P))))
+
 pub kinds-kept : (columns : List Column) (stage : Stage) → IsStageOver columns stage → IsMade stage.step
     → All (λ c. AreColumnKinds c.kind) columns → All (λ c. AreColumnKinds c.kind) stage.columns
 kinds-kept columns stage over made =
-    step-keeps AreColumnKinds kinds-pack kinds-unpack columns stage.step stage.columns made (stages-fit columns stage over) (stages-have columns stage over)
+    step-keeps AreColumnKinds kinds-pack kinds-unpack kinds-totals columns stage.step stage.columns made (stages-fit columns stage over) (stages-have columns stage over)
 
 -- ---- dictionaries
 
@@ -99,9 +148,19 @@ plain-unpack no_members all = All-nil (λ c. HasNoDict c.kind)
 plain-unpack (more_members name kind rest) all =
     All-cons (λ c. HasNoDict c.kind) (record { name = name; kind = kind }) (member_columns rest) all.0 (plain-unpack rest all.1)
 
+plain-totals : Totalled HasNoDict
+plain-totals c summed is =
+    let P = λ (c : Column). HasNoDict c.kind in
+    let count = column (c.name ++ codes "_count") (Flat (kinds.Int 64 true)) in
+    let sum = column (c.name ++ codes "_sum") (Flat (kinds.Decimal 38 (scale_of c.kind) false)) in
+    let least = column (c.name ++ codes "_min") c.kind in
+    let most = column (c.name ++ codes "_max") c.kind in
+    All-cons P count (sum ∷ least ∷ most ∷ []) tt
+    (All-cons P sum (least ∷ most ∷ []) tt (All-cons P least (most ∷ []) is (All-cons P most [] is (All-nil P))))
+
 pub plain-kept : (columns : List Column) (stage : Stage) → IsStageOver columns stage → IsMade stage.step → ArePlain columns → ArePlain stage.columns
 plain-kept columns stage over made =
-    step-keeps HasNoDict plain-pack plain-unpack columns stage.step stage.columns made (stages-fit columns stage over) (stages-have columns stage over)
+    step-keeps HasNoDict plain-pack plain-unpack plain-totals columns stage.step stage.columns made (stages-fit columns stage over) (stages-have columns stage over)
 
 -- ---- measures
 
@@ -150,7 +209,14 @@ unpack-measure more f adds place fields columns lt is =
     let one = ap f is ∙ adds fields in
     omega (arith, cut, front, whole, one)
 
-step-measure : (more : ℕ) (f : Kind → ℕ) → Adds more f → (columns : List Column) (step : Step) (after : List Column) → IsMade step
+-- the columns after the step are columns before it, some of them under a struct or out of it
+abbrev Moves : Step → Type 0
+Moves (steps.Dict place) = ⊥
+Moves (steps.Plain place) = ⊥
+Moves (steps.Totals places) = ⊥
+Moves _ = Unit {0}
+
+step-measure : (more : ℕ) (f : Kind → ℕ) → Adds more f → (columns : List Column) (step : Step) (after : List Column) → Moves step
     → FitsColumns (length columns) step → DistinctPicks step → HasColumns columns step after → measure f after ≤ more + measure f columns
 step-measure more f adds columns (steps.Select picks) after made fits distinct has =
     let fewer = sum-picked (λ c. f c.kind) columns picks distinct fits in
@@ -170,11 +236,38 @@ step-measure more f adds columns (steps.Dict place) after made fits distinct has
 step-measure more f adds columns (steps.Plain place) after made fits distinct has = absurd made
 step-measure more f adds columns (steps.Totals places) after made fits distinct has = absurd made
 
-stage-measure : (more : ℕ) (f : Kind → ℕ) → Adds more f → (columns : List Column) (stage : Stage) → IsStageOver columns stage → IsMade stage.step
-    → measure f stage.columns ≤ more + measure f columns
-stage-measure more f adds columns stage over made =
-    step-measure more f adds columns stage.step stage.columns made (stages-fit columns stage over) (stages-distinct columns stage over)
-    (stages-have columns stage over)
+-- ---- the columns of totals
+
+length-totals : (columns : List Column) → length (flat_map totals_columns columns) ≡ 4 * length columns
+length-totals [] = refl
+length-totals (c ∷ cs) = let e = length-totals cs in let both = length-append (totals_columns c) (flat_map totals_columns cs) in omega (arith, e, both)
+
+-- of a measure that is as much of each flat column
+totals-measure : (f : Kind → ℕ) (much : ℕ) → ((type : DataType) → f (Flat type) ≡ much) → (columns : List Column) → AreSummed columns
+    → measure f (flat_map totals_columns columns) ≡ much * (4 * length columns)
+totals-measure f much flat [] summed = omega arith
+totals-measure f much flat (c ∷ cs) summed =
+    let rest = totals-measure f much flat cs (rest-of (is_summed c.kind) (list_all (λ c. is_summed c.kind) cs) summed) in
+    let own = kind-measure f much flat c.kind (first-of (is_summed c.kind) (list_all (λ c. is_summed c.kind) cs) summed) in
+    let both = measure-append f (totals_columns c) (flat_map totals_columns cs) in
+    let count = flat (kinds.Int 64 true) in
+    let sum = flat (kinds.Decimal 38 (scale_of c.kind) false) in
+    let four : measure f (totals_columns c) ≡ much + (much + (much + (much + 0))) = rw (count, sum, own) refl in
+    both ∙ (let e : measure f (totals_columns c) + measure f (flat_map totals_columns cs) ≡ much * (4 * suc (length cs)) =
+    rw (four, rest) (omega arith) in e)
+  where
+    kind-measure : (f : Kind → ℕ) (much : ℕ) → ((type : DataType) → f (Flat type) ≡ much) → (kind : Kind) → is_summed kind ≡ true → f kind ≡ much
+    kind-measure f much flat (Flat type) summed = flat type
+    kind-measure f much flat (Dict type) summed = absurd (true≢false (sym summed))
+    kind-measure f much flat (Columns fields) summed = absurd (true≢false (sym summed))
+
+-- ---- how many columns there are
+
+pub few-columns : (columns : List Column) (stage : Stage) → IsStageOver columns stage → length stage.columns ≤ most_columns
+few-columns columns stage (text, e) =
+    let held = none-fails (rules_of columns text) (record { step = step_of columns text; columns = columns_after columns text }) stage e in
+    subst (λ (s : Stage). length s.columns ≤ most_columns) held.1
+    (ltb-false most_columns (length (columns_after columns text)) held.0.1.1.1.1.1.0)
 
 -- ---- leaves
 
@@ -182,10 +275,36 @@ leaves-add : Adds 0 leaves
 leaves-add no_members = refl
 leaves-add (more_members name kind rest) = let e = leaves-add rest in omega (arith, e)
 
-pub leaves-kept : (columns : List Column) (stage : Stage) → IsStageOver columns stage → IsMade stage.step → column_leaves stage.columns ≤ column_leaves columns
-leaves-kept columns stage over made =
-    let fewer = stage-measure 0 leaves leaves-add columns stage over made in
-    omega (arith, fewer, leaves-are columns, leaves-are stage.columns)
+-- a measure of no columns but those that there were, or of few new ones
+step-leaves : (columns : List Column) (step : Step) (after : List Column) → IsMade step → FitsColumns (length columns) step → DistinctPicks step
+    → HasColumns columns step after → length after ≤ most_columns → measure leaves columns ≤ most_columns → measure leaves after ≤ most_columns
+step-leaves columns (steps.Select picks) after made fits distinct has few old =
+    let m = step-measure 0 leaves leaves-add columns (steps.Select picks) after tt fits distinct has in omega (arith, m, old)
+step-leaves columns (steps.Slice off len) after made fits distinct has few old =
+    let m = step-measure 0 leaves leaves-add columns (steps.Slice off len) after tt fits distinct has in omega (arith, m, old)
+step-leaves columns (steps.Filter place test constant) after made fits distinct has few old =
+    let m = step-measure 0 leaves leaves-add columns (steps.Filter place test constant) after tt fits distinct has in omega (arith, m, old)
+step-leaves columns (steps.Pack rest picks) after made fits distinct has few old =
+    let m = step-measure 0 leaves leaves-add columns (steps.Pack rest picks) after tt fits distinct has in omega (arith, m, old)
+step-leaves columns (steps.Unpack place) after made fits distinct has few old =
+    let m = step-measure 0 leaves leaves-add columns (steps.Unpack place) after tt fits distinct has in omega (arith, m, old)
+step-leaves columns (steps.Dict place) after made fits distinct has few old = absurd made
+step-leaves columns (steps.Plain place) after made fits distinct has few old = absurd made
+step-leaves columns (steps.Totals places) after made fits distinct (summed, is) few old =
+    let all = picked no_column places columns in
+    let m = totals-measure leaves 1 (λ type. refl) all summed in
+    let n = length-totals all in
+    let same = ap (measure leaves) is in
+    let as_many = ap length is in
+    omega (arith, m, n, same, as_many, few)
+
+pub leaves-kept : (columns : List Column) (stage : Stage) → IsStageOver columns stage → IsMade stage.step → column_leaves columns ≤ most_columns
+    → column_leaves stage.columns ≤ most_columns
+leaves-kept columns stage over made few =
+    let old : measure leaves columns ≤ most_columns = omega (arith, few, leaves-are columns) in
+    let new = step-leaves columns stage.step stage.columns made (stages-fit columns stage over) (stages-distinct columns stage over)
+    (stages-have columns stage over) (few-columns columns stage over) old in
+    omega (arith, new, leaves-are stage.columns)
 
 -- ---- structs
 
@@ -197,8 +316,26 @@ structs-add : Adds 1 structs
 structs-add no_members = refl
 structs-add (more_members name kind rest) = let e = structs-add rest in omega (arith, e)
 
+step-structs : (columns : List Column) (step : Step) (after : List Column) → IsMade step → FitsColumns (length columns) step → DistinctPicks step
+    → HasColumns columns step after → measure structs after ≤ 1 + measure structs columns
+step-structs columns (steps.Select picks) after made fits distinct has = step-measure 1 structs structs-add columns (steps.Select picks) after tt fits distinct has
+step-structs columns (steps.Slice off len) after made fits distinct has =
+    step-measure 1 structs structs-add columns (steps.Slice off len) after tt fits distinct has
+step-structs columns (steps.Filter place test constant) after made fits distinct has =
+    step-measure 1 structs structs-add columns (steps.Filter place test constant) after tt fits distinct has
+step-structs columns (steps.Pack rest picks) after made fits distinct has =
+    step-measure 1 structs structs-add columns (steps.Pack rest picks) after tt fits distinct has
+step-structs columns (steps.Unpack place) after made fits distinct has = step-measure 1 structs structs-add columns (steps.Unpack place) after tt fits distinct has
+step-structs columns (steps.Dict place) after made fits distinct has = absurd made
+step-structs columns (steps.Plain place) after made fits distinct has = absurd made
+step-structs columns (steps.Totals places) after made fits distinct (summed, is) =
+    let m = totals-measure structs 0 (λ type. refl) (picked no_column places columns) summed in
+    let same = ap (measure structs) is in
+    omega (arith, m, same)
+
 pub structs-kept : (columns : List Column) (stage : Stage) → IsStageOver columns stage → IsMade stage.step
     → column_structs stage.columns ≤ 1 + column_structs columns
 structs-kept columns stage over made =
-    let fewer = stage-measure 1 structs structs-add columns stage over made in
+    let fewer = step-structs columns stage.step stage.columns made (stages-fit columns stage over) (stages-distinct columns stage over)
+    (stages-have columns stage over) in
     omega (arith, fewer, structs-are columns, structs-are stage.columns)

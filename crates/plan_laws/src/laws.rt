@@ -1,12 +1,12 @@
 //! Laws on stages that no rule refuses, and on the schemas of their columns. The calls do nothing.
-ghost use Rattle.std.specs.Prelude.{◌≡◌, ◌≤◌, ◌+◌, ◌*◌, List, All};
+ghost use Rattle.std.specs.Prelude.{◌≡◌, ◌≤◌, ◌+◌, ◌*◌, List, All, length};
 ghost use Rattle.fmt_string.specs.ColumnForms.{AreColumnKinds};
 ghost use Rattle.fmt_string.specs.Table.{Column};
 ghost use Rattle.tree_model.specs.Tree.{Depth};
 ghost use Rattle.raw_schema.specs.Members.{Nodes};
 ghost use Rattle.layout_check.specs.ColumnSchema.{SchemaOf};
 ghost use Rattle.stage_model.specs.Traffic.{Made, table_nodes};
-ghost use Rattle.stage_model.specs.Typing.{IsStageOver, Stage};
+ghost use Rattle.stage_model.specs.Typing.{IsStageOver, Stage, most_columns};
 ghost use Rattle.stream_face.specs.Lawful.{column_leaves};
 ghost use Rattle.stage_kernels.specs.Plain.{ArePlain, IsMade};
 ghost use Rattle.stage_kernels.specs.Structs.{column_structs};
@@ -18,7 +18,8 @@ pub fn stages_keep_columns()
         → All (λ c. AreColumnKinds c.kind) columns → All (λ c. AreColumnKinds c.kind) stage.columns }
     ensures plain { (columns : List Column) (stage : Stage) → IsStageOver columns stage → IsMade stage.step → ArePlain columns → ArePlain stage.columns }
     ensures leaves { (columns : List Column) (stage : Stage) → IsStageOver columns stage → IsMade stage.step
-        → column_leaves stage.columns ≤ column_leaves columns }
+        → column_leaves columns ≤ most_columns → column_leaves stage.columns ≤ most_columns }
+    ensures few { (columns : List Column) (stage : Stage) → IsStageOver columns stage → length stage.columns ≤ most_columns }
     ensures structs { (columns : List Column) (stage : Stage) → IsStageOver columns stage → IsMade stage.step
         → column_structs stage.columns ≤ 1 + column_structs columns }
 {}

@@ -18,6 +18,7 @@ use Rattle.stage_plan.specs.declared.typing.Plan.{Plan}
 use Rattle.stage_chain.specs.Plans.{AreStages, links_of, plan_stages, stages_by, stages_in}
 use Rattle.stage_chain.specs.declared.planned.PlannedStage.{PlannedStage}
 
+-- ---- the stages, one behind the other
 -- where nothing is left, no stage is
 pub no_stages : (planned : List PlannedStage) (len : ℕ) → len ≡ length planned → len ≡ 0 → stages_in planned ≡ []
 no_stages [] len is none = refl
@@ -63,6 +64,7 @@ are_stages number columns (text ∷ texts) stages e made =
     subst (AreStages columns) (sym taken.4)
     ((text, taken.2), both.0, are_stages (number + 1) stage.columns texts more behind both.1)
 
+-- ---- the stages of a plan
 by-parts : (stages : List Stage) → stages_by (map (λ (s : Stage). s.step) stages) (map (λ (s : Stage). s.columns) stages) ≡ stages
 by-parts [] = refl
 by-parts (stage ∷ stages) = ap (λ more. stage ∷ more) (by-parts stages)
@@ -98,6 +100,7 @@ last-link-is columns texts plan is =
     ∙ last-link columns is.stages
     ∙ ap (last_columns columns) (sym (plan-stages-are columns texts plan is))
 
+-- ---- columns that have texts
 has-text : (kind : Kind) → is_struct kind ≡ false → AreColumnKinds kind → HasTexts kind
 has-text (Flat kind) plain is = is
 has-text (Dict kind) plain is = is

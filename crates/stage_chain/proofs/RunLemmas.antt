@@ -40,6 +40,7 @@ fresh_at m n code a b seen shown lawful repeats tells zero = record {
   no_failure = works_before m.failure code (λ refusal e. tells_refusal code n.said refusal tells (repeats.same refusal e).1) zero;
 }
 
+-- ---- calls that answer 0
 -- no call was made yet
 pub Ran-start : (s : Stream) (seen : Option (List Seen)) (t : Tally) → Ran s s seen seen t t
 Ran-start s seen t = record {
@@ -80,6 +81,7 @@ Ran-next s m n before middle after a b d e code out ran zero keeps shows counts 
   fewer_nodes = omega (arith, ran.fewer_nodes, counts.fewer_nodes);
 }
 
+-- ---- the last call, and one that refuses
 -- a call that refuses, or one behind which the run stops
 refused_fresh : (s m n : Stream) (before middle after : Option (List Seen)) (a b : Tally) (code : ℤ) (out : ArrayTree) → Ran s m before middle a b
     → Shows m.joints n.joints code out middle after → ShowsSome s.joints before after

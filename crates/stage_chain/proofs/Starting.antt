@@ -1,7 +1,9 @@
 -- What the start of a stage asks for.
 use Rattle.std.proofs.Common.{◌≡◌, ◌≤◌, ◌<◌, ◌+◌, ◌*◌, ◌++◌, ℕ, zero, suc, List, [], ◌∷◌, All, map, length, get_or, Some, refl, sym, ◌∙◌, ap, subst, arith}
+use Rattle.std.proofs.lemmas.List.{length-append, length-map}
 use Rattle.std.proofs.lemmas.List.Sums.{sum_by-cons}
-use Rattle.std.specs.List.{sum_by}
+use Rattle.std.specs.List.{flat_map, sum_by}
+use Rattle.fmt_string.specs.Parts.{picked}
 use Rattle.fmt_string.specs.ColumnForms.{AreColumnKinds, KindsOk, MembersAreColumns, MembersOk}
 use Rattle.fmt_string.specs.ColumnView.{column_of}
 use Rattle.fmt_string.specs.Table.{Column, Row, Kind, Flat, Dict, Columns, Members, no_members, more_members}
@@ -15,12 +17,13 @@ use Rattle.stage_kernels.specs.Plain.{ArePlain}
 use Rattle.stage_kernels.specs.Unpacks.{UnpackFits}
 use Rattle.stage_kernels.specs.Structs.{column_structs, most_structs}
 use Rattle.stage_model.specs.Stages.{chunks_after}
-use Rattle.stage_model.specs.Typing.{FitsColumns, HasColumns}
+use Rattle.stage_model.specs.Typing.{FitsColumns, HasColumns, no_column, totals_columns}
 use Rattle.stage_model.specs.declared.stage.Const.{Const}
 use Rattle.stage_model.specs.declared.stage.Test.{Test}
 use Rattle.stage_model.specs.declared.stage.Step.{Step}
 use Rattle.stage_model.specs.declared.stage.Step.TheVariants as steps
 use Rattle.stream_face.specs.Streams.{Stream, Traffic}
+use Rattle.total_stage.specs.Works.{TotalsFits}
 
 mutual
   kind-ok : (kind : Kind) → AreColumnKinds kind → KindsOk kind
@@ -88,6 +91,24 @@ unpack-fits column place out kept before step same whole is within after few =
       is_struct = made.1;
       columns = made.2;
       few_structs = few;
+    })
+
+length-totals : (columns : List Column) → length (flat_map totals_columns columns) ≡ 4 * length columns
+length-totals [] = refl
+length-totals (c ∷ cs) = let e = length-totals cs in let both = length-append (totals_columns c) (flat_map totals_columns cs) in omega (arith, e, both)
+
+pub totals-fits : (picks items : List ℕ) (out kept : List ColumnType) (before : List Column) (step : Step) → items ≡ picks → kept ≡ out
+    → step ≡ steps.Totals picks → FitsColumns (length before) step → HasColumns before step (map column_of out)
+    → length (map column_of out) ≤ 4096 → TotalsFits items kept before
+totals-fits picks items out kept before step same whole is within after few =
+    let made = subst (λ s. HasColumns before s (map column_of out)) is after in
+    let as_many = ap length made.1 in
+    let four = length-totals (picked no_column picks before) in
+    let picked_many = length-map picks (λ p. get_or before p no_column) in
+    rw (same, whole) (record {
+      can = record { within = subst (FitsColumns (length before)) is within; summed = made.0 };
+      columns = made.1;
+      few = omega (arith, few, as_many, four, picked_many);
     })
 
 -- ---- what it counts

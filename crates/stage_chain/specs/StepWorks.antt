@@ -11,6 +11,7 @@ use Rattle.stage_kernels.specs.Unpacks.{UnpackFits}
 use Rattle.stage_model.specs.Stages.{chunks_after}
 use Rattle.stage_model.specs.declared.stage.Step.TheVariants as steps
 use Rattle.stream_face.specs.Streams.{Stream, Traffic}
+use Rattle.total_stage.specs.Works.{TotalsFits, totals_ahead}
 use Rattle.stage_chain.specs.declared.step_work.StepWork.{StepWork}
 use Rattle.stage_chain.specs.declared.step_work.StepWork.TheVariants as works
 
@@ -21,6 +22,7 @@ work_fits (works.Slice w) before = SliceFits w.out before
 work_fits (works.Filter w) before = FilterFits w.column w.out before
 work_fits (works.Pack w) before = PackFits w.rest.items w.picks.items w.out before
 work_fits (works.Unpack w) before = UnpackFits w.place w.out before
+work_fits (works.Totals w) before = TotalsFits w.picks.items w.out before
 
 -- the columns after it
 abbrev pub work_columns : StepWork → List Column → List Column
@@ -29,6 +31,7 @@ work_columns (works.Slice w) before = map column_of w.out
 work_columns (works.Filter w) before = map column_of w.out
 work_columns (works.Pack w) before = map column_of w.out
 work_columns (works.Unpack w) before = map column_of w.out
+work_columns (works.Totals w) before = map column_of w.out
 
 -- the tables that it still gives
 abbrev pub work_ahead : StepWork → Stream → List (List Row)
@@ -37,6 +40,7 @@ work_ahead (works.Slice w) up = chunks_after (steps.Slice w.skip w.keep) up.endi
 work_ahead (works.Filter w) up = chunks_after (steps.Filter w.column w.test w.constant) up.ending up.ahead
 work_ahead (works.Pack w) up = chunks_after (steps.Pack w.rest.items w.picks.items) up.ending up.ahead
 work_ahead (works.Unpack w) up = chunks_after (steps.Unpack w.place) up.ending up.ahead
+work_ahead (works.Totals w) up = totals_ahead w.picks.items w.given up.ending up.ahead
 
 -- the blocks and nodes that its calls still count
 abbrev pub work_due : StepWork → Stream → Traffic
@@ -51,3 +55,5 @@ work_due (works.Pack w) up =
 work_due (works.Unpack w) up =
     let step = steps.Unpack w.place in
     due_with step (map column_of w.out) (chunks_after step up.ending up.ahead) up.due
+work_due (works.Totals w) up =
+    due_with (steps.Totals w.picks.items) (map column_of w.out) (totals_ahead w.picks.items w.given up.ending up.ahead) up.due

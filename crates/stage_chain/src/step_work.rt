@@ -20,6 +20,7 @@ use stages::{OutColumns, Work};
 use std::alloc::Global;
 use std::thread::Threads;
 use stream_face::{ArrayStream, RawStream, Tap};
+use total_stage::TotalsWork;
 use unit_pass::{NoMemory, Pass};
 
 /// The work of a step.
@@ -30,6 +31,7 @@ pub(crate) enum StepWork {
     Filter(FilterWork),
     Pack(PackWork),
     Unpack(UnpackWork),
+    Totals(TotalsWork),
 }
 
 /// The work of a step, whose columns after it these are. Takes no memory.
@@ -43,6 +45,7 @@ pub(crate) fn work_of(step: Step, out: OutColumns) -> StepWork
     ensures due { (up : Stream) → work_due result up ≡ due_with step (map column_of out) (chunks_after step up.ending up.ahead) up.due }
 {
     plan_laws::picks_are_distinct();
+    plan_laws::stages_keep_columns();
     stage_model::stages_fit_their_columns();
     match step {
         Step::Select { picks } => StepWork::Select(SelectWork::new(picks.into_vec(), out)),
@@ -56,7 +59,8 @@ pub(crate) fn work_of(step: Step, out: OutColumns) -> StepWork
             StepWork::Pack(PackWork::new(rest.into_vec(), picks.into_vec(), out))
         }
         Step::Unpack { column } => StepWork::Unpack(UnpackWork::new(column, out)),
-        Step::Dict { .. } | Step::Plain { .. } | Step::Totals { .. } => unreachable!(),
+        Step::Totals { columns } => StepWork::Totals(TotalsWork::new(columns.into_vec(), out)),
+        Step::Dict { .. } | Step::Plain { .. } => unreachable!(),
     }
 }
 
@@ -76,6 +80,7 @@ impl Work for StepWork {
             StepWork::Filter(work) => work.schema(alloc, pass),
             StepWork::Pack(work) => work.schema(alloc, pass),
             StepWork::Unpack(work) => work.schema(alloc, pass),
+            StepWork::Totals(work) => work.schema(alloc, pass),
         }
     }
 
@@ -95,6 +100,7 @@ impl Work for StepWork {
             StepWork::Filter(work) => work.next(up, rt, alloc, out, pass, tap, gate),
             StepWork::Pack(work) => work.next(up, rt, alloc, out, pass, tap, gate),
             StepWork::Unpack(work) => work.next(up, rt, alloc, out, pass, tap, gate),
+            StepWork::Totals(work) => work.next(up, rt, alloc, out, pass, tap, gate),
         }
     }
 
@@ -105,6 +111,7 @@ impl Work for StepWork {
             StepWork::Filter(work) => work.lawful_facts(),
             StepWork::Pack(work) => work.lawful_facts(),
             StepWork::Unpack(work) => work.lawful_facts(),
+            StepWork::Totals(work) => work.lawful_facts(),
         }
     }
 }

@@ -106,6 +106,7 @@ long-members (more_members name kind rest) place vs plain zero d small =
     omega (arith, long-tree kind (member_values place vs) plain.0, length-map vs (λ (v : Value). get_or (fields_of v) place Null))
 long-members (more_members name kind rest) place vs plain (suc k) d small = long-members rest (place + 1) vs plain.1 k d (omega (arith, small))
 
+-- ---- the array of a column, at all depths
 module _ (flat_lawful : FlatLawful) (flat_valued : FlatValued) (table_lawful : TableLawful) (table_valued : TableValued) where
   mutual
     lawful-tree : (kind : Kind) (vs : List Value) → AreColumnKinds kind → HasNoDict kind → AreItems kind vs → length vs ≤ 2 ^ 30

@@ -151,6 +151,7 @@ is-whole (kinds.Duration tick) ok = of-bits 64 (inr (inr (inr refl)))
 is-whole kinds.IntervalMonths ok = of-bits 32 (inr (inr (inl refl)))
 is-whole _ ok = tt
 
+-- ---- the values of a form
 -- a null, or a value of the form
 abbrev IsOf : Form → Value → Type 0
 IsOf form Null = Unit {0}

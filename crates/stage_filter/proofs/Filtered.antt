@@ -204,6 +204,7 @@ filter-answers makes gives column test constant columns s n code out made live a
       codes = inl refl;
     }
 
+-- ---- what the filter counts
 risen-more : (a b c m n : ℕ) → b ≡ risen a m → c ≡ risen b n → c ≡ risen a (m + n)
 risen-more a b c m n e f = omega (arith, e, f)
 

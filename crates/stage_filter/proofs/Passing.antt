@@ -20,6 +20,7 @@ use Rattle.stage_filter.specs.Moving.{CanMoveRows}
 use Rattle.stage_filter.proofs.Numbers.{kept-are, kept-below, length-numbers}
 use Rattle.stage_filter.proofs.Sifted.{fewer, filter-sifted, table-filtered}
 
+-- ---- how many rows are kept
 length-each : {X : Type 0} (f : ℕ → X) (from n : ℕ) → length (each f from n) ≡ n
 length-each f from zero = refl
 length-each f from (suc n) = ap suc (length-each f (suc from) n)
@@ -37,6 +38,7 @@ few-kept p from n =
     let e = ap length (filter-sifted p (numbers from n)) in
     omega (arith, e, fewer (map p (numbers from n)) (numbers from n), length-numbers from n)
 
+-- ---- the rows that pass
 -- the kept rows, and that they can be moved
 pub record IsPassing (column : ℕ) (test : Test) (constant : Const) (columns : List Column) (chunk : ArrayTree) (w : Window) (kept : List ℕ) : Type 0 where
   pub can : CanMoveRows columns w kept

@@ -126,6 +126,7 @@ rows-are kids w count typed (i ∷ kept) has =
     ∙ ap (λ (rows : List Row). fields_of (item_at w i) ∷ rows)
     (rows-are kids w count typed kept (All-tail (HasFields count) (item_at w i) (items_at w kept) has))
 
+-- ---- the columns of a struct
 -- the columns of a struct, and its rows
 pub record IsStruct (kind : Kind) (columns : List Column) (w : Window) (kept : List ℕ) : Type 0 where
   pub can : CanMoveRows columns w kept

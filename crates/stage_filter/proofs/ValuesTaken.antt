@@ -21,6 +21,7 @@ use Rattle.col_build.specs.declared.item.PushFault.TheVariants.{WrongKind, OutOf
 use Rattle.stream_face.specs.Lawful.{AreValues}
 use Rattle.stage_filter.specs.Moving.{IsStored}
 
+-- ---- numbers and lengths in their ranges
 -- a decimal is stored in 128 bits
 power-38 : (precision : ℕ) → precision ≤ 38 → 10 ^ precision ≤ 10 ^ 38
 power-38 precision few = pow-le-pow_right {n = 10} (omega arith) {i = precision} {j = 38} few
@@ -50,6 +51,7 @@ has-room (kinds.Binary true) ok = tt
 has-room (kinds.Binary false) ok = tt
 has-room _ ok = tt
 
+-- ---- one value
 form-takes : (wide : Bool) (form : Form) (values : List Value) (v : Value) → HasRoom (Some form) → IsOfForm form v
     → byte_total values + length (bytes_of v) < 2 ^ 31 → fault_if wide (Some form) values v ≡ None
 form-takes wide Truths values (Truth t) room of small =

@@ -25,6 +25,7 @@ use Rattle.stage_filter.specs.Kept.{items_at, rows_at}
 use Rattle.stage_filter.specs.KeptTrees.{chunk_tree, kind_tree, trees_from}
 use Rattle.stage_filter.specs.Plain.{HasNoDict, ArePlain, most_cost, most_of_columns}
 
+-- ---- what can be moved
 -- null, or a value that is stored so
 abbrev pub IsStored : Storage → Value → Type 0
 IsStored storage Null = Unit {0}
@@ -67,6 +68,7 @@ pub record CanMoveRows (columns : List Column) (w : Window) (kept : List ℕ) : 
   pub not_deep : Depth (type_of_columns columns) ≤ 127
   pub small : most_of_columns columns ≤ CHUNK
 
+-- ---- what was moved
 -- the array of these values was made, of its units, blocks and nodes
 pub record IsMoved (kind : Kind) (values : List Value) (tree : ArrayTree) (before after : Tally) : Type 0 where
   pub tree_is : tree ≡ kind_tree kind values

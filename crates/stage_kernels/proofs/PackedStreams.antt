@@ -293,6 +293,7 @@ last-values rest picks [] = refl
 last-values rest picks (row ∷ rows) = λ i.
     get_or_push (picked Null rest row) (struct_item picks row) Null (length rest) (length-map rest (λ p. get_or row p Null)) i ∷ last-values rest picks rows i
 
+-- ---- the struct's items
 have-fields : (picks : List ℕ) (columns : List Column) (rows : List Row)
     → All (HasFields (length (member_columns (members (picked_columns picks columns))))) (map (struct_item picks) rows)
 have-fields picks columns [] = All-nil (HasFields (length (member_columns (members (picked_columns picks columns)))))
@@ -327,6 +328,7 @@ struct-items picks columns rows within table = (
   subst (AreFieldItems (members (picked_columns picks columns))) (sym (fields-back picks rows)) (fields-are picks columns rows within table),
 )
 
+-- ---- packed tables
 packed-items : (made : List ℕ) (rest picks : List ℕ) (columns : List Column) (rows : List Row) → Numbers rest picks columns → IsTable columns rows
     → (k : ℕ) (none : Column) → (k < length rest) ⊎ (k ≡ length rest)
     → AreItems (get_or (packed_columns no_column made rest picks columns) k none).kind (column_values k (map (packed rest picks) rows))

@@ -10,6 +10,7 @@ use Rattle.stream_face.specs.Streams.{IsFresh, Keeps, Stream, Traffic}
 use Rattle.stream_face.specs.Texts.{Refusal}
 use Rattle.stream_face.proofs.Joints.{grown-append, of_link-append, tells_nothing, tells_refusal, works_before}
 
+-- ---- runs and calls
 -- what was shown and counted from one moment of a lawful stream to a later one
 pub record Went (old new : Stream) (seen later : Option (List Seen)) (before after : Tally) : Type 0 where
   pub shown : List Seen
@@ -63,6 +64,7 @@ grown-nil (Some before) = ap Some (sym (append-nil before))
 risen-add : (a b c m n : ℕ) → b ≡ risen a m → c ≡ risen b n → c ≡ risen a (m + n)
 risen-add a b c m n e f = omega (arith, e, f)
 
+-- ---- the start of a run, and what it shows and counts
 -- no call was made yet
 pub Ran-start : (s : Stream) (seen : Option (List Seen)) (t : Tally) → t.blocks < 2 ^ 64 → t.nodes < 2 ^ 64 → Ran s s seen seen t t
 Ran-start s seen t blocks nodes = record {
@@ -116,6 +118,7 @@ Ran-counts s m n out given before middle a b d e went counts blocks nodes gone =
   no_nodes = λ released. counts.no_nodes (gone released);
 }
 
+-- ---- refusals, and runs without one
 -- a stream that has refused answers the same behind a run
 pub Ran-repeats : (s m n : Stream) (code done : ℤ) (before middle after : Option (List Seen)) (a b d : Tally) → done ≡ code → Ran s m before middle a b
     → Repeats m n code b d middle after → Repeats s n done a d before after

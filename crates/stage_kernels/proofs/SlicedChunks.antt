@@ -96,6 +96,7 @@ part-some : (skip keep : ℕ) (t : ArrayTree) → (kept_count skip keep (tree_it
     → kept_part skip keep t ≡ Window t (pos skip) (pos (kept_count skip keep (tree_items t)))
 part-some skip keep t h = rw (ne_eqb (kept_count skip keep (tree_items t)) 0 h) refl
 
+-- ---- what is kept of a chunk
 -- a chunk of which rows are kept is followed by what is kept of the others
 after-chunk : (skip keep n : ℕ) (rows : List Row) (chunks : List (List Row)) → length rows ≡ n
     → sliced_chunks skip keep (0 + length rows) chunks ≡ sliced_chunks (skip - n) (keep - (n - skip)) 0 chunks

@@ -36,6 +36,7 @@ module _ {X : Type 0} (place : ℕ) (inner xs : List X) (inside : place < length
       ∙ get_or-append-add (take place xs ++ inner) (drop (place + 1) xs) j d
       ∙ get_or-drop (place + 1) xs j d
 
+-- ---- what holds of each item
 -- what holds of each item of both lists, each with a value, holds of each item of the new list
 module _ {X V : Type 0} (P : X → V → Type 0) (place : ℕ) (inner xs : List X) (inside : place < length xs) (whole outer within : ℕ → V)
     (front : (k : ℕ) → k < place → whole k ≡ outer k)

@@ -21,6 +21,7 @@ use Rattle.column_laws.specs.Picking.{AreLive, Unpacked, cut_children}
 use Rattle.stage_model.specs.Typing.{column_at, no_column}
 use Rattle.stage_kernels.specs.Unpacks.{HasStruct, ShowsChildren, ShowsInner}
 
+-- ---- laws of structs, and costs of children
 -- what is known of lawful structs
 pub record StructLaws : Type 0 where
   pub live : (types : List KindTree) (t : ArrayTree) → LayoutOk (table_type types) t → IsLive t
@@ -69,6 +70,7 @@ children-cost : (t : ArrayTree) → IsLive t → cost_of_all (trees (children_of
 children-cost Released live = absurd live
 children-cost (Live m ts d) live = let same = ap cost_of_all (trees-tree_list ts) in omega (arith, same)
 
+-- ---- what a chunk and a struct in it offer
 module _ (laws : StructLaws) where
   pub shown : (types : List KindTree) (t : ArrayTree) → AreLive types → LayoutOk (table_type types) t → ShowsChildren t
   shown types t live ok = record {
@@ -107,6 +109,7 @@ module _ (laws : StructLaws) where
             (subst (λ z. LayoutOk (table_type inner) (Window (child_at t place) z (pos (items (members_of t))))) off cut));
       }
 
+  -- ---- the columns that stand in a table
   -- the columns of a lawful struct may stand in a table
   child-column : (types : List KindTree) (t : ArrayTree) → AreLive types → LayoutOk (table_type types) t → Depth t ≤ 128
       → (k : ℕ) → k < length (children_of t) → IsColumn (items (members_of t)) (child_at t k)

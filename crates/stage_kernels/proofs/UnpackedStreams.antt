@@ -114,6 +114,7 @@ depth-around (x ∷ xs) (suc place) inside =
     let f = ap (λ n. depth (drop n (x ∷ xs))) s in
     omega (arith, e, f)
 
+-- ---- the columns with the struct's in its place
 module _ (place : ℕ) (fields : Members) (columns : List Column) (inside : place < length columns)
     (is_struct : (column_at columns place).kind ≡ Columns fields) where
   abbrev inner : List Column

@@ -23,5 +23,4 @@ ArePlain columns = All (λ c. HasNoDict c.kind) columns
 abbrev pub IsMade : Step → Type 0
 IsMade (steps.Dict column) = ⊥
 IsMade (steps.Plain column) = ⊥
-IsMade (steps.Totals columns) = ⊥
 IsMade _ = Unit {0}

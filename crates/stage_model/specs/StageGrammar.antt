@@ -125,6 +125,7 @@ stage_words =
     stage_word (codes "filter") (λ arguments. read_filter (cut_at comma arguments)) ∷
     stage_word (codes "pack") (λ arguments. read_pack (cut_at comma arguments)) ∷
     stage_word (codes "unpack") (λ arguments. one_name (λ name. texts.Unpack name) (names_in arguments)) ∷
+    stage_word (codes "totals") (λ arguments. Some (texts.Totals (names_in arguments))) ∷
     []
 
 -- the stages that have a meaning here, and no name yet
@@ -132,7 +133,6 @@ abbrev pub later_words : List StageWord
 later_words =
     stage_word (codes "dict") (λ arguments. one_name (λ name. texts.Dict name) (names_in arguments)) ∷
     stage_word (codes "plain") (λ arguments. one_name (λ name. texts.Plain name) (names_in arguments)) ∷
-    stage_word (codes "totals") (λ arguments. Some (texts.Totals (names_in arguments))) ∷
     []
 
 abbrev pub word_named : List StageWord → List ℕ → Option StageWord

@@ -32,7 +32,9 @@ pub fn worked_texts()
     ensures pack_of_none { stage_of (codes "pack=p") ≡ Err BadArguments }
     ensures unpack_of_two { stage_of (codes "unpack=p,q") ≡ Err BadArguments }
     ensures not_yet { stage_of (codes "dict=a") ≡ Err UnknownStage }
-    ensures later { stage_by later_words (codes "totals=a,b") ≡ Ok (texts.Totals (codes "a" ∷ codes "b" ∷ [])) }
+    ensures later { stage_by later_words (codes "plain=a") ≡ Ok (texts.Plain (codes "a")) }
+    ensures totals { stage_of (codes "totals=a,b") ≡ Ok (texts.Totals (codes "a" ∷ codes "b" ∷ [])) }
+    ensures totals_alone { stage_of (codes "totals") ≡ Err BadArguments }
 {}
 
 /// Stages that are refused, by their texts and over columns.

@@ -100,6 +100,7 @@ new_name es e none k d within same =
     let is : bytes_eq e.name (slice_index_or es k d).name ≡ true = (bytes_eq-Decides e.name (slice_index_or es k d).name).1 (sym same) in
     true≢false (sym (list_any_at (λ x. bytes_eq e.name x.name) es k d within is) ∙ none)
 
+-- ---- one entry more
 -- one entry more
 pub push_settled : (part : List ℕ) (e : TypeEntry) (ps : List (List ℕ)) (fs : List TypeEntry) → Settled ps fs → Settles part (Some e)
     → Settled (ps ++ part ∷ []) (fs ++ e ∷ [])

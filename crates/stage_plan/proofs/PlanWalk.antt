@@ -14,6 +14,7 @@ use Rattle.stage_model.specs.declared.stage.StageText.{StageText}
 use Rattle.stage_model.specs.declared.stage.Step.{Step}
 use Rattle.stage_plan.proofs.Twice.{rest-cons}
 
+-- ---- a stage before others
 -- stages before those of the rest, or the rest's fault
 abbrev pub with_stages : List Stage → Result (List Stage) PlanFault → Result (List Stage) PlanFault
 with_stages done (Ok rest) = Ok (done ++ rest)
@@ -34,6 +35,7 @@ fault-first : (number : ℕ) (r : Result Stage PlanRule) (rest : Result (List St
 fault-first number (Ok s) rest f e = let never : ◌≡◌ {A = Result (List Stage) PlanFault} (Ok (s ∷ [])) (Err f) = e in absurd (cc)
 fault-first number (Err rule) rest f e = e
 
+-- ---- the plan up to a place
 -- the stages before a place, and the columns behind them
 pub record PlannedTo (columns : List Column) (texts : List StageText) (place : ℕ) (now : List Column) (links : List (List Column))
     (steps : List Step) : Type 0 where

@@ -74,6 +74,7 @@ module _ (some : (text : List ℕ) → (read : Result DataType FormatFault) × F
       go (inl lacks) = (None, (inl lacks, no_entry part lacks))
       go (inr (name, format, cut)) = cut-settles name format cut (type-settles format).0 (type-settles format).1
 
+  -- ---- the reading of a whole text
   -- the reading of a text, which has no other
   abbrev TextSettles : List ℕ → Answer → Type 0
   TextSettles text read = Reads text read × ((other : Answer) → Reads text other → other ≡ read)

@@ -13,6 +13,7 @@ use Rattle.stage_plan.proofs.Cuts.{tail_all}
 some-same : {X : Type 0} (x y : X) → ◌≡◌ {A = Option X} (Some x) (Some y) → x ≡ y
 some-same x y e = cc
 
+-- ---- the first cut, and what stands behind it
 -- a slice up to a place, and one from behind it on
 pub cut-parts : (text : List ℕ) (place : ℕ) (front back : List ℕ) → front ≡ take place text → back ≡ drop place text
     → cut_behind text place ≡ record { front = front; behind = take (length back - 1) (drop 1 back) }
@@ -50,6 +51,7 @@ cut-shorter byte text cut e =
     let place = position_or_len (λ b. b == byte) text in
     subst (λ (c : Cut). length c.behind < length text) (sym here.is) (omega (arith, length-drop (place + 1) text, here.within))
 
+-- ---- a text without the byte
 none-passes : (p : ℕ → Bool) (x : ℕ) (xs : List ℕ) → nat_lt (position_or_len p (x ∷ xs)) (length (x ∷ xs)) ≡ false
     → (p x ≡ false) × (nat_lt (position_or_len p xs) (length xs) ≡ false)
 none-passes p x xs e = go (p x) refl

@@ -32,6 +32,7 @@ not_named seen e more differ (k, x, within, at, same) =
     at_seam [] = refl
     at_seam (y ∷ s) = at_seam s
 
+-- ---- the parts, one after another
 module _ (E : List ℕ → Option TypeEntry → Type 0) where
   -- what the parts read as, behind the entries seen
   pub Walks : List TypeEntry → List (List ℕ) → Answer → Type 0
@@ -82,6 +83,7 @@ module _ (E : List ℕ → Option TypeEntry → Type 0) where
             (subst (λ (l : List TypeEntry). Fails l part rule) (sym regroup) fails)),
       ))
 
+-- ---- each part reads as one thing
 -- the reading of a part, which has no other
 abbrev pub Settles : List ℕ → Option TypeEntry → Type 0
 Settles part read = EntryReads part read × ((other : Option TypeEntry) → EntryReads part other → other ≡ read)

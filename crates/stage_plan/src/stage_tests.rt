@@ -55,7 +55,7 @@ static FAULTS: [(&str, StageFault); 15] = [
     ("Select=a", StageFault::UnknownStage),
     ("dict=a", StageFault::UnknownStage),
     ("plain=a", StageFault::UnknownStage),
-    ("totals=a", StageFault::UnknownStage),
+    ("totals", StageFault::BadArguments),
     ("select", StageFault::BadArguments),
     ("filter=a,like,x", StageFault::BadArguments),
     ("filter=a,null,x", StageFault::BadArguments),

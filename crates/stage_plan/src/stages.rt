@@ -45,6 +45,7 @@ enum StageName {
     Filter,
     Pack,
     Unpack,
+    Totals,
 }
 
 /// The stage of a name.
@@ -58,6 +59,7 @@ fn stage_named(word: &[u8]) -> Option<StageName>
         b"filter" => Some(StageName::Filter),
         b"pack" => Some(StageName::Pack),
         b"unpack" => Some(StageName::Unpack),
+        b"totals" => Some(StageName::Totals),
         _ => None,
     }
 }
@@ -91,6 +93,9 @@ fn read_arguments(
         StageName::Filter => read_filter(alloc, arguments),
         StageName::Pack => read_pack(alloc, arguments),
         StageName::Unpack => read_unpack(alloc, arguments),
+        StageName::Totals => Ok(Some(StageText::Totals {
+            names: names_in(alloc, arguments)?,
+        })),
     }
 }
 

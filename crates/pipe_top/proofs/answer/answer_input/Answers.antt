@@ -29,9 +29,10 @@ use Rattle.pipe_top.proofs.answer.answer_input.Goals as goal
 
 pub returns-in-Err-clause-fault : goal.returns-in-Err-clause-fault
 returns-in-Err-clause-fault g c =
-    told-here c.in-Err.fault (request_of c.args.request.now) c.as_slice.result.now c.start-records.result.records (records_of c.args.bytes.now)
-    c.in-Err.ensures.fault c.as_slice.ensures.value c.start-records.ensures.records
+    told-here c.in-Err.fault (request_of c.args.request.now) c.as_slice.result.now c.in_ok-records.records.records (records_of c.args.bytes.now)
+    c.in-Err.ensures.fault c.as_slice.ensures.value c.in_ok-records.ensures.records
 
+-- ---- what the source and the chain ask
 pub source_of-requires-clause-proper : goal.source_of-requires-clause-proper
 source_of-requires-clause-proper g c =
     let request = request_of c.args.request.now in
@@ -39,8 +40,8 @@ source_of-requires-clause-proper g c =
     let cols = map column_of c.in-Ok.columns.items in
     let found : header_of (entries_of request.entries) records ≡ Ok cols =
     subst (λ es. header_of (entries_of es) records ≡ Ok cols) c.as_slice.ensures.value
-    (subst (λ (rs : List Record). header_of (entries_of c.as_slice.result.now) rs ≡ Ok cols) c.start-records.ensures.records c.in-Ok.ensures.found) in
-    let behind = c.in-Ok.ensures.behind ∙ ap behind_header c.start-records.ensures.records in
+    (subst (λ (rs : List Record). header_of (entries_of c.as_slice.result.now) rs ≡ Ok cols) c.in_ok-records.ensures.records c.in-Ok.ensures.found) in
+    let behind = c.in-Ok.ensures.behind ∙ ap behind_header c.in_ok-records.ensures.records in
     let first : map column_of c.read_columns.result.now ≡ cols = c.read_columns.ensures ∙ c.in_ok-plan.ensures.read in
     subst AreProper (sym first) c.in-Ok.ensures.proper
 
@@ -51,8 +52,8 @@ source_of-requires-clause-allowed g c =
     let cols = map column_of c.in-Ok.columns.items in
     let found : header_of (entries_of request.entries) records ≡ Ok cols =
     subst (λ es. header_of (entries_of es) records ≡ Ok cols) c.as_slice.ensures.value
-    (subst (λ (rs : List Record). header_of (entries_of c.as_slice.result.now) rs ≡ Ok cols) c.start-records.ensures.records c.in-Ok.ensures.found) in
-    let behind = c.in-Ok.ensures.behind ∙ ap behind_header c.start-records.ensures.records in
+    (subst (λ (rs : List Record). header_of (entries_of c.as_slice.result.now) rs ≡ Ok cols) c.in_ok-records.ensures.records c.in-Ok.ensures.found) in
+    let behind = c.in-Ok.ensures.behind ∙ ap behind_header c.in_ok-records.ensures.records in
     let first : map column_of c.read_columns.result.now ≡ cols = c.read_columns.ensures ∙ c.in_ok-plan.ensures.read in
     subst AreAllowed (sym first) c.in-Ok.ensures.allowed
 
@@ -63,8 +64,8 @@ drive-requires-clause-flat g c = λ _ _.
     let cols = map column_of c.in-Ok.columns.items in
     let found : header_of (entries_of request.entries) records ≡ Ok cols =
     subst (λ es. header_of (entries_of es) records ≡ Ok cols) c.as_slice.ensures.value
-    (subst (λ (rs : List Record). header_of (entries_of c.as_slice.result.now) rs ≡ Ok cols) c.start-records.ensures.records c.in-Ok.ensures.found) in
-    let behind = c.in-Ok.ensures.behind ∙ ap behind_header c.start-records.ensures.records in
+    (subst (λ (rs : List Record). header_of (entries_of c.as_slice.result.now) rs ≡ Ok cols) c.in_ok-records.ensures.records c.in-Ok.ensures.found) in
+    let behind = c.in-Ok.ensures.behind ∙ ap behind_header c.in_ok-records.ensures.records in
     let first : map column_of c.read_columns.result.now ≡ cols = c.read_columns.ensures ∙ c.in_ok-plan.ensures.read in
     let s = source_state c.in_ok-source.source in
     let is : s ≡ stream_of cols (batches_in request.mark cols (behind_header records) request.batch) =
@@ -79,8 +80,8 @@ drive-requires-clause-plain g c = λ _ _.
     let cols = map column_of c.in-Ok.columns.items in
     let found : header_of (entries_of request.entries) records ≡ Ok cols =
     subst (λ es. header_of (entries_of es) records ≡ Ok cols) c.as_slice.ensures.value
-    (subst (λ (rs : List Record). header_of (entries_of c.as_slice.result.now) rs ≡ Ok cols) c.start-records.ensures.records c.in-Ok.ensures.found) in
-    let behind = c.in-Ok.ensures.behind ∙ ap behind_header c.start-records.ensures.records in
+    (subst (λ (rs : List Record). header_of (entries_of c.as_slice.result.now) rs ≡ Ok cols) c.in_ok-records.ensures.records c.in-Ok.ensures.found) in
+    let behind = c.in-Ok.ensures.behind ∙ ap behind_header c.in_ok-records.ensures.records in
     let first : map column_of c.read_columns.result.now ≡ cols = c.read_columns.ensures ∙ c.in_ok-plan.ensures.read in
     let s = source_state c.in_ok-source.source in
     let is : s ≡ stream_of cols (batches_in request.mark cols (behind_header records) request.batch) =
@@ -88,6 +89,7 @@ drive-requires-clause-plain g c = λ _ _.
     c.in_ok-source.ensures c.as_slice-mark.ensures first behind in
     subst (λ (m : Stream). ArePlain m.columns) (sym is) (proper-plain cols c.in-Ok.ensures.proper)
 
+-- ---- the text of the table
 pub returns-in-Ok-drive-clause-text : goal.returns-in-Ok-drive-clause-text
 returns-in-Ok-drive-clause-text g c =
     let request = request_of c.args.request.now in
@@ -95,8 +97,8 @@ returns-in-Ok-drive-clause-text g c =
     let cols = map column_of c.in-Ok.columns.items in
     let found : header_of (entries_of request.entries) records ≡ Ok cols =
     subst (λ es. header_of (entries_of es) records ≡ Ok cols) c.as_slice.ensures.value
-    (subst (λ (rs : List Record). header_of (entries_of c.as_slice.result.now) rs ≡ Ok cols) c.start-records.ensures.records c.in-Ok.ensures.found) in
-    let behind = c.in-Ok.ensures.behind ∙ ap behind_header c.start-records.ensures.records in
+    (subst (λ (rs : List Record). header_of (entries_of c.as_slice.result.now) rs ≡ Ok cols) c.in_ok-records.ensures.records c.in-Ok.ensures.found) in
+    let behind = c.in-Ok.ensures.behind ∙ ap behind_header c.in_ok-records.ensures.records in
     let first : map column_of c.read_columns.result.now ≡ cols = c.read_columns.ensures ∙ c.in_ok-plan.ensures.read in
     let plan = c.in_ok-plan.plan in
     let stages = plan_stages plan in
@@ -120,8 +122,8 @@ returns-in-Ok-drive-clause-counts g c =
     let cols = map column_of c.in-Ok.columns.items in
     let found : header_of (entries_of request.entries) records ≡ Ok cols =
     subst (λ es. header_of (entries_of es) records ≡ Ok cols) c.as_slice.ensures.value
-    (subst (λ (rs : List Record). header_of (entries_of c.as_slice.result.now) rs ≡ Ok cols) c.start-records.ensures.records c.in-Ok.ensures.found) in
-    let behind = c.in-Ok.ensures.behind ∙ ap behind_header c.start-records.ensures.records in
+    (subst (λ (rs : List Record). header_of (entries_of c.as_slice.result.now) rs ≡ Ok cols) c.in_ok-records.ensures.records c.in-Ok.ensures.found) in
+    let behind = c.in-Ok.ensures.behind ∙ ap behind_header c.in_ok-records.ensures.records in
     let first : map column_of c.read_columns.result.now ≡ cols = c.read_columns.ensures ∙ c.in_ok-plan.ensures.read in
     let plan = c.in_ok-plan.plan in
     let stages = plan_stages plan in
@@ -141,8 +143,8 @@ returns-in-Ok-drive-clause-shows g c =
     let cols = map column_of c.in-Ok.columns.items in
     let found : header_of (entries_of request.entries) records ≡ Ok cols =
     subst (λ es. header_of (entries_of es) records ≡ Ok cols) c.as_slice.ensures.value
-    (subst (λ (rs : List Record). header_of (entries_of c.as_slice.result.now) rs ≡ Ok cols) c.start-records.ensures.records c.in-Ok.ensures.found) in
-    let behind = c.in-Ok.ensures.behind ∙ ap behind_header c.start-records.ensures.records in
+    (subst (λ (rs : List Record). header_of (entries_of c.as_slice.result.now) rs ≡ Ok cols) c.in_ok-records.ensures.records c.in-Ok.ensures.found) in
+    let behind = c.in-Ok.ensures.behind ∙ ap behind_header c.in_ok-records.ensures.records in
     let first : map column_of c.read_columns.result.now ≡ cols = c.read_columns.ensures ∙ c.in_ok-plan.ensures.read in
     let plan = c.in_ok-plan.plan in
     let stages = plan_stages plan in
@@ -156,6 +158,7 @@ returns-in-Ok-drive-clause-shows g c =
     subst (λ links. ShowsAll (link_shows links) (g.T.Tap.seen c.args.tap.now) (g.T.Tap.seen c.drive.new.tap))
     (chain-links-are request records cols found stages planned s is) c.in-Ok-drive.ensures.shows
 
+-- ---- the fault of a record
 pub returns-in-Err-drive-clause-fault : goal.returns-in-Err-drive-clause-fault
 returns-in-Err-drive-clause-fault g c =
     let request = request_of c.args.request.now in
@@ -163,8 +166,8 @@ returns-in-Err-drive-clause-fault g c =
     let cols = map column_of c.in-Ok.columns.items in
     let found : header_of (entries_of request.entries) records ≡ Ok cols =
     subst (λ es. header_of (entries_of es) records ≡ Ok cols) c.as_slice.ensures.value
-    (subst (λ (rs : List Record). header_of (entries_of c.as_slice.result.now) rs ≡ Ok cols) c.start-records.ensures.records c.in-Ok.ensures.found) in
-    let behind = c.in-Ok.ensures.behind ∙ ap behind_header c.start-records.ensures.records in
+    (subst (λ (rs : List Record). header_of (entries_of c.as_slice.result.now) rs ≡ Ok cols) c.in_ok-records.ensures.records c.in-Ok.ensures.found) in
+    let behind = c.in-Ok.ensures.behind ∙ ap behind_header c.in_ok-records.ensures.records in
     let first : map column_of c.read_columns.result.now ≡ cols = c.read_columns.ensures ∙ c.in_ok-plan.ensures.read in
     let plan = c.in_ok-plan.plan in
     let stages = plan_stages plan in
@@ -186,8 +189,8 @@ returns-in-Err-drive-clause-shows_some g c =
     let cols = map column_of c.in-Ok.columns.items in
     let found : header_of (entries_of request.entries) records ≡ Ok cols =
     subst (λ es. header_of (entries_of es) records ≡ Ok cols) c.as_slice.ensures.value
-    (subst (λ (rs : List Record). header_of (entries_of c.as_slice.result.now) rs ≡ Ok cols) c.start-records.ensures.records c.in-Ok.ensures.found) in
-    let behind = c.in-Ok.ensures.behind ∙ ap behind_header c.start-records.ensures.records in
+    (subst (λ (rs : List Record). header_of (entries_of c.as_slice.result.now) rs ≡ Ok cols) c.in_ok-records.ensures.records c.in-Ok.ensures.found) in
+    let behind = c.in-Ok.ensures.behind ∙ ap behind_header c.in_ok-records.ensures.records in
     let first : map column_of c.read_columns.result.now ≡ cols = c.read_columns.ensures ∙ c.in_ok-plan.ensures.read in
     let plan = c.in_ok-plan.plan in
     let stages = plan_stages plan in

@@ -1,4 +1,4 @@
-use Rattle.plan_laws.proofs.KeptColumns.{kinds-kept, leaves-kept, plain-kept, structs-kept}
+use Rattle.plan_laws.proofs.KeptColumns.{few-columns, kinds-kept, leaves-kept, plain-kept, structs-kept}
 use Rattle.plan_laws.proofs.laws.stages_keep_columns.Goals as goal
 
 pub returns-clause-kinds : goal.returns-clause-kinds
@@ -9,6 +9,9 @@ returns-clause-plain c = plain-kept
 
 pub returns-clause-leaves : goal.returns-clause-leaves
 returns-clause-leaves c = leaves-kept
+
+pub returns-clause-few : goal.returns-clause-few
+returns-clause-few c = few-columns
 
 pub returns-clause-structs : goal.returns-clause-structs
 returns-clause-structs c = structs-kept

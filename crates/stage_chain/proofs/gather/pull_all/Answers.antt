@@ -21,6 +21,7 @@ chunks-init g c = record {
   chunk = c.released-chunk.ensures;
 }
 
+-- ---- a call that refuses
 pub returns-then-code-eq22-clause-shows_some : goal.returns-then-code-eq22-clause-shows_some
 returns-then-code-eq22-clause-shows_some g c =
     let ran = c.chunks.invariant.ran in
@@ -51,6 +52,7 @@ returns-in-Err-clause-shows_some g c =
     let out = c.next-code.new.out in
     Ran-refused start m n _ _ _ _ _ _ _ c.next-code.result out c.requires.lawful ran call.shows call.repeats
 
+-- ---- the end of the stream
 pub returns-then-is_released-clause-text : goal.returns-then-is_released-clause-text
 returns-then-is_released-clause-text g c = λ mark written has.
     let ran = c.chunks.invariant.ran in
@@ -107,6 +109,7 @@ returns-then-is_released-clause-shows g c =
     let ended : out ≡ Released = search rules in
     Ran-ends start m n _ _ _ _ _ c.next-code.result out ran zero ended (call.shows fresh)
 
+-- ---- one more chunk
 pub add_chunk-added-requires-clause-text : goal.add_chunk-added-requires-clause-text
 add_chunk-added-requires-clause-text g c =
     let ran = c.chunks.invariant.ran in

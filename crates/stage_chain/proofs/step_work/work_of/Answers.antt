@@ -1,6 +1,6 @@
 use Rattle.std.proofs.Common.{◌∙◌, map}
 use Rattle.fmt_string.specs.ColumnView.{column_of}
-use Rattle.stage_chain.proofs.Starting.{filter-fits, pack-fits, select-fits, selected-due, sliced-due, unpack-fits}
+use Rattle.stage_chain.proofs.Starting.{filter-fits, pack-fits, select-fits, selected-due, sliced-due, totals-fits, unpack-fits}
 use Rattle.stage_chain.proofs.step_work.work_of.Goals as goal
 
 pub returns-in-Select-clause-fits : goal.returns-in-Select-clause-fits
@@ -33,3 +33,10 @@ returns-in-Unpack-clause-fits c = λ before over plain few.
     unpack-fits c.in-Unpack.column c.new-in-Unpack.result.place c.args.out c.new-in-Unpack.result.out before
     c.args.step c.new-in-Unpack.ensures.place c.new-in-Unpack.ensures.out c.in-Unpack.is (c.stages_fit_their_columns.ensures.within before _ over)
     (c.stages_fit_their_columns.ensures.after before _ over) few
+
+pub returns-in-Totals-clause-fits : goal.returns-in-Totals-clause-fits
+returns-in-Totals-clause-fits c = λ before over plain few.
+    totals-fits c.in-Totals.columns c.new-in-Totals.result.picks.items c.args.out c.new-in-Totals.result.out before
+    c.args.step (c.new-in-Totals.ensures.picks ∙ c.into_vec-in-Totals.ensures) c.new-in-Totals.ensures.out c.in-Totals.is
+    (c.stages_fit_their_columns.ensures.within before _ over) (c.stages_fit_their_columns.ensures.after before _ over)
+    (c.stages_keep_columns.ensures.few before _ over)

@@ -19,6 +19,7 @@ use Rattle.stage_chain.proofs.Driving.{shows-all, shows-some, text-is}
 use Rattle.stage_chain.proofs.Planning.{few-stages, last-link-is, last-texts, plan-are-stages}
 use Rattle.stage_chain.proofs.text.drive.Goals as goal
 
+-- ---- what the chain asks
 pub prepare-requires-clause-texts : goal.prepare-requires-clause-texts
 prepare-requires-clause-texts g c =
     let s = g.S.ArrayStream.state c.args.source in
@@ -71,6 +72,7 @@ go-requires-clause-text g c =
     (last-link-is s.columns c.requires.plan.0 c.args.plan c.requires.plan.1) in
     (c.args.mark.now, header, subst (λ cs. HasText c.in-Ok-prepare.text c.args.mark.now cs header) last c.in-Ok-prepare.ensures.text)
 
+-- ---- the text, and what was shown
 pub returns-in-Ok-prepare-clause-text : goal.returns-in-Ok-prepare-clause-text
 returns-in-Ok-prepare-clause-text g c =
     let s = g.S.ArrayStream.state c.args.source in

@@ -19,6 +19,7 @@ use Rattle.stage_filter.proofs.Steps.{few-columns, kids-long, moved-struct-if, s
 use Rattle.stage_filter.proofs.StructColumns.{struct-view}
 use Rattle.stage_filter.proofs.columns.+moved.Goals as goal
 
+-- ---- the columns, one by one
 pub moved_columns-child-requires-clause-inside : goal.moved_columns-child-requires-clause-inside
 moved_columns-child-requires-clause-inside t c =
     let many = ap (λ k. length (children_of k)) c.requires.rows.typed in
@@ -69,6 +70,7 @@ moved_columns-loop-k-preserved t c =
       room = omega (arith, c.push_reserved.ensures.capacity, c.loop-k.invariant.room);
     }
 
+-- ---- a column by its kind, and rows
 pub moved_kind-moved_rows-requires : goal.moved_kind-moved_rows-requires
 moved_kind-moved_rows-requires t c =
     let columns = map column_of c.as_slice.result.now in

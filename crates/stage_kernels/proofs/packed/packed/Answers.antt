@@ -12,6 +12,7 @@ use Rattle.stage_kernels.proofs.PackedTrees.{live-costs, natural-is}
 use Rattle.stage_kernels.proofs.PackedTrees.{packed-tree, two-apart}
 use Rattle.stage_kernels.proofs.packed.packed.Goals as goal
 
+-- ---- the columns that are moved
 pub length-len-requires : goal.length-len-requires
 length-len-requires c = (c.lawful_trees.ensures.root (type_of_columns c.requires.chunk.0) c.args.chunk tt c.requires.chunk.1.0).live
 
@@ -56,6 +57,7 @@ move_columns-requires-2-clause-fit c =
     λ k inside. fits-stays c.args.chunk c.move_columns.new.moved rest (length rest) (get_or picks k 0) left
     (λ i lt. two-apart rest picks c.requires.distinct i k lt inside) (fit k inside)
 
+-- ---- the chunk that is built
 pub built-requires-clause-some : goal.built-requires-clause-some
 built-requires-clause-some c =
     let root = c.lawful_trees.ensures.root (type_of_columns c.requires.chunk.0) c.args.chunk tt c.requires.chunk.1.0 in

@@ -31,4 +31,6 @@ returns c = record {
   unpack_of_two = refl;
   not_yet = refl;
   later = refl;
+  totals = refl;
+  totals_alone = refl;
 }

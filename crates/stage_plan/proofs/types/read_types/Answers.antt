@@ -14,6 +14,7 @@ pub loop-part-init : goal.loop-part-init
 loop-part-init c =
     at_start c.deref-part-items.result.now c.new-names.result.keys c.new-entries.result.items c.new-names.ensures.empty c.new-entries.ensures.items
 
+-- ---- a part at fault
 pub returns-in_default-clause-fault : goal.returns-in_default-clause-fault
 returns-in_default-clause-fault c =
     let all = ap (map (λ p. p.now)) c.deref-part-items.ensures.value ∙ c.in_ok-parts.ensures ∙ ap parts c.as_bytes.ensures.value in
@@ -58,6 +59,7 @@ returns-then-not-added-clause-only c =
     c.in-Some.entry.name (entry_of c.in-Some.entry)
     (settles_some _ c.in_ok-entry.field-0 c.in-Some.entry c.in_ok-entry.ensures.found c.in_ok-entry.ensures.only c.in-Some.is) refl old read reads)
 
+-- ---- one entry more, and all entries
 pub loop-part-preserved : goal.loop-part-preserved
 loop-part-preserved c =
     let new = was_new c.in_ok-added.added _ c.in_ok-added.ensures.added c.if-not-added.false in

@@ -16,6 +16,7 @@ use Rattle.stage_plan.proofs.typing.type_plan.Goals as goal
 abbrev link_columns : Vec ColumnType Global → List Column
 link_columns link = columns_in link.items
 
+-- ---- a stage at fault
 pub returns-in_err-stage-clause-fault : goal.returns-in_err-stage-clause-fault
 returns-in_err-stage-clause-fault c =
     let columns = columns_in c.args.columns.items in
@@ -32,6 +33,7 @@ returns-in_err-stage-clause-fault c =
     ∙ c.in_err-stage.ensures.fault other) in
     search (rules, told)
 
+-- ---- one stage more, and all stages
 pub loop-place-preserved : goal.loop-place-preserved
 loop-place-preserved c =
     let columns = columns_in c.args.columns.items in

@@ -18,6 +18,7 @@ use Rattle.stage_chain.proofs.chain.SuccChain.go.Goals as goal
 pub returns-in-Err-clause-shows_some : goal.returns-in-Err-clause-shows_some
 returns-in-Err-clause-shows_some g c = whatever c.refuse.result (shows-nothing _ _)
 
+-- ---- what the rest of the chain asks
 pub go-requires-clause-links : goal.go-requires-clause-links
 go-requires-clause-links g c =
     let s = g.S.ArrayStream.state c.args.source in
@@ -59,6 +60,7 @@ go-requires-clause-structs g c =
     let few = c.stages_keep_columns.ensures.structs s.columns stage one.0 one.1 in
     omega (arith, columns, few, c.requires.structs)
 
+-- ---- no stage is left
 pub returns-in-None-clause-counts : goal.returns-in-None-clause-counts
 returns-in-None-clause-counts g c =
     let s = g.S.ArrayStream.state c.args.source in
@@ -81,6 +83,7 @@ returns-in-None-clause-shows_some g c =
     (stages_left c.args.stages) s up c.args.link _ none raw))
     c.write_rows.ensures.shows_some
 
+-- ---- one stage more
 pub returns-in-Ok-new-clause-counts : goal.returns-in-Ok-new-clause-counts
 returns-in-Ok-new-clause-counts g c =
     let s = g.S.ArrayStream.state c.args.source in

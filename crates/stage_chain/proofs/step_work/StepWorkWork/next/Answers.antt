@@ -11,3 +11,6 @@ returns-in-Filter-clause-columns g c = λ before. rw c.in-Filter.is (c.next-in-F
 
 pub returns-in-Unpack-clause-columns : goal.returns-in-Unpack-clause-columns
 returns-in-Unpack-clause-columns g c = λ before. rw c.in-Unpack.is (c.next-in-Unpack.ensures.columns before)
+
+pub returns-in-Totals-clause-columns : goal.returns-in-Totals-clause-columns
+returns-in-Totals-clause-columns g c = λ before. rw c.in-Totals.is (c.next-in-Totals.ensures.columns before)

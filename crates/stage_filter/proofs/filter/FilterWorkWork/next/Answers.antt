@@ -14,6 +14,7 @@ use Rattle.stage_filter.specs.Plain.{most_of_columns}
 use Rattle.stage_filter.proofs.Filtered.{filter-answers, filter-counts, fresh, ready, same}
 use Rattle.stage_filter.proofs.filter.FilterWorkWork.next.Goals as goal
 
+-- ---- what filtering asks
 pub filtered-requires-clause-typed : goal.filtered-requires-clause-typed
 filtered-requires-clause-typed g c =
     let up = meaning g.U.ArrayStream.state c.args.up.now in
@@ -57,6 +58,7 @@ filtered-requires-clause-units g c =
     let most = ap (λ (cs : List ColumnType). most_of_columns (map column_of cs)) c.as_slice-columns.ensures in
     omega (arith, most, is.most, is.small, call.units, c.requires.room)
 
+-- ---- what the call answers and counts
 pub returns-in-Ok-clause-answers : goal.returns-in-Ok-clause-answers
 returns-in-Ok-clause-answers g c = λ fresh_is.
     let up = meaning g.U.ArrayStream.state c.args.up.now in

@@ -15,6 +15,7 @@ use Rattle.stage_kernels.proofs.PackedStreams.{kept-of, made_name, numbers-of}
 use Rattle.stage_kernels.proofs.PackedChunks.{pack_answers, pack_counts, pack_repeats, packed-chunk, small-chunk}
 use Rattle.stage_kernels.proofs.pack.PackWorkWork.next.Goals as goal
 
+-- ---- what packing asks
 pub packed-requires-clause-chunk : goal.packed-requires-clause-chunk
 packed-requires-clause-chunk g c =
     let up = meaning g.U.ArrayStream.state c.args.up.now in
@@ -41,6 +42,7 @@ packed-requires-clause-distinct g c =
     let picks : c.as_slice-2.result.now ≡ work.picks.items = search rules in
     subst Distinct (λ i. sym rest i ++ sym picks i) numbers.distinct
 
+-- ---- what the call answers and counts
 pub returns-in-Ok-clause-repeats : goal.returns-in-Ok-clause-repeats
 returns-in-Ok-clause-repeats g c =
     let zero : c.next-code.result ≡ pos 0 = search rules in

@@ -27,6 +27,7 @@ chunks-init g c = record {
   chunk = c.requires.empty;
 }
 
+-- ---- the stream below refuses or ends
 pub returns-then-code-ne0-clause-counts : goal.returns-then-code-ne0-clause-counts
 returns-then-code-ne0-clause-counts g c = λ fresh zero.
     let start = meaning g.U.ArrayStream.state c.args.up.now in
@@ -73,6 +74,7 @@ returns-then-code-ne0-clause-answers g c = λ fresh.
     slice-ends start m n (map column_of before.out) (map column_of work.out) before.skip before.keep work.skip work.keep c.next-code.result _
     c.next-code.new.out told (c.chunks.invariant.same fresh) ran.keeps.ending (call.answers still) gone
 
+-- ---- rows of the chunk are kept
 pub narrow-requires-clause-chunk : goal.narrow-requires-clause-chunk
 narrow-requires-clause-chunk g c =
     let m = meaning g.U.ArrayStream.state c.chunks.up in
@@ -147,6 +149,7 @@ returns-then-not-is_released-clause-shows g c = λ fresh.
     Ran-shows start m n c.next-code.result _ c.next-code.new.out c.narrow.new.chunk _ _ _ _ _ (ran.went fresh) (call.shows still)
     (λ _. works) (λ e. absurd (subst IsLive e live))
 
+-- ---- no row of the chunk is kept
 pub chunks-smaller : goal.chunks-smaller
 chunks-smaller g c =
     let start = meaning g.U.ArrayStream.state c.args.up.now in
