@@ -209,58 +209,6 @@ each-child [] children a n h l = absurd (omega (arith, h))
 each-child (kid ∷ kids) [] a n h l = absurd (omega (arith, l))
 each-child (kid ∷ kids) (child ∷ rest) a n h l = refl
 
--- ---- the items of an array, by what its node has
-
-at-node : (kind : DataType) (kids : List KindTree) (dict : Option KindTree) (array : ArrayTree) (j : ℕ) → IsLive array
-    → value_at (Live kind (trees kids) (maybe_tree dict)) array j
-    ≡ (if is_valid (members_of array) j
-    then item_or_entry (reader_of (maybe_tree dict)) kind (readers (trees kids)) (members_of array) (children_of array) (dictionary_of array) j else Null)
-at-node kind kids dict Released j live = absurd live
-at-node kind kids dict (Live own children dictionary) j live = refl
-
-value-node : (t : Typed) → typed_of t ≡ Live (kind_of t) (trees (kids_of t)) (maybe_tree (dict_in (out-Typed t).dict)) → (array : ArrayTree) (j : ℕ)
-    → IsLive array
-    → value_at (typed_of t) array j
-    ≡ (if is_valid (members_of array) j
-    then item_or_entry (reader_of (maybe_tree (dict_in (out-Typed t).dict))) (kind_of t) (readers (trees (kids_of t)))
-    (members_of array) (children_of array) (dictionary_of array) j
-    else Null)
-value-node t e array j live = ap (λ k. value_at k array j) e ∙ at-node (kind_of t) (kids_of t) (dict_in (out-Typed t).dict) array j live
-
-pub value-null : (t : Typed) → typed_of t ≡ Live (kind_of t) (trees (kids_of t)) (maybe_tree (dict_in (out-Typed t).dict)) → (array : ArrayTree) (j : ℕ)
-    → IsLive array
-    → is_valid (members_of array) j ≡ false → value_at (typed_of t) array j ≡ Null
-value-null t e array j live n =
-    value-node t e array j live
-    ∙ ap (λ b. if b
-    then item_or_entry (reader_of (maybe_tree (dict_in (out-Typed t).dict))) (kind_of t) (readers (trees (kids_of t)))
-    (members_of array) (children_of array) (dictionary_of array) j
-    else Null) n
-
-valid-node : (t : Typed) → typed_of t ≡ Live (kind_of t) (trees (kids_of t)) (maybe_tree (dict_in (out-Typed t).dict)) → (array : ArrayTree) (j : ℕ)
-    → IsLive array
-    → is_valid (members_of array) j ≡ true
-    → value_at (typed_of t) array j ≡ item_or_entry (reader_of (maybe_tree (dict_in (out-Typed t).dict))) (kind_of t) (readers (trees (kids_of t)))
-    (members_of array) (children_of array) (dictionary_of array) j
-valid-node t e array j live v =
-    value-node t e array j live
-    ∙ ap (λ b. if b
-    then item_or_entry (reader_of (maybe_tree (dict_in (out-Typed t).dict))) (kind_of t) (readers (trees (kids_of t)))
-    (members_of array) (children_of array) (dictionary_of array) j
-    else Null) v
-
--- without a dictionary, by how the type is stored
-pub value-item : (t : Typed) → typed_of t ≡ Live (kind_of t) (trees (kids_of t)) (maybe_tree (dict_in (out-Typed t).dict)) → (array : ArrayTree) (j : ℕ)
-    → IsLive array
-    → is_valid (members_of array) j ≡ true → dict_in (out-Typed t).dict ≡ None → (storage : Storage) → storage ≡ storage_of (kind_of t)
-    → value_at (typed_of t) array j ≡ stored_item storage (readers (trees (kids_of t))) (members_of array) (children_of array) j
-value-item t e array j live v none storage s =
-    valid-node t e array j live v
-    ∙ ap (λ d. item_or_entry (reader_of (maybe_tree d)) (kind_of t) (readers (trees (kids_of t)))
-    (members_of array) (children_of array) (dictionary_of array) j) none
-    ∙ item-stored (kind_of t) (readers (trees (kids_of t))) (members_of array) (children_of array) j
-    ∙ ap (λ a. stored_item a (readers (trees (kids_of t))) (members_of array) (children_of array) j) (sym s)
-
 -- ---- a dictionary stands behind whole numbers
 
 abbrev pub is_int : DataType → Bool
@@ -294,19 +242,6 @@ pub index-there : (kind : DataType) (storage : Storage) (own : ArrayMembers) (j 
 index-there kind storage own j dictionary s h v w = subst (λ a. IsIndexThere a own j (index_at kind own j) (tree_items dictionary)) (sym s)
     (within-stored kind own j dictionary h v w)
 
--- the value of an item with an index is the dictionary's at the index
-pub value-entry : (t : Typed) → typed_of t ≡ Live (kind_of t) (trees (kids_of t)) (maybe_tree (dict_in (out-Typed t).dict)) → (array : ArrayTree) (j : ℕ)
-    → IsLive array
-    → is_valid (members_of array) j ≡ true → (dict : KindTree) (dictionary : ArrayTree) → dict_in (out-Typed t).dict ≡ Some dict
-    → dictionary_of array ≡ Some dictionary
-    → is_int (kind_of t) ≡ true → value_at (typed_of t) array j ≡ value_at dict dictionary (index_at (kind_of t) (members_of array) j)
-value-entry t e array j live v dict dictionary d a h =
-    valid-node t e array j live v
-    ∙ ap (λ o. item_or_entry (reader_of (maybe_tree o)) (kind_of t) (readers (trees (kids_of t)))
-    (members_of array) (children_of array) (dictionary_of array) j) d
-    ∙ ap (λ o. item_or_entry (Some (value_at dict)) (kind_of t) (readers (trees (kids_of t))) (members_of array) (children_of array) o j) a
-    ∙ entry-at (kind_of t) dict (readers (trees (kids_of t))) (members_of array) (children_of array) dictionary j h
-
 behind-ok : (d : Option (Box Typed)) (box : Box Typed) → d ≡ Some box → DictNodesOk (maybe_tree (dict_in d)) → NodesOk (typed_of box.value)
 behind-ok d box e ok = subst (λ o. DictNodesOk (maybe_tree (dict_in o))) e ok
 
@@ -314,6 +249,74 @@ pub dict-ok : (t : Typed) → typed_of t ≡ Live (kind_of t) (trees (kids_of t)
     → (out-Typed t).dict ≡ Some box
     → ∥ NodesOk (typed_of t) ∥₁ → ∥ NodesOk (typed_of box.value) ∥₁
 dict-ok t e box d ok = ∥∥₁_map ok (λ nodes. behind-ok (out-Typed t).dict box d (subst NodesOk e nodes).4)
+
+-- ---- the items of an array, by what its node has
+
+at-node : (kind : DataType) (kids : List KindTree) (dict : Option KindTree) (array : ArrayTree) (j : ℕ) → IsLive array
+    → value_at (Live kind (trees kids) (maybe_tree dict)) array j
+    ≡ (if is_valid (members_of array) j
+    then item_or_entry (reader_of (maybe_tree dict)) kind (readers (trees kids)) (members_of array) (children_of array) (dictionary_of array) j else Null)
+at-node kind kids dict Released j live = absurd live
+at-node kind kids dict (Live own children dictionary) j live = refl
+
+module _ (t : Typed) (e : typed_of t ≡ Live (kind_of t) (trees (kids_of t)) (maybe_tree (dict_in (out-Typed t).dict))) (array : ArrayTree) (j : ℕ)
+    (live : IsLive array) where
+  value-node : value_at (typed_of t) array j
+      ≡ (if is_valid (members_of array) j
+      then item_or_entry (reader_of (maybe_tree (dict_in (out-Typed t).dict))) (kind_of t) (readers (trees (kids_of t)))
+      (members_of array) (children_of array) (dictionary_of array) j
+      else Null)
+  value-node = ap (λ k. value_at k array j) e ∙ at-node (kind_of t) (kids_of t) (dict_in (out-Typed t).dict) array j live
+
+  pub value-null : is_valid (members_of array) j ≡ false → value_at (typed_of t) array j ≡ Null
+  value-null n =
+      value-node
+      ∙ ap (λ b. if b
+      then item_or_entry (reader_of (maybe_tree (dict_in (out-Typed t).dict))) (kind_of t) (readers (trees (kids_of t)))
+      (members_of array) (children_of array) (dictionary_of array) j
+      else Null) n
+
+  module _ (v : is_valid (members_of array) j ≡ true) where
+    valid-node : value_at (typed_of t) array j ≡ item_or_entry (reader_of (maybe_tree (dict_in (out-Typed t).dict))) (kind_of t) (readers (trees (kids_of t)))
+        (members_of array) (children_of array) (dictionary_of array) j
+    valid-node =
+        value-node
+        ∙ ap (λ b. if b
+        then item_or_entry (reader_of (maybe_tree (dict_in (out-Typed t).dict))) (kind_of t) (readers (trees (kids_of t)))
+        (members_of array) (children_of array) (dictionary_of array) j
+        else Null) v
+
+    -- without a dictionary, by how the type is stored
+    pub value-item : dict_in (out-Typed t).dict ≡ None → (storage : Storage) → storage ≡ storage_of (kind_of t)
+        → value_at (typed_of t) array j ≡ stored_item storage (readers (trees (kids_of t))) (members_of array) (children_of array) j
+    value-item none storage s =
+        valid-node
+        ∙ ap (λ d. item_or_entry (reader_of (maybe_tree d)) (kind_of t) (readers (trees (kids_of t)))
+        (members_of array) (children_of array) (dictionary_of array) j) none
+        ∙ item-stored (kind_of t) (readers (trees (kids_of t))) (members_of array) (children_of array) j
+        ∙ ap (λ a. stored_item a (readers (trees (kids_of t))) (members_of array) (children_of array) j) (sym s)
+
+    -- the value of an item with an index is the dictionary's at the index
+    pub value-entry : (dict : KindTree) (dictionary : ArrayTree) → dict_in (out-Typed t).dict ≡ Some dict
+        → dictionary_of array ≡ Some dictionary
+        → is_int (kind_of t) ≡ true → value_at (typed_of t) array j ≡ value_at dict dictionary (index_at (kind_of t) (members_of array) j)
+    value-entry dict dictionary d a h =
+        valid-node
+        ∙ ap (λ o. item_or_entry (reader_of (maybe_tree o)) (kind_of t) (readers (trees (kids_of t)))
+        (members_of array) (children_of array) (dictionary_of array) j) d
+        ∙ ap (λ o. item_or_entry (Some (value_at dict)) (kind_of t) (readers (trees (kids_of t))) (members_of array) (children_of array) o j) a
+        ∙ entry-at (kind_of t) dict (readers (trees (kids_of t))) (members_of array) (children_of array) dictionary j h
+
+  -- null, or by how the type is stored
+  pub own-item : (is_valid (members_of array) j ≡ true → dict_in (out-Typed t).dict ≡ None) → (storage : Storage) → storage ≡ storage_of (kind_of t)
+      → value_at (typed_of t) array j ≡ (if is_valid (members_of array) j
+      then stored_item storage (readers (trees (kids_of t))) (members_of array) (children_of array) j else Null)
+  own-item own storage s = by (is_valid (members_of array) j) refl
+    where
+      by : (b : Bool) → is_valid (members_of array) j ≡ b
+          → value_at (typed_of t) array j ≡ (if b then stored_item storage (readers (trees (kids_of t))) (members_of array) (children_of array) j else Null)
+      by true v = value-item v (own v) storage s
+      by false n = value-null n
 
 -- ---- the home of an item
 
@@ -446,20 +449,6 @@ row-node : (kind : DataType) (kids : List KindTree) (dict : Option KindTree) (ar
 row-node kind kids dict Released j live = absurd live
 row-node kind kids dict (Live own children dictionary) j live = refl
 
-row-typed : (t : Typed) → typed_of t ≡ Live (kind_of t) (trees (kids_of t)) (maybe_tree (dict_in (out-Typed t).dict)) → (array : ArrayTree) (j : ℕ)
-    → IsLive array
-    → row_items (typed_of t) array j ≡ field_items (readers (trees (kids_of t))) (children_of array) (first (members_of array) + j)
-row-typed t e array j live = ap (λ k. row_items k array j) e ∙ row-node (kind_of t) (kids_of t) (dict_in (out-Typed t).dict) array j live
-
--- the k-th item of a row is the child's
-pub row-field : (t : Typed) → typed_of t ≡ Live (kind_of t) (trees (kids_of t)) (maybe_tree (dict_in (out-Typed t).dict)) → (array : ArrayTree) (j k : ℕ)
-    → IsLive array
-    → k < length (kids_of t) → k < length (children_of array)
-    → get_or (row_items (typed_of t) array j) k Null ≡ value_at (get_or (kids_of t) k Released) (child_at array k) (first (members_of array) + j)
-row-field t e array j k live h l =
-    ap (λ r. get_or r k Null) (row-typed t e array j live)
-    ∙ field-at (kids_of t) (children_of array) k (first (members_of array) + j) h l
-
 -- ---- the row of a struct's item
 item-row : (kind : DataType) (kids : List KindTree) (own : ArrayMembers) (children : List ArrayTree) (j : ℕ)
     → IsStructValue (item kind (readers (trees kids)) own children j)
@@ -469,30 +458,41 @@ item-row (kinds.Decimal precision scale false) kids own children j h = absurd h
 item-row (kinds.Decimal precision scale true) kids own children j h = absurd h
 item-row kind kids own children j h = absurd h
 
-own-row : (t : Typed) → typed_of t ≡ Live (kind_of t) (trees (kids_of t)) (maybe_tree (dict_in (out-Typed t).dict)) → (array : ArrayTree) (j : ℕ) → IsLive array
-    → is_valid (members_of array) j ≡ true → dict_in (out-Typed t).dict ≡ None → IsStructValue (value_at (typed_of t) array j)
-    → IsStruct (typed_of t) × (value_at (typed_of t) array j ≡ Fields (values (row_items (typed_of t) array j)))
-own-row t e array j live v none h =
-    let is =
-    valid-node t e array j live v
-    ∙ ap (λ d. item_or_entry (reader_of (maybe_tree d)) (kind_of t) (readers (trees (kids_of t)))
-    (members_of array) (children_of array) (dictionary_of array) j) none in
-    let row = item-row (kind_of t) (kids_of t) (members_of array) (children_of array) j (subst IsStructValue is h) in (
-      subst IsStruct (sym (e ∙ ap (λ k. Live k (trees (kids_of t)) (maybe_tree (dict_in (out-Typed t).dict))) row.0)) tt,
-      is ∙ row.1 ∙ ap (λ r. Fields (values r)) (sym (row-typed t e array j live)),
-    )
+module _ (t : Typed) (e : typed_of t ≡ Live (kind_of t) (trees (kids_of t)) (maybe_tree (dict_in (out-Typed t).dict))) (array : ArrayTree) (j : ℕ)
+    (live : IsLive array) where
+  row-typed : row_items (typed_of t) array j ≡ field_items (readers (trees (kids_of t))) (children_of array) (first (members_of array) + j)
+  row-typed = ap (λ k. row_items k array j) e ∙ row-node (kind_of t) (kids_of t) (dict_in (out-Typed t).dict) array j live
 
--- the value of an item at home, where it is a struct's
-pub home-row : (t : Typed) → typed_of t ≡ Live (kind_of t) (trees (kids_of t)) (maybe_tree (dict_in (out-Typed t).dict)) → (array : ArrayTree) (j : ℕ)
+  own-row : is_valid (members_of array) j ≡ true → dict_in (out-Typed t).dict ≡ None → IsStructValue (value_at (typed_of t) array j)
+      → IsStruct (typed_of t) × (value_at (typed_of t) array j ≡ Fields (values (row_items (typed_of t) array j)))
+  own-row v none h =
+      let is =
+      valid-node t e array j live v
+      ∙ ap (λ d. item_or_entry (reader_of (maybe_tree d)) (kind_of t) (readers (trees (kids_of t)))
+      (members_of array) (children_of array) (dictionary_of array) j) none in
+      let row = item-row (kind_of t) (kids_of t) (members_of array) (children_of array) j (subst IsStructValue is h) in (
+        subst IsStruct (sym (e ∙ ap (λ k. Live k (trees (kids_of t)) (maybe_tree (dict_in (out-Typed t).dict))) row.0)) tt,
+        is ∙ row.1 ∙ ap (λ r. Fields (values r)) (sym row-typed),
+      )
+
+  -- the value of an item at home, where it is a struct's
+  pub home-row : (is_valid (members_of array) j ≡ true → dict_in (out-Typed t).dict ≡ None) → IsStructValue (value_at (typed_of t) array j)
+      → IsStruct (typed_of t) × (value_at (typed_of t) array j ≡ Fields (values (row_items (typed_of t) array j)))
+  home-row own h = by (is_valid (members_of array) j) refl
+    where
+      by : (b : Bool) → is_valid (members_of array) j ≡ b
+          → IsStruct (typed_of t) × (value_at (typed_of t) array j ≡ Fields (values (row_items (typed_of t) array j)))
+      by true v = own-row v (own v) h
+      by false n = absurd (subst IsStructValue (value-null t e array j live n) h)
+
+-- the k-th item of a row is the child's
+pub row-field : (t : Typed) → typed_of t ≡ Live (kind_of t) (trees (kids_of t)) (maybe_tree (dict_in (out-Typed t).dict)) → (array : ArrayTree) (j k : ℕ)
     → IsLive array
-    → (is_valid (members_of array) j ≡ true → dict_in (out-Typed t).dict ≡ None) → IsStructValue (value_at (typed_of t) array j)
-    → IsStruct (typed_of t) × (value_at (typed_of t) array j ≡ Fields (values (row_items (typed_of t) array j)))
-home-row t e array j live own h = by (is_valid (members_of array) j) refl
-  where
-    by : (b : Bool) → is_valid (members_of array) j ≡ b
-        → IsStruct (typed_of t) × (value_at (typed_of t) array j ≡ Fields (values (row_items (typed_of t) array j)))
-    by true v = own-row t e array j live v (own v) h
-    by false n = absurd (subst IsStructValue (value-null t e array j live n) h)
+    → k < length (kids_of t) → k < length (children_of array)
+    → get_or (row_items (typed_of t) array j) k Null ≡ value_at (get_or (kids_of t) k Released) (child_at array k) (first (members_of array) + j)
+row-field t e array j k live h l =
+    ap (λ r. get_or r k Null) (row-typed t e array j live)
+    ∙ field-at (kids_of t) (children_of array) k (first (members_of array) + j) h l
 
 pub children-count : (t : Typed) → typed_of t ≡ Live (kind_of t) (trees (kids_of t)) (maybe_tree (dict_in (out-Typed t).dict))
     → length (children_of (typed_of t)) ≡ length (out-Typed t).kids.items
@@ -515,16 +515,3 @@ no-dictionary t e storage s own ok = by (dict_in (out-Typed t).dict) refl
     by : (dict : Option KindTree) → dict_in (out-Typed t).dict ≡ dict → dict_in (out-Typed t).dict ≡ None
     by None is = is
     by (Some dict) is = absurd (own-behind (kind_of t) (subst IsOwn s own) (index-int t e dict is ok))
-
--- null, or by how the type is stored
-pub own-item : (t : Typed) → typed_of t ≡ Live (kind_of t) (trees (kids_of t)) (maybe_tree (dict_in (out-Typed t).dict)) → (array : ArrayTree) (j : ℕ)
-    → IsLive array
-    → (is_valid (members_of array) j ≡ true → dict_in (out-Typed t).dict ≡ None) → (storage : Storage) → storage ≡ storage_of (kind_of t)
-    → value_at (typed_of t) array j ≡ (if is_valid (members_of array) j
-    then stored_item storage (readers (trees (kids_of t))) (members_of array) (children_of array) j else Null)
-own-item t e array j live own storage s = by (is_valid (members_of array) j) refl
-  where
-    by : (b : Bool) → is_valid (members_of array) j ≡ b
-        → value_at (typed_of t) array j ≡ (if b then stored_item storage (readers (trees (kids_of t))) (members_of array) (children_of array) j else Null)
-    by true v = value-item t e array j live v (own v) storage s
-    by false n = value-null t e array j live n

@@ -51,57 +51,56 @@ pub no_scale : (p more : List ℕ) (rule : FormatRule) (place : ℕ) → rule �
 no_scale p more rule place is at p_is none =
     inl (is, AtScale p, more, (digits_value 10 p, p_is), refl, none, omega (arith, at, length-append p comma))
 
-pub no_width : (p s text digits : List ℕ) (rule : FormatRule) (place : ℕ) → rule ≡ rules.BadNumber → place ≡ length p + length s + 2
-    → IsNumber p (digits_value 10 p) → IsSigned s (signed_value s) → text ≡ 44 ∷ digits → NoNumber digits → NumbersFail (p ++ comma ++ s ++ text) rule place
-no_width p s text digits rule place is at p_is s_is split none =
-    inl (
-      is,
-      AtWidth p s,
-      digits,
-      ((digits_value 10 p, p_is), (signed_value s, s_is)),
-      ap (λ (t : List ℕ). p ++ comma ++ s ++ t) split ∙ sym (append_assoc (p ++ comma ++ s) comma digits),
-      none,
-      omega (arith, at, length-append (p ++ comma ++ s) comma, length-append (p ++ comma) s, length-append p comma),
-    )
+module _ (p s : List ℕ) (p_is : IsNumber p (digits_value 10 p)) (s_is : IsSigned s (signed_value s)) where
+  pub no_width : (text digits : List ℕ) (rule : FormatRule) (place : ℕ) → rule ≡ rules.BadNumber → place ≡ length p + length s + 2
+      → text ≡ 44 ∷ digits → NoNumber digits → NumbersFail (p ++ comma ++ s ++ text) rule place
+  no_width text digits rule place is at split none =
+      inl (
+        is,
+        AtWidth p s,
+        digits,
+        ((digits_value 10 p, p_is), (signed_value s, s_is)),
+        ap (λ (t : List ℕ). p ++ comma ++ s ++ t) split ∙ sym (append_assoc (p ++ comma ++ s) comma digits),
+        none,
+        omega (arith, at, length-append (p ++ comma ++ s) comma, length-append (p ++ comma) s, length-append p comma),
+      )
 
-pub behind_scale : (p s more : List ℕ) (rule : FormatRule) (place : ℕ) → rule ≡ rules.Trailing → place ≡ length p + length s + 1
-    → IsNumber p (digits_value 10 p) → IsSigned s (signed_value s) → (StartsWithDigit more → ⊥) → (StartsWith 44 more → ⊥) → 0 < length more
-    → NumbersFail (p ++ comma ++ s ++ more) rule place
-behind_scale p s more rule place is at p_is s_is no_digit no_comma some =
-    inr (inr (inl (
-      is,
-      parts p s [],
-      more,
-      digits_value 10 p,
-      signed_value s,
-      128,
-      record { precision_is = p_is; scale_is = s_is; width_is = inl (refl, refl) },
-      ap (λ (t : List ℕ). t ++ more) (sym (append-nil (p ++ comma ++ s))),
-      (no_digit, λ _. no_comma),
-      some,
-      omega (arith, at, length-append (p ++ comma ++ s) [], length-append (p ++ comma) s, length-append p comma),
-    )))
+  pub behind_scale : (more : List ℕ) (rule : FormatRule) (place : ℕ) → rule ≡ rules.Trailing → place ≡ length p + length s + 1
+      → (StartsWithDigit more → ⊥) → (StartsWith 44 more → ⊥) → 0 < length more → NumbersFail (p ++ comma ++ s ++ more) rule place
+  behind_scale more rule place is at no_digit no_comma some =
+      inr (inr (inl (
+        is,
+        parts p s [],
+        more,
+        digits_value 10 p,
+        signed_value s,
+        128,
+        record { precision_is = p_is; scale_is = s_is; width_is = inl (refl, refl) },
+        ap (λ (t : List ℕ). t ++ more) (sym (append-nil (p ++ comma ++ s))),
+        (no_digit, λ _. no_comma),
+        some,
+        omega (arith, at, length-append (p ++ comma ++ s) [], length-append (p ++ comma) s, length-append p comma),
+      )))
 
-pub behind_width : (p s text digits : List ℕ) (len : ℕ) (rule : FormatRule) (place : ℕ) → rule ≡ rules.Trailing → place ≡ length p + length s + 2 + len
-    → IsNumber p (digits_value 10 p) → IsSigned s (signed_value s) → text ≡ 44 ∷ digits
-    → NumberThen digits (take len digits) (drop len digits) (digits_value 10 (take len digits)) → len < length digits
-    → NumbersFail (p ++ comma ++ s ++ text) rule place
-behind_width p s text digits len rule place is at p_is s_is split then some =
-    let width : List ℕ = 44 ∷ take len digits in
-    let whole : text ≡ width ++ drop len digits = split ∙ ap (λ (t : List ℕ). 44 ∷ t) then.split in
-    inr (inr (inl (
-      is,
-      parts p s width,
-      drop len digits,
-      digits_value 10 p,
-      signed_value s,
-      digits_value 10 (take len digits),
-      record { precision_is = p_is; scale_is = s_is; width_is = inr (take len digits, refl, then.is) },
-      ap (λ (t : List ℕ). p ++ comma ++ s ++ t) whole ∙ sym (append_assoc (p ++ comma ++ s) width (drop len digits)),
-      (then.ends, λ e. absurd cc),
-      omega (arith, length-drop len digits, some),
-      omega (arith, at, length-append (p ++ comma ++ s) width, length-append (p ++ comma) s, length-append p comma, length-take len digits, some),
-    )))
+  pub behind_width : (text digits : List ℕ) (len : ℕ) (rule : FormatRule) (place : ℕ) → rule ≡ rules.Trailing → place ≡ length p + length s + 2 + len
+      → text ≡ 44 ∷ digits → NumberThen digits (take len digits) (drop len digits) (digits_value 10 (take len digits)) → len < length digits
+      → NumbersFail (p ++ comma ++ s ++ text) rule place
+  behind_width text digits len rule place is at split then some =
+      let width : List ℕ = 44 ∷ take len digits in
+      let whole : text ≡ width ++ drop len digits = split ∙ ap (λ (t : List ℕ). 44 ∷ t) then.split in
+      inr (inr (inl (
+        is,
+        parts p s width,
+        drop len digits,
+        digits_value 10 p,
+        signed_value s,
+        digits_value 10 (take len digits),
+        record { precision_is = p_is; scale_is = s_is; width_is = inr (take len digits, refl, then.is) },
+        ap (λ (t : List ℕ). p ++ comma ++ s ++ t) whole ∙ sym (append_assoc (p ++ comma ++ s) width (drop len digits)),
+        (then.ends, λ e. absurd cc),
+        omega (arith, length-drop len digits, some),
+        omega (arith, at, length-append (p ++ comma ++ s) width, length-append (p ++ comma) s, length-append p comma, length-take len digits, some),
+      )))
 
 -- ---- texts in pieces
 
