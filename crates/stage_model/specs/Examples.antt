@@ -1,5 +1,5 @@
 -- Worked examples of runs: texts, faults, links and traffic, by the stages that have a name and those that have none yet.
-use Rattle.std.specs.Prelude.{ℕ, ◌+◌, ◌++◌, false, true, pos, List, [], ◌∷◌, codes, get_or, map, Option, Result, Ok, Err}
+use Rattle.std.specs.Prelude.{ℕ, ◌+◌, false, true, pos, List, [], ◌∷◌, codes, get_or, map, Option, Result, Ok, Err}
 use Rattle.csv_model.specs.Batches.{Batches, batches_in}
 use Rattle.csv_model.specs.Header.{Entry, header_of}
 use Rattle.csv_model.specs.Reading.{Record, behind_header, body, records_of}
@@ -12,7 +12,7 @@ use Rattle.fmt_string.specs.Parts.{joined_rows}
 use Rattle.fmt_string.specs.Table.{Column, Flat, Dict, Row}
 use Rattle.fmt_string.specs.Value.{Null, Bytes, Whole as Number, bytes_of}
 use Rattle.stage_model.specs.Links.{Link, Links, Whole}
-use Rattle.stage_model.specs.StageGrammar.{later_words, stage_by, stage_words}
+use Rattle.stage_model.specs.StageGrammar.{stage_of}
 use Rattle.stage_model.specs.Stages.{table}
 use Rattle.stage_model.specs.Traffic.{run_blocks, run_nodes}
 use Rattle.stage_model.specs.Typing.{Stage, plan_of}
@@ -71,7 +71,7 @@ with_text (Ok stage) number (Stopped n fault) = Stopped n fault
 
 abbrev pub stages_read : ℕ → List (List ℕ) → StagesRead
 stages_read number [] = Read []
-stages_read number (text ∷ rest) = with_text (stage_by (stage_words ++ later_words) text) number (stages_read (number + 1) rest)
+stages_read number (text ∷ rest) = with_text (stage_of text) number (stages_read (number + 1) rest)
 
 abbrev pub written : List ℕ → List Link → Outcome
 written text links = Written text (run_blocks links) (run_nodes links)

@@ -116,7 +116,7 @@ pub record StageWord : Type 0 where
 abbrev pub stage_word : List ℕ → (List ℕ → Option StageText) → StageWord
 stage_word word read = record { word = word; read = read }
 
--- the stages that have a name
+-- the stages
 abbrev pub stage_words : List StageWord
 stage_words =
     stage_word (codes "select") (λ arguments. Some (texts.Select (names_in arguments))) ∷
@@ -125,14 +125,9 @@ stage_words =
     stage_word (codes "filter") (λ arguments. read_filter (cut_at comma arguments)) ∷
     stage_word (codes "pack") (λ arguments. read_pack (cut_at comma arguments)) ∷
     stage_word (codes "unpack") (λ arguments. one_name (λ name. texts.Unpack name) (names_in arguments)) ∷
-    stage_word (codes "totals") (λ arguments. Some (texts.Totals (names_in arguments))) ∷
-    []
-
--- the stages that have a meaning here, and no name yet
-abbrev pub later_words : List StageWord
-later_words =
     stage_word (codes "dict") (λ arguments. one_name (λ name. texts.Dict name) (names_in arguments)) ∷
     stage_word (codes "plain") (λ arguments. one_name (λ name. texts.Plain name) (names_in arguments)) ∷
+    stage_word (codes "totals") (λ arguments. Some (texts.Totals (names_in arguments))) ∷
     []
 
 abbrev pub word_named : List StageWord → List ℕ → Option StageWord

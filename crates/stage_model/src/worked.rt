@@ -2,7 +2,7 @@
 ghost use Rattle.std.specs.Prelude.{◌≡◌, ◌∷◌, [], codes, Ok, Err, None, Some};
 ghost use Rattle.fmt_string.specs.declared.row_fault.RowFault.TheVariants as row;
 ghost use Rattle.stage_model.specs.Examples.{asks, batch_ending, batch_texts, by, link_rows, long, of_size, one, outcome, BadPlan, BadStage};
-ghost use Rattle.stage_model.specs.StageGrammar.{later_words, stage_by, stage_of};
+ghost use Rattle.stage_model.specs.StageGrammar.{stage_of};
 ghost use Rattle.stage_model.specs.declared.fault.PlanFault.TheVariants as plan;
 ghost use Rattle.stage_model.specs.declared.fault.PlanRule.TheVariants as rules;
 ghost use Rattle.stage_model.specs.declared.fault.StageFault.TheVariants.{UnknownStage, BadArguments};
@@ -31,8 +31,10 @@ pub fn worked_texts()
     ensures pack { stage_of (codes "pack=p,a") ≡ Ok (texts.Pack (codes "p") (codes "a" ∷ [])) }
     ensures pack_of_none { stage_of (codes "pack=p") ≡ Err BadArguments }
     ensures unpack_of_two { stage_of (codes "unpack=p,q") ≡ Err BadArguments }
-    ensures not_yet { stage_of (codes "dict=a") ≡ Err UnknownStage }
-    ensures later { stage_by later_words (codes "plain=a") ≡ Ok (texts.Plain (codes "a")) }
+    ensures dict { stage_of (codes "dict=a") ≡ Ok (texts.Dict (codes "a")) }
+    ensures dict_of_two { stage_of (codes "dict=a,b") ≡ Err BadArguments }
+    ensures plain { stage_of (codes "plain=a") ≡ Ok (texts.Plain (codes "a")) }
+    ensures plain_alone { stage_of (codes "plain") ≡ Err BadArguments }
     ensures totals { stage_of (codes "totals=a,b") ≡ Ok (texts.Totals (codes "a" ∷ codes "b" ∷ [])) }
     ensures totals_alone { stage_of (codes "totals") ≡ Err BadArguments }
 {}

@@ -16,6 +16,8 @@ word_of names.Slice = stage_word (codes "slice") (λ arguments. read_slice (cut_
 word_of names.Filter = stage_word (codes "filter") (λ arguments. read_filter (cut_at comma arguments))
 word_of names.Pack = stage_word (codes "pack") (λ arguments. read_pack (cut_at comma arguments))
 word_of names.Unpack = stage_word (codes "unpack") (λ arguments. one_name (λ name. texts.Unpack name) (names_in arguments))
+word_of names.Dict = stage_word (codes "dict") (λ arguments. one_name (λ name. texts.Dict name) (names_in arguments))
+word_of names.Plain = stage_word (codes "plain") (λ arguments. one_name (λ name. texts.Plain name) (names_in arguments))
 word_of names.Totals = stage_word (codes "totals") (λ arguments. Some (texts.Totals (names_in arguments)))
 
 -- the fault of a text without an `=`

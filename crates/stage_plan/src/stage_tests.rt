@@ -3,7 +3,7 @@ use super::{StageFault, read_stage};
 use std::test::Fail;
 
 /// A text, and its stage as it is printed.
-static STAGES: [(&str, &str); 8] = [
+static STAGES: [(&str, &str); 10] = [
     (
         "select=a,,b",
         "Select { names: Names { list: [Name { bytes: [97] }, Name { bytes: [] }, Name { bytes: [98] }] } }",
@@ -33,6 +33,8 @@ static STAGES: [(&str, &str); 8] = [
         "Pack { made: Name { bytes: [112] }, names: Names { list: [Name { bytes: [97] }] } }",
     ),
     ("unpack=p", "Unpack { name: Name { bytes: [112] } }"),
+    ("dict=k", "Dict { name: Name { bytes: [107] } }"),
+    ("plain=", "Plain { name: Name { bytes: [] } }"),
 ];
 
 #[test]
@@ -47,14 +49,16 @@ fn stages_are_read_as_they_stand(rt: HostRuntime) -> Result<(), Fail> {
 }
 
 /// A text, and its fault.
-static FAULTS: [(&str, StageFault); 15] = [
+static FAULTS: [(&str, StageFault); 17] = [
     ("sort=a", StageFault::UnknownStage),
     ("sort", StageFault::UnknownStage),
     ("", StageFault::UnknownStage),
     ("=a", StageFault::UnknownStage),
     ("Select=a", StageFault::UnknownStage),
-    ("dict=a", StageFault::UnknownStage),
-    ("plain=a", StageFault::UnknownStage),
+    ("dict", StageFault::BadArguments),
+    ("dict=a,b", StageFault::BadArguments),
+    ("plain", StageFault::BadArguments),
+    ("plain=a,b", StageFault::BadArguments),
     ("totals", StageFault::BadArguments),
     ("select", StageFault::BadArguments),
     ("filter=a,like,x", StageFault::BadArguments),

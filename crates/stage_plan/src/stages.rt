@@ -3,6 +3,7 @@ ghost use Rattle.std.specs.Prelude.{◌≡◌, ◌≢◌, List, ℕ, IfOk, IfErr
 ghost use Rattle.stage_model.specs.StageGrammar.{StageIs, StageFaultIs, comma, comparisons, cut_at, lone_tests, names_in, one_name, read_filter, read_pack};
 ghost use Rattle.stage_model.specs.StageGrammar.{read_slice, stage_words, test_if, test_named, window_number, word_named};
 ghost use Rattle.stage_model.specs.declared.fault.StageFault.TheVariants as faults;
+ghost use Rattle.stage_model.specs.declared.stage.StageText.{StageText as AStage};
 ghost use Rattle.stage_model.specs.declared.stage.StageText.TheVariants as texts;
 ghost use Rattle.stage_plan.specs.StageWords.{lone_fault, starts_with_digit, word_of};
 
@@ -45,6 +46,8 @@ enum StageName {
     Filter,
     Pack,
     Unpack,
+    Dict,
+    Plain,
     Totals,
 }
 
@@ -59,6 +62,8 @@ fn stage_named(word: &[u8]) -> Option<StageName>
         b"filter" => Some(StageName::Filter),
         b"pack" => Some(StageName::Pack),
         b"unpack" => Some(StageName::Unpack),
+        b"dict" => Some(StageName::Dict),
+        b"plain" => Some(StageName::Plain),
         b"totals" => Some(StageName::Totals),
         _ => None,
     }
@@ -92,7 +97,11 @@ fn read_arguments(
         StageName::Slice => Ok(read_slice(arguments)),
         StageName::Filter => read_filter(alloc, arguments),
         StageName::Pack => read_pack(alloc, arguments),
-        StageName::Unpack => read_unpack(alloc, arguments),
+        StageName::Unpack => {
+            Ok(one_name(alloc, arguments)?.map(|name| StageText::Unpack { name }))
+        }
+        StageName::Dict => Ok(one_name(alloc, arguments)?.map(|name| StageText::Dict { name })),
+        StageName::Plain => Ok(one_name(alloc, arguments)?.map(|name| StageText::Plain { name })),
         StageName::Totals => Ok(Some(StageText::Totals {
             names: names_in(alloc, arguments)?,
         })),
@@ -218,15 +227,15 @@ fn read_pack(alloc: Global, arguments: &[u8]) -> Result<Option<StageText>, NoMem
     Ok(Some(StageText::Pack { made, names }))
 }
 
-/// One name.
-fn read_unpack(alloc: Global, arguments: &[u8]) -> Result<Option<StageText>, NoMemory>
-    ensures { IfOk result (λ read. read ≡ one_name (λ name. texts.Unpack name) (names_in arguments.now)) }
+/// The one name that stands there, or none where there are more.
+fn one_name(alloc: Global, arguments: &[u8]) -> Result<Option<Name>, NoMemory>
+    ensures { IfOk result (λ read. (stage : List ℕ → AStage) → option_map stage read ≡ one_name stage (names_in arguments.now)) }
 {
     match cut(arguments, b',') {
         Some(_) => Ok(None),
         None => {
             let name = Name::from_slice(alloc, arguments)?;
-            Ok(Some(StageText::Unpack { name }))
+            Ok(Some(name))
         }
     }
 }

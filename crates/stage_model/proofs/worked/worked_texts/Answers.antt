@@ -29,8 +29,10 @@ returns c = record {
   pack = refl;
   pack_of_none = refl;
   unpack_of_two = refl;
-  not_yet = refl;
-  later = refl;
+  dict = refl;
+  dict_of_two = refl;
+  plain = refl;
+  plain_alone = refl;
   totals = refl;
   totals_alone = refl;
 }
