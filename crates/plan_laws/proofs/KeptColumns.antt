@@ -9,19 +9,18 @@ use Rattle.std.proofs.lemmas.List.{drop_more, length-append, map-append}
 use Rattle.std.proofs.lemmas.List.Elements.{All-append, All-cons, All-drop, All-get_or, All-head, All-nil, All-tail, All-take}
 use Rattle.fmt_string.specs.ColumnForms.{AreColumnKinds}
 use Rattle.fmt_string.specs.ColumnView.{members}
-use Rattle.fmt_string.specs.Parts.{AreWithin, member_columns, packed_columns, picked, unpacked_columns}
+use Rattle.fmt_string.specs.Parts.{AreWithin, member_columns, packed_columns, picked, replaced, unpacked_columns}
 use Rattle.fmt_string.specs.Table.{Column, Kind, Flat, Dict, Columns, Members, no_members, more_members}
 use Rattle.fmt_string.specs.declared.kind.DataType.{DataType}
 use Rattle.fmt_string.specs.declared.kind.DataType.TheVariants as kinds
 use Rattle.arr_move.specs.TreeActs.{Distinct}
-use Rattle.stage_model.specs.Typing.{FitsColumns, HasColumns, IsStageOver, Stage, column, column_at, columns_after, is_summed, most_columns, no_column, rules_of}
+use Rattle.stage_model.specs.Typing.{FitsColumns, HasColumns, IsStageOver, Stage, column, column_at, columns_after, is_bytes, is_summed, most_columns, no_column, rules_of}
 use Rattle.stage_model.specs.Typing.{scale_of, step_of, totals_columns}
 use Rattle.stage_model.specs.declared.stage.Step.{Step}
 use Rattle.stage_model.specs.declared.stage.Step.TheVariants as steps
 use Rattle.stage_model.proofs.Numbers.{none-fails, stages-fit}
 use Rattle.stage_model.proofs.StageColumns.{stages-have}
-use Rattle.stream_face.specs.Lawful.{column_leaves, leaves}
-use Rattle.stage_kernels.specs.Plain.{ArePlain, HasNoDict, IsMade}
+use Rattle.stream_face.specs.Lawful.{DictsHaveBytes, HasBytes, column_leaves, leaves}
 use Rattle.stage_kernels.specs.Structs.{column_structs, structs}
 use Rattle.stage_kernels.proofs.PickedStreams.{all-picked, first-within, leaves-are, rest-within, sum-picked, total}
 use Rattle.plan_laws.specs.Distinct.{DistinctPicks}
@@ -82,20 +81,52 @@ totals-kept P totals (c ∷ cs) summed all =
     (totals c (first-of (is_summed c.kind) (list_all (λ c. is_summed c.kind) cs) summed) (All-head (λ c. P c.kind) c cs all))
     (totals-kept P totals cs (rest-of (is_summed c.kind) (list_all (λ c. is_summed c.kind) cs) summed) (All-tail (λ c. P c.kind) c cs all))
 
-step-keeps : (P : Kind → Type 0) → Packs P → Unpacks P → Totalled P → (columns : List Column) (step : Step) (after : List Column) → IsMade step
+-- it holds of a dictionary's kind where it holds of its values' own, and the reverse
+abbrev Codes : (Kind → Type 0) → Type 0
+Codes P = (type : DataType) → is_bytes (Flat type) ≡ true → P (Flat type) → P (Dict type)
+
+abbrev Decodes : (Kind → Type 0) → Type 0
+Decodes P = (type : DataType) → P (Dict type) → P (Flat type)
+
+replaced-kept : (P : Kind → Type 0) (place : ℕ) (c : Column) (columns : List Column) → P c.kind → AreAll P columns → AreAll P (replaced place c columns)
+replaced-kept P place c columns one all =
+    All-append (λ c. P c.kind) (take place columns) (c ∷ drop (place + 1) columns) (All-take (λ c. P c.kind) place columns all)
+    (All-cons (λ c. P c.kind) c (drop (place + 1) columns) one (All-drop (λ c. P c.kind) (place + 1) columns all))
+
+-- what the kinds of new columns have of those before
+record Kept (P : Kind → Type 0) : Type 0 where
+  packs : Packs P
+  unpacks : Unpacks P
+  totals : Totalled P
+  codes : Codes P
+  decodes : Decodes P
+
+-- it holds of the column of a place, which is of this kind
+place-kept : (P : Kind → Type 0) (place : ℕ) (columns : List Column) (kind : Kind) → place < length columns → (column_at columns place).kind ≡ kind
+    → AreAll P columns → P kind
+place-kept P place columns kind lt is all = subst P is (All-get_or (λ c. P c.kind) columns place no_column lt all)
+
+step-keeps : (P : Kind → Type 0) → Kept P → (columns : List Column) (step : Step) (after : List Column)
     → FitsColumns (length columns) step → HasColumns columns step after → AreAll P columns → AreAll P after
-step-keeps P packs unpacks totals columns (steps.Select picks) after made fits has all =
-    subst (AreAll P) (sym has) (all-picked (λ c. P c.kind) picks columns fits all)
-step-keeps P packs unpacks totals columns (steps.Slice off len) after made fits has all = subst (AreAll P) (sym has) all
-step-keeps P packs unpacks totals columns (steps.Filter place test constant) after made fits has all = subst (AreAll P) (sym has.0) all
-step-keeps P packs unpacks totals columns (steps.Pack rest picks) after made fits (name, is) all =
-    subst (AreAll P) (sym is) (pack-kept P packs name columns rest picks fits.0 fits.1 all)
-step-keeps P packs unpacks totals columns (steps.Unpack place) after made fits (fields, kind, is) all =
-    subst (AreAll P) (sym is) (unpack-kept P unpacks place fields columns fits kind all)
-step-keeps P packs unpacks totals columns (steps.Dict place) after made fits has all = absurd made
-step-keeps P packs unpacks totals columns (steps.Plain place) after made fits has all = absurd made
-step-keeps P packs unpacks totals columns (steps.Totals places) after made fits (summed, is) all =
-    subst (AreAll P) (sym is) (totals-kept P totals (picked no_column places columns) summed (all-picked (λ c. P c.kind) places columns fits all))
+step-keeps P kept columns (steps.Select picks) after fits has all = subst (AreAll P) (sym has) (all-picked (λ c. P c.kind) picks columns fits all)
+step-keeps P kept columns (steps.Slice off len) after fits has all = subst (AreAll P) (sym has) all
+step-keeps P kept columns (steps.Filter place test constant) after fits has all = subst (AreAll P) (sym has.0) all
+step-keeps P kept columns (steps.Pack rest picks) after fits (name, is) all =
+    subst (AreAll P) (sym is) (pack-kept P kept.packs name columns rest picks fits.0 fits.1 all)
+step-keeps P kept columns (steps.Unpack place) after fits (fields, kind, is) all =
+    subst (AreAll P) (sym is) (unpack-kept P kept.unpacks place fields columns fits kind all)
+step-keeps P kept columns (steps.Dict place) after fits (type, kind, bytes, is) all =
+    let one = kept.codes type bytes (place-kept P place columns (Flat type) fits kind all) in
+    subst (AreAll P) (sym is) (replaced-kept P place (column (column_at columns place).name (Dict type)) columns one all)
+step-keeps P kept columns (steps.Plain place) after fits (type, kind, is) all =
+    let one = kept.decodes type (place-kept P place columns (Dict type) fits kind all) in
+    subst (AreAll P) (sym is) (replaced-kept P place (column (column_at columns place).name (Flat type)) columns one all)
+step-keeps P kept columns (steps.Totals places) after fits (summed, is) all =
+    subst (AreAll P) (sym is) (totals-kept P kept.totals (picked no_column places columns) summed (all-picked (λ c. P c.kind) places columns fits all))
+
+stage-keeps : (P : Kind → Type 0) → Kept P → (columns : List Column) (stage : Stage) → IsStageOver columns stage → AreAll P columns → AreAll P stage.columns
+stage-keeps P kept columns stage over =
+    step-keeps P kept columns stage.step stage.columns (stages-fit columns stage over) (stages-have columns stage over)
 
 -- ---- kinds
 
@@ -130,27 +161,35 @@ kinds-totals c summed is =
     (All-cons P sum (least ∷ most ∷ []) ((omega arith, omega arith, scale-fits c.kind is), tt)
     (All-cons P least (most ∷ []) is (All-cons P most [] is (All-nil P))))
 
-pub kinds-kept : (columns : List Column) (stage : Stage) → IsStageOver columns stage → IsMade stage.step
+kinds-of : Kept AreColumnKinds
+kinds-of = record {
+  packs = kinds-pack;
+  unpacks = kinds-unpack;
+  totals = kinds-totals;
+  codes = λ type bytes is. is;
+  decodes = λ type is. is;
+}
+
+pub kinds-kept : (columns : List Column) (stage : Stage) → IsStageOver columns stage
     → All (λ c. AreColumnKinds c.kind) columns → All (λ c. AreColumnKinds c.kind) stage.columns
-kinds-kept columns stage over made =
-    step-keeps AreColumnKinds kinds-pack kinds-unpack kinds-totals columns stage.step stage.columns made (stages-fit columns stage over) (stages-have columns stage over)
+kinds-kept = stage-keeps AreColumnKinds kinds-of
 
 -- ---- dictionaries
 
-plain-pack : Packs HasNoDict
-plain-pack no_members all = tt
-plain-pack (more_members name kind rest) all =
+dicts-pack : Packs DictsHaveBytes
+dicts-pack no_members all = tt
+dicts-pack (more_members name kind rest) all =
     let c : Column = record { name = name; kind = kind } in
-    (All-head (λ c. HasNoDict c.kind) c (member_columns rest) all, plain-pack rest (All-tail (λ c. HasNoDict c.kind) c (member_columns rest) all))
+    (All-head (λ c. DictsHaveBytes c.kind) c (member_columns rest) all, dicts-pack rest (All-tail (λ c. DictsHaveBytes c.kind) c (member_columns rest) all))
 
-plain-unpack : Unpacks HasNoDict
-plain-unpack no_members all = All-nil (λ c. HasNoDict c.kind)
-plain-unpack (more_members name kind rest) all =
-    All-cons (λ c. HasNoDict c.kind) (record { name = name; kind = kind }) (member_columns rest) all.0 (plain-unpack rest all.1)
+dicts-unpack : Unpacks DictsHaveBytes
+dicts-unpack no_members all = All-nil (λ c. DictsHaveBytes c.kind)
+dicts-unpack (more_members name kind rest) all =
+    All-cons (λ c. DictsHaveBytes c.kind) (record { name = name; kind = kind }) (member_columns rest) all.0 (dicts-unpack rest all.1)
 
-plain-totals : Totalled HasNoDict
-plain-totals c summed is =
-    let P = λ (c : Column). HasNoDict c.kind in
+dicts-totals : Totalled DictsHaveBytes
+dicts-totals c summed is =
+    let P = λ (c : Column). DictsHaveBytes c.kind in
     let count = column (c.name ++ codes "_count") (Flat (kinds.Int 64 true)) in
     let sum = column (c.name ++ codes "_sum") (Flat (kinds.Decimal 38 (scale_of c.kind) false)) in
     let least = column (c.name ++ codes "_min") c.kind in
@@ -158,9 +197,23 @@ plain-totals c summed is =
     All-cons P count (sum ∷ least ∷ most ∷ []) tt
     (All-cons P sum (least ∷ most ∷ []) tt (All-cons P least (most ∷ []) is (All-cons P most [] is (All-nil P))))
 
-pub plain-kept : (columns : List Column) (stage : Stage) → IsStageOver columns stage → IsMade stage.step → ArePlain columns → ArePlain stage.columns
-plain-kept columns stage over made =
-    step-keeps HasNoDict plain-pack plain-unpack plain-totals columns stage.step stage.columns made (stages-fit columns stage over) (stages-have columns stage over)
+bytes-have : (type : DataType) → is_bytes (Flat type) ≡ true → HasBytes type
+bytes-have (kinds.Utf8 wide) is = tt
+bytes-have (kinds.Binary wide) is = tt
+bytes-have _ is = absurd (true≢false (sym is))
+
+dicts-of : Kept DictsHaveBytes
+dicts-of = record {
+  packs = dicts-pack;
+  unpacks = dicts-unpack;
+  totals = dicts-totals;
+  codes = λ type bytes is. bytes-have type bytes;
+  decodes = λ type is. tt;
+}
+
+pub dicts-kept : (columns : List Column) (stage : Stage) → IsStageOver columns stage
+    → All (λ c. DictsHaveBytes c.kind) columns → All (λ c. DictsHaveBytes c.kind) stage.columns
+dicts-kept = stage-keeps DictsHaveBytes dicts-of
 
 -- ---- measures
 
@@ -209,32 +262,47 @@ unpack-measure more f adds place fields columns lt is =
     let one = ap f is ∙ adds fields in
     omega (arith, cut, front, whole, one)
 
--- the columns after the step are columns before it, some of them under a struct or out of it
+-- it is as much of a dictionary as of its values
+abbrev IsSameCoded : (Kind → ℕ) → Type 0
+IsSameCoded f = (type : DataType) → f (Dict type) ≡ f (Flat type)
+
+replaced-measure : (f : Kind → ℕ) (place : ℕ) (c : Column) (columns : List Column) → place < length columns → f c.kind ≡ f (column_at columns place).kind
+    → measure f (replaced place c columns) ≡ measure f columns
+replaced-measure f place c columns lt same =
+    let cut = measure-cut f columns place lt in
+    let joined = measure-append f (take place columns) (c ∷ drop (place + 1) columns) in
+    omega (arith, cut, joined, same)
+
+-- the columns after the step are columns before it, some of them under a struct or out of it, or with a dictionary or without
 abbrev Moves : Step → Type 0
-Moves (steps.Dict place) = ⊥
-Moves (steps.Plain place) = ⊥
 Moves (steps.Totals places) = ⊥
 Moves _ = Unit {0}
 
-step-measure : (more : ℕ) (f : Kind → ℕ) → Adds more f → (columns : List Column) (step : Step) (after : List Column) → Moves step
+step-measure : (more : ℕ) (f : Kind → ℕ) → Adds more f → IsSameCoded f → (columns : List Column) (step : Step) (after : List Column) → Moves step
     → FitsColumns (length columns) step → DistinctPicks step → HasColumns columns step after → measure f after ≤ more + measure f columns
-step-measure more f adds columns (steps.Select picks) after made fits distinct has =
+step-measure more f adds coded columns (steps.Select picks) after made fits distinct has =
     let fewer = sum-picked (λ c. f c.kind) columns picks distinct fits in
     let same = ap (measure f) has in
     omega (arith, fewer, same)
-step-measure more f adds columns (steps.Slice off len) after made fits distinct has = let same = ap (measure f) has in omega (arith, same)
-step-measure more f adds columns (steps.Filter place test constant) after made fits distinct has = let same = ap (measure f) has.0 in omega (arith, same)
-step-measure more f adds columns (steps.Pack rest picks) after made fits distinct (name, is) =
+step-measure more f adds coded columns (steps.Slice off len) after made fits distinct has = let same = ap (measure f) has in omega (arith, same)
+step-measure more f adds coded columns (steps.Filter place test constant) after made fits distinct has = let same = ap (measure f) has.0 in omega (arith, same)
+step-measure more f adds coded columns (steps.Pack rest picks) after made fits distinct (name, is) =
     let fewer = pack-measure more f adds name columns rest picks fits.0 fits.1 distinct in
     let same = ap (measure f) is in
     omega (arith, fewer, same)
-step-measure more f adds columns (steps.Unpack place) after made fits distinct (fields, kind, is) =
+step-measure more f adds coded columns (steps.Unpack place) after made fits distinct (fields, kind, is) =
     let fewer = unpack-measure more f adds place fields columns fits kind in
     let same = ap (measure f) is in
     omega (arith, fewer, same)
-step-measure more f adds columns (steps.Dict place) after made fits distinct has = absurd made
-step-measure more f adds columns (steps.Plain place) after made fits distinct has = absurd made
-step-measure more f adds columns (steps.Totals places) after made fits distinct has = absurd made
+step-measure more f adds coded columns (steps.Dict place) after made fits distinct (type, kind, bytes, is) =
+    let same = replaced-measure f place (column (column_at columns place).name (Dict type)) columns fits (coded type ∙ sym (ap f kind)) in
+    let all = ap (measure f) is in
+    omega (arith, same, all)
+step-measure more f adds coded columns (steps.Plain place) after made fits distinct (type, kind, is) =
+    let same = replaced-measure f place (column (column_at columns place).name (Flat type)) columns fits (sym (coded type) ∙ sym (ap f kind)) in
+    let all = ap (measure f) is in
+    omega (arith, same, all)
+step-measure more f adds coded columns (steps.Totals places) after made fits distinct has = absurd made
 
 -- ---- the columns of totals
 
@@ -275,34 +343,35 @@ leaves-add : Adds 0 leaves
 leaves-add no_members = refl
 leaves-add (more_members name kind rest) = let e = leaves-add rest in omega (arith, e)
 
+moved-leaves : (columns : List Column) (step : Step) (after : List Column) → Moves step → FitsColumns (length columns) step → DistinctPicks step
+    → HasColumns columns step after → measure leaves columns ≤ most_columns → measure leaves after ≤ most_columns
+moved-leaves columns step after moves fits distinct has old =
+    let m = step-measure 0 leaves leaves-add (λ type. refl) columns step after moves fits distinct has in omega (arith, m, old)
+
 -- a measure of no columns but those that there were, or of few new ones
-step-leaves : (columns : List Column) (step : Step) (after : List Column) → IsMade step → FitsColumns (length columns) step → DistinctPicks step
+step-leaves : (columns : List Column) (step : Step) (after : List Column) → FitsColumns (length columns) step → DistinctPicks step
     → HasColumns columns step after → length after ≤ most_columns → measure leaves columns ≤ most_columns → measure leaves after ≤ most_columns
-step-leaves columns (steps.Select picks) after made fits distinct has few old =
-    let m = step-measure 0 leaves leaves-add columns (steps.Select picks) after tt fits distinct has in omega (arith, m, old)
-step-leaves columns (steps.Slice off len) after made fits distinct has few old =
-    let m = step-measure 0 leaves leaves-add columns (steps.Slice off len) after tt fits distinct has in omega (arith, m, old)
-step-leaves columns (steps.Filter place test constant) after made fits distinct has few old =
-    let m = step-measure 0 leaves leaves-add columns (steps.Filter place test constant) after tt fits distinct has in omega (arith, m, old)
-step-leaves columns (steps.Pack rest picks) after made fits distinct has few old =
-    let m = step-measure 0 leaves leaves-add columns (steps.Pack rest picks) after tt fits distinct has in omega (arith, m, old)
-step-leaves columns (steps.Unpack place) after made fits distinct has few old =
-    let m = step-measure 0 leaves leaves-add columns (steps.Unpack place) after tt fits distinct has in omega (arith, m, old)
-step-leaves columns (steps.Dict place) after made fits distinct has few old = absurd made
-step-leaves columns (steps.Plain place) after made fits distinct has few old = absurd made
-step-leaves columns (steps.Totals places) after made fits distinct (summed, is) few old =
+step-leaves columns (steps.Totals places) after fits distinct (summed, is) few old =
     let all = picked no_column places columns in
     let m = totals-measure leaves 1 (λ type. refl) all summed in
     let n = length-totals all in
     let same = ap (measure leaves) is in
     let as_many = ap length is in
     omega (arith, m, n, same, as_many, few)
+step-leaves columns (steps.Select picks) after fits distinct has few old = moved-leaves columns (steps.Select picks) after tt fits distinct has old
+step-leaves columns (steps.Slice off len) after fits distinct has few old = moved-leaves columns (steps.Slice off len) after tt fits distinct has old
+step-leaves columns (steps.Filter place test constant) after fits distinct has few old =
+    moved-leaves columns (steps.Filter place test constant) after tt fits distinct has old
+step-leaves columns (steps.Pack rest picks) after fits distinct has few old = moved-leaves columns (steps.Pack rest picks) after tt fits distinct has old
+step-leaves columns (steps.Unpack place) after fits distinct has few old = moved-leaves columns (steps.Unpack place) after tt fits distinct has old
+step-leaves columns (steps.Dict place) after fits distinct has few old = moved-leaves columns (steps.Dict place) after tt fits distinct has old
+step-leaves columns (steps.Plain place) after fits distinct has few old = moved-leaves columns (steps.Plain place) after tt fits distinct has old
 
-pub leaves-kept : (columns : List Column) (stage : Stage) → IsStageOver columns stage → IsMade stage.step → column_leaves columns ≤ most_columns
+pub leaves-kept : (columns : List Column) (stage : Stage) → IsStageOver columns stage → column_leaves columns ≤ most_columns
     → column_leaves stage.columns ≤ most_columns
-leaves-kept columns stage over made few =
+leaves-kept columns stage over few =
     let old : measure leaves columns ≤ most_columns = omega (arith, few, leaves-are columns) in
-    let new = step-leaves columns stage.step stage.columns made (stages-fit columns stage over) (stages-distinct columns stage over)
+    let new = step-leaves columns stage.step stage.columns (stages-fit columns stage over) (stages-distinct columns stage over)
     (stages-have columns stage over) (few-columns columns stage over) old in
     omega (arith, new, leaves-are stage.columns)
 
@@ -316,26 +385,27 @@ structs-add : Adds 1 structs
 structs-add no_members = refl
 structs-add (more_members name kind rest) = let e = structs-add rest in omega (arith, e)
 
-step-structs : (columns : List Column) (step : Step) (after : List Column) → IsMade step → FitsColumns (length columns) step → DistinctPicks step
+moved-structs : (columns : List Column) (step : Step) (after : List Column) → Moves step → FitsColumns (length columns) step → DistinctPicks step
     → HasColumns columns step after → measure structs after ≤ 1 + measure structs columns
-step-structs columns (steps.Select picks) after made fits distinct has = step-measure 1 structs structs-add columns (steps.Select picks) after tt fits distinct has
-step-structs columns (steps.Slice off len) after made fits distinct has =
-    step-measure 1 structs structs-add columns (steps.Slice off len) after tt fits distinct has
-step-structs columns (steps.Filter place test constant) after made fits distinct has =
-    step-measure 1 structs structs-add columns (steps.Filter place test constant) after tt fits distinct has
-step-structs columns (steps.Pack rest picks) after made fits distinct has =
-    step-measure 1 structs structs-add columns (steps.Pack rest picks) after tt fits distinct has
-step-structs columns (steps.Unpack place) after made fits distinct has = step-measure 1 structs structs-add columns (steps.Unpack place) after tt fits distinct has
-step-structs columns (steps.Dict place) after made fits distinct has = absurd made
-step-structs columns (steps.Plain place) after made fits distinct has = absurd made
-step-structs columns (steps.Totals places) after made fits distinct (summed, is) =
+moved-structs = step-measure 1 structs structs-add (λ type. refl)
+
+step-structs : (columns : List Column) (step : Step) (after : List Column) → FitsColumns (length columns) step → DistinctPicks step
+    → HasColumns columns step after → measure structs after ≤ 1 + measure structs columns
+step-structs columns (steps.Totals places) after fits distinct (summed, is) =
     let m = totals-measure structs 0 (λ type. refl) (picked no_column places columns) summed in
     let same = ap (measure structs) is in
     omega (arith, m, same)
+step-structs columns (steps.Select picks) after fits distinct has = moved-structs columns (steps.Select picks) after tt fits distinct has
+step-structs columns (steps.Slice off len) after fits distinct has = moved-structs columns (steps.Slice off len) after tt fits distinct has
+step-structs columns (steps.Filter place test constant) after fits distinct has =
+    moved-structs columns (steps.Filter place test constant) after tt fits distinct has
+step-structs columns (steps.Pack rest picks) after fits distinct has = moved-structs columns (steps.Pack rest picks) after tt fits distinct has
+step-structs columns (steps.Unpack place) after fits distinct has = moved-structs columns (steps.Unpack place) after tt fits distinct has
+step-structs columns (steps.Dict place) after fits distinct has = moved-structs columns (steps.Dict place) after tt fits distinct has
+step-structs columns (steps.Plain place) after fits distinct has = moved-structs columns (steps.Plain place) after tt fits distinct has
 
-pub structs-kept : (columns : List Column) (stage : Stage) → IsStageOver columns stage → IsMade stage.step
-    → column_structs stage.columns ≤ 1 + column_structs columns
-structs-kept columns stage over made =
-    let fewer = step-structs columns stage.step stage.columns made (stages-fit columns stage over) (stages-distinct columns stage over)
+pub structs-kept : (columns : List Column) (stage : Stage) → IsStageOver columns stage → column_structs stage.columns ≤ 1 + column_structs columns
+structs-kept columns stage over =
+    let fewer = step-structs columns stage.step stage.columns (stages-fit columns stage over) (stages-distinct columns stage over)
     (stages-have columns stage over) in
     omega (arith, fewer, structs-are columns, structs-are stage.columns)

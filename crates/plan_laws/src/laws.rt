@@ -7,20 +7,20 @@ ghost use Rattle.raw_schema.specs.Members.{Nodes};
 ghost use Rattle.layout_check.specs.ColumnSchema.{SchemaOf};
 ghost use Rattle.stage_model.specs.Traffic.{Made, table_nodes};
 ghost use Rattle.stage_model.specs.Typing.{IsStageOver, Stage, most_columns};
-ghost use Rattle.stream_face.specs.Lawful.{column_leaves};
-ghost use Rattle.stage_kernels.specs.Plain.{ArePlain, IsMade};
+ghost use Rattle.stream_face.specs.Lawful.{DictsHaveBytes, column_leaves};
 ghost use Rattle.stage_kernels.specs.Structs.{column_structs};
 ghost use Rattle.plan_laws.specs.Distinct.{DistinctPicks};
 
 /// A law: what a stage that no rule refuses leaves of the columns before it.
 pub fn stages_keep_columns()
-    ensures kinds { (columns : List Column) (stage : Stage) → IsStageOver columns stage → IsMade stage.step
+    ensures kinds { (columns : List Column) (stage : Stage) → IsStageOver columns stage
         → All (λ c. AreColumnKinds c.kind) columns → All (λ c. AreColumnKinds c.kind) stage.columns }
-    ensures plain { (columns : List Column) (stage : Stage) → IsStageOver columns stage → IsMade stage.step → ArePlain columns → ArePlain stage.columns }
-    ensures leaves { (columns : List Column) (stage : Stage) → IsStageOver columns stage → IsMade stage.step
+    ensures dicts { (columns : List Column) (stage : Stage) → IsStageOver columns stage
+        → All (λ c. DictsHaveBytes c.kind) columns → All (λ c. DictsHaveBytes c.kind) stage.columns }
+    ensures leaves { (columns : List Column) (stage : Stage) → IsStageOver columns stage
         → column_leaves columns ≤ most_columns → column_leaves stage.columns ≤ most_columns }
     ensures few { (columns : List Column) (stage : Stage) → IsStageOver columns stage → length stage.columns ≤ most_columns }
-    ensures structs { (columns : List Column) (stage : Stage) → IsStageOver columns stage → IsMade stage.step
+    ensures structs { (columns : List Column) (stage : Stage) → IsStageOver columns stage
         → column_structs stage.columns ≤ 1 + column_structs columns }
 {}
 

@@ -104,53 +104,54 @@ rest-lawful : (type : KindTree) (types : List KindTree) (child : ArrayTree) (chi
     → AreLawful types children
 rest-lawful type types child children lawful = (omega (arith, lawful.0), λ k h. lawful.1 (suc k) (omega (arith, h)))
 
-mutual
-  kind-cost : (kind : Kind) (t : ArrayTree) → AreColumnKinds kind → Roots → Parts → LayoutOk (type_of_kind kind) t → Cost t ≤ 7 * leaves kind + 2 * structs kind
-  kind-cost (Flat kind) t is roots parts lawful = let e = flat-cost kind t is.1 (roots (type_of_kind (Flat kind)) t tt lawful) in omega (arith, e)
-  kind-cost (Dict kind) t is roots parts lawful =
-      let e = dict-cost kind t is.1 roots (roots (type_of_kind (Dict kind)) t tt lawful) (parts (type_of_kind (Dict kind)) t tt lawful) in
-      omega (arith, e)
-  kind-cost (StructOf fields) Released is roots parts lawful = omega arith
-  kind-cost (StructOf fields) (Live m ts d) is roots parts lawful =
-      let root = roots (type_of_kind (StructOf fields)) (Live m ts d) tt lawful in
-      let below = parts (type_of_kind (StructOf fields)) (Live m ts d) tt lawful in
-      let a = holds-few m.buffers in
-      let b : length m.buffers ≡ 1 = root.counted in
-      let c = members-cost fields ts is roots parts (root.kids, below.kids) in
-      let e = no-dictionary d root.dict in
-      omega (arith, a, b, c, e)
+module _ (roots : Roots) (parts : Parts) where
+  mutual
+    kind-cost : (kind : Kind) (t : ArrayTree) → AreColumnKinds kind → LayoutOk (type_of_kind kind) t → Cost t ≤ 7 * leaves kind + 2 * structs kind
+    kind-cost (Flat kind) t is lawful = let e = flat-cost kind t is.1 (roots (type_of_kind (Flat kind)) t tt lawful) in omega (arith, e)
+    kind-cost (Dict kind) t is lawful =
+        let e = dict-cost kind t is.1 roots (roots (type_of_kind (Dict kind)) t tt lawful) (parts (type_of_kind (Dict kind)) t tt lawful) in
+        omega (arith, e)
+    kind-cost (StructOf fields) Released is lawful = omega arith
+    kind-cost (StructOf fields) (Live m ts d) is lawful =
+        let root = roots (type_of_kind (StructOf fields)) (Live m ts d) tt lawful in
+        let below = parts (type_of_kind (StructOf fields)) (Live m ts d) tt lawful in
+        let a = holds-few m.buffers in
+        let b : length m.buffers ≡ 1 = root.counted in
+        let c = members-cost fields ts is (root.kids, below.kids) in
+        let e = no-dictionary d root.dict in
+        omega (arith, a, b, c, e)
 
-  members-cost : (members : Members) (ts : Trees ArrayMembers) → MembersAreColumns members → Roots → Parts
-      → AreLawful (tree_list (types_of_members members)) (tree_list ts) → cost_of_all ts ≤ 7 * member_leaves members + 2 * member_structs members
-  members-cost no_members no_trees are roots parts lawful = omega arith
-  members-cost no_members (more_trees t ts) are roots parts lawful = absurd (omega (arith, lawful.0))
-  members-cost (more_members name kind rest) no_trees are roots parts lawful = omega arith
-  members-cost (more_members name kind rest) (more_trees t ts) are roots parts lawful =
-      let a = kind-cost kind t are.0 roots parts (lawful.1 zero (omega arith)) in
-      let b = members-cost rest ts are.1 roots parts (rest-lawful (type_of_kind kind) (tree_list (types_of_members rest)) t (tree_list ts) lawful) in
+    members-cost : (members : Members) (ts : Trees ArrayMembers) → MembersAreColumns members
+        → AreLawful (tree_list (types_of_members members)) (tree_list ts) → cost_of_all ts ≤ 7 * member_leaves members + 2 * member_structs members
+    members-cost no_members no_trees are lawful = omega arith
+    members-cost no_members (more_trees t ts) are lawful = absurd (omega (arith, lawful.0))
+    members-cost (more_members name kind rest) no_trees are lawful = omega arith
+    members-cost (more_members name kind rest) (more_trees t ts) are lawful =
+        let a = kind-cost kind t are.0 (lawful.1 zero (omega arith)) in
+        let b = members-cost rest ts are.1 (rest-lawful (type_of_kind kind) (tree_list (types_of_members rest)) t (tree_list ts) lawful) in
+        omega (arith, a, b)
+
+  columns-cost : (columns : List Column) (ts : Trees ArrayMembers) → All (λ c. AreColumnKinds c.kind) columns
+      → AreLawful (types_of_columns columns) (tree_list ts) → cost_of_all ts ≤ 7 * column_leaves columns + 2 * column_structs columns
+  columns-cost [] no_trees are lawful = omega arith
+  columns-cost [] (more_trees t ts) are lawful = absurd (omega (arith, lawful.0))
+  columns-cost (c ∷ cs) no_trees are lawful = omega arith
+  columns-cost (c ∷ cs) (more_trees t ts) are lawful =
+      let a = kind-cost c.kind t (are zero c (omega arith)) (lawful.1 zero (omega arith)) in
+      let b =
+      columns-cost cs ts (λ k none small. are (suc k) none (omega (arith, small)))
+      (rest-lawful (type_of_column c) (types_of_columns cs) t (tree_list ts) lawful) in
       omega (arith, a, b)
 
-columns-cost : (columns : List Column) (ts : Trees ArrayMembers) → All (λ c. AreColumnKinds c.kind) columns → Roots → Parts
-    → AreLawful (types_of_columns columns) (tree_list ts) → cost_of_all ts ≤ 7 * column_leaves columns + 2 * column_structs columns
-columns-cost [] no_trees are roots parts lawful = omega arith
-columns-cost [] (more_trees t ts) are roots parts lawful = absurd (omega (arith, lawful.0))
-columns-cost (c ∷ cs) no_trees are roots parts lawful = omega arith
-columns-cost (c ∷ cs) (more_trees t ts) are roots parts lawful =
-    let a = kind-cost c.kind t (are zero c (omega arith)) roots parts (lawful.1 zero (omega arith)) in
-    let b =
-    columns-cost cs ts (λ k none small. are (suc k) none (omega (arith, small))) roots parts
-    (rest-lawful (type_of_column c) (types_of_columns cs) t (tree_list ts) lawful) in
-    omega (arith, a, b)
-
-pub chunk-cost : (columns : List Column) (t : ArrayTree) → All (λ c. AreColumnKinds c.kind) columns → Roots → Parts → LayoutOk (type_of_columns columns) t
-    → Cost t ≤ 7 * column_leaves columns + 2 * column_structs columns + 2
-chunk-cost columns Released are roots parts lawful = omega arith
-chunk-cost columns (Live m ts d) are roots parts lawful =
-    let root = roots (type_of_columns columns) (Live m ts d) tt lawful in
-    let below = parts (type_of_columns columns) (Live m ts d) tt lawful in
-    let types = tree_list-trees (types_of_columns columns) in
-    let a = holds-few m.buffers in
-    let b : length m.buffers ≡ 1 = root.counted in
-    let c = columns-cost columns ts are roots parts (subst (λ ks. AreLawful ks (tree_list ts)) types (root.kids, below.kids)) in
-    let e = no-dictionary d root.dict in
-    omega (arith, a, b, c, e)
+  pub chunk-cost : (columns : List Column) (t : ArrayTree) → All (λ c. AreColumnKinds c.kind) columns → LayoutOk (type_of_columns columns) t
+      → Cost t ≤ 7 * column_leaves columns + 2 * column_structs columns + 2
+  chunk-cost columns Released are lawful = omega arith
+  chunk-cost columns (Live m ts d) are lawful =
+      let root = roots (type_of_columns columns) (Live m ts d) tt lawful in
+      let below = parts (type_of_columns columns) (Live m ts d) tt lawful in
+      let types = tree_list-trees (types_of_columns columns) in
+      let a = holds-few m.buffers in
+      let b : length m.buffers ≡ 1 = root.counted in
+      let c = columns-cost columns ts are (subst (λ ks. AreLawful ks (tree_list ts)) types (root.kids, below.kids)) in
+      let e = no-dictionary d root.dict in
+      omega (arith, a, b, c, e)

@@ -130,64 +130,61 @@ Ran-repeats s m n code done before middle after a b d is ran repeats = record {
   shows = λ refusal e. repeats.shows refusal (ran.failed refusal e) ∙ ran.shows refusal e;
 }
 
--- and one that answered 0 has not refused
-pub Ran-works : (s m n : Stream) (code done : ℤ) (out : ArrayTree) (before middle after last : Option (List Seen)) (a b d e : Tally) → Ran s m before middle a b
-    → Called m n code out middle after b d → code ≡ pos 0 → Repeats s n done a e before last
-Ran-works s m n code done out before middle after last a b d e ran call zero =
-    let never : (refusal : Refusal) → s.failure ≡ Some refusal → ⊥ = λ refusal failed.
-    let works = not-failed m n code out middle after b d call zero in
-    let has = ran.failed refusal failed in
-    let k : None ≡ Some refusal = sym works ∙ has in cc in
-    record {
-      same = λ refusal failed. absurd (never refusal failed);
-      counts = λ refusal failed. absurd (never refusal failed);
-      shows = λ refusal failed. absurd (never refusal failed);
-    }
-
--- the stream was fresh before a call that answers 0
-pub Ran-fresh : (s m n : Stream) (code : ℤ) (out : ArrayTree) (before middle after : Option (List Seen)) (a b d : Tally) → IsTrue s.lawful
-    → Ran s m before middle a b → Called m n code out middle after b d → code ≡ pos 0 → IsFresh m
-Ran-fresh s m n code out before middle after a b d lawful ran call zero = record {
-  lawful = subst IsTrue (sym ran.keeps.lawful) lawful;
-  no_failure = not-failed m n code out middle after b d call zero;
-}
-
--- it is fresh where it was so at the start
+-- one that is fresh at the start of a run is fresh at its end
 pub Ran-still : (s m : Stream) (before middle : Option (List Seen)) (a b : Tally) → Ran s m before middle a b → IsFresh s → IsFresh m
 Ran-still s m before middle a b ran fresh = record {
   lawful = subst IsTrue (sym ran.keeps.lawful) fresh.lawful;
   no_failure = ran.works fresh.no_failure;
 }
 
--- one more call that answered 0
-pub Ran-next : (s m n : Stream) (code : ℤ) (out : ArrayTree) (before middle after : Option (List Seen)) (a b d e : Tally) → IsTrue s.lawful
-    → Ran s m before middle a b → Called m n code out middle after b d → code ≡ pos 0 → e.blocks ≡ d.blocks → e.nodes ≡ d.nodes → Ran s n before after a e
-Ran-next s m n code out before middle after a b d e lawful ran call zero blocks nodes =
-    let fresh = Ran-fresh s m n code out before middle after a b d lawful ran call zero in
-    let never : (refusal : Refusal) → s.failure ≡ Some refusal → ⊥ = λ refusal failed.
-    let has = ran.failed refusal failed in
-    let works = fresh.no_failure in
-    let k : None ≡ Some refusal = sym works ∙ has in cc in
-    let shows = call.shows fresh in
-    let counts = call.counts fresh zero in
-    record {
-      keeps = kept-both s m n ran.keeps call.keeps;
-      works = λ _. call.failure ∙ tells_nothing code n.said call.tells zero;
-      failed = λ refusal failed. absurd (never refusal failed);
-      fault = λ refusal failed. absurd (never refusal failed);
-      counts = λ refusal failed. absurd (never refusal failed);
-      shows = λ refusal failed. absurd (never refusal failed);
-      went = λ start.
-          let went = ran.went start in
-          record {
-            shown = went.shown ++ shows.shown;
-            told = shows.told ∙ ap (λ seen. grown seen shows.shown) went.told ∙ grown-append before went.shown shows.shown;
-            leaves = λ link. rw of_link-append (went.leaves link ∙ ap (λ xs. of_link link went.shown ++ xs) (shows.leaves zero link)
-                ∙ sym (append_assoc (of_link link went.shown) (of_link link shows.shown) (n.joints link)));
-            made = record { blocks = went.made.blocks + counts.made.blocks; nodes = went.made.nodes + counts.made.nodes };
-            blocks = risen-add a.blocks b.blocks e.blocks went.made.blocks counts.made.blocks went.blocks (blocks ∙ counts.blocks);
-            nodes = risen-add a.nodes b.nodes e.nodes went.made.nodes counts.made.nodes went.nodes (nodes ∙ counts.nodes);
-            fewer_blocks = omega (arith, went.fewer_blocks, counts.fewer_blocks);
-            fewer_nodes = omega (arith, went.fewer_nodes, counts.fewer_nodes);
-          };
-    }
+-- a run, and a call after it that answers 0
+module _ (s m n : Stream) (code : ℤ) (out : ArrayTree) (before middle after : Option (List Seen)) (a b d : Tally) (ran : Ran s m before middle a b)
+    (call : Called m n code out middle after b d) (zero : code ≡ pos 0) where
+  -- the stream had not refused
+  not-refused : (refusal : Refusal) → s.failure ≡ Some refusal → ⊥
+  not-refused refusal failed =
+      let works = not-failed m n code out middle after b d call zero in
+      let has = ran.failed refusal failed in
+      let k : None ≡ Some refusal = sym works ∙ has in cc
+
+  pub Ran-works : (done : ℤ) (last : Option (List Seen)) (e : Tally) → Repeats s n done a e before last
+  Ran-works done last e = record {
+    same = λ refusal failed. absurd (not-refused refusal failed);
+    counts = λ refusal failed. absurd (not-refused refusal failed);
+    shows = λ refusal failed. absurd (not-refused refusal failed);
+  }
+
+  -- and was fresh before the call
+  pub Ran-fresh : IsTrue s.lawful → IsFresh m
+  Ran-fresh lawful = record {
+    lawful = subst IsTrue (sym ran.keeps.lawful) lawful;
+    no_failure = not-failed m n code out middle after b d call zero;
+  }
+
+  -- the run with the call
+  pub Ran-next : (e : Tally) → IsTrue s.lawful → e.blocks ≡ d.blocks → e.nodes ≡ d.nodes → Ran s n before after a e
+  Ran-next e lawful blocks nodes =
+      let fresh = Ran-fresh lawful in
+      let shows = call.shows fresh in
+      let counts = call.counts fresh zero in
+      record {
+        keeps = kept-both s m n ran.keeps call.keeps;
+        works = λ _. call.failure ∙ tells_nothing code n.said call.tells zero;
+        failed = λ refusal failed. absurd (not-refused refusal failed);
+        fault = λ refusal failed. absurd (not-refused refusal failed);
+        counts = λ refusal failed. absurd (not-refused refusal failed);
+        shows = λ refusal failed. absurd (not-refused refusal failed);
+        went = λ start.
+            let went = ran.went start in
+            record {
+              shown = went.shown ++ shows.shown;
+              told = shows.told ∙ ap (λ seen. grown seen shows.shown) went.told ∙ grown-append before went.shown shows.shown;
+              leaves = λ link. rw of_link-append (went.leaves link ∙ ap (λ xs. of_link link went.shown ++ xs) (shows.leaves zero link)
+                  ∙ sym (append_assoc (of_link link went.shown) (of_link link shows.shown) (n.joints link)));
+              made = record { blocks = went.made.blocks + counts.made.blocks; nodes = went.made.nodes + counts.made.nodes };
+              blocks = risen-add a.blocks b.blocks e.blocks went.made.blocks counts.made.blocks went.blocks (blocks ∙ counts.blocks);
+              nodes = risen-add a.nodes b.nodes e.nodes went.made.nodes counts.made.nodes went.nodes (nodes ∙ counts.nodes);
+              fewer_blocks = omega (arith, went.fewer_blocks, counts.fewer_blocks);
+              fewer_nodes = omega (arith, went.fewer_nodes, counts.fewer_nodes);
+            };
+      }

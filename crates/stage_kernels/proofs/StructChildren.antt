@@ -72,15 +72,28 @@ children-cost (Live m ts d) live = let same = ap cost_of_all (trees-tree_list ts
 
 -- ---- what a chunk and a struct in it offer
 module _ (laws : StructLaws) where
-  pub shown : (types : List KindTree) (t : ArrayTree) → AreLive types → LayoutOk (table_type types) t → ShowsChildren t
-  shown types t live ok = record {
-    live = laws.live types t ok;
-    placed = laws.placed types t ok;
-    sized = laws.sized types t ok;
-    fit = λ k small.
-        let e = laws.count types t ok in
-        laws.fit types t (k ∷ []) live ok (one-within (length types) k (omega (arith, e, small))) 0 (omega arith);
-  }
+  module _ (types : List KindTree) (t : ArrayTree) (live : AreLive types) (ok : LayoutOk (table_type types) t) where
+    pub shown : ShowsChildren t
+    shown = record {
+      live = laws.live types t ok;
+      placed = laws.placed types t ok;
+      sized = laws.sized types t ok;
+      fit = λ k small.
+          let e = laws.count types t ok in
+          laws.fit types t (k ∷ []) live ok (one-within (length types) k (omega (arith, e, small))) 0 (omega arith);
+    }
+
+    -- its columns may stand in a table
+    child-column : Depth t ≤ 128 → (k : ℕ) → k < length (children_of t) → IsColumn (items (members_of t)) (child_at t k)
+    child-column deep k small =
+        let count = laws.count types t ok in
+        let s : k < length types = omega (arith, count, small) in
+        let long = laws.column_long types t k s (live k s) ok in
+        record {
+          live = laws.column_live types t k s (live k s) ok;
+          not_deep = let d = child-depth t k small in omega (arith, d, deep);
+          long = omega (arith, long);
+        }
 
   struct-at : (columns : List Column) (place : ℕ) (fields : Members) → place < length columns → (column_at columns place).kind ≡ StructOf fields
       → get_or (types_of_columns columns) place Released ≡ table_type (types_of_columns (member_columns fields))
@@ -110,19 +123,6 @@ module _ (laws : StructLaws) where
       }
 
   -- ---- the columns that stand in a table
-  -- the columns of a lawful struct may stand in a table
-  child-column : (types : List KindTree) (t : ArrayTree) → AreLive types → LayoutOk (table_type types) t → Depth t ≤ 128
-      → (k : ℕ) → k < length (children_of t) → IsColumn (items (members_of t)) (child_at t k)
-  child-column types t live ok deep k small =
-      let count = laws.count types t ok in
-      let s : k < length types = omega (arith, count, small) in
-      let long = laws.column_long types t k s (live k s) ok in
-      record {
-        live = laws.column_live types t k s (live k s) ok;
-        not_deep = let d = child-depth t k small in omega (arith, d, deep);
-        long = omega (arith, long);
-      }
-
   -- the columns of a chunk with a struct's columns in its place
   module _ (place : ℕ) (t : ArrayTree) (has : HasStruct place t)
       (ok : ChunkOk (type_of_columns (unpacked_columns place has.fields has.columns)) (Unpacked t place)) where

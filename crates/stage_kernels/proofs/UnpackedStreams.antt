@@ -266,36 +266,33 @@ field-items (more_members name kind rest) rows items (suc j) none small =
     subst (AreItems (get_or (member_columns rest) j none).kind) (tail-values rows j)
     (field-items rest (map (drop 1) rows) items.1 j none (omega (arith, small)))
 
-pub table-fits : (place : ℕ) (fields : Members) (columns : List Column) (rows : List Row) → place < length columns
-    → (column_at columns place).kind ≡ Columns fields → IsTable columns rows
-    → AllByRecursion (RowFits place (length (member_columns fields)) (length columns)) rows
-table-fits place fields columns rows inside is_struct table =
-    let items = subst (λ kind. AreItems kind (column_values place rows)) is_struct (table.items place no_column inside) in
-    rows-fit place (length (member_columns fields)) (length columns) rows table.widths items.0
+module _ (place : ℕ) (fields : Members) (columns : List Column) (inside : place < length columns)
+    (is_struct : (column_at columns place).kind ≡ Columns fields) where
+  pub table-fits : (rows : List Row) → IsTable columns rows → AllByRecursion (RowFits place (length (member_columns fields)) (length columns)) rows
+  table-fits rows table =
+      let items = subst (λ kind. AreItems kind (column_values place rows)) is_struct (table.items place no_column inside) in
+      rows-fit place (length (member_columns fields)) (length columns) rows table.widths items.0
 
-table-after : (place : ℕ) (fields : Members) (columns : List Column) (rows : List Row) → place < length columns
-    → (column_at columns place).kind ≡ Columns fields → IsTable columns rows
-    → IsTable (unpacked_columns place fields columns) (map (unpacked place) rows)
-table-after place fields columns rows inside is_struct table =
-    let inner = member_columns fields in
-    let count = length inner in
-    let width = length columns in
-    let all = table-fits place fields columns rows inside is_struct table in
-    let items = subst (λ kind. AreItems kind (column_values place rows)) is_struct (table.items place no_column inside) in
-    record {
-      widths = widths-after place count width inside rows all (length (spliced place inner columns)) (length-spliced place inner columns inside);
-      items = each-holds (λ (c : Column) (vs : List Value). AreItems c.kind vs) place inner columns inside
-          (λ k. column_values k (map (unpacked place) rows)) (λ k. column_values k rows) (λ j. column_values j (map fields_of (column_values place rows)))
-          (front-values place count width inside rows all) (middle-values place count width inside rows all) (behind-values place count width inside rows all)
-          table.items (field-items fields (map fields_of (column_values place rows)) items.1);
-    }
+  table-after : (rows : List Row) → IsTable columns rows → IsTable (unpacked_columns place fields columns) (map (unpacked place) rows)
+  table-after rows table =
+      let inner = member_columns fields in
+      let count = length inner in
+      let width = length columns in
+      let all = table-fits rows table in
+      let items = subst (λ kind. AreItems kind (column_values place rows)) is_struct (table.items place no_column inside) in
+      record {
+        widths = widths-after place count width inside rows all (length (spliced place inner columns)) (length-spliced place inner columns inside);
+        items = each-holds (λ (c : Column) (vs : List Value). AreItems c.kind vs) place inner columns inside
+            (λ k. column_values k (map (unpacked place) rows)) (λ k. column_values k rows) (λ j. column_values j (map fields_of (column_values place rows)))
+            (front-values place count width inside rows all) (middle-values place count width inside rows all)
+            (behind-values place count width inside rows all)
+            table.items (field-items fields (map fields_of (column_values place rows)) items.1);
+      }
 
-tables-after : (place : ℕ) (fields : Members) (columns : List Column) (ahead : List (List Row)) → place < length columns
-    → (column_at columns place).kind ≡ Columns fields → AllByRecursion (IsTable columns) ahead
-    → AllByRecursion (IsTable (unpacked_columns place fields columns)) (map (map (unpacked place)) ahead)
-tables-after place fields columns [] inside is_struct tables = tt
-tables-after place fields columns (rows ∷ more) inside is_struct tables =
-    (table-after place fields columns rows inside is_struct tables.0, tables-after place fields columns more inside is_struct tables.1)
+  tables-after : (ahead : List (List Row)) → AllByRecursion (IsTable columns) ahead
+      → AllByRecursion (IsTable (unpacked_columns place fields columns)) (map (map (unpacked place)) ahead)
+  tables-after [] tables = tt
+  tables-after (rows ∷ more) tables = (table-after rows tables.0, tables-after more tables.1)
 
 rows-after : (place : ℕ) (ahead : List (List Row)) → total_rows (map (map (unpacked place)) ahead) ≡ total_rows ahead
 rows-after place [] = refl
@@ -307,6 +304,6 @@ unpacked_tables place kept before ahead fits lawful =
     let fit = told place kept before fits in
     subst (λ cs. LawfulTables cs (map (map (unpacked place)) ahead)) (sym fit.columns)
     (record {
-      tables = tables-after place fit.fields before ahead fit.inside fit.is_struct lawful.tables;
+      tables = tables-after place fit.fields before fit.inside fit.is_struct ahead lawful.tables;
       rows = let e = rows-after place ahead in omega (arith, e, lawful.rows);
     })

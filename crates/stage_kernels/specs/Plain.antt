@@ -1,8 +1,6 @@
--- Columns without dictionaries, and the steps that a chain has works for.
+-- Columns without dictionaries.
 use Rattle.std.specs.Prelude.{List, All}
 use Rattle.fmt_string.specs.Table.{Column, Kind, Flat, Dict, Columns, Members, no_members, more_members}
-use Rattle.stage_model.specs.declared.stage.Step.{Step}
-use Rattle.stage_model.specs.declared.stage.Step.TheVariants as steps
 
 abbrev mutual
   -- no column has a dictionary, at all depths
@@ -18,9 +16,3 @@ abbrev mutual
 -- of columns
 abbrev pub ArePlain : List Column → Type 0
 ArePlain columns = All (λ c. HasNoDict c.kind) columns
-
--- a step of a kind that there is a work for
-abbrev pub IsMade : Step → Type 0
-IsMade (steps.Dict column) = ⊥
-IsMade (steps.Plain column) = ⊥
-IsMade _ = Unit {0}

@@ -11,6 +11,7 @@ ghost use Rattle.arr_export.specs.ArrayTrees.{IsColumn};
 ghost use Rattle.column_laws.specs.Picking.{Unpacked, cut_children};
 ghost use Rattle.stage_kernels.specs.Unpacks.{HasStruct, ShowsChildren, ShowsInner};
 
+use crate::children::{count_children, move_children};
 use arr_export::export_table;
 use arr_move::slice;
 use array_laws::{lawful_structs_have_columns, windows_are_parts};
@@ -102,15 +103,6 @@ fn unpacked_children(
     Ok(columns)
 }
 
-/// The number of children.
-fn count_children(array: &RawArray) -> usize
-    requires { IsLive array.now }
-    ensures exact { result ≡ length (children_of array.now) }
-    ensures few { length (children_of array.now) < 2 ^ 32 - 1 }
-{
-    array.n_children() as usize
-}
-
 /// Moves all columns of an array, and those of a struct in its place, into an empty list that has room for them, and
 /// releases what is left of the array.
 fn move_unpacked_children(
@@ -164,59 +156,4 @@ fn move_all_children(array: RawArray, columns: &mut Vec<RawArray>, pass: &mut Pa
     let mut moved = PartlyMoved::begin(array);
     move_children(&mut moved, 0, count, off, len, columns);
     moved.finish(pass);
-}
-
-/// Moves the children of some places, each cut to a window, behind the columns of a list that has room for them.
-fn move_children(
-    moved: &mut PartlyMoved,
-    from: usize,
-    to: usize,
-    off: i64,
-    len: i64,
-    columns: &mut Vec<RawArray>,
-)
-    requires off { pos 0 ≤ℤ off }
-    requires len { pos 0 ≤ℤ len }
-    requires order { from ≤ to }
-    requires inside { to ≤ length (children_of moved.old) }
-    requires fit { (k : ℕ) → from ≤ k → k < to → FitsWindow (child_at moved.old k) off len }
-    requires room { vec_len columns.old + to ≤ vec_capacity columns.old + from }
-    ensures columns { columns.new.items ≡ columns.old.items ++ map (λ c. Window c off len) (take (to - from) (drop from (children_of moved.old))) }
-    ensures len { vec_len columns.new + from ≡ vec_len columns.old + to }
-    ensures capacity { vec_capacity columns.new ≡ vec_capacity columns.old }
-    ensures places { length (children_of moved.new) ≡ length (children_of moved.old) }
-    ensures rest { drop to (children_of moved.new) ≡ drop to (children_of moved.old) }
-    ensures cost { Cost moved.new + cost_of_all (trees columns.new.items) ≡ Cost moved.old + cost_of_all (trees columns.old.items) }
-    ensures less { Cost moved.new ≤ Cost moved.old }
-{
-    for place in from..to {
-        move_child(moved, place, off, len, columns);
-    }
-}
-
-/// Moves a child, cut to a window, behind the columns of a list that has room for it.
-fn move_child(
-    moved: &mut PartlyMoved,
-    place: usize,
-    off: i64,
-    len: i64,
-    columns: &mut Vec<RawArray>,
-)
-    requires off { pos 0 ≤ℤ off }
-    requires len { pos 0 ≤ℤ len }
-    requires inside { place < length (children_of moved.old) }
-    requires fits { FitsWindow (child_at moved.old place) off len }
-    requires room { vec_len columns.old < vec_capacity columns.old }
-    ensures moved { moved.new ≡ with_child moved.old place Released }
-    ensures columns { columns.new.items ≡ columns.old.items ++ Window (child_at moved.old place) off len ∷ [] }
-    ensures len { vec_len columns.new ≡ vec_len columns.old + 1 }
-    ensures capacity { vec_capacity columns.new ≡ vec_capacity columns.old }
-    ensures cost { Cost moved.new + cost_of_all (trees columns.new.items) ≡ Cost moved.old + cost_of_all (trees columns.old.items) }
-    ensures less { Cost moved.new ≤ Cost moved.old }
-{
-    windows_keep_measures();
-    match moved.take_child(place) {
-        Ok(child) => columns.push_reserved(slice(child, off, len)),
-        Err(Gone) => unreachable!(),
-    }
 }

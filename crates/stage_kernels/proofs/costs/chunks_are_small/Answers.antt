@@ -2,4 +2,4 @@ use Rattle.stage_kernels.proofs.ChunkCosts.{chunk-cost}
 use Rattle.stage_kernels.proofs.costs.chunks_are_small.Goals as goal
 
 pub returns : goal.returns
-returns c = λ columns t kinds dicts ok. chunk-cost columns t kinds c.lawful_trees.ensures.root c.lawful_trees.ensures.parts ok.0
+returns c = λ columns t kinds dicts ok. chunk-cost c.lawful_trees.ensures.root c.lawful_trees.ensures.parts columns t kinds ok.0

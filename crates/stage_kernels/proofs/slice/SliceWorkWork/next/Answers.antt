@@ -134,7 +134,7 @@ returns-then-not-is_released-clause-repeats g c =
     let later = g.T.Tap.seen c.next-code.new.tap in
     let called : Called m n c.next-code.result c.next-code.new.out seen later c.chunks.pass c.next-code.new.pass =
     record { keeps = call.keeps; tells = call.tells; failure = call.failure; repeats = call.repeats; counts = call.counts; shows = call.shows } in
-    Ran-works start m n c.next-code.result _ c.next-code.new.out _ _ _ _ c.args.pass.now c.chunks.pass c.next-code.new.pass c.narrow.new.pass ran called works
+    Ran-works start m n c.next-code.result c.next-code.new.out _ _ _ c.args.pass.now c.chunks.pass c.next-code.new.pass ran called works _ _ c.narrow.new.pass
 
 pub returns-then-not-is_released-clause-shows : goal.returns-then-not-is_released-clause-shows
 returns-then-not-is_released-clause-shows g c = λ fresh.
@@ -163,7 +163,7 @@ chunks-smaller g c =
     let later = g.T.Tap.seen c.next-code.new.tap in
     let called : Called m n c.next-code.result c.next-code.new.out seen later c.chunks.pass c.next-code.new.pass =
     record { keeps = call.keeps; tells = call.tells; failure = call.failure; repeats = call.repeats; counts = call.counts; shows = call.shows } in
-    let fresh : IsFresh m = Ran-fresh start m n c.next-code.result c.next-code.new.out _ _ _ _ _ _ c.requires.lawful ran called works in
+    let fresh : IsFresh m = Ran-fresh start m n c.next-code.result c.next-code.new.out _ _ _ _ _ _ ran called works c.requires.lawful in
     shorter m.ahead n.ahead ((call.answers fresh).chunk live).0 ((call.answers fresh).chunk live).1
 
 pub chunks-preserved : goal.chunks-preserved
@@ -191,8 +191,8 @@ chunks-preserved g c =
     let before = c.args.self.now in
     let work = c.chunks.self in
     record {
-      ran = Ran-next start m n c.next-code.result c.next-code.new.out _ _ _ c.args.pass.now c.chunks.pass c.next-code.new.pass c.narrow.new.pass
-          c.requires.lawful ran called works narrow.blocks narrow.nodes;
+      ran = Ran-next start m n c.next-code.result c.next-code.new.out _ _ _ c.args.pass.now c.chunks.pass c.next-code.new.pass
+          ran called works c.narrow.new.pass c.requires.lawful narrow.blocks narrow.nodes;
       same = λ fresh. slice-skips start m n before.skip before.keep work.skip work.keep c.narrow.new.self.skip c.narrow.new.self.keep c.next-code.result
           c.next-code.new.out c.narrow.new.chunk laws (c.chunks.invariant.same fresh) (call.answers (Ran-still start m _ _ _ _ ran fresh)) live narrow.part
           gone narrow.skip narrow.keep;

@@ -3,7 +3,7 @@ use Rattle.std.proofs.lemmas.Int.{ints}
 use Rattle.std.proofs.lemmas.List.{length-set}
 use Rattle.tree_model.specs.Tree.{Released, children_of, child_at}
 use Rattle.stage_kernels.proofs.MovedChildren.{at-place, children-set, fits-same, items-next, rest-taken}
-use Rattle.stage_kernels.proofs.unpacked.move_children.Goals as goal
+use Rattle.stage_kernels.proofs.children.move_children.Goals as goal
 
 pub move_child-requires-clause-fits : goal.move_child-requires-clause-fits
 move_child-requires-clause-fits c =
