@@ -1,5 +1,5 @@
 -- The arrays that are made of values are lawful, and have these values.
-use Rattle.std.proofs.Common.{◌≡◌, ◌∙◌, ◌≤◌, ◌<◌, ◌+◌, ◌^◌, ℕ, zero, suc, List, [], ◌∷◌, length, map, get_or, All, None, refl, sym, ap, subst, arith}
+use Rattle.std.proofs.Common.{◌≡◌, ◌∙◌, ◌≤◌, ◌<◌, ◌+◌, ◌^◌, ℕ, zero, suc, List, [], ◌∷◌, length, map, get_or, All, refl, sym, ap, subst, arith}
 use Rattle.std.proofs.lemmas.List.{length-map}
 use Rattle.std.proofs.lemmas.List.Elements.{All-head, All-tail}
 use Rattle.fmt_string.specs.ColumnForms.{AreColumnKinds, MembersAreColumns}
@@ -11,44 +11,28 @@ use Rattle.fmt_string.specs.declared.kind.DataType.TheVariants as kinds
 use Rattle.tree_model.specs.Tree.{Live, Trees, absent, tree_list}
 use Rattle.tree_model.proofs.Lists.{trees-tree_list}
 use Rattle.raw_array.specs.Members.{ArrayTree}
-use Rattle.col_build.specs.Encoding.{Fits}
 use Rattle.layout_check.specs.ColumnKinds.{table_type, type_of_columns, type_of_kind, types_of_columns, types_of_members}
 use Rattle.layout_check.specs.Kinds.{KindTree}
 use Rattle.layout_check.specs.Values.{each, row_items, rows_of, tree_items, values_of}
 use Rattle.layout_check.specs.Walk.{ChunkOk, LayoutOk}
-use Rattle.arr_export.specs.ArrayTrees.{AreLawful, HaveValues, column_tree, flat_type, rows_of_values, table_tree}
+use Rattle.arr_export.specs.ArrayTrees.{AreLawful, HaveValues, rows_of_values, table_tree}
 use Rattle.stage_model.specs.Traffic.{member_values}
 use Rattle.stream_face.specs.Lawful.{AreItems, HasFields, IsTable}
 use Rattle.stage_filter.specs.KeptTrees.{chunk_tree, kind_tree, member_trees, trees_from}
 use Rattle.stage_filter.specs.Plain.{HaveNoDict, HasNoDict, ArePlain}
 use Rattle.stage_filter.proofs.ChunkRows.{all_values, rows-back, values-long}
 use Rattle.stage_filter.proofs.KeptColumns.{live-type, long-tree}
+use Rattle.stage_filter.proofs.LawTypes.{FlatLawful, FlatValued, TableLawful, TableValued}
 use Rattle.stage_filter.proofs.StructColumns.{items-are, values-are}
 use Rattle.stage_filter.proofs.ValuesTaken.{values-fit}
 
--- ---- the laws that these stand on
-
-abbrev pub FlatLawful : Type 0
-FlatLawful = (kind : DataType) (vs : List Value) → Fits kind vs → LayoutOk (flat_type kind None) (column_tree kind vs None)
-
-abbrev pub FlatValued : Type 0
-FlatValued = (kind : DataType) (vs : List Value) → Fits kind vs → values_of (flat_type kind None) (column_tree kind vs None) ≡ vs
-
-abbrev pub TableLawful : Type 0
-TableLawful = (types : List KindTree) (columns : List ArrayTree) (rows : ℕ) → AreLawful types columns → All (λ column. rows ≤ tree_items column) columns
-    → rows ≤ 2 ^ 40 → ChunkOk (table_type types) (table_tree rows columns)
-
-abbrev pub TableValued : Type 0
-TableValued = (types : List KindTree) (columns : List ArrayTree) (vs : List (List Value)) (rows : ℕ) → HaveValues types columns vs
-    → All (λ items. rows ≤ length items) vs → rows_of (table_type types) (table_tree rows columns) ≡ rows_of_values vs rows
-
 -- ---- a struct's items are its rows
 
-each-fields : (f : ℕ → Row) (from n : ℕ) → each (λ i. Fields (values (f i))) from n ≡ map (λ (row : Row). Fields (values row)) (each f from n)
+pub each-fields : (f : ℕ → Row) (from n : ℕ) → each (λ i. Fields (values (f i))) from n ≡ map (λ (row : Row). Fields (values row)) (each f from n)
 each-fields f from zero = refl
 each-fields f from (suc n) = ap (λ (vs : List Value). Fields (values (f from)) ∷ vs) (each-fields f (suc from) n)
 
-struct-values : (types : List KindTree) (columns : List ArrayTree) (rows : ℕ)
+pub struct-values : (types : List KindTree) (columns : List ArrayTree) (rows : ℕ)
     → values_of (table_type types) (table_tree rows columns) ≡ map (λ (row : Row). Fields (values row)) (rows_of (table_type types) (table_tree rows columns))
 struct-values types columns rows = each-fields (row_items (table_type types) (table_tree rows columns)) 0 rows
 
@@ -60,7 +44,7 @@ field-back : (count : ℕ) (v : Value) → HasFields count v → Fields (values 
 field-back count (Fields vs) has = ap Fields (back vs)
 field-back count _ has = absurd has
 
-fields-back : (count : ℕ) (vs : List Value) → All (HasFields count) vs → map (λ (row : Row). Fields (values row)) (map fields_of vs) ≡ vs
+pub fields-back : (count : ℕ) (vs : List Value) → All (HasFields count) vs → map (λ (row : Row). Fields (values row)) (map fields_of vs) ≡ vs
 fields-back count [] has = refl
 fields-back count (v ∷ vs) has =
     ap (λ (x : Value). x ∷ map (λ (row : Row). Fields (values row)) (map fields_of vs)) (field-back count v (All-head (HasFields count) v vs has))
@@ -70,7 +54,7 @@ field-width : (count : ℕ) (v : Value) → HasFields count v → length (fields
 field-width count (Fields vs) has = has
 field-width count _ has = absurd has
 
-widths : (count : ℕ) (vs : List Value) → All (HasFields count) vs → All (λ (row : Row). length row ≡ count) (map fields_of vs)
+pub widths : (count : ℕ) (vs : List Value) → All (HasFields count) vs → All (λ (row : Row). length row ≡ count) (map fields_of vs)
 widths count [] has k d small = absurd (omega (arith, small))
 widths count (v ∷ vs) has zero d small = field-width count v (All-head (HasFields count) v vs has)
 widths count (v ∷ vs) has (suc k) d small = widths count vs (All-tail (HasFields count) v vs has) k d (omega (arith, small))
@@ -216,15 +200,15 @@ module _ (flat_lawful : FlatLawful) (flat_valued : FlatValued) (table_lawful : T
       let here : 0 + k ≡ k = omega arith in
       subst (λ n. AreItems (get_or columns k none).kind (column_values n rows)) (sym here) (table.items k none small)
 
-  pub chunk-lawful : (columns : List Column) (rows : List Row) → All (λ c. AreColumnKinds c.kind) columns → ArePlain columns → IsTable columns rows
-      → length rows ≤ 2 ^ 30 → ChunkOk (type_of_columns columns) (chunk_tree columns rows)
-  chunk-lawful columns rows is plain table few =
-      table_lawful (types_of_columns columns) (trees_from 0 columns rows) (length rows)
-      (lawful-columns 0 columns rows is plain (from-table columns rows table) few) (long-columns 0 columns rows plain) (omega (arith, few))
+  module _ (columns : List Column) (rows : List Row) (is : All (λ c. AreColumnKinds c.kind) columns) (plain : ArePlain columns) (table : IsTable columns rows)
+      (few : length rows ≤ 2 ^ 30) where
+    pub chunk-lawful : ChunkOk (type_of_columns columns) (chunk_tree columns rows)
+    chunk-lawful =
+        table_lawful (types_of_columns columns) (trees_from 0 columns rows) (length rows)
+        (lawful-columns 0 columns rows is plain (from-table columns rows table) few) (long-columns 0 columns rows plain) (omega (arith, few))
 
-  pub chunk-rows : (columns : List Column) (rows : List Row) → All (λ c. AreColumnKinds c.kind) columns → ArePlain columns → IsTable columns rows
-      → length rows ≤ 2 ^ 30 → rows_of (type_of_columns columns) (chunk_tree columns rows) ≡ rows
-  chunk-rows columns rows is plain table few =
-      table_valued (types_of_columns columns) (trees_from 0 columns rows) (all_values 0 columns rows) (length rows)
-      (valued-columns 0 columns rows is plain (from-table columns rows table) few) (values-long 0 columns rows)
-      ∙ rows-back columns rows table.widths
+    pub chunk-rows : rows_of (type_of_columns columns) (chunk_tree columns rows) ≡ rows
+    chunk-rows =
+        table_valued (types_of_columns columns) (trees_from 0 columns rows) (all_values 0 columns rows) (length rows)
+        (valued-columns 0 columns rows is plain (from-table columns rows table) few) (values-long 0 columns rows)
+        ∙ rows-back columns rows table.widths

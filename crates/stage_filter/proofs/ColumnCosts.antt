@@ -1,19 +1,24 @@
--- What a finished column costs: a node, and a hold for each buffer of its encoding.
+-- What a finished column costs: a node, and a hold for each buffer of its encoding; and what was moved into one.
 use Rattle.std.proofs.Common.{◌≡◌, ◌∙◌, ◌≤◌, ◌+◌, ℕ, Bool, List, [], ◌∷◌, length, Option, None, Some, refl, ap, arith}
 use Rattle.buf_block.specs.declared.hold.BufView.{BufView}
 use Rattle.fmt_string.specs.FieldText.{Form, Truths, Wholes, FloatBits, Text, HexBytes, SizedHex, Decimals, form_of}
-use Rattle.fmt_string.specs.Table.{Flat}
+use Rattle.fmt_string.specs.Table.{Flat, Dict}
 use Rattle.fmt_string.specs.Value.{Value}
 use Rattle.fmt_string.specs.declared.kind.DataType.{DataType}
+use Rattle.tree_model.specs.Tree.{dictionary_at, maybe_tree}
 use Rattle.unit_pass.specs.Tally.{Tally, risen}
-use Rattle.raw_array.specs.Members.{ArrayTree, Cost, holds_of}
+use Rattle.raw_array.specs.Members.{ArrayTree, Cost, cost_of_maybe, holds_of}
 use Rattle.raw_array.specs.View.{buffers_of}
-use Rattle.col_build.specs.Encoding.{Fits, buffers_by, buffers_if, encoded, is_wide}
+use Rattle.col_build.specs.Encoding.{buffers_by, buffers_if, encoded, is_wide}
 use Rattle.col_build.specs.Finished.{AreMade, blocks_of, present_count}
+use Rattle.layout_check.specs.ColumnKinds.{type_of_kind}
 use Rattle.arr_export.specs.ArrayTrees.{column_tree, made_buffers}
-use Rattle.stream_face.specs.Lawful.{AreValues}
-use Rattle.stage_filter.specs.Moving.{IsMoved}
+use Rattle.stage_model.specs.Traffic.{Moved, kind_blocks}
+use Rattle.stage_filter.specs.Kept.{values_at}
+use Rattle.stage_filter.specs.KeptTrees.{index_type, indices_at}
+use Rattle.stage_filter.specs.Moving.{CanMove, IsMoved}
 use Rattle.stage_filter.proofs.ColumnBlocks.{blocks-are}
+use Rattle.stage_filter.proofs.IndexedItems.{HasDictionary, blocks-of-indices}
 
 made-holds : (buffers : List (Option (List ℕ))) → holds_of (made_buffers buffers) ≡ present_count buffers
 made-holds [] = refl
@@ -31,8 +36,9 @@ finished-holds (Some view ∷ views) (None ∷ buffers) made = absurd made.0
 finished-holds [] (bytes ∷ buffers) made = absurd made
 finished-holds (view ∷ views) [] made = absurd made
 
-column-cost : (kind : DataType) (values : List Value) → Cost (column_tree kind values None) ≡ 1 + blocks_of kind values
-column-cost kind values = omega (arith, made-holds (encoded kind values).buffers)
+pub column-cost : (kind : DataType) (values : List Value) (dictionary : Option ArrayTree)
+    → Cost (column_tree kind values dictionary) ≡ 1 + blocks_of kind values + cost_of_maybe (maybe_tree dictionary)
+column-cost kind values dictionary = omega (arith, made-holds (encoded kind values).buffers)
 
 few-present : (buffers : List (Option (List ℕ))) → present_count buffers ≤ length buffers
 few-present [] = omega arith
@@ -55,18 +61,43 @@ three wide (Some form) values = three-by wide form values
 pub few-blocks : (kind : DataType) (values : List Value) → blocks_of kind values ≤ 3
 few-blocks kind values = omega (arith, few-present (encoded kind values).buffers, three (is_wide kind) (form_of kind) values)
 
--- the array of a finished column is made of what its traffic says
-pub moved-flat : (kind : DataType) (values : List Value) (tree : ArrayTree) (before between after : Tally) → Fits kind values → AreValues kind values
-    → tree ≡ column_tree kind values None
-    → between.units + blocks_of kind values ≡ before.units → between.blocks ≡ risen before.blocks (blocks_of kind values) → between.nodes ≡ before.nodes
-    → after.units + 1 ≡ between.units → after.blocks ≡ between.blocks → after.nodes ≡ risen between.nodes 1
-    → IsMoved (Flat kind) values tree before after
-moved-flat kind values tree before between after fits are is units blocks nodes unit same node =
+-- ---- the array of a finished column is made of what its traffic says
+
+pub moved-flat : (kind : DataType) (array : ArrayTree) (start : ℕ) (kept : List ℕ) (made : ArrayTree) (before middle after : Tally)
+    → CanMove (Flat kind) array start kept → made ≡ column_tree kind (values_at (type_of_kind (Flat kind)) array start kept) None
+    → middle.units ≡ before.units + Cost array → middle.blocks ≡ before.blocks → middle.nodes ≡ before.nodes
+    → after.units + (1 + blocks_of kind (values_at (type_of_kind (Flat kind)) array start kept)) ≡ middle.units
+    → after.blocks ≡ risen middle.blocks (blocks_of kind (values_at (type_of_kind (Flat kind)) array start kept)) → after.nodes ≡ risen middle.nodes 1
+    → IsMoved (Flat kind) array start kept made before after
+moved-flat kind array start kept made before middle after can is ended same_blocks same_nodes units blocks nodes =
+    let values = values_at (type_of_kind (Flat kind)) array start kept in
     let cost = ap Cost is in
     record {
       tree_is = is;
-      units = omega (arith, cost, column-cost kind values, units, unit);
-      small = omega (arith, cost, column-cost kind values, few-blocks kind values);
-      blocks = same ∙ blocks ∙ ap (risen before.blocks) (blocks-are kind values (fits.kind_ok, fits.flat) are.0);
-      nodes = node ∙ ap (λ n. risen n 1) nodes;
+      units = omega (arith, cost, column-cost kind values None, units, ended);
+      left = omega (arith, few-blocks kind values, units, ended);
+      blocks = blocks ∙ (λ i. risen (same_blocks i) (blocks-are kind values can.kinds can.items.0 i));
+      nodes = nodes ∙ ap (λ n. risen n 1) same_nodes;
+    }
+
+pub moved-dict : (kind : DataType) (array : ArrayTree) (start : ℕ) (kept : List ℕ) (made dictionary : ArrayTree) (before middle after : Tally)
+    → CanMove (Dict kind) array start kept → HasDictionary kind array → dictionary ≡ dictionary_at array
+    → made ≡ column_tree index_type (indices_at array start kept) (Some dictionary)
+    → middle.units + Cost dictionary ≡ before.units + Cost array → before.units + 1 ≤ middle.units
+    → middle.blocks ≡ before.blocks → middle.nodes ≡ before.nodes
+    → after.units + (1 + blocks_of index_type (indices_at array start kept)) ≡ middle.units
+    → after.blocks ≡ risen middle.blocks (blocks_of index_type (indices_at array start kept)) → after.nodes ≡ risen middle.nodes 1
+    → IsMoved (Dict kind) array start kept made before after
+moved-dict kind array start kept made dictionary before middle after can has own is taken more same_blocks same_nodes units blocks nodes =
+    let indices = indices_at array start kept in
+    let cost = ap Cost is in
+    let all = blocks-of-indices kind array start kept has can.inside can.full in
+    let traffic : blocks_of index_type indices ≡ kind_blocks Moved (Dict kind) (values_at (type_of_kind (Dict kind)) array start kept) =
+    omega (arith, all) in
+    record {
+      tree_is = is ∙ ap (λ (d : ArrayTree). column_tree index_type indices (Some d)) own;
+      units = omega (arith, cost, column-cost index_type indices (Some dictionary), units, taken);
+      left = omega (arith, few-blocks index_type indices, units, more);
+      blocks = blocks ∙ (λ i. risen (same_blocks i) (traffic i));
+      nodes = nodes ∙ ap (λ n. risen n 1) same_nodes;
     }

@@ -1,8 +1,7 @@
 -- What a filter makes of the answers of the stream below it.
-use Rattle.std.proofs.Common.{arith, ◌≡◌, ◌∙◌, ◌≤◌, ◌<◌, ◌+◌, ◌*◌, ◌^◌, ℕ, ℤ, pos, Bool, List, [], ◌∷◌, length, map, get_or, drop, All}
+use Rattle.std.proofs.Common.{arith, ◌≡◌, ◌∙◌, ◌≤◌, ◌<◌, ◌+◌, ◌*◌, ◌^◌, ℕ, ℤ, pos, List, [], ◌∷◌, length, map, get_or, All}
 use Rattle.std.proofs.Common.{IsTrue, refl, sym, ap, subst, inl}
 use Rattle.std.specs.Prelude.{Option, None, Some}
-use Rattle.std.specs.Coded.{Unit-prop, ×_prop}
 use Rattle.std.specs.List.{sum_by}
 use Rattle.std.proofs.Math.Logic.{∥∥₁_elim}
 use Rattle.std.proofs.Props.{props}
@@ -12,10 +11,10 @@ use Rattle.fmt_string.specs.ColumnView.{column_of}
 use Rattle.fmt_string.specs.Table.{Column, Row, Kind, Flat, Dict, Columns, Members, no_members, more_members}
 use Rattle.fmt_string.specs.Value.{Null}
 use Rattle.fmt_string.specs.declared.kind.ColumnType.{ColumnType}
-use Rattle.tree_model.specs.Tree.{Depth, Released, IsLive, child_at, children_of}
+use Rattle.tree_model.specs.Tree.{Depth, Released, IsLive, child_at}
 use Rattle.unit_pass.specs.Tally.{Tally, risen}
 use Rattle.unit_pass.specs.declared.pass.TheConstants.{CHUNK}
-use Rattle.raw_array.specs.Members.{ArrayTree, Cost}
+use Rattle.raw_array.specs.Members.{ArrayTree, Cost, Like}
 use Rattle.layout_check.specs.ColumnKinds.{type_of_columns}
 use Rattle.layout_check.specs.Values.{rows_of}
 use Rattle.layout_check.specs.Walk.{ChunkOk}
@@ -26,29 +25,24 @@ use Rattle.stage_model.specs.declared.stage.Step.{Step}
 use Rattle.stage_model.specs.declared.stage.Step.TheVariants as steps
 use Rattle.stage_model.specs.declared.stage.Test.{Test}
 use Rattle.stream_face.specs.Calls.{Answers, Counts, Repeats, Tells}
-use Rattle.stream_face.specs.Lawful.{DictsAreFull, IsChunkOf, IsTable, LawfulColumns, LawfulTables, MemberDictsAreFull, column_leaves, leaves, member_leaves}
+use Rattle.stream_face.specs.Lawful.{DictsAreFull, DictsHaveBytes, IsChunkOf, IsTable, LawfulColumns, LawfulTables, column_leaves, leaves, member_leaves}
 use Rattle.stream_face.specs.Shown.{Seen}
 use Rattle.stream_face.specs.Streams.{IsFresh, Stream}
 use Rattle.stream_face.specs.Texts.{Refusal}
 use Rattle.stage_kernels.specs.Dues.{due_with}
 use Rattle.stage_kernels.specs.Structs.{column_structs, member_structs, most_structs, structs}
 use Rattle.stage_kernels.proofs.ColumnSets.{same_columns}
-use Rattle.stage_filter.specs.Filters.{CanFilter, FilterFits, passing_rows}
-use Rattle.stage_filter.specs.KeptTrees.{chunk_tree}
-use Rattle.stage_filter.specs.Plain.{HaveNoDict, HasNoDict, ArePlain, most_cost, most_of_columns, most_of_members}
-use Rattle.stage_filter.proofs.Sifted.{fewer-filtered, lawful-filtered, table-filtered}
+use Rattle.stage_filter.specs.Filters.{CanFilter, FilterFits, passing_numbers, passing_rows}
+use Rattle.stage_filter.specs.Kept.{rows_at}
+use Rattle.stage_filter.specs.KeptTrees.{kept_chunk}
+use Rattle.stage_filter.specs.Moving.{CanMoveRows}
+use Rattle.stage_filter.specs.Plain.{most_cost, most_of_columns, most_of_members}
+use Rattle.stage_filter.proofs.LawTypes.{RootLaw}
+use Rattle.stage_filter.proofs.LikeChunks.{LikeLaws, can-like}
+use Rattle.stage_filter.proofs.Passing.{passing}
+use Rattle.stage_filter.proofs.Sifted.{lawful-filtered}
 
 -- ---- what a filter was made for
-
-mutual
-  plain-prop : (kind : Kind) → IsProp (HasNoDict kind)
-  plain-prop (Flat kind) = Unit-prop
-  plain-prop (Dict kind) = λ a b. absurd a
-  plain-prop (Columns ms) = plain-members-prop ms
-
-  plain-members-prop : (ms : Members) → IsProp (HaveNoDict ms)
-  plain-members-prop no_members = Unit-prop
-  plain-members-prop (more_members name kind rest) = ×_prop (plain-prop kind) (plain-members-prop rest)
 
 pub same : (column : ℕ) (kept : List ColumnType) (before : List Column) → ∥ FilterFits column kept before ∥₁ → map column_of kept ≡ before
 same column kept before fits = same_columns (map column_of kept) before (λ (f : FilterFits column kept before). f.columns) fits
@@ -58,9 +52,6 @@ within column kept before fits = ∥∥₁_elim fits (hlevel props) (λ f. f.wit
 
 few-structs : (column : ℕ) (kept : List ColumnType) (before : List Column) → ∥ FilterFits column kept before ∥₁ → column_structs before ≤ most_structs
 few-structs column kept before fits = ∥∥₁_elim fits (hlevel props) (λ f. f.few)
-
-plain : (column : ℕ) (kept : List ColumnType) (before : List Column) → ∥ FilterFits column kept before ∥₁ → ArePlain before
-plain column kept before fits k d small = ∥∥₁_elim fits (plain-prop (get_or before k d).kind) (λ f. f.plain k d small)
 
 -- ---- the units
 
@@ -107,6 +98,9 @@ pub record IsReady (column : ℕ) (columns : List Column) (rows : List Row) (out
   pub few : length rows ≤ 2 ^ 30
   pub small : Cost out ≤ CHUNK
   pub most : 1 + most_of_columns columns ≤ CHUNK
+  pub dicts : All (λ c. DictsHaveBytes c.kind) columns
+  pub leaves : column_leaves columns ≤ 4096
+  pub structs : column_structs columns ≤ most_structs
 
 pub ready : (column : ℕ) (kept : List ColumnType) (s n : Stream) (code : ℤ) (out : ArrayTree) (live : IsLive out) (answers : Answers s n code out)
     → ∥ FilterFits column kept s.columns ∥₁ → LawfulColumns s.columns → LawfulTables s.columns s.ahead → Depth (type_of_columns s.columns) ≤ 64
@@ -121,10 +115,10 @@ ready column kept s n code out live answers fits columns tables shallow =
     (record {
       can = record {
         within = within column kept s.columns fits;
-        plain = plain column kept s.columns fits;
         kinds = columns.kinds;
         not_deep = omega (arith, shallow);
         ok = chunk.2.ok;
+        full = chunk.2.dicts;
         table = subst (IsTable s.columns) (sym chunk.2.rows_are) table.0;
         small = omega (arith, most, structs, columns.few);
         few = let e = ap (length {A = Row}) chunk.2.rows_are in omega (arith, e, table.1);
@@ -134,71 +128,95 @@ ready column kept s n code out live answers fits columns tables shallow =
       few = table.1;
       small = chunk.2.small;
       most = omega (arith, most, structs, columns.few);
+      dicts = columns.dicts;
+      leaves = columns.few;
+      structs = structs;
     })
 
--- ---- no dictionary, and none with a null
-
-mutual
-  plain-full : (kind : Kind) (tree : ArrayTree) → HasNoDict kind → DictsAreFull kind tree
-  plain-full (Flat kind) tree is = tt
-  plain-full (Dict kind) tree is = absurd is
-  plain-full (Columns ms) tree is = plain-members-full ms (children_of tree) is
-
-  plain-members-full : (ms : Members) (trees : List ArrayTree) → HaveNoDict ms → MemberDictsAreFull ms trees
-  plain-members-full no_members trees is = tt
-  plain-members-full (more_members name kind rest) trees is = (plain-full kind (get_or trees 0 Released) is.0, plain-members-full rest (drop 1 trees) is.1)
+-- what workers leave of a chunk is as ready as the chunk was
+pub ready-like : LikeLaws → (column : ℕ) (columns : List Column) (rows : List Row) (out left : ArrayTree)
+    → Like out left → IsReady column columns rows out → IsReady column columns rows left
+ready-like laws column columns rows out left like is = record {
+  can = can-like laws column columns out left like is.can;
+  rows_are = sym (laws.rows (type_of_columns columns) out left like) ∙ is.rows_are;
+  table = is.table;
+  few = is.few;
+  small = let same = laws.cost out left like in omega (arith, same, is.small);
+  most = is.most;
+  dicts = is.dicts;
+  leaves = is.leaves;
+  structs = is.structs;
+}
 
 -- ---- the answers of the filter
 
 abbrev pub kept_rows : ℕ → Test → Const → List Row → List Row
 kept_rows column test constant rows = rows_after (steps.Filter column test constant) rows
 
--- the law of the chunks that are made
+-- the laws of the chunks that are made
 abbrev MakesChunk : Type 0
-MakesChunk = (columns : List Column) (rows : List Row) → All (λ c. AreColumnKinds c.kind) columns → ArePlain columns → IsTable columns rows
-    → length rows ≤ 2 ^ 30 → ChunkOk (type_of_columns columns) (chunk_tree columns rows)
+MakesChunk = (columns : List Column) (chunk : ArrayTree) (kept : List ℕ) → CanMoveRows columns chunk 0 kept
+    → ChunkOk (type_of_columns columns) (kept_chunk columns chunk kept)
 
 abbrev MakesRows : Type 0
-MakesRows = (columns : List Column) (rows : List Row) → All (λ c. AreColumnKinds c.kind) columns → ArePlain columns → IsTable columns rows
-    → length rows ≤ 2 ^ 30 → rows_of (type_of_columns columns) (chunk_tree columns rows) ≡ rows
+MakesRows = (columns : List Column) (chunk : ArrayTree) (kept : List ℕ) → CanMoveRows columns chunk 0 kept
+    → rows_of (type_of_columns columns) (kept_chunk columns chunk kept) ≡ rows_at (type_of_columns columns) chunk 0 kept
 
-is-chunk : MakesChunk → MakesRows → (column : ℕ) (test : Test) (constant : Const) (columns : List Column) (rows : List Row) (out made : ArrayTree)
-    → IsReady column columns rows out → made ≡ chunk_tree columns (passing_rows column test constant columns out)
-    → Cost made ≤ 1 + most_of_columns columns
+abbrev MakesFull : Type 0
+MakesFull = (columns : List Column) (chunk : ArrayTree) (kept : List ℕ) (k : ℕ) (none : Column) → CanMoveRows columns chunk 0 kept
+    → k < length columns → DictsAreFull (get_or columns k none).kind (child_at (kept_chunk columns chunk kept) k)
+
+abbrev AreSmall : Type 0
+AreSmall = (columns : List Column) (t : ArrayTree) → All (λ c. AreColumnKinds c.kind) columns → All (λ c. DictsHaveBytes c.kind) columns
+    → ChunkOk (type_of_columns columns) t → Cost t ≤ 7 * column_leaves columns + 2 * column_structs columns + 2
+
+-- the chunk of the rows that pass
+abbrev pub filtered_chunk : ℕ → Test → Const → List Column → ArrayTree → ArrayTree
+filtered_chunk column test constant columns out = kept_chunk columns out (passing_numbers column test constant (type_of_columns columns) out)
+
+-- the same chunk, by the columns that the code has and the chunk that it moved
+pub same-chunk : (column : ℕ) (test : Test) (constant : Const) (own columns : List Column) (moved out middle made : ArrayTree) → own ≡ columns
+    → moved ≡ out → made ≡ middle → middle ≡ filtered_chunk column test constant own moved → made ≡ filtered_chunk column test constant columns out
+same-chunk column test constant own columns moved out middle made same is put tree =
+    put ∙ tree ∙ (λ i. filtered_chunk column test constant (same i) (is i))
+
+is-chunk : MakesChunk → MakesRows → MakesFull → AreSmall → RootLaw → (column : ℕ) (test : Test) (constant : Const) (columns : List Column) (rows : List Row)
+    (out made : ArrayTree)
+    → IsReady column columns rows out → made ≡ filtered_chunk column test constant columns out
     → IsChunkOf columns (kept_rows column test constant rows) made
-is-chunk makes gives column test constant columns rows out made is tree small =
-    let kept = kept_rows column test constant rows in
-    let passing : Row → Bool = λ row. passes test constant (get_or row column Null) in
-    let made_is : made ≡ chunk_tree columns kept = tree ∙ ap (λ (rs : List Row). chunk_tree columns (kept_rows column test constant rs)) is.rows_are in
-    let table : IsTable columns kept = table-filtered columns passing rows is.table in
-    let few : length kept ≤ 2 ^ 30 = let e = fewer-filtered passing rows in omega (arith, e, is.few) in
+is-chunk makes gives full small root column test constant columns rows out made is tree =
+    let numbers = passing_numbers column test constant (type_of_columns columns) out in
+    let pass = passing root column test constant columns out numbers is.can refl in
+    let ok : ChunkOk (type_of_columns columns) made = subst (ChunkOk (type_of_columns columns)) (sym tree) (makes columns out numbers pass.can) in
     record {
-      ok = subst (ChunkOk (type_of_columns columns)) (sym made_is) (makes columns kept is.can.kinds is.can.plain table few);
-      rows_are = ap (rows_of (type_of_columns columns)) made_is ∙ gives columns kept is.can.kinds is.can.plain table few;
-      small = omega (arith, small, is.most);
-      dicts = λ k none inside. plain-full (get_or columns k none).kind (child_at made k) (is.can.plain k none inside);
+      ok = ok;
+      rows_are = ap (rows_of (type_of_columns columns)) tree ∙ gives columns out numbers pass.can ∙ pass.rows ∙ ap (kept_rows column test constant) is.rows_are;
+      small = omega (arith, small columns made is.can.kinds is.dicts ok, is.leaves, is.structs);
+      dicts = λ k none inside.
+          subst (λ (t : ArrayTree). DictsAreFull (get_or columns k none).kind (child_at t k)) (sym tree) (full columns out numbers k none pass.can inside);
     }
 
-not-released : (columns : List Column) (rows : List Row) (out : ArrayTree) → out ≡ chunk_tree columns rows → out ≡ Released → ⊥
-not-released columns rows out e r = let k : Released ≡ chunk_tree columns rows = sym r ∙ e in absurd (cc)
+not-released : (columns : List Column) (chunk : ArrayTree) (kept : List ℕ) (out : ArrayTree) → out ≡ kept_chunk columns chunk kept → out ≡ Released → ⊥
+not-released columns chunk kept out e r = let k : Released ≡ kept_chunk columns chunk kept = sym r ∙ e in absurd (cc)
 
 abbrev pub filtered : ℕ → Test → Const → List Column → Stream → Stream
 filtered column test constant columns s = record s { columns = columns; ahead = map (kept_rows column test constant) s.ahead }
 
-pub filter-answers : MakesChunk → MakesRows → (column : ℕ) (test : Test) (constant : Const) (columns : List Column) (s n : Stream) (code : ℤ)
-    (out made : ArrayTree)
-    (live : IsLive out) (answers : Answers s n code out) → IsReady column columns (answers.chunk live).0 out
-    → made ≡ chunk_tree columns (passing_rows column test constant columns out) → Cost made ≤ 1 + most_of_columns columns
+pub filter-answers : MakesChunk → MakesRows → MakesFull → AreSmall → RootLaw → (column : ℕ) (test : Test) (constant : Const) (columns : List Column)
+    (s n : Stream) (code : ℤ) (out left made : ArrayTree)
+    (live : IsLive out) (answers : Answers s n code out) → IsReady column columns (answers.chunk live).0 left
+    → made ≡ filtered_chunk column test constant columns left
     → Answers (filtered column test constant columns s) (filtered column test constant columns n) (pos 0) made
-filter-answers makes gives column test constant columns s n code out made live answers is tree small =
+filter-answers makes gives full small root column test constant columns s n code out left made live answers is tree =
     let chunk = answers.chunk live in
+    let numbers = passing_numbers column test constant (type_of_columns columns) left in
     record {
       chunk = λ _. (
         kept_rows column test constant chunk.0,
         ap (map (kept_rows column test constant)) chunk.1,
-        is-chunk makes gives column test constant columns chunk.0 out made is tree small,
+        is-chunk makes gives full small root column test constant columns chunk.0 left made is tree,
       );
-      finish = λ _ e. absurd (not-released columns (passing_rows column test constant columns out) made tree e);
+      finish = λ _ e. absurd (not-released columns left numbers made tree e);
       bad = λ e. absurd (cc);
       wants = λ e. absurd (cc);
       codes = inl refl;
@@ -208,17 +226,18 @@ filter-answers makes gives column test constant columns s n code out made live a
 risen-more : (a b c m n : ℕ) → b ≡ risen a m → c ≡ risen b n → c ≡ risen a (m + n)
 risen-more a b c m n e f = omega (arith, e, f)
 
-pub filter-counts : (column : ℕ) (test : Test) (constant : Const) (columns : List Column) (s n : Stream) (code : ℤ) (out made : ArrayTree)
+pub filter-counts : (column : ℕ) (test : Test) (constant : Const) (columns : List Column) (s n : Stream) (code : ℤ) (out left made : ArrayTree)
     (first middle last : Tally)
     (live : IsLive out) (answers : Answers s n code out) → IsReady column columns (answers.chunk live).0 out
     → Counts s.due n.due first middle out
-    → made ≡ chunk_tree columns (passing_rows column test constant columns out)
+    → made ≡ filtered_chunk column test constant columns left
     → last.blocks ≡ risen middle.blocks (table_blocks Moved columns (passing_rows column test constant columns out))
     → last.nodes ≡ risen middle.nodes (table_nodes Moved columns)
     → Counts (due_with (steps.Filter column test constant) columns (map (kept_rows column test constant) s.ahead) s.due)
     (due_with (steps.Filter column test constant) columns (map (kept_rows column test constant) n.ahead) n.due) first last made
-filter-counts column test constant columns s n code out made first middle last live answers is counts tree blocks nodes =
+filter-counts column test constant columns s n code out left made first middle last live answers is counts tree blocks nodes =
     let chunk = answers.chunk live in
+    let numbers = passing_numbers column test constant (type_of_columns columns) left in
     let step : Step = steps.Filter column test constant in
     let kept = kept_rows column test constant chunk.0 in
     let rest = map (kept_rows column test constant) n.ahead in
@@ -236,8 +255,8 @@ filter-counts column test constant columns s n code out made first middle last l
       nodes = risen-more first.nodes middle.nodes last.nodes counts.made.nodes (table_nodes Moved columns) counts.nodes nodes;
       fewer_blocks = omega (arith, counts.fewer_blocks, all_blocks, one_blocks);
       fewer_nodes = omega (arith, counts.fewer_nodes, all_nodes, one_nodes);
-      no_blocks = λ e. absurd (not-released columns (passing_rows column test constant columns out) made tree e);
-      no_nodes = λ e. absurd (not-released columns (passing_rows column test constant columns out) made tree e);
+      no_blocks = λ e. absurd (not-released columns left numbers made tree e);
+      no_nodes = λ e. absurd (not-released columns left numbers made tree e);
     }
 
 -- ---- the laws

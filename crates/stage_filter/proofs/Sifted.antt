@@ -40,7 +40,7 @@ all-sifted P (false ∷ marks) (x ∷ xs) all k d small = all-sifted P marks xs 
 
 -- ---- bytes
 
-total-cons : (v : Value) (vs : List Value) → byte_total (v ∷ vs) ≡ length (bytes_of v) + byte_total vs
+pub total-cons : (v : Value) (vs : List Value) → byte_total (v ∷ vs) ≡ length (bytes_of v) + byte_total vs
 total-cons v vs = length-append (bytes_of v) (concat (map bytes_of vs))
 
 pub total-fewer : (marks : List Bool) (vs : List Value) → byte_total (sifted marks vs) ≤ byte_total vs

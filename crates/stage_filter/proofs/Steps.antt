@@ -1,5 +1,5 @@
 -- From a struct to its columns.
-use Rattle.std.proofs.Common.{◌≡◌, ◌∙◌, ◌≤◌, ◌<◌, ◌+◌, ℕ, zero, suc, Bool, true, false, List, [], ◌∷◌, length, map, take, get_or, All, refl, sym}
+use Rattle.std.proofs.Common.{◌≡◌, ◌∙◌, ◌≤◌, ◌<◌, ◌+◌, ℕ, zero, suc, Bool, true, false, List, [], ◌∷◌, length, map, take, drop, get_or, All, refl, sym}
 use Rattle.std.proofs.Common.{Result, Ok, Err, IfOk, ap, subst, arith}
 use Rattle.std.specs.Prelude.{if◌then◌else◌}
 use Rattle.std.proofs.lemmas.List.{length-map}
@@ -7,38 +7,67 @@ use Rattle.std.proofs.lemmas.List.Elements.{All-head, All-tail}
 use Rattle.fmt_string.specs.ColumnForms.{AreColumnKinds}
 use Rattle.fmt_string.specs.ColumnView.{members}
 use Rattle.fmt_string.specs.Parts.{column_values, fields_of, member_columns, value_list}
-use Rattle.fmt_string.specs.Table.{Column, Row, Kind, Flat, Dict, Columns, Members}
+use Rattle.fmt_string.specs.Table.{Column, Row, Kind, Flat, Dict, Columns, Members, no_members, more_members}
 use Rattle.fmt_string.specs.Value.{Value, Null, Fields, values}
 use Rattle.fmt_string.specs.declared.kind.DataType.{DataType}
 use Rattle.fmt_string.specs.declared.kind.DataType.TheVariants as kinds
-use Rattle.tree_model.specs.Tree.{Depth, Released, Live, Trees, absent, child_at, children_of, depth_of_all, trees, tree_list}
+use Rattle.tree_model.specs.Tree.{Depth, Released, Live, IsLive, Trees, absent, child_at, children_of, depth_of_all, trees, tree_list}
 use Rattle.tree_model.proofs.Lists.{tree_list-trees}
 use Rattle.unit_pass.specs.Tally.{Tally, risen}
 use Rattle.unit_pass.specs.declared.no_memory.NoMemory.{NoMemory}
-use Rattle.raw_array.specs.Members.{ArrayTree}
-use Rattle.layout_check.specs.ColumnKinds.{type_of_column, type_of_columns, type_of_kind, types_of_columns, types_of_members}
+use Rattle.raw_array.specs.Members.{ArrayTree, members_of}
+use Rattle.arr_export.specs.ArrayTrees.{table_tree}
+use Rattle.layout_check.specs.ColumnKinds.{table_type, type_of_column, type_of_columns, type_of_kind, types_of_columns, types_of_members}
 use Rattle.layout_check.specs.Kinds.{KindTree}
-use Rattle.layout_check.specs.Layout.{first, is_valid}
-use Rattle.layout_check.specs.Values.{field_items, readers, row_items, value_at}
-use Rattle.arr_import.specs.Window.{Window, child_window, item_at}
-use Rattle.stage_model.specs.Traffic.{Moved}
-use Rattle.stream_face.specs.Lawful.{AreItems, HasFields}
-use Rattle.stage_filter.specs.Kept.{items_at, row_at, rows_at}
-use Rattle.stage_filter.specs.Moving.{CanMove, CanMoveRows, IsMoved, IsMovedChunk}
-use Rattle.stage_filter.specs.Plain.{HasNoDict, most_cost, most_of_columns}
-use Rattle.stage_filter.proofs.StructColumns.{blocks-is, columns-back, items-are, kinds-are, most-is, nodes-are, plain-are, tree-is, type-is}
+use Rattle.layout_check.specs.Layout.{end, first, is_valid}
+use Rattle.layout_check.specs.Values.{field_items, readers, row_items, tree_items, value_at}
+use Rattle.layout_check.specs.Walk.{LayoutOk}
+use Rattle.stage_model.specs.Traffic.{Moved, table_blocks}
+use Rattle.stream_face.specs.Lawful.{AreItems, DictsAreFull, HasFields, MemberDictsAreFull}
+use Rattle.stage_filter.specs.Kept.{rows_at, values_at}
+use Rattle.stage_filter.specs.KeptTrees.{kept_columns, kept_members, kept_tree}
+use Rattle.stage_filter.specs.Moving.{CanMove, CanMoveRows, IsMoved, IsMovedStruct}
+use Rattle.stage_filter.specs.Plain.{most_cost, most_of_columns}
+use Rattle.stage_filter.proofs.KeptColumns.{live-type}
+use Rattle.stage_filter.proofs.LawTypes.{ItemsLaw, PartsLaw, RootLaw}
+use Rattle.stage_filter.proofs.StructColumns.{blocks-is, columns-back, items-are, kinds-are, most-is, nodes-are, type-is}
 
 -- ---- one column
 
 pub kids-long : (columns : List Column) → length (children_of (type_of_columns columns)) ≡ length columns
 kids-long columns = ap length (tree_list-trees (types_of_columns columns)) ∙ length-map columns type_of_column
 
+-- the field of a row is the item of a child
+
+none-there : (t : KindTree) (j : ℕ) → value_at t Released j ≡ Null
+none-there Released j = refl
+none-there (Live kind kids dict) j = refl
+
+field-at : (types : List KindTree) (children : List ArrayTree) (j k : ℕ)
+    → get_or (field_items (readers (trees types)) children j) k Null ≡ value_at (get_or types k Released) (get_or children k Released) j
+field-at [] children j k = refl
+field-at (t ∷ types) [] j zero = sym (none-there t j)
+field-at (t ∷ types) [] j (suc k) = sym (none-there (get_or types k Released) j)
+field-at (t ∷ types) (c ∷ children) j zero = refl
+field-at (t ∷ types) (c ∷ children) j (suc k) = field-at types children j k
+
+pub row-field : (types : List KindTree) (array : ArrayTree) (i k : ℕ) → IsLive array
+    → get_or (row_items (table_type types) array i) k Null ≡ value_at (get_or types k Released) (child_at array k) (first (members_of array) + i)
+row-field types Released i k live = absurd live
+row-field types (Live a children dictionary) i k live = field-at types (tree_list children) (first a + i) k
+
 -- the items of a child are those of the rows
-items-from : (w own : Window) (k : ℕ) (kept : List ℕ) → ((i : ℕ) → get_or (row_at w i) k Null ≡ item_at own i)
-    → items_at own kept ≡ column_values k (rows_at w kept)
-items-from w own k [] same = refl
-items-from w own k (i ∷ kept) same =
-    ap (λ (v : Value). v ∷ items_at own kept) (sym (same i)) ∙ ap (λ (vs : List Value). get_or (row_at w i) k Null ∷ vs) (items-from w own k kept same)
+values-from : (columns : List Column) (array : ArrayTree) (start k : ℕ) (type : KindTree) → IsLive array
+    → get_or (types_of_columns columns) k Released ≡ type
+    → (kept : List ℕ)
+    → values_at type (child_at array k) (first (members_of array) + start) kept ≡ column_values k (rows_at (type_of_columns columns) array start kept)
+values-from columns array start k type live is [] = refl
+values-from columns array start k type live is (i ∷ kept) =
+    let e : first (members_of array) + (start + i) ≡ first (members_of array) + start + i = omega arith in
+    let one : get_or (row_items (type_of_columns columns) array (start + i)) k Null ≡ value_at type (child_at array k) (first (members_of array) + start + i) =
+    row-field (types_of_columns columns) array (start + i) k live
+    ∙ (λ n. value_at (is n) (child_at array k) (e n)) in
+    λ n. sym one n ∷ values-from columns array start k type live is kept n
 
 type-at : (columns : List Column) (k : ℕ) (c : Column) → k < length columns → get_or (types_of_columns columns) k Released ≡ type_of_column (get_or columns k c)
 type-at [] k c small = absurd (omega (arith, small))
@@ -58,39 +87,50 @@ most-at (b ∷ columns) zero c small = omega arith
 most-at (b ∷ columns) (suc k) c small = let e = most-at columns k c (omega (arith, small)) in omega (arith, e)
 
 -- the column at a place, and what can be moved of it
-pub record IsStep (columns : List Column) (k : ℕ) (c : Column) (w own : Window) (kept : List ℕ) : Type 0 where
-  pub can : CanMove c.kind own kept
-  pub values : items_at own kept ≡ column_values k (rows_at w kept)
+pub record IsStep (columns : List Column) (k : ℕ) (c : Column) (array : ArrayTree) (start : ℕ) (kept : List ℕ) : Type 0 where
+  pub can : CanMove c.kind (child_at array k) (first (members_of array) + start) kept
+  pub values : values_at (type_of_kind c.kind) (child_at array k) (first (members_of array) + start) kept
+      ≡ column_values k (rows_at (type_of_columns columns) array start kept)
+  pub type : get_or (types_of_columns columns) k Released ≡ type_of_kind c.kind
   pub shallow : Depth (type_of_kind c.kind) ≤ depth_of_all (trees (types_of_columns columns))
   pub most : most_of_columns (take k columns) + most_cost c.kind ≤ most_of_columns columns
 
-pub step : (columns : List Column) (k : ℕ) (c : Column) (w own : Window) (kept : List ℕ) → CanMoveRows columns w kept → k < length columns
-    → get_or columns k c ≡ c → own ≡ child_window w k → ((i : ℕ) → get_or (row_at w i) k Null ≡ item_at own i)
-    → IsStep columns k c w own kept
-step columns k c w own kept can small is window same =
-    let values = items-from w own k kept same in
-    let deep = ap (λ (b : Column). Depth (type_of_column b)) is in
-    let depth = depth-at columns k c small in
-    let cost = ap (λ (b : Column). most_cost b.kind) is in
-    let most = most-at columns k c small in
-    let type : child_at w.typed k ≡ type_of_kind c.kind =
-    ap (λ (t : KindTree). child_at t k) can.typed ∙ ap (λ (ts : List KindTree). get_or ts k Released) (tree_list-trees (types_of_columns columns))
-    ∙ type-at columns k c small ∙ ap type_of_column is in
-    record {
-      can = record {
-        kinds = subst (λ (b : Column). AreColumnKinds b.kind) is (can.kinds k c small);
-        plain = subst (λ (b : Column). HasNoDict b.kind) is (can.plain k c small);
-        typed = ap (λ (v : Window). v.typed) window ∙ type;
-        inside = λ j d within. let e = ap (λ (v : Window). v.count) window in omega (arith, e, can.inside j d within);
-        items = subst (AreItems c.kind) (sym values) (subst (λ (b : Column). AreItems b.kind (column_values k (rows_at w kept))) is (can.items k c small));
-        few = can.few;
-        not_deep = omega (arith, deep, depth, can.not_deep);
-        small = omega (arith, cost, most, can.small);
-      };
-      values = values;
-      shallow = omega (arith, deep, depth);
-      most = omega (arith, cost, most);
-    }
+module _ (root : RootLaw) (parts : PartsLaw) (items : ItemsLaw) where
+  pub step : (columns : List Column) (k : ℕ) (c : Column) (array : ArrayTree) (start : ℕ) (kept : List ℕ) → CanMoveRows columns array start kept
+      → k < length columns → get_or columns k c ≡ c → IsStep columns k c array start kept
+  step columns k c array start kept can small is =
+      let typed = type_of_columns columns in
+      let child = child_at array k in
+      let inner = first (members_of array) + start in
+      let node = root typed array tt can.ok in
+      let type : get_or (types_of_columns columns) k Released ≡ type_of_kind c.kind = type-at columns k c small ∙ ap type_of_column is in
+      let kid : child_at typed k ≡ type_of_kind c.kind = ap (λ (ts : List KindTree). get_or ts k Released) (tree_list-trees (types_of_columns columns)) ∙ type in
+      let many = kids-long columns in
+      let ok : LayoutOk (type_of_kind c.kind) child = subst (λ (t : KindTree). LayoutOk t child) kid ((parts typed array tt can.ok).kids k (omega (arith, many, small))) in
+      let long : end (members_of array) ≤ tree_items child = (items typed array tt can.ok).needed k (subst (λ (t : KindTree). IsLive t) (sym kid) (live-type c.kind)) in
+      let values = values-from columns array start k (type_of_kind c.kind) node.live type kept in
+      let deep = ap (λ (b : Column). Depth (type_of_column b)) is in
+      let depth = depth-at columns k c small in
+      let cost = ap (λ (b : Column). most_cost b.kind) is in
+      let most = most-at columns k c small in
+      record {
+        can = record {
+          kinds = subst (λ (b : Column). AreColumnKinds b.kind) is (can.kinds k c small);
+          ok = ok;
+          full = subst (λ (b : Column). DictsAreFull b.kind child) is (can.full k c small);
+          begins = omega (arith, long, can.begins, node.many);
+          inside = λ j d within. omega (arith, long, can.inside j d within, node.many);
+          items = subst (AreItems c.kind) (sym values)
+              (subst (λ (b : Column). AreItems b.kind (column_values k (rows_at typed array start kept))) is (can.items k c small));
+          few = can.few;
+          not_deep = omega (arith, deep, depth, can.not_deep);
+          small = omega (arith, cost, most, can.small);
+        };
+        values = values;
+        type = type;
+        shallow = omega (arith, deep, depth);
+        most = omega (arith, cost, most);
+      }
 
 -- ---- a struct
 
@@ -110,93 +150,118 @@ row-of kids Released j count has = absurd has
 row-of kids (Live a children dictionary) j count has =
     row-by (is_valid a j) (field_items (readers kids) (tree_list children) (first a + j)) count has
 
-row-is : (kids : Trees DataType) (w : Window) (i count : ℕ) → w.typed ≡ Live kinds.Struct kids absent → HasFields count (item_at w i)
-    → row_at w i ≡ fields_of (item_at w i)
-row-is kids w i count typed has =
-    let there = subst (λ (t : KindTree). HasFields count (value_at t w.array (w.start + i))) typed has in
-    ap (λ (t : KindTree). row_items t w.array (w.start + i)) typed ∙ row-of kids w.array (w.start + i) count there
-    ∙ ap (λ (t : KindTree). fields_of (value_at t w.array (w.start + i))) (sym typed)
-
-rows-are : (kids : Trees DataType) (w : Window) (count : ℕ) → w.typed ≡ Live kinds.Struct kids absent → (kept : List ℕ)
-    → All (HasFields count) (items_at w kept)
-    → rows_at w kept ≡ map fields_of (items_at w kept)
-rows-are kids w count typed [] has = refl
-rows-are kids w count typed (i ∷ kept) has =
-    ap (λ (row : Row). row ∷ rows_at w kept) (row-is kids w i count typed (All-head (HasFields count) (item_at w i) (items_at w kept) has))
-    ∙ ap (λ (rows : List Row). fields_of (item_at w i) ∷ rows)
-    (rows-are kids w count typed kept (All-tail (HasFields count) (item_at w i) (items_at w kept) has))
+rows-are : (kids : Trees DataType) (array : ArrayTree) (start count : ℕ) (kept : List ℕ)
+    → All (HasFields count) (values_at (Live kinds.Struct kids absent) array start kept)
+    → rows_at (Live kinds.Struct kids absent) array start kept ≡ map fields_of (values_at (Live kinds.Struct kids absent) array start kept)
+rows-are kids array start count [] has = refl
+rows-are kids array start count (i ∷ kept) has =
+    let typed : KindTree = Live kinds.Struct kids absent in
+    let vs = values_at typed array start kept in
+    let v = value_at typed array (start + i) in
+    λ n. row-of kids array (start + i) count (All-head (HasFields count) v vs has) n
+    ∷ rows-are kids array start count kept (All-tail (HasFields count) v vs has) n
 
 -- ---- the columns of a struct
 -- the columns of a struct, and its rows
-pub record IsStruct (kind : Kind) (columns : List Column) (w : Window) (kept : List ℕ) : Type 0 where
-  pub can : CanMoveRows columns w kept
-  pub rows : rows_at w kept ≡ map fields_of (items_at w kept)
+pub record IsStruct (kind : Kind) (columns : List Column) (array : ArrayTree) (start : ℕ) (kept : List ℕ) : Type 0 where
+  pub can : CanMoveRows columns array start kept
+  pub rows : rows_at (type_of_columns columns) array start kept ≡ map fields_of (values_at (type_of_kind kind) array start kept)
+  pub type : type_of_kind kind ≡ type_of_columns columns
   pub depth : Depth (type_of_kind kind) ≡ 1 + depth_of_all (trees (types_of_columns columns))
   pub most : most_cost kind ≡ 1 + most_of_columns columns
 
-of-members : (ms : Members) (w : Window) (kept : List ℕ) → CanMove (Columns ms) w kept → IsStruct (Columns ms) (member_columns ms) w kept
-of-members ms w kept can =
-    let rows = rows-are (types_of_members ms) w (length (member_columns ms)) can.typed kept can.items.0 in
-    let types = ap Depth (type-is ms) in
+pub later-child : (children : List ArrayTree) (k : ℕ) → get_or (drop 1 children) k Released ≡ get_or children (suc k) Released
+later-child [] k = refl
+later-child (c ∷ children) k = refl
+
+full-members : (ms : Members) (children : List ArrayTree) → MemberDictsAreFull ms children → (k : ℕ) (none : Column) → k < length (member_columns ms)
+    → DictsAreFull (get_or (member_columns ms) k none).kind (get_or children k Released)
+full-members no_members children full k none small = absurd (omega (arith, small))
+full-members (more_members name kind rest) children full zero none small = full.0
+full-members (more_members name kind rest) children full (suc k) none small =
+    subst (DictsAreFull (get_or (member_columns rest) k none).kind) (later-child children k)
+    (full-members rest (drop 1 children) full.1 k none (omega (arith, small)))
+
+pub of-members : (ms : Members) (array : ArrayTree) (start : ℕ) (kept : List ℕ) → CanMove (Columns ms) array start kept
+    → IsStruct (Columns ms) (member_columns ms) array start kept
+of-members ms array start kept can =
+    let type = type-is ms in
+    let own = rows-are (types_of_members ms) array start (length (member_columns ms)) kept can.items.0 in
+    let rows : rows_at (type_of_columns (member_columns ms)) array start kept ≡ map fields_of (values_at (type_of_kind (Columns ms)) array start kept) =
+    ap (λ (t : KindTree). rows_at t array start kept) (sym type) ∙ own in
+    let types = ap Depth type in
     record {
       can = record {
         kinds = kinds-are ms can.kinds;
-        plain = plain-are ms can.plain;
-        typed = can.typed ∙ type-is ms;
+        ok = subst (λ (t : KindTree). LayoutOk t array) type can.ok;
+        full = full-members ms (children_of array) can.full;
+        begins = can.begins;
         inside = can.inside;
         items = λ k none small.
             subst (λ (rs : List Row). AreItems (get_or (member_columns ms) k none).kind (column_values k rs)) (sym rows)
-            (items-are ms (map fields_of (items_at w kept)) can.items.1 k none small);
+            (items-are ms (map fields_of (values_at (type_of_kind (Columns ms)) array start kept)) can.items.1 k none small);
         few = can.few;
         not_deep = omega (arith, types, can.not_deep);
         small = omega (arith, most-is ms, can.small);
       };
       rows = rows;
+      type = type;
       depth = omega (arith, types);
       most = omega (arith, most-is ms);
     }
 
-pub struct-of : (columns : List Column) (kind : Kind) (w : Window) (kept : List ℕ) → kind ≡ Columns (members columns) → CanMove kind w kept
-    → IsStruct kind columns w kept
-struct-of columns kind w kept is can =
-    subst (λ (k : Kind). IsStruct k columns w kept) (sym is)
-    (subst (λ (cs : List Column). IsStruct (Columns (members columns)) cs w kept) (columns-back columns)
-    (of-members (members columns) w kept (subst (λ (k : Kind). CanMove k w kept) is can)))
+pub struct-of : (columns : List Column) (kind : Kind) (array : ArrayTree) (start : ℕ) (kept : List ℕ) → kind ≡ Columns (members columns)
+    → CanMove kind array start kept → IsStruct kind columns array start kept
+struct-of columns kind array start kept is can =
+    subst (λ (k : Kind). IsStruct k columns array start kept) (sym is)
+    (subst (λ (cs : List Column). IsStruct (Columns (members columns)) cs array start kept) (columns-back columns)
+    (of-members (members columns) array start kept (subst (λ (k : Kind). CanMove k array start kept) is can)))
 
-moved-members : (ms : Members) (items : List Value) (tree : ArrayTree) (before after : Tally)
-    → IsMovedChunk (member_columns ms) (map fields_of items) tree before after
-    → IsMoved (Columns ms) items tree before after
-moved-members ms items tree before after is = record {
-  tree_is = is.tree_is ∙ sym (tree-is ms items);
-  units = is.units;
-  small = omega (arith, most-is ms, is.small);
-  blocks = is.blocks ∙ ap (risen before.blocks) (sym (blocks-is Moved ms 0 items));
-  nodes = is.nodes ∙ ap (λ n. risen before.nodes (1 + n)) (sym (nodes-are Moved ms));
-}
+pub kept-are : (ms : Members) (children : List ArrayTree) (start : ℕ) (kept : List ℕ)
+    → kept_members ms children start kept ≡ kept_columns (member_columns ms) children start kept
+kept-are no_members children start kept = refl
+kept-are (more_members name kind rest) children start kept =
+    ap (λ (ts : List ArrayTree). kept_tree kind (get_or children 0 Released) start kept ∷ ts) (kept-are rest (drop 1 children) start kept)
 
-pub moved-struct : (columns : List Column) (kind : Kind) (w : Window) (kept : List ℕ) (tree : ArrayTree) (before after : Tally)
-    → kind ≡ Columns (members columns) → IsStruct kind columns w kept → IsMovedChunk columns (rows_at w kept) tree before after
-    → IsMoved kind (items_at w kept) tree before after
-moved-struct columns kind w kept tree before after is struct moved =
-    let back : IsMovedChunk (member_columns (members columns)) (map fields_of (items_at w kept)) tree before after =
-    subst (λ (cs : List Column). IsMovedChunk cs (map fields_of (items_at w kept)) tree before after) (sym (columns-back columns))
-    (subst (λ (rows : List Row). IsMovedChunk columns rows tree before after) struct.rows moved) in
-    subst (λ (k : Kind). IsMoved k (items_at w kept) tree before after) (sym is) (moved-members (members columns) (items_at w kept) tree before after back)
+moved-members : (ms : Members) (array : ArrayTree) (start : ℕ) (kept : List ℕ) (made : ArrayTree) (before after : Tally)
+    → IsStruct (Columns ms) (member_columns ms) array start kept → IsMovedStruct (member_columns ms) array start kept made before after
+    → IsMoved (Columns ms) array start kept made before after
+moved-members ms array start kept made before after struct is =
+    let values = values_at (type_of_kind (Columns ms)) array start kept in
+    record {
+      tree_is = is.tree_is ∙ ap (table_tree (length kept)) (sym (kept-are ms (children_of array) (first (members_of array) + start) kept));
+      units = is.units;
+      left = omega (arith, most-is ms, is.left);
+      blocks = is.blocks
+          ∙ ap (λ (rows : List Row). risen before.blocks (table_blocks Moved (member_columns ms) rows)) struct.rows
+          ∙ ap (risen before.blocks) (sym (blocks-is Moved ms 0 values));
+      nodes = is.nodes ∙ ap (λ n. risen before.nodes (1 + n)) (sym (nodes-are Moved ms));
+    }
+
+pub moved-struct : (columns : List Column) (kind : Kind) (array : ArrayTree) (start : ℕ) (kept : List ℕ) (made : ArrayTree) (before after : Tally)
+    → kind ≡ Columns (members columns) → CanMove kind array start kept → IsMovedStruct columns array start kept made before after
+    → IsMoved kind array start kept made before after
+moved-struct columns kind array start kept made before after is can moved =
+    let own : CanMove (Columns (members columns)) array start kept = subst (λ (k : Kind). CanMove k array start kept) is can in
+    let back : IsMovedStruct (member_columns (members columns)) array start kept made before after =
+    subst (λ (cs : List Column). IsMovedStruct cs array start kept made before after) (sym (columns-back columns)) moved in
+    subst (λ (k : Kind). IsMoved k array start kept made before after) (sym is)
+    (moved-members (members columns) array start kept made before after (of-members (members columns) array start kept own) back)
 
 -- ---- there are no more columns than they cost
 
-some-cost : (kind : Kind) → HasNoDict kind → 1 ≤ most_cost kind
-some-cost (Flat kind) plain = omega arith
-some-cost (Dict kind) plain = absurd plain
-some-cost (Columns _) plain = omega arith
+some-cost : (kind : Kind) → 1 ≤ most_cost kind
+some-cost (Flat kind) = omega arith
+some-cost (Dict kind) = omega arith
+some-cost (Columns _) = omega arith
 
-pub few-columns : (columns : List Column) → All (λ c. HasNoDict c.kind) columns → length columns ≤ most_of_columns columns
-few-columns [] plain = omega arith
-few-columns (c ∷ cs) plain =
-    omega (arith, some-cost c.kind (plain 0 c (omega arith)), few-columns cs (λ k d small. plain (suc k) d (omega (arith, small))))
+pub few-columns : (columns : List Column) → length columns ≤ most_of_columns columns
+few-columns [] = omega arith
+few-columns (c ∷ cs) = omega (arith, some-cost c.kind, few-columns cs)
 
-pub moved-struct-if : (columns : List Column) (kind : Kind) (w : Window) (kept : List ℕ) (result : Result ArrayTree NoMemory) (before after : Tally)
-    → kind ≡ Columns (members columns) → IsStruct kind columns w kept
-    → IfOk result (λ tree. IsMovedChunk columns (rows_at w kept) tree before after) → IfOk result (λ tree. IsMoved kind (items_at w kept) tree before after)
-moved-struct-if columns kind w kept (Ok tree) before after is struct moved = moved-struct columns kind w kept tree before after is struct moved
-moved-struct-if columns kind w kept (Err _) before after is struct moved = tt
+pub moved-struct-if : (columns : List Column) (kind : Kind) (array : ArrayTree) (start : ℕ) (kept : List ℕ) (result : Result ArrayTree NoMemory)
+    (before after : Tally)
+    → kind ≡ Columns (members columns) → CanMove kind array start kept
+    → IfOk result (λ made. IsMovedStruct columns array start kept made before after) → IfOk result (λ made. IsMoved kind array start kept made before after)
+moved-struct-if columns kind array start kept (Ok made) before after is can moved = moved-struct columns kind array start kept made before after is can moved
+moved-struct-if columns kind array start kept (Err _) before after is can moved = tt

@@ -1,7 +1,6 @@
 -- A struct column as the rows of its columns.
-use Rattle.std.proofs.Common.{◌≡◌, ◌∙◌, ◌<◌, ◌+◌, ℕ, zero, suc, List, [], ◌∷◌, length, map, get_or, drop, All, refl, sym, ap, subst, arith, rules}
+use Rattle.std.proofs.Common.{◌≡◌, ◌<◌, ◌+◌, ℕ, zero, suc, List, [], ◌∷◌, length, map, get_or, drop, All, refl, ap, subst, arith, rules}
 use Rattle.std.specs.List.{sum_by}
-use Rattle.std.proofs.lemmas.List.{length-map}
 use Rattle.std.proofs.lemmas.List.Sums.{sum_by-cons}
 use Rattle.std.specs.declared.vec.Vec.{Vec}
 use Rattle.std.specs.declared.alloc.Global.{Global}
@@ -17,13 +16,10 @@ use Rattle.fmt_string.specs.declared.kind.ColKind.TheViews.{the_lemmas}
 use Rattle.fmt_string.specs.declared.kind.ColumnType.{ColumnType}
 use Rattle.fmt_string.proofs.StructColumns.{row_is}
 use Rattle.tree_model.specs.Tree.{Live, Trees, absent, more_trees, trees}
-use Rattle.raw_array.specs.Members.{ArrayTree}
-use Rattle.arr_export.specs.ArrayTrees.{table_tree}
 use Rattle.layout_check.specs.ColumnKinds.{type_of_columns, type_of_kind, types_of_columns, types_of_members}
 use Rattle.stage_model.specs.Traffic.{Dictionaries, blocks_from, kind_blocks, kind_nodes, member_blocks, member_nodes, member_values}
 use Rattle.stream_face.specs.Lawful.{AreFieldItems, AreItems}
-use Rattle.stage_filter.specs.KeptTrees.{chunk_tree, kind_tree, member_trees, trees_from}
-use Rattle.stage_filter.specs.Plain.{HaveNoDict, ArePlain, most_of_columns, most_of_members}
+use Rattle.stage_filter.specs.Plain.{most_of_columns, most_of_members}
 
 -- the columns that the code keeps
 pub struct-view : (v : Vec ColumnType Global) → kind_of (Columns v) ≡ StructOf (members (map column_of v.items))
@@ -46,11 +42,6 @@ pub kinds-are : (ms : Members) → MembersAreColumns ms → All (λ c. AreColumn
 kinds-are no_members are k d small = absurd (omega (arith, small))
 kinds-are (more_members name kind rest) are zero d small = are.0
 kinds-are (more_members name kind rest) are (suc k) d small = kinds-are rest are.1 k d (omega (arith, small))
-
-pub plain-are : (ms : Members) → HaveNoDict ms → ArePlain (member_columns ms)
-plain-are no_members are k d small = absurd (omega (arith, small))
-plain-are (more_members name kind rest) are zero d small = are.0
-plain-are (more_members name kind rest) are (suc k) d small = plain-are rest are.1 k d (omega (arith, small))
 
 pub most-is : (ms : Members) → most_of_members ms ≡ most_of_columns (member_columns ms)
 most-is no_members = refl
@@ -80,18 +71,7 @@ items-are (more_members name kind rest) rows are zero none small = are.0
 items-are (more_members name kind rest) rows are (suc k) none small =
     subst (AreItems (get_or (member_columns rest) k none).kind) (later k rows) (items-are rest (map (drop 1) rows) are.1 k none (omega (arith, small)))
 
--- ---- arrays
-
-pub trees-are : (ms : Members) (place : ℕ) (values : List Value) → member_trees ms place values ≡ trees_from place (member_columns ms) (map fields_of values)
-trees-are no_members place values = refl
-trees-are (more_members name kind rest) place values =
-    ap (λ (vs : List Value). kind_tree kind vs ∷ member_trees rest (place + 1) values) (values-are place values)
-    ∙ ap (λ (ts : List ArrayTree). kind_tree kind (column_values place (map fields_of values)) ∷ ts) (trees-are rest (place + 1) values)
-
-pub tree-is : (ms : Members) (values : List Value) → kind_tree (StructOf ms) values ≡ chunk_tree (member_columns ms) (map fields_of values)
-tree-is ms values =
-    ap (table_tree (length values)) (trees-are ms 0 values)
-    ∙ ap (λ (n : ℕ). table_tree n (trees_from 0 (member_columns ms) (map fields_of values))) (sym (length-map values fields_of))
+-- ---- blocks
 
 pub blocks-is : (how : Dictionaries) (ms : Members) (place : ℕ) (values : List Value)
     → member_blocks how ms place values ≡ blocks_from how place (member_columns ms) (map fields_of values)

@@ -1,11 +1,15 @@
 -- The items of a column that pass a test, by their numbers.
-use Rattle.std.specs.Prelude.{ℕ, ◌+◌, Bool, false, List, map}
+use Rattle.std.specs.Prelude.{ℕ, ◌+◌, ◌*◌, Bool, true, false, List, Option, map, if◌then◌else◌}
 use Rattle.std.specs.List.{filter}
 use Rattle.std.specs.declared.cmp.Ordering.{Ordering}
 use Rattle.std.specs.Ordering.{is_eq, is_ne, is_lt, is_le, is_gt, is_ge}
 use Rattle.fmt_string.specs.Table.{Row}
-use Rattle.fmt_string.specs.Value.{Value}
-use Rattle.layout_check.specs.Values.{each, row_items}
+use Rattle.fmt_string.specs.Value.{Value, Null, Whole}
+use Rattle.bit_pack.specs.Packed.{meant, number_at}
+use Rattle.raw_array.specs.Members.{ArrayTree}
+use Rattle.layout_check.specs.Kinds.{KindTree}
+use Rattle.layout_check.specs.Layout.{is_valid_by}
+use Rattle.layout_check.specs.Values.{each, row_items, value_at}
 use Rattle.arr_import.specs.Window.{Window, item_at}
 use Rattle.stage_model.specs.Stages.{passes}
 use Rattle.stage_model.specs.declared.stage.Const.{Const}
@@ -31,13 +35,15 @@ numbers from count = each (λ i. i) from count
 abbrev pub kept_numbers : Test → Const → Window → ℕ → ℕ → List ℕ
 kept_numbers test constant w from count = filter (λ i. passes test constant (item_at w i)) (numbers from count)
 
--- the items of these numbers
-abbrev pub items_at : Window → List ℕ → List Value
-items_at w kept = map (item_at w) kept
+-- ---- the items of numbers that are counted from an item of an array's window on
 
--- a row of a struct, and those of these numbers
-abbrev pub row_at : Window → ℕ → Row
-row_at w i = row_items w.typed w.array (w.start + i)
+abbrev pub values_at : KindTree → ArrayTree → ℕ → List ℕ → List Value
+values_at typed array start kept = map (λ i. value_at typed array (start + i)) kept
 
-abbrev pub rows_at : Window → List ℕ → List Row
-rows_at w kept = map (row_at w) kept
+-- and the rows of a struct
+abbrev pub rows_at : KindTree → ArrayTree → ℕ → List ℕ → List Row
+rows_at typed array start kept = map (λ i. row_items typed array (start + i)) kept
+
+-- an index of 32 bits at a place of the buffers: null where its validity bit is clear
+abbrev pub index_in : Option (List ℕ) → List ℕ → ℕ → Value
+index_in validity stored place = if is_valid_by validity place then Whole (meant 4 true (number_at stored (place * 4) 4)) else Null

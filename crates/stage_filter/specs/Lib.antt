@@ -3,3 +3,4 @@ pub mod Plain
 pub mod KeptTrees
 pub mod Moving
 pub mod Filters
+pub mod Workers

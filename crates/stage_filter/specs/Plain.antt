@@ -1,13 +1,14 @@
--- Columns without dictionaries, and what new arrays of them cost at most.
+-- Columns without dictionaries, and what new arrays of columns draw at most.
 use Rattle.std.specs.Prelude.{ℕ, ◌+◌, List, [], ◌∷◌}
 use Rattle.fmt_string.specs.Table.{Column, Kind, Flat, Dict, Columns, Members, no_members, more_members}
 pub use Rattle.stage_kernels.specs.Plain.{ArePlain, HasNoDict, HaveNoDict}
 
 abbrev mutual
-  -- the units of a new array: a node and at most three buffers of values, and a node of a struct
+  -- the units that a new array draws: a node and at most three buffers of values or indices, and a node of a struct. A dictionary
+  -- is moved
   pub most_cost : Kind → ℕ
   most_cost (Flat kind) = 4
-  most_cost (Dict kind) = 0
+  most_cost (Dict kind) = 4
   most_cost (Columns members) = 1 + most_of_members members
 
   pub most_of_members : Members → ℕ

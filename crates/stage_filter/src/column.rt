@@ -1,100 +1,75 @@
-//! A new column of some items of a column.
-ghost use Rattle.std.specs.Prelude.{◌≡◌, ◌+◌, ◌<◌, ◌≤◌, List, None, IfOk, OnOk, OnErr, count_by, is_some};
+//! A new column of some items of a column of values.
+ghost use Rattle.std.specs.Prelude.{◌≡◌, ◌+◌, ◌≤◌, IfOk, OnErr};
 ghost use Rattle.fmt_string.specs.Table.{Flat};
-ghost use Rattle.fmt_string.specs.Value.{Value};
-ghost use Rattle.fmt_string.specs.declared.kind.DataType.{DataType as AType};
-ghost use Rattle.unit_pass.specs.Tally.{risen};
 ghost use Rattle.unit_pass.specs.declared.pass.TheConstants.{SUPPLY};
 ghost use Rattle.raw_array.specs.Members.{Cost};
-ghost use Rattle.col_build.specs.Holding.{Holds, HoldsSome};
-ghost use Rattle.arr_import.specs.Cols.{window_of};
-ghost use Rattle.stream_face.specs.Lawful.{AreValues};
-ghost use Rattle.stage_filter.specs.Kept.{items_at};
+ghost use Rattle.col_build.specs.Holding.{Holds};
+ghost use Rattle.layout_check.specs.ColumnKinds.{type_of_kind};
+ghost use Rattle.layout_check.specs.Kinds.{TypedOk};
+ghost use Rattle.layout_check.specs.TypedView.{typed_of};
+ghost use Rattle.stage_filter.specs.Kept.{values_at};
 ghost use Rattle.stage_filter.specs.Moving.{CanMove, IsMoved};
 
+use crate::built::built_column;
 use crate::item::push_item;
-use arr_export::export_column;
 use arr_import::Col;
-use buf_block::let_go_all;
-use col_build::{Builder, Built};
+use col_build::Builder;
 use fmt_string::{DataType, clone_kind, storage_of};
+use layout_check::{Typed, lawful_trees};
 use raw_array::RawArray;
 use std::alloc::Global;
 use unit_pass::{NoMemory, Pass, SUPPLY};
-
-/// Lets the buffers of a finished column without a dictionary go.
-fn give_up(built: Built, dictionary: Option<RawArray>, pass: &mut Pass)
-    requires none { dictionary ≡ None }
-    requires units { pass.old.units + count_by is_some built.buffers.items ≤ SUPPLY }
-    ensures units { pass.new.units ≡ pass.old.units + count_by is_some built.buffers.items }
-    ensures blocks { pass.new.blocks ≡ pass.old.blocks }
-    ensures nodes { pass.new.nodes ≡ pass.old.nodes }
-{
-    match dictionary {
-        None => {}
-        Some(_dictionary) => unreachable!(),
-    }
-    let Built {
-        kind: _,
-        length: _,
-        null_count: _,
-        buffers,
-    } = built;
-    let_go_all(buffers, pass);
-}
-
-/// The array of the column that a builder holds.
-fn built_column(alloc: Global, builder: Builder, pass: &mut Pass) -> Result<RawArray, NoMemory>
-    requires holds { HoldsSome builder }
-    requires units { 4 ≤ pass.old.units }
-    ensures column { IfOk result
-        (λ array. (kind : AType) (values : List Value) → Holds builder kind values → AreValues kind values
-        → IsMoved (Flat kind) values array pass.old pass.new) }
-    ensures units_back { OnErr result (pass.new.units ≡ pass.old.units) }
-{
-    match builder.finish(alloc, pass) {
-        Ok(built) => match export_column(alloc, built, None, pass) {
-            Ok(array) => Ok(array),
-            Err((built, dictionary, NoMemory)) => {
-                give_up(built, dictionary, pass);
-                Err(NoMemory)
-            }
-        },
-        Err((_builder, NoMemory)) => Err(NoMemory),
-    }
-}
 
 /// A builder that holds the items of these numbers, in their order.
 fn moved_items(
     alloc: Global,
     kind: &DataType,
-    items: &Col<'_>,
+    typed: &Typed,
+    array: &RawArray,
+    start: u64,
     kept: &[u32],
 ) -> Result<Builder, NoMemory>
-    requires { CanMove (Flat kind.now) (window_of items.now) kept.now }
-    ensures { IfOk result (λ builder. Holds builder kind.now (items_at (window_of items.now) kept.now)) }
+    requires typed { typed_of typed.now ≡ type_of_kind (Flat kind.now) }
+    requires types { TypedOk (typed_of typed.now) }
+    requires items { CanMove (Flat kind.now) array.now start kept.now }
+    ensures { IfOk result (λ builder. Holds builder kind.now (values_at (type_of_kind (Flat kind.now)) array.now start kept.now)) }
 {
+    lawful_trees();
+    let items = Col::of(typed, array);
     let mut builder = Builder::new(alloc, clone_kind(alloc, kind)?);
     let storage = storage_of(kind);
     for i in kept {
-        push_item(&mut builder, storage, items, *i)?;
+        push_item(&mut builder, storage, &items, start + u64::from(*i))?;
     }
     Ok(builder)
 }
 
-/// The array of the items of these numbers, in their order. On want of memory all units are back.
-pub(crate) fn moved_column(
+/// The array of the items of these numbers, in their order, in the place of the array, which is released. On want of memory all
+/// units are back.
+pub(crate) fn moved_values(
     alloc: Global,
     kind: &DataType,
-    items: &Col<'_>,
+    typed: &Typed,
+    array: RawArray,
+    start: u64,
     kept: &[u32],
     pass: &mut Pass,
 ) -> Result<RawArray, NoMemory>
-    requires items { CanMove (Flat kind.now) (window_of items.now) kept.now }
+    requires typed { typed_of typed.now ≡ type_of_kind (Flat kind.now) }
+    requires types { TypedOk (typed_of typed.now) }
+    requires items { CanMove (Flat kind.now) array start kept.now }
     requires units { 4 ≤ pass.old.units }
-    ensures moved { IfOk result (λ array. IsMoved (Flat kind.now) (items_at (window_of items.now) kept.now) array pass.old pass.new) }
-    ensures units_back { OnErr result (pass.new.units ≡ pass.old.units) }
+    requires room { pass.old.units + Cost array ≤ SUPPLY }
+    ensures moved { IfOk result (λ made. IsMoved (Flat kind.now) array start kept.now made pass.old pass.new) }
+    ensures units_back { OnErr result (pass.new.units ≡ pass.old.units + Cost array) }
 {
-    let builder = moved_items(alloc, kind, items, kept)?;
-    built_column(alloc, builder, pass)
+    let items = moved_items(alloc, kind, typed, &array, start, kept);
+    array.end(pass);
+    match items {
+        Ok(builder) => match built_column(alloc, builder, None, pass) {
+            Ok(made) => Ok(made),
+            Err(NoMemory) => Err(NoMemory),
+        },
+        Err(NoMemory) => Err(NoMemory),
+    }
 }

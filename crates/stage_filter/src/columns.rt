@@ -1,58 +1,79 @@
-//! New columns of some items of columns, at all depths.
-ghost use Rattle.std.specs.Prelude.{◌≡◌, ◌+◌, ◌≤◌, map, IfOk, OnErr};
+//! New columns of some items of columns, at all depths, in the place of the columns.
+ghost use Rattle.std.specs.Prelude.{◌≡◌, ◌+◌, ◌<◌, ◌≤◌, ◌≤ℤ◌, pos, [], length, map, vec_capacity, IfOk, OnOk, OnErr};
 ghost use Rattle.fmt_string.specs.ColumnView.{column_of, kind_of};
-ghost use Rattle.arr_import.specs.Cols.{window_of};
-ghost use Rattle.stage_filter.specs.Kept.{items_at, rows_at};
-ghost use Rattle.stage_filter.specs.Moving.{AreMoved, CanMove, CanMoveRows, IsMoved, IsMovedChunk};
+ghost use Rattle.tree_model.specs.Tree.{Released, child_at, children_of, trees, with_child};
+ghost use Rattle.unit_pass.specs.declared.pass.TheConstants.{SUPPLY};
+ghost use Rattle.raw_array.specs.Members.{Cost, cost_of_all, members_of};
+ghost use Rattle.layout_check.specs.ColumnKinds.{type_of_columns, type_of_kind};
+ghost use Rattle.layout_check.specs.Kinds.{TypedOk};
+ghost use Rattle.layout_check.specs.Layout.{first};
+ghost use Rattle.layout_check.specs.TypedView.{typed_of};
+ghost use Rattle.stage_filter.specs.Kept.{rows_at};
+ghost use Rattle.stage_filter.specs.Moving.{AreMoved, CanMove, CanMoveRows, IsMoved, IsMovedStruct};
 ghost use Rattle.stage_filter.specs.Plain.{most_cost, most_of_columns};
 
-use crate::column::moved_column;
+use crate::column::moved_values;
+use crate::dictionary::moved_entries;
 use arr_export::export_table;
-use arr_import::Col;
 use fmt_string::{ColKind, ColumnType};
-use raw_array::{RawArray, release_all};
+use layout_check::{Typed, kinds_of_typed, lawful_trees};
+use raw_array::{Gone, PartlyMoved, RawArray, release_all};
 use std::alloc::Global;
-use unit_pass::{NoMemory, Pass};
+use unit_pass::{NoMemory, Pass, SUPPLY};
 
-/// The array of the items of these numbers, in their order. On want of memory all units are back.
+/// The array of the items of these numbers, in their order, in the place of the array, which is released. The numbers are counted
+/// from an item of the array on. On want of memory all units are back.
 #[cycle(moved)]
 fn moved_kind(
     alloc: Global,
     kind: &ColKind,
-    items: &Col<'_>,
+    typed: &Typed,
+    array: RawArray,
+    start: u64,
     kept: &[u32],
     pass: &mut Pass,
 ) -> Result<RawArray, NoMemory>
-    requires items { CanMove (kind_of kind.now) (window_of items.now) kept.now }
+    requires typed { typed_of typed.now ≡ type_of_kind (kind_of kind.now) }
+    requires types { TypedOk (typed_of typed.now) }
+    requires items { CanMove (kind_of kind.now) array start kept.now }
     requires units { most_cost (kind_of kind.now) ≤ pass.old.units }
-    ensures moved { IfOk result (λ array. IsMoved (kind_of kind.now) (items_at (window_of items.now) kept.now) array pass.old pass.new) }
-    ensures units_back { OnErr result (pass.new.units ≡ pass.old.units) }
+    requires room { pass.old.units + Cost array ≤ SUPPLY }
+    ensures moved { IfOk result (λ made. IsMoved (kind_of kind.now) array start kept.now made pass.old pass.new) }
+    ensures units_back { OnErr result (pass.new.units ≡ pass.old.units + Cost array) }
 {
     match kind {
-        ColKind::Flat(kind) => moved_column(alloc, kind, items, kept, pass),
-        ColKind::Dict(_) => unreachable!(),
-        ColKind::Columns(columns) => moved_rows(alloc, columns.as_slice(), items, kept, pass),
+        ColKind::Flat(kind) => moved_values(alloc, kind, typed, array, start, kept, pass),
+        ColKind::Dict(kind) => moved_entries(alloc, kind, array, start, kept, pass),
+        ColKind::Columns(columns) => {
+            moved_struct(alloc, columns.as_slice(), typed, array, start, kept, pass)
+        }
     }
 }
 
-/// The struct of the rows of these numbers, in their order. On want of memory all units are back.
+/// The struct of the rows of these numbers, in their order, in the place of the struct, which is released. On want of memory all
+/// units are back.
 #[cycle(moved)]
-pub(crate) fn moved_rows(
+pub(crate) fn moved_struct(
     alloc: Global,
     columns: &[ColumnType],
-    rows: &Col<'_>,
+    typed: &Typed,
+    array: RawArray,
+    start: u64,
     kept: &[u32],
     pass: &mut Pass,
 ) -> Result<RawArray, NoMemory>
-    requires rows { CanMoveRows (map column_of columns.now) (window_of rows.now) kept.now }
+    requires typed { typed_of typed.now ≡ type_of_columns (map column_of columns.now) }
+    requires types { TypedOk (typed_of typed.now) }
+    requires rows { CanMoveRows (map column_of columns.now) array start kept.now }
     requires units { 1 + most_of_columns (map column_of columns.now) ≤ pass.old.units }
-    ensures moved { IfOk result
-        (λ array. IsMovedChunk (map column_of columns.now) (rows_at (window_of rows.now) kept.now) array pass.old pass.new) }
-    ensures units_back { OnErr result (pass.new.units ≡ pass.old.units) }
+    requires room { pass.old.units + Cost array ≤ SUPPLY }
+    ensures moved { IfOk result (λ made. IsMovedStruct (map column_of columns.now) array start kept.now made pass.old pass.new) }
+    ensures units_back { OnErr result (pass.new.units ≡ pass.old.units + Cost array) }
 {
-    let arrays = moved_columns(alloc, columns, rows, kept, pass)?;
+    lawful_trees();
+    let arrays = moved_columns(alloc, columns, typed, array, start, kept, pass)?;
     match export_table(alloc, arrays, kept.len() as i64, pass) {
-        Ok(array) => Ok(array),
+        Ok(made) => Ok(made),
         Err((arrays, NoMemory)) => {
             release_all(arrays, pass);
             Err(NoMemory)
@@ -60,32 +81,124 @@ pub(crate) fn moved_rows(
     }
 }
 
-/// The arrays of the columns of these rows, one after the other.
+/// The arrays of the columns of these rows, one after the other; what is left of the struct is released.
 #[cycle(moved)]
 fn moved_columns(
     alloc: Global,
     columns: &[ColumnType],
-    rows: &Col<'_>,
+    typed: &Typed,
+    array: RawArray,
+    start: u64,
     kept: &[u32],
     pass: &mut Pass,
 ) -> Result<Vec<RawArray>, NoMemory>
-    requires rows { CanMoveRows (map column_of columns.now) (window_of rows.now) kept.now }
+    requires typed { typed_of typed.now ≡ type_of_columns (map column_of columns.now) }
+    requires types { TypedOk (typed_of typed.now) }
+    requires rows { CanMoveRows (map column_of columns.now) array start kept.now }
     requires units { most_of_columns (map column_of columns.now) ≤ pass.old.units }
-    ensures moved { IfOk result
-        (λ arrays. AreMoved (map column_of columns.now) (rows_at (window_of rows.now) kept.now) arrays.items pass.old pass.new) }
-    ensures units_back { OnErr result (pass.new.units ≡ pass.old.units) }
+    requires room { pass.old.units + Cost array ≤ SUPPLY }
+    ensures moved { IfOk result (λ arrays. AreMoved (map column_of columns.now) array start kept.now
+        (rows_at (type_of_columns (map column_of columns.now)) array start kept.now) arrays.items pass.old pass.new) }
+    ensures units { IfOk result (λ arrays. pass.new.units + cost_of_all (trees arrays.items) ≡ pass.old.units + Cost array) }
+    ensures units_back { OnErr result (pass.new.units ≡ pass.old.units + Cost array) }
 {
+    lawful_trees();
     let Ok(mut arrays) = Vec::with_capacity(alloc, columns.len()) else {
+        array.end(pass);
         return Err(NoMemory);
     };
-    for (k, column) in columns.iter().enumerate() {
-        match moved_kind(alloc, &column.kind, &rows.child(k), kept, pass) {
-            Ok(array) => arrays.push_reserved(array),
-            Err(NoMemory) => {
-                release_all(arrays, pass);
-                return Err(NoMemory);
-            }
+    let mut moved = PartlyMoved::begin(array);
+    let filled = move_columns(
+        alloc,
+        columns,
+        typed,
+        &mut moved,
+        start,
+        kept,
+        &mut arrays,
+        pass,
+    );
+    moved.finish(pass);
+    match filled {
+        Ok(()) => Ok(arrays),
+        Err(NoMemory) => {
+            release_all(arrays, pass);
+            Err(NoMemory)
         }
     }
-    Ok(arrays)
+}
+
+/// The number of items of the buffers that come before a struct's first.
+fn first_of(array: &PartlyMoved) -> u64
+    requires { pos 0 ≤ℤ (members_of array.now).offset }
+    ensures { result ≡ first (members_of array.now) }
+{
+    array.offset() as u64
+}
+
+/// Puts the arrays of the columns of these rows into an empty list that has room for them. Each column is moved out of the struct.
+/// On want of memory the list has those before.
+#[cycle(moved)]
+fn move_columns(
+    alloc: Global,
+    columns: &[ColumnType],
+    typed: &Typed,
+    array: &mut PartlyMoved,
+    start: u64,
+    kept: &[u32],
+    arrays: &mut Vec<RawArray>,
+    pass: &mut Pass,
+) -> Result<(), NoMemory>
+    requires typed { typed_of typed.now ≡ type_of_columns (map column_of columns.now) }
+    requires types { TypedOk (typed_of typed.now) }
+    requires rows { CanMoveRows (map column_of columns.now) array.old start kept.now }
+    requires units { most_of_columns (map column_of columns.now) ≤ pass.old.units }
+    requires room { pass.old.units + Cost array.old ≤ SUPPLY }
+    requires empty { arrays.old.items ≡ [] }
+    requires capacity { length columns.now ≤ vec_capacity arrays.old }
+    ensures moved { OnOk result (AreMoved (map column_of columns.now) array.old start kept.now
+        (rows_at (type_of_columns (map column_of columns.now)) array.old start kept.now) arrays.new.items pass.old pass.new) }
+    ensures units { pass.new.units + (Cost array.new + cost_of_all (trees arrays.new.items)) ≡ pass.old.units + Cost array.old }
+{
+    lawful_trees();
+    kinds_of_typed(typed);
+    let inner = first_of(array) + start;
+    for (k, column) in columns.iter().enumerate() {
+        let kid = &typed.kids[k];
+        match moved_child(alloc, &column.kind, kid, array, k, inner, kept, pass) {
+            Ok(made) => arrays.push_reserved(made),
+            Err(NoMemory) => return Err(NoMemory),
+        }
+    }
+    Ok(())
+}
+
+/// The array of the items of these numbers of a child, which is moved out of its struct and released.
+#[cycle(moved)]
+fn moved_child(
+    alloc: Global,
+    kind: &ColKind,
+    typed: &Typed,
+    array: &mut PartlyMoved,
+    k: usize,
+    start: u64,
+    kept: &[u32],
+    pass: &mut Pass,
+) -> Result<RawArray, NoMemory>
+    requires typed { typed_of typed.now ≡ type_of_kind (kind_of kind.now) }
+    requires types { TypedOk (typed_of typed.now) }
+    requires inside { k < length (children_of array.old) }
+    requires items { CanMove (kind_of kind.now) (child_at array.old k) start kept.now }
+    requires units { most_cost (kind_of kind.now) ≤ pass.old.units }
+    requires room { pass.old.units + Cost array.old ≤ SUPPLY }
+    ensures moved { IfOk result (λ made. IsMoved (kind_of kind.now) (child_at array.old k) start kept.now made pass.old pass.new) }
+    ensures taken { array.new ≡ with_child array.old k Released }
+    ensures cost { Cost array.new + Cost (child_at array.old k) ≡ Cost array.old }
+    ensures units_back { OnErr result (pass.new.units ≡ pass.old.units + Cost (child_at array.old k)) }
+{
+    lawful_trees();
+    match array.take_child(k) {
+        Ok(child) => moved_kind(alloc, kind, typed, child, start, kept, pass),
+        Err(Gone) => unreachable!(),
+    }
 }

@@ -1,5 +1,5 @@
 //! The work that filters rows.
-ghost use Rattle.std.specs.Prelude.{◌≡◌, map};
+ghost use Rattle.std.specs.Prelude.{◌≡◌, ◌≤◌, map};
 ghost use Rattle.fmt_string.specs.ColumnView.{column_of};
 ghost use Rattle.stage_kernels.specs.Dues.{due_with};
 ghost use Rattle.stage_model.specs.Stages.{chunks_after};
@@ -7,10 +7,12 @@ ghost use Rattle.stage_model.specs.declared.stage.Step.TheVariants as steps;
 ghost use Rattle.stage_filter.specs.Filters.{FilterFits};
 
 use crate::chunk::{Asked, filtered};
-use crate::laws::rows_make_a_chunk;
+use crate::laws::{kept_rows_make_a_chunk, like_trees_are_the_same};
 use edge_io::Gate;
+use layout_check::lawful_trees;
 use raw_array::RawArray;
 use raw_schema::RawSchema;
+use stage_kernels::chunks_are_small;
 use stage_model::{Const, Test};
 use stages::{OutColumns, Work};
 use std::alloc::Global;
@@ -25,21 +27,34 @@ pub struct FilterWork {
     test: Test,
     constant: Const,
     out: OutColumns,
+    workers: u32,
+    ghost some_workers: { 1 ≤ workers },
+    ghost few_workers: { workers ≤ 64 },
 }
 
 impl FilterWork {
-    /// Asks this test of the items of a column, by its number from 0; `out` are the columns, which stay. Takes no memory.
-    pub fn new(column: usize, test: Test, constant: Const, out: OutColumns) -> FilterWork
+    /// Asks this test of the items of a column, by its number from 0; `out` are the columns, which stay. The rows of each chunk
+    /// are looked through by so many workers. Takes no memory.
+    pub fn new(
+        column: usize,
+        test: Test,
+        constant: Const,
+        out: OutColumns,
+        workers: u32,
+    ) -> FilterWork
+        requires workers { (1 ≤ workers) × (workers ≤ 64) }
         ensures column { result.column ≡ column }
         ensures test { result.test ≡ test }
         ensures constant { result.constant ≡ constant }
         ensures out { result.out ≡ out }
+        ensures workers { result.workers ≡ workers }
     {
         FilterWork {
             column,
             test,
             constant,
             out,
+            workers,
         }
     }
 }
@@ -73,14 +88,28 @@ impl Work for FilterWork {
         if code != 0 || out.is_released() {
             return Ok(code);
         }
-        rows_make_a_chunk();
+        kept_rows_make_a_chunk();
+        chunks_are_small();
+        lawful_trees();
+        like_trees_are_the_same();
         let asked = Asked {
             column: self.column,
             test: self.test,
             constant: &self.constant,
         };
         let columns = self.out.as_slice();
-        match filtered(alloc, columns, up.typed(), out.move_out(), asked, pass) {
+        let workers = self.workers;
+        match filtered(
+            rt,
+            alloc,
+            columns,
+            up.typed(),
+            out.move_out(),
+            asked,
+            workers,
+            pass,
+            gate,
+        ) {
             Ok(made) => {
                 out.put(made);
                 Ok(0)

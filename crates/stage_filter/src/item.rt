@@ -1,5 +1,5 @@
 //! Items that are moved into a column in the making.
-ghost use Rattle.std.specs.Prelude.{◌≡◌, ◌<◌, true, OnOk};
+ghost use Rattle.std.specs.Prelude.{◌≡◌, ◌<◌, ◌^◌, true, OnOk};
 ghost use Rattle.fmt_string.specs.declared.storage.Storage.{Storage as AStorage};
 ghost use Rattle.col_build.specs.Holding.{Adds};
 ghost use Rattle.col_build.specs.Items.{value_of};
@@ -14,12 +14,13 @@ use unit_pass::NoMemory;
 
 /// An item of a column whose items are null or stored so.
 #[inline(always)]
-fn item_of<'a>(items: &Col<'a>, storage: Storage, i: u32) -> Item<'a>
+fn item_of<'a>(items: &Col<'a>, storage: Storage, i: u64) -> Item<'a>
     requires inside { i < (window_of items.now).count }
+    requires near { i < 2 ^ 40 }
     requires stored { IsStored storage (item_at (window_of items.now) i) }
     ensures { value_of result ≡ item_at (window_of items.now) i }
 {
-    let i = i64::from(i);
+    let i = i as i64;
     match storage {
         Storage::Truths => match items.truth(i) {
             Some(truth) => Item::Truth(truth),
@@ -41,9 +42,10 @@ fn item_of<'a>(items: &Col<'a>, storage: Storage, i: u32) -> Item<'a>
     }
 }
 
-/// Adds an item, of a text without testing it again.
+/// Adds an item to a column in the making that takes it, of a text without testing it again. `storage` is how the column's values
+/// are stored. An `Err` comes for want of memory alone.
 #[inline(always)]
-fn push(builder: &mut Builder, storage: Storage, item: Item<'_>) -> Result<(), NoMemory>
+pub fn push(builder: &mut Builder, storage: Storage, item: Item<'_>) -> Result<(), NoMemory>
     requires { Takes builder.old storage (value_of item) }
     ensures { OnOk result (Adds (value_of item.entry) builder.old builder.new) }
 {
@@ -58,17 +60,28 @@ fn push(builder: &mut Builder, storage: Storage, item: Item<'_>) -> Result<(), N
     }
 }
 
-/// Adds an item of a column.
+/// Adds an item of a column. It is [`push`] of the item, whose text stands here again so that the one loop over a column's items has
+/// no call in it.
 #[inline(always)]
 pub(crate) fn push_item(
     builder: &mut Builder,
     storage: Storage,
     items: &Col<'_>,
-    i: u32,
+    i: u64,
 ) -> Result<(), NoMemory>
     requires inside { i < (window_of items.now).count }
+    requires near { i < 2 ^ 40 }
     requires takes { Takes builder.old storage (item_at (window_of items.now) i) }
     ensures { OnOk result (Adds (item_at (window_of items.now) i) builder.old builder.new) }
 {
-    push(builder, storage, item_of(items, storage, i))
+    let item = item_of(items, storage, i);
+    let pushed = match (storage, item) {
+        (Storage::Between { text: true, .. }, Item::Bytes(text)) => builder.push_text(text),
+        _ => builder.push(item),
+    };
+    match pushed {
+        Ok(()) => Ok(()),
+        Err(PushFault::NoMemory) => Err(NoMemory),
+        Err(_) => unreachable!(),
+    }
 }

@@ -1,15 +1,26 @@
-//! What the chunks that are made of values mean.
-ghost use Rattle.std.specs.Prelude.{◌≡◌, ◌^◌, ◌≤◌, List, length, All};
+//! What the chunks that are made of values, and of rows of a chunk, mean.
+ghost use Rattle.std.specs.Prelude.{◌≡◌, ◌^◌, ◌<◌, ◌≤◌, ℕ, List, length, get_or, All};
 ghost use Rattle.fmt_string.specs.ColumnForms.{AreColumnKinds};
-ghost use Rattle.fmt_string.specs.Table.{Column, Row};
+ghost use Rattle.fmt_string.specs.Table.{Column, Dict, Row};
+ghost use Rattle.fmt_string.specs.declared.kind.DataType.{DataType as AType};
+ghost use Rattle.tree_model.specs.Tree.{child_at, dictionary_at};
+ghost use Rattle.raw_array.specs.Members.{ArrayTree, Cost, Like};
 ghost use Rattle.layout_check.specs.ColumnKinds.{type_of_columns};
-ghost use Rattle.layout_check.specs.Values.{rows_of};
+ghost use Rattle.layout_check.specs.Kinds.{KindTree};
+ghost use Rattle.layout_check.specs.Values.{rows_of, values_of};
 ghost use Rattle.layout_check.specs.Walk.{ChunkOk};
-ghost use Rattle.stream_face.specs.Lawful.{IsTable};
-ghost use Rattle.stage_filter.specs.KeptTrees.{chunk_tree};
+ghost use Rattle.stream_face.specs.Lawful.{DictsAreFull, IsTable};
+ghost use Rattle.stage_filter.specs.Kept.{rows_at};
+ghost use Rattle.stage_filter.specs.KeptTrees.{chunk_tree, kept_chunk};
+ghost use Rattle.stage_filter.specs.Moving.{CanMoveRows};
 ghost use Rattle.stage_filter.specs.Plain.{ArePlain};
 
-use arr_export::{encoded_columns_are_lawful, lawful_columns_make_a_chunk};
+use arr_export::{
+    encoded_columns_are_lawful, indexed_columns_are_lawful, lawful_columns_make_a_chunk,
+};
+use array_laws::{shares_show_the_same, trees_that_show_the_same};
+use layout_check::lawful_trees;
+use raw_array::like_trees_are_ordered;
 
 /// A law: the chunk that is made of the rows of a table of plain columns meets the rules of a chunk, and its rows are these
 /// ("Arrow Columnar Format", "Struct Layout").
@@ -21,4 +32,36 @@ pub fn rows_make_a_chunk()
 {
     encoded_columns_are_lawful();
     lawful_columns_make_a_chunk();
+}
+
+/// A law: the chunk that is made of some rows of a chunk meets the rules of a chunk, and its rows are these; a column with a
+/// dictionary has the dictionary that it had, and no dictionary has a null ("Arrow Columnar Format", "Struct Layout" and
+/// "Dictionary-encoded Layout").
+pub fn kept_rows_make_a_chunk()
+    ensures chunk { (columns : List Column) (chunk : ArrayTree) (kept : List ℕ) → CanMoveRows columns chunk 0 kept
+        → ChunkOk (type_of_columns columns) (kept_chunk columns chunk kept) }
+    ensures rows { (columns : List Column) (chunk : ArrayTree) (kept : List ℕ) → CanMoveRows columns chunk 0 kept
+        → rows_of (type_of_columns columns) (kept_chunk columns chunk kept) ≡ rows_at (type_of_columns columns) chunk 0 kept }
+    ensures dictionary { (columns : List Column) (chunk : ArrayTree) (kept : List ℕ) (k : ℕ) (none : Column) (kind : AType)
+        → k < length columns → (get_or columns k none).kind ≡ Dict kind
+        → dictionary_at (child_at (kept_chunk columns chunk kept) k) ≡ dictionary_at (child_at chunk k) }
+    ensures full { (columns : List Column) (chunk : ArrayTree) (kept : List ℕ) (k : ℕ) (none : Column) → CanMoveRows columns chunk 0 kept
+        → k < length columns → DictsAreFull (get_or columns k none).kind (child_at (kept_chunk columns chunk kept) k) }
+{
+    encoded_columns_are_lawful();
+    indexed_columns_are_lawful();
+    lawful_columns_make_a_chunk();
+    lawful_trees();
+}
+
+/// A law: a tree that is like another has its values and its rows, is a chunk where the other is, and costs as much.
+pub(crate) fn like_trees_are_the_same()
+    ensures values { (typed : KindTree) (t u : ArrayTree) → Like t u → values_of typed t ≡ values_of typed u }
+    ensures chunk { (typed : KindTree) (t u : ArrayTree) → Like t u → ChunkOk typed t → ChunkOk typed u }
+    ensures rows { (typed : KindTree) (t u : ArrayTree) → Like t u → rows_of typed t ≡ rows_of typed u }
+    ensures cost { (t u : ArrayTree) → Like t u → Cost u ≡ Cost t }
+{
+    trees_that_show_the_same();
+    shares_show_the_same();
+    like_trees_are_ordered();
 }

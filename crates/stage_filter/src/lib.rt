@@ -1,22 +1,33 @@
 //! The work of a stage that filters: of each chunk it keeps the rows whose item in one column passes a test.
 //!
-//! What this crate owns: [`FilterWork`], which finds the numbers of the rows that pass, and copies the items of these rows into
-//! new columns, value by value. A chunk of which no row passes is still given, without rows.
+//! What this crate owns: [`FilterWork`], which finds the numbers of the rows that pass, and takes the chunk apart. The items of
+//! these rows are copied into new columns, value by value; of a column with a dictionary the indices are copied, and the
+//! dictionary itself is moved into the new column, at all depths. A chunk of which no row passes is still given, without rows.
 //!
 //! What it promises: its stage gives the chunks that `stage_model` says of a filter, with the columns before it; each is made
-//! anew, with a node for each column at each depth, and the blocks of its own columns; a lawful stream stays lawful. The chunk
-//! that came is released.
+//! anew, with a node for each column at each depth, and the blocks of its own columns, while no dictionary is made or copied
+//! ([`kept_rows_make_a_chunk`]); a lawful stream stays lawful. What is left of the chunk that came is released.
 //!
-//! What it leaves to others: which column, test and constant a stage text names (`stage_plan`), and columns with dictionaries.
+//! [`push`] and [`built_column`] are for other works that fill a builder and make an array of it.
+//!
+//! What it leaves to others: which column, test and constant a stage text names (`stage_plan`).
 #![tactic(auto)]
 
+mod built;
 mod chunk;
 mod column;
 mod columns;
+mod dictionary;
 mod filter;
+mod indices;
 mod item;
 mod kept;
 mod laws;
+#[cfg(test)]
+mod worker_tests;
+mod workers;
 
+pub use built::{built_column, give_up};
 pub use filter::FilterWork;
-pub use laws::rows_make_a_chunk;
+pub use item::push;
+pub use laws::{kept_rows_make_a_chunk, rows_make_a_chunk};

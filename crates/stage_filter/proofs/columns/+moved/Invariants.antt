@@ -1,26 +1,36 @@
-use Rattle.std.proofs.Common.{◌≡◌, ◌≤◌, ◌+◌, ◌*◌, map, take, length, vec_len}
+use Rattle.std.proofs.Common.{◌≡◌, ◌≤◌, ◌+◌, ◌*◌, map, take, drop, length, vec_len}
 use Rattle.std.specs.Vec.{vec_capacity}
 use Rattle.fmt_string.specs.ColumnView.{column_of, kind_of}
-use Rattle.tree_model.specs.Tree.{Depth, depth_of_all, trees}
-use Rattle.layout_check.specs.ColumnKinds.{type_of_kind, types_of_columns}
-use Rattle.arr_import.specs.Cols.{window_of}
+use Rattle.tree_model.specs.Tree.{Depth, children_of, depth_of_all, trees}
+use Rattle.raw_array.specs.Members.{Cost, cost_of_all}
+use Rattle.layout_check.specs.ColumnKinds.{type_of_columns, type_of_kind, types_of_columns}
 use Rattle.stage_filter.specs.Kept.{rows_at}
 use Rattle.stage_filter.specs.Moving.{AreMoved}
 use Rattle.stage_filter.proofs.columns.+moved.Given as goal
 
 abbrev pub decreases-moved_kind : goal.decreases-moved_kind
-decreases-moved_kind a = 3 * Depth (type_of_kind (kind_of a.kind.now))
+decreases-moved_kind a = 5 * Depth (type_of_kind (kind_of a.kind.now))
 
-abbrev pub decreases-moved_rows : goal.decreases-moved_rows
-decreases-moved_rows a = 3 * depth_of_all (trees (types_of_columns (map column_of a.columns.now))) + 2
+abbrev pub decreases-moved_struct : goal.decreases-moved_struct
+decreases-moved_struct a = 5 * depth_of_all (trees (types_of_columns (map column_of a.columns.now))) + 4
 
 abbrev pub decreases-moved_columns : goal.decreases-moved_columns
-decreases-moved_columns a = 3 * depth_of_all (trees (types_of_columns (map column_of a.columns.now))) + 1
+decreases-moved_columns a = 5 * depth_of_all (trees (types_of_columns (map column_of a.columns.now))) + 3
 
--- the arrays of the columns so far, and room for the others
-abbrev pub invariant-moved_columns-loop-k : goal.invariant-moved_columns-loop-k
-invariant-moved_columns-loop-k l = record {
-  moved : AreMoved (map column_of (take l.k l.columns)) (rows_at (window_of l.rows) l.kept) l.arrays.items l.initial.pass l.pass;
+abbrev pub decreases-move_columns : goal.decreases-move_columns
+decreases-move_columns a = 5 * depth_of_all (trees (types_of_columns (map column_of a.columns.now))) + 2
+
+abbrev pub decreases-moved_child : goal.decreases-moved_child
+decreases-moved_child a = 5 * Depth (type_of_kind (kind_of a.kind.now)) + 1
+
+-- the arrays of the columns so far, room for the others, and the children that are left
+abbrev pub invariant-move_columns-loop-k : goal.invariant-move_columns-loop-k
+invariant-move_columns-loop-k l = record {
+  moved : AreMoved (map column_of (take l.k l.columns)) l.initial.array l.start l.kept
+      (rows_at (type_of_columns (map column_of l.columns)) l.initial.array l.start l.kept) l.arrays.items l.initial.pass l.pass;
   count : vec_len l.arrays ≡ l.k;
   room : length l.columns ≤ vec_capacity l.arrays;
+  places : length (children_of l.array) ≡ length (children_of l.initial.array);
+  rest : drop l.k (children_of l.array) ≡ drop l.k (children_of l.initial.array);
+  units : l.pass.units + (Cost l.array + cost_of_all (trees l.arrays.items)) ≡ l.initial.pass.units + Cost l.initial.array;
 }

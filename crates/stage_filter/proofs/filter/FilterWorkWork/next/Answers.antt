@@ -1,22 +1,23 @@
-use Rattle.std.proofs.Common.{rules, ◌≡◌, ◌≤◌, ◌∙◌, ◌+◌, map, List, pos, IsTrue, sym, ap, subst, arith}
+use Rattle.std.proofs.Common.{rules, ◌≡◌, ◌≤◌, ◌*◌, ◌∙◌, map, List, pos, IsTrue, refl, sym, ap, subst, arith}
+use Rattle.std.proofs.Math.Nat.{mul-le-mul_right}
 use Rattle.fmt_string.specs.ColumnView.{column_of}
 use Rattle.fmt_string.specs.declared.kind.ColumnType.{ColumnType}
 use Rattle.tree_model.specs.Tree.{Depth, IsLive}
-use Rattle.raw_array.specs.Members.{Cost}
 use Rattle.layout_check.specs.ColumnKinds.{type_of_columns}
 use Rattle.unit_pass.specs.Tally.{risen}
+use Rattle.raw_array.specs.Members.{ArrayTree, Cost, Like}
 use Rattle.stage_model.specs.Traffic.{Moved, table_blocks, table_nodes}
 use Rattle.stream_face.specs.Meaning.{meaning, raw_kinds}
 use Rattle.stream_face.proofs.Joints.{live_unless}
 use Rattle.stage_filter.specs.Filters.{CanFilter, passing_rows}
-use Rattle.stage_filter.specs.KeptTrees.{chunk_tree}
 use Rattle.stage_filter.specs.Plain.{most_of_columns}
-use Rattle.stage_filter.proofs.Filtered.{filter-answers, filter-counts, fresh, ready, same}
+use Rattle.stage_filter.proofs.Filtered.{filter-answers, filter-counts, filtered_chunk, fresh, ready, ready-like, same, same-chunk}
+use Rattle.stage_filter.proofs.LikeChunks.{LikeLaws}
 use Rattle.stage_filter.proofs.filter.FilterWorkWork.next.Goals as goal
 
 -- ---- what filtering asks
 pub filtered-requires-clause-typed : goal.filtered-requires-clause-typed
-filtered-requires-clause-typed g c =
+filtered-requires-clause-typed g c = λ _ _.
     let up = meaning g.U.ArrayStream.state c.args.up.now in
     let call = c.next-code.ensures in
     let w = c.args.self.now in
@@ -25,7 +26,7 @@ filtered-requires-clause-typed g c =
     ∙ ap (λ (cs : List ColumnType). type_of_columns (map column_of cs)) (sym c.as_slice-columns.ensures)
 
 pub filtered-requires-clause-chunk : goal.filtered-requires-clause-chunk
-filtered-requires-clause-chunk g c =
+filtered-requires-clause-chunk g c = λ _ _.
     let up = meaning g.U.ArrayStream.state c.args.up.now in
     let n = meaning g.U.ArrayStream.state c.next-code.new.self in
     let call = c.next-code.ensures in
@@ -42,7 +43,7 @@ filtered-requires-clause-chunk g c =
     (subst (λ (cs : List ColumnType). CanFilter w.column (map column_of cs) c.next-code.new.out) (sym c.as_slice-columns.ensures) is.can)
 
 pub filtered-requires-clause-units : goal.filtered-requires-clause-units
-filtered-requires-clause-units g c =
+filtered-requires-clause-units g c = λ _ _.
     let up = meaning g.U.ArrayStream.state c.args.up.now in
     let n = meaning g.U.ArrayStream.state c.next-code.new.self in
     let call = c.next-code.ensures in
@@ -57,6 +58,25 @@ filtered-requires-clause-units g c =
     (c.lawful_facts.ensures.columns c.requires.lawful) (c.lawful_facts.ensures.tables c.requires.lawful) shallow in
     let most = ap (λ (cs : List ColumnType). most_of_columns (map column_of cs)) c.as_slice-columns.ensures in
     omega (arith, most, is.most, is.small, call.units, c.requires.room)
+
+pub filtered-requires-clause-shares : goal.filtered-requires-clause-shares
+filtered-requires-clause-shares g c = λ _ _.
+    let up = meaning g.U.ArrayStream.state c.args.up.now in
+    let n = meaning g.U.ArrayStream.state c.next-code.new.self in
+    let call = c.next-code.ensures in
+    let w = c.args.self.now in
+    let live : IsLive c.next-code.new.out = search (rules, live_unless) in
+    let none : c.next-code.result ≡ pos 0 = search rules in
+    let lawful = c.typed.ensures.lawful (subst IsTrue (sym call.keeps.lawful) c.requires.lawful) in
+    let types : raw_kinds c.next-code.new.self ≡ type_of_columns up.columns = lawful ∙ ap type_of_columns call.keeps.columns in
+    let shallow : Depth (type_of_columns up.columns) ≤ 64 = let e = ap Depth types in omega (arith, e, c.typed.ensures.types.0) in
+    let is = ready w.column w.out up n c.next-code.result c.next-code.new.out live
+    (call.answers (fresh up n c.next-code.result _ _ _ _ c.requires.lawful call.repeats call.tells none)) c.requires.fits
+    (c.lawful_facts.ensures.columns c.requires.lawful) (c.lawful_facts.ensures.tables c.requires.lawful) shallow in
+    let cost = Cost c.next-code.new.out in
+    let all : w.workers * cost ≤ 64 * cost = mul-le-mul_right cost w.few_workers in
+    let fits : w.workers * cost ≤ c.next-code.new.pass.units = omega (arith, all, is.small, call.units, c.requires.room) in
+    subst (λ (t : ArrayTree). w.workers * Cost t ≤ c.next-code.new.pass.units) (sym c.move_out.ensures.moved) fits
 
 -- ---- what the call answers and counts
 pub returns-in-Ok-clause-answers : goal.returns-in-Ok-clause-answers
@@ -77,15 +97,17 @@ returns-in-Ok-clause-answers g c = λ fresh_is.
     (c.lawful_facts.ensures.tables c.requires.lawful) shallow in
     let same : c.as_slice-columns.result.now ≡ w.out = c.as_slice-columns.ensures in
     let moved : c.move_out.result ≡ out = c.move_out.ensures.moved in
-    let tree : c.put.new.self ≡ chunk_tree columns (passing_rows w.column w.test w.constant columns out) =
-    c.put.ensures ∙ c.in-Ok.ensures.tree
-    ∙ (λ i. chunk_tree (map column_of (same i)) (passing_rows w.column w.test w.constant (map column_of (same i)) (moved i))) in
-    let small : Cost c.put.new.self ≤ 1 + most_of_columns columns =
-    let e = ap Cost c.put.ensures in
-    let most = ap (λ (cs : List ColumnType). most_of_columns (map column_of cs)) same in
-    omega (arith, e, most, c.in-Ok.ensures.small) in
-    let law = c.rows_make_a_chunk.ensures in
-    filter-answers law.chunk law.rows w.column w.test w.constant columns up n c.next-code.result out c.put.new.self live answers is tree small
+    let left = c.in-Ok.ensures.tree.0 in
+    let like : Like out left = subst (λ (t : ArrayTree). Like t left) moved c.in-Ok.ensures.tree.1 in
+    let tree : c.put.new.self ≡ filtered_chunk w.column w.test w.constant columns left =
+    same-chunk w.column w.test w.constant (map column_of c.as_slice-columns.result.now) columns left left _ c.put.new.self
+    (ap (map column_of) same) refl c.put.ensures c.in-Ok.ensures.tree.2 in
+    let alike = c.like_trees_are_the_same.ensures in
+    let laws : LikeLaws = record { values = alike.values; chunk = alike.chunk; rows = alike.rows; cost = alike.cost } in
+    let after = ready-like laws w.column columns (answers.chunk live).0 out left like is in
+    let law = c.kept_rows_make_a_chunk.ensures in
+    filter-answers law.chunk law.rows law.full c.chunks_are_small.ensures c.lawful_trees.ensures.root w.column w.test w.constant columns up n
+    c.next-code.result out left c.put.new.self live answers after tree
 
 pub returns-in-Ok-clause-counts : goal.returns-in-Ok-clause-counts
 returns-in-Ok-clause-counts g c = λ fresh_is _.
@@ -106,9 +128,10 @@ returns-in-Ok-clause-counts g c = λ fresh_is _.
     (c.lawful_facts.ensures.tables c.requires.lawful) shallow in
     let same : c.as_slice-columns.result.now ≡ w.out = c.as_slice-columns.ensures in
     let moved : c.move_out.result ≡ out = c.move_out.ensures.moved in
-    let tree : c.put.new.self ≡ chunk_tree columns (passing_rows w.column w.test w.constant columns out) =
-    c.put.ensures ∙ c.in-Ok.ensures.tree
-    ∙ (λ i. chunk_tree (map column_of (same i)) (passing_rows w.column w.test w.constant (map column_of (same i)) (moved i))) in
+    let left = c.in-Ok.ensures.tree.0 in
+    let tree : c.put.new.self ≡ filtered_chunk w.column w.test w.constant columns left =
+    same-chunk w.column w.test w.constant (map column_of c.as_slice-columns.result.now) columns left left _ c.put.new.self
+    (ap (map column_of) same) refl c.put.ensures c.in-Ok.ensures.tree.2 in
     let middle = c.next-code.new.pass in
     let blocks : c.filtered.new.pass.blocks
     ≡ risen middle.blocks (table_blocks Moved columns (passing_rows w.column w.test w.constant columns out)) =
@@ -117,5 +140,5 @@ returns-in-Ok-clause-counts g c = λ fresh_is _.
     (table_blocks Moved (map column_of (same i)) (passing_rows w.column w.test w.constant (map column_of (same i)) (moved i)))) in
     let nodes : c.filtered.new.pass.nodes ≡ risen middle.nodes (table_nodes Moved columns) =
     c.in-Ok.ensures.nodes ∙ ap (λ (cs : List ColumnType). risen middle.nodes (table_nodes Moved (map column_of cs))) same in
-    filter-counts w.column w.test w.constant columns up n c.next-code.result out c.put.new.self c.args.pass.now middle c.filtered.new.pass live answers is
+    filter-counts w.column w.test w.constant columns up n c.next-code.result out left c.put.new.self c.args.pass.now middle c.filtered.new.pass live answers is
     (call.counts fresh_is none) tree blocks nodes

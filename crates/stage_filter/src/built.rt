@@ -1,0 +1,86 @@
+//! The array of a column in the making.
+ghost use Rattle.std.specs.Prelude.{◌≡◌, ◌+◌, ◌≤◌, List, Option, IfOk, OnErr, OnOk, count_by, is_some};
+ghost use Rattle.fmt_string.specs.Value.{Value};
+ghost use Rattle.fmt_string.specs.declared.kind.DataType.{DataType as AType};
+ghost use Rattle.tree_model.specs.Tree.{maybe_tree};
+ghost use Rattle.unit_pass.specs.Tally.{risen};
+ghost use Rattle.unit_pass.specs.declared.pass.TheConstants.{SUPPLY};
+ghost use Rattle.raw_array.specs.Members.{Cost, cost_of_maybe};
+ghost use Rattle.col_build.specs.Encoding.{Fits};
+ghost use Rattle.col_build.specs.Finished.{blocks_of};
+ghost use Rattle.col_build.specs.Holding.{Holds};
+ghost use Rattle.arr_export.specs.ArrayTrees.{AreIndicesIf, column_tree};
+
+use arr_export::export_column;
+use buf_block::let_go_all;
+use col_build::{Builder, Built};
+use raw_array::RawArray;
+use std::alloc::Global;
+use unit_pass::{NoMemory, Pass, SUPPLY};
+
+/// Releases a dictionary, where there is one.
+fn end_dictionary(dictionary: Option<RawArray>, pass: &mut Pass)
+    requires { pass.old.units + cost_of_maybe (maybe_tree dictionary) ≤ SUPPLY }
+    ensures units { pass.new.units ≡ pass.old.units + cost_of_maybe (maybe_tree dictionary) }
+    ensures blocks { pass.new.blocks ≡ pass.old.blocks }
+    ensures nodes { pass.new.nodes ≡ pass.old.nodes }
+{
+    match dictionary {
+        None => {}
+        Some(dictionary) => dictionary.end(pass),
+    }
+}
+
+/// Lets the buffers of a finished column go, and releases its dictionary, where there is one: what is owed for a column that
+/// `arr_export::export_column` gave back.
+pub fn give_up(built: Built, dictionary: Option<RawArray>, pass: &mut Pass)
+    requires { pass.old.units + cost_of_maybe (maybe_tree dictionary) + count_by is_some built.buffers.items ≤ SUPPLY }
+    ensures units { pass.new.units ≡ pass.old.units + cost_of_maybe (maybe_tree dictionary) + count_by is_some built.buffers.items }
+    ensures blocks { pass.new.blocks ≡ pass.old.blocks }
+    ensures nodes { pass.new.nodes ≡ pass.old.nodes }
+{
+    end_dictionary(dictionary, pass);
+    let Built {
+        kind: _,
+        length: _,
+        null_count: _,
+        buffers,
+    } = built;
+    let_go_all(buffers, pass);
+}
+
+/// The array of the column that a builder holds, over a dictionary, where there is one: the items are its indices then ("Arrow
+/// Columnar Format", "Dictionary-encoded Layout"). It counts a block for each buffer, and one node. On want of memory all is
+/// released, the dictionary too.
+pub fn built_column(
+    alloc: Global,
+    builder: Builder,
+    dictionary: Option<RawArray>,
+    pass: &mut Pass,
+) -> Result<RawArray, NoMemory>
+    requires holds { (kind : AType) × (values : List Value) × Holds builder kind values × AreIndicesIf kind values dictionary }
+    requires units { 4 ≤ pass.old.units }
+    requires room { pass.old.units + cost_of_maybe (maybe_tree dictionary) ≤ SUPPLY }
+    ensures tree { IfOk result (λ array. (kind : AType) (values : List Value) → Holds builder kind values → array ≡ column_tree kind values dictionary) }
+    ensures fits { (kind : AType) (values : List Value) → Holds builder kind values → Fits kind values }
+    ensures units { OnOk result ((kind : AType) (values : List Value) → Holds builder kind values
+        → pass.new.units + (1 + blocks_of kind values) ≡ pass.old.units) }
+    ensures blocks { OnOk result ((kind : AType) (values : List Value) → Holds builder kind values
+        → pass.new.blocks ≡ risen pass.old.blocks (blocks_of kind values)) }
+    ensures nodes { OnOk result (pass.new.nodes ≡ risen pass.old.nodes 1) }
+    ensures units_back { OnErr result (pass.new.units ≡ pass.old.units + cost_of_maybe (maybe_tree dictionary)) }
+{
+    match builder.finish(alloc, pass) {
+        Ok(built) => match export_column(alloc, built, dictionary, pass) {
+            Ok(array) => Ok(array),
+            Err((built, dictionary, NoMemory)) => {
+                give_up(built, dictionary, pass);
+                Err(NoMemory)
+            }
+        },
+        Err((_builder, NoMemory)) => {
+            end_dictionary(dictionary, pass);
+            Err(NoMemory)
+        }
+    }
+}
