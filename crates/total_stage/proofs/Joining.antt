@@ -1,5 +1,5 @@
 -- The totals of picked columns of more rows.
-use Rattle.std.proofs.Common.{arith, ◌≡◌, ◌≢◌, ◌∙◌, ◌≤◌, ◌<◌, ◌+◌, ◌-◌, ◌++◌, ℕ, zero, suc, ℤ, List, [], ◌∷◌, length, map, get_or, set, refl, sym, ap, subst, below_more}
+use Rattle.std.proofs.Common.{arith, ◌≡◌, ◌≢◌, ◌∙◌, ◌≤◌, ◌<◌, ◌+◌, ◌++◌, ℕ, zero, suc, List, [], ◌∷◌, length, get_or, set, refl, sym, ap, subst, below_more}
 use Rattle.std.proofs.lemmas.List.{get_or-set_other, get_or-set_same, length-set, map-append}
 use Rattle.std.proofs.lemmas.List.Elements.{filter_map-append}
 use Rattle.std.specs.List.{filter_map}
@@ -8,11 +8,11 @@ use Rattle.fmt_string.specs.Table.{Row}
 use Rattle.fmt_string.specs.Value.{Value, Null, Whole}
 use Rattle.raw_array.specs.Members.{ArrayTree}
 use Rattle.layout_check.specs.Kinds.{KindTree}
-use Rattle.layout_check.specs.Values.{each, row_items, rows_of, tree_items}
+use Rattle.layout_check.specs.Values.{each, row_items}
 use Rattle.arr_import.specs.Window.{Window, item_at, whole}
 use Rattle.stage_model.specs.Stages.{number_if, numbers_at}
 use Rattle.total_stage.specs.Sums.{AreSums}
-use Rattle.total_stage.specs.Totals.{AreTotals, numbers_in}
+use Rattle.total_stage.specs.Totals.{AreTotals}
 use Rattle.total_stage.specs.declared.numbers.Totals.{Totals}
 
 -- the numbers of a column of rows and of more rows
@@ -21,20 +21,12 @@ numbers-both place rows more =
     ap (filter_map number_if) (map-append (λ (row : Row). get_or row place Null) rows more)
     ∙ filter_map-append number_if (column_values place rows) (column_values place more)
 
-values-each : (place : ℕ) (f : ℕ → Row) (g : ℕ → Value) (from n : ℕ) → ((i : ℕ) → get_or (f i) place Null ≡ g i)
+pub values-each : (place : ℕ) (f : ℕ → Row) (g : ℕ → Value) (from n : ℕ) → ((i : ℕ) → get_or (f i) place Null ≡ g i)
     → column_values place (each f from n) ≡ each g from n
 values-each place f g from zero same = refl
 values-each place f g from (suc n) same =
     ap (λ (v : Value). v ∷ column_values place (each f (suc from) n)) (same from)
     ∙ ap (λ (vs : List Value). g from ∷ vs) (values-each place f g (suc from) n same)
-
--- the numbers of a column of a chunk are those of the items of its child
-pub numbers-of : (place : ℕ) (typed : KindTree) (chunk : ArrayTree) (own : Window) (count : ℕ) → count ≡ tree_items chunk
-    → ((i : ℕ) → get_or (row_items typed chunk i) place Null ≡ item_at own i)
-    → numbers_in own 0 (count - 0) ≡ numbers_at place (rows_of typed chunk)
-numbers-of place typed chunk own count is same =
-    let n : count - 0 ≡ tree_items chunk = omega (arith, is) in
-    ap (numbers_in own 0) n ∙ sym (ap (filter_map number_if) (values-each place (row_items typed chunk) (item_at own) 0 (tree_items chunk) same))
 
 pub fields-of : (w : Window) (typed : KindTree) (chunk : ArrayTree) (own : Window) (place : ℕ) → w ≡ whole typed chunk
     → ((i : ℕ) → get_or (row_items w.typed w.array (w.start + i)) place Null ≡ item_at own i)

@@ -1,6 +1,7 @@
 pub mod Adding
 pub mod Windows
 pub mod Joining
+pub mod Parts
 pub mod HeldRow
 pub mod SummedKinds
 pub mod Fitting

@@ -1,25 +1,24 @@
 -- How far a stream was pulled, and what is added up.
-use Rattle.std.proofs.Common.{arith, ◌≡◌, ◌∙◌, ◌≤◌, ◌<◌, ◌+◌, ◌++◌, ◌^◌, ℕ, zero, suc, ℤ, pos, List, [], ◌∷◌, length, map, get_or, All, IsTrue, refl, sym, ap, subst, inl, inr, true}
+use Rattle.std.proofs.Common.{arith, ◌≡◌, ◌∙◌, ◌≤◌, ◌<◌, ◌+◌, ◌++◌, ◌^◌, ℕ, ℤ, pos, List, [], ◌∷◌, length, get_or, All, IsTrue, refl, sym, ap, subst, inl, inr, true}
 use Rattle.std.specs.Prelude.{◌⊎◌, Option, None, Some}
 use Rattle.std.specs.List.{AllByRecursion}
 use Rattle.std.proofs.lemmas.Grind.{flat_map-append}
-use Rattle.std.proofs.lemmas.List.{append-nil, append_assoc, length-map}
-use Rattle.fmt_string.specs.ColumnForms.{AreColumnKinds}
+use Rattle.std.proofs.lemmas.List.{append-nil, append_assoc, get_or-map, length-map}
 use Rattle.fmt_string.specs.FieldText.{IsValueOf}
 use Rattle.fmt_string.specs.Parts.{column_values, joined_rows}
 use Rattle.fmt_string.specs.Table.{Column, Flat, Row}
-use Rattle.fmt_string.specs.Value.{Value, Null}
-use Rattle.raw_array.specs.Members.{ArrayTree}
-use Rattle.tree_model.specs.Tree.{Released, children_of}
+use Rattle.fmt_string.specs.Value.{Null}
+use Rattle.raw_array.specs.Members.{ArrayTree, Cost}
+use Rattle.tree_model.specs.Tree.{IsLive}
 use Rattle.layout_check.specs.ColumnKinds.{type_of_columns}
 use Rattle.layout_check.specs.Kinds.{KindTree, TypedOk}
-use Rattle.layout_check.specs.Values.{each, row_items, rows_of, tree_items}
+use Rattle.layout_check.specs.Values.{rows_of}
 use Rattle.layout_check.specs.Walk.{ChunkOk}
-use Rattle.stage_filter.proofs.Passing.{count-is}
 use Rattle.stage_filter.proofs.Steps.{kids-long}
-use Rattle.stage_kernels.proofs.Runs.{Ran}
+use Rattle.stage_kernels.proofs.Runs.{Called, Ran, Ran-fresh}
 use Rattle.stage_model.specs.Typing.{is_summed, no_column}
 use Rattle.unit_pass.specs.Tally.{Tally}
+use Rattle.unit_pass.specs.declared.pass.TheConstants.{CHUNK}
 use Rattle.stream_face.specs.Shown.{Seen}
 use Rattle.fmt_string.specs.Kinds.{KindOk}
 use Rattle.fmt_string.specs.declared.kind.DataType.{DataType}
@@ -28,11 +27,11 @@ use Rattle.stream_face.specs.Lawful.{AreItems, IsChunkOf, IsTable, LawfulColumns
 use Rattle.stream_face.specs.Streams.{IsFresh, Stream}
 use Rattle.stream_face.specs.Texts.{Refusal}
 use Rattle.total_stage.specs.Pulls.{IsRefused}
-use Rattle.total_stage.specs.Sums.{AreSums, CanAdd, HaveBegun}
+use Rattle.total_stage.specs.Sums.{AreSums, CanAdd, CanSum, HaveBegun}
 use Rattle.total_stage.specs.Totals.{IsSmallItem}
 use Rattle.total_stage.specs.Works.{CanTotal}
 use Rattle.total_stage.specs.declared.numbers.Totals.{Totals}
-use Rattle.total_stage.proofs.Fitting.{joined-long, picked-plain, table-values}
+use Rattle.total_stage.proofs.Fitting.{joined-long, picked-plain}
 use Rattle.total_stage.proofs.SummedKinds.{item-small}
 
 -- ---- the tables so far
@@ -91,22 +90,12 @@ next-table picks sums columns s m n rows have ahead lawful =
       few = omega (arith, total, total-both have.tables (rows ∷ n.ahead), joined-long have.tables, lawful.rows);
     }
 
-values-at : (place : ℕ) (f : ℕ → Row) (from n i : ℕ) (d : Value) → i < n → get_or (column_values place (each f from n)) i d ≡ get_or (f (from + i)) place Null
-values-at place f from zero i d small = absurd (omega (arith, small))
-values-at place f from (suc n) zero d small = let e : from ≡ from + 0 = omega arith in ap (λ (k : ℕ). get_or (f k) place Null) e
-values-at place f from (suc n) (suc i) d small =
-    let e : suc from + i ≡ from + suc i = omega arith in
-    values-at place f (suc from) n i d (omega (arith, small)) ∙ ap (λ (k : ℕ). get_or (f k) place Null) e
-
-small-at : (kind : DataType) (place : ℕ) (typed : KindTree) (chunk : ArrayTree) (i : ℕ) → KindOk kind → is_summed (Flat kind) ≡ true → i < tree_items chunk
-    → All (IsValueOf kind) (column_values place (rows_of typed chunk)) → IsSmallItem (get_or (row_items typed chunk i) place Null)
-small-at kind place typed chunk i ok summed inside all =
-    let long : length (column_values place (rows_of typed chunk)) ≡ tree_items chunk =
-    length-map (rows_of typed chunk) (λ (row : Row). get_or row place Null) ∙ count-is typed chunk in
-    let e : 0 + i ≡ i = omega arith in
+small-at : (kind : DataType) (place : ℕ) (rows : List Row) (i : ℕ) → KindOk kind → is_summed (Flat kind) ≡ true → i < length rows
+    → All (IsValueOf kind) (column_values place rows) → IsSmallItem (get_or (get_or rows i []) place Null)
+small-at kind place rows i ok summed inside all =
+    let long : length (column_values place rows) ≡ length rows = length-map rows (λ (row : Row). get_or row place Null) in
     item-small kind _ ok summed
-    (subst (IsValueOf kind) (values-at place (row_items typed chunk) 0 (tree_items chunk) i Null inside
-    ∙ ap (λ (k : ℕ). get_or (row_items typed chunk k) place Null) e) (all i Null (omega (arith, long, inside))))
+    (subst (IsValueOf kind) (get_or-map (λ (row : Row). get_or row place Null) rows i [] Null inside) (all i Null (omega (arith, long, inside))))
 
 -- a chunk of a table can be added
 pub can-add : (picks : List ℕ) (typed : KindTree) (chunk : ArrayTree) (columns : List Column) (rows : List Row) → CanTotal picks columns
@@ -115,23 +104,25 @@ pub can-add : (picks : List ℕ) (typed : KindTree) (chunk : ArrayTree) (columns
 can-add picks typed chunk columns rows can lawful table few is rows_are ok types =
     subst (λ (t : KindTree). CanAdd picks t chunk) (sym is) (record {
       types = subst TypedOk is types;
-      struct = tt;
       ok = ok;
-      within = λ k small. omega (arith, kids-long columns, can.within k small);
-      small = λ k i small inside.
-          let here = picked-plain picks columns k can lawful.kinds small in
-          let p = get_or picks k 0 in
-          let items = subst (λ kind. AreItems kind (column_values p rows)) here.is (table.items p no_column (can.within k small)) in
-          small-at here.kind p (type_of_columns columns) chunk i here.ok.0 here.summed inside
-          (subst (λ (rs : List Row). All (IsValueOf here.kind) (column_values p rs)) (sym rows_are) items.0);
-      few = let e = ap (length {A = Row}) rows_are in omega (arith, e, count-is (type_of_columns columns) chunk, few);
+      sum = subst (CanSum picks (type_of_columns columns)) (sym rows_are) (record {
+        struct = tt;
+        within = λ k small. omega (arith, kids-long columns, can.within k small);
+        small = λ k i small inside.
+            let here = picked-plain picks columns k can lawful.kinds small in
+            let p = get_or picks k 0 in
+            let items = subst (λ kind. AreItems kind (column_values p rows)) here.is (table.items p no_column (can.within k small)) in
+            small-at here.kind p rows i here.ok.0 here.summed inside items.0;
+        few = few;
+      });
     })
 
 -- what can be added of the next chunk
 pub record IsAddable (picks : List ℕ) (typed : KindTree) (chunk : ArrayTree) (tables : List (List Row)) (rows : List Row) : Type 0 where
   pub can : CanAdd picks typed chunk
-  pub few : length (joined_rows tables) + tree_items chunk ≤ 2 ^ 30
+  pub few : length (joined_rows tables) + length (rows_of typed chunk) ≤ 2 ^ 30
   pub rows_are : rows_of typed chunk ≡ rows
+  pub small : Cost chunk ≤ CHUNK
 
 pub next-add : (picks : List ℕ) (sums : List Totals) (s m n : Stream) (typed : KindTree) (chunk : ArrayTree) (rows : List Row)
     (have : HavePulled picks sums s m) → CanTotal picks s.columns → LawfulColumns s.columns → LawfulTables s.columns s.ahead → m.columns ≡ s.columns
@@ -143,8 +134,9 @@ next-add picks sums s m n typed chunk rows have can columns tables same ahead is
     let long = ap (length {A = Row}) here.rows_are in
     record {
       can = can-add picks typed chunk s.columns rows can columns next.table (omega (arith, next.few)) is here.rows_are here.ok types;
-      few = omega (arith, long, count-is (type_of_columns s.columns) chunk, next.few);
+      few = (let same = ap (λ (t : KindTree). length (rows_of t chunk)) is in omega (arith, long, same, next.few));
       rows_are = ap (λ (t : KindTree). rows_of t chunk) is ∙ here.rows_are;
+      small = here.small;
     }
 
 -- ---- a refusal
@@ -184,3 +176,29 @@ began-fresh s m seen later before after lawful ran fresh = record {
   lawful = lawful;
   no_failure = none-if s.failure (λ refusal failed. let k : ◌≡◌ {A = Option Refusal} None (Some refusal) = sym fresh.no_failure ∙ ran.failed refusal failed in cc);
 }
+
+-- ---- a call that gave a chunk
+
+-- the table that it gave, and what can be added of the chunk
+pub record IsGiven (picks : List ℕ) (sums : List Totals) (s m n : Stream) (typed : KindTree) (chunk : ArrayTree) : Type 0 where
+  pub have : HavePulled picks sums s m
+  pub rows : List Row
+  pub ahead : m.ahead ≡ rows ∷ n.ahead
+  pub add : IsAddable picks typed chunk have.tables rows
+
+pub given : (picks : List ℕ) (sums : List Totals) (s m n : Stream) (code : ℤ) (chunk : ArrayTree) (typed : KindTree) (seen now later : Option (List Seen))
+    (first before after : Tally) → IsTrue s.lawful → Ran s m seen now first before → Called m n code chunk now later before after → code ≡ pos 0
+    → IsLive chunk → (IsFresh s → HavePulled picks sums s m) → (IsFresh m → Answers m n code chunk) → CanTotal picks s.columns
+    → LawfulColumns s.columns → LawfulTables s.columns s.ahead → typed ≡ type_of_columns n.columns → TypedOk typed
+    → IsGiven picks sums s m n typed chunk
+given picks sums s m n code chunk typed seen now later first before after lawful ran called works live pulled answers can columns tables is types =
+    let fresh = Ran-fresh s m n code chunk seen now later first before after ran called works lawful in
+    let have = pulled (began-fresh s m seen now first before lawful ran fresh) in
+    let table = (answers fresh).chunk live in
+    record {
+      have = have;
+      rows = table.0;
+      ahead = table.1;
+      add = next-add picks sums s m n typed chunk table.0 have can columns tables ran.keeps.columns table.1 table.2
+          (is ∙ ap type_of_columns (called.keeps.columns ∙ ran.keeps.columns)) types;
+    }

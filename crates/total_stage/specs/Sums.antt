@@ -1,13 +1,16 @@
 -- The totals of picked columns, in the making.
-use Rattle.std.specs.Prelude.{◌≡◌, ◌⊎◌, ℕ, ◌<◌, ◌≤◌, ◌^◌, List, [], length, get_or}
+use Rattle.std.specs.Prelude.{◌≡◌, ◌⊎◌, ℕ, ◌-◌, ◌<◌, ◌≤◌, ◌^◌, List, [], length, get_or, take, drop, Vec}
+use Rattle.std.specs.Global.{Global}
 use Rattle.fmt_string.specs.Table.{Row}
 use Rattle.fmt_string.specs.Value.{Null}
 use Rattle.tree_model.specs.Tree.{children_of}
 use Rattle.raw_array.specs.Members.{ArrayTree}
 use Rattle.layout_check.specs.Kinds.{KindTree, TypedOk}
-use Rattle.layout_check.specs.Values.{row_items, tree_items}
+use Rattle.layout_check.specs.Layout.{natural}
+use Rattle.layout_check.specs.Values.{rows_of}
 use Rattle.layout_check.specs.Walk.{ChunkOk}
 use Rattle.arr_import.specs.Window.{IsStruct}
+use Rattle.fan_out.specs.Pieces.{GivesPieces}
 use Rattle.stage_model.specs.Stages.{numbers_at}
 use Rattle.total_stage.specs.Totals.{AreTotals, IsSmallItem}
 use Rattle.total_stage.specs.declared.numbers.Totals.{Totals}
@@ -21,11 +24,24 @@ pub record AreSums (sums : List Totals) (picks : List ℕ) (rows : List Row) : T
 abbrev pub HaveBegun : List Totals → List ℕ → List Row → Type 0
 HaveBegun sums picks rows = ((sums ≡ []) × (rows ≡ [])) ⊎ AreSums sums picks rows
 
--- a chunk with the picked columns, whose numbers are small
+-- rows of these kinds, with the picked columns, whose numbers are small
+pub record CanSum (picks : List ℕ) (typed : KindTree) (rows : List Row) : Type 0 where
+  pub struct : IsStruct typed
+  pub within : (k : ℕ) → k < length picks → get_or picks k 0 < length (children_of typed)
+  pub small : (k i : ℕ) → k < length picks → i < length rows → IsSmallItem (get_or (get_or rows i []) (get_or picks k 0) Null)
+  pub few : length rows ≤ 2 ^ 30
+
+-- a chunk of such rows
 pub record CanAdd (picks : List ℕ) (typed : KindTree) (chunk : ArrayTree) : Type 0 where
   pub types : TypedOk typed
-  pub struct : IsStruct typed
   pub ok : ChunkOk typed chunk
-  pub within : (k : ℕ) → k < length picks → get_or picks k 0 < length (children_of typed)
-  pub small : (k i : ℕ) → k < length picks → i < tree_items chunk → IsSmallItem (get_or (row_items typed chunk i) (get_or picks k 0) Null)
-  pub few : tree_items chunk ≤ 2 ^ 30
+  pub sum : CanSum picks typed (rows_of typed chunk)
+
+-- the rows from one number up to another and without it
+abbrev pub rows_between : ℕ → ℕ → List Row → List Row
+rows_between from to rows = take (to - from) (drop from rows)
+
+-- the totals of each piece of the rows, of as many as there are workers, in order
+abbrev pub AreParts : List ℕ → List Row → ℕ → List (Vec Totals Global) → Type 0
+AreParts picks rows workers parts =
+    GivesPieces (λ from to sums. AreSums sums.items picks (rows_between (natural from) (natural to) rows)) (length rows) workers parts

@@ -1,22 +1,27 @@
 //! The work of a stage that totals columns: of all rows it makes one, which has the count, the sum, the least and the greatest
 //! of the numbers of each picked column.
 //!
-//! What this crate owns: [`TotalsWork`], which pulls the stream below it to its end, adds the numbers of each chunk column by
-//! column, releases the chunk, and then gives one chunk of one row.
+//! What this crate owns: [`TotalsWork`], which pulls the stream below it to its end, has the rows of each chunk added up by
+//! workers (`fan_out`), each a piece of them column by column, joins what they answer, releases the chunk, and then gives one
+//! chunk of one row.
 //!
 //! What it promises: its stage gives the one chunk that `stage_model` says of totals, and none where the stream below ends at
 //! a record; its columns are of the types that `stage_model` names, and a lawful stream stays lawful. Sums are exact: no sum
-//! of a lawful stream's numbers leaves its type. The chunk is made anew, with a node for each column.
+//! of a lawful stream's numbers leaves its type. The number of workers changes none of this. The chunk is made anew, with a
+//! node for each column.
 //!
 //! What it leaves to others: which columns a stage text names (`stage_plan`), and the chunk of the row, which `csv_read` makes
 //! of builders.
 #![tactic(auto)]
 
 mod chunk;
+mod job;
 mod numbers;
 mod pull;
 mod row;
 mod sums;
+#[cfg(test)]
+mod tests;
 mod window;
 mod work;
 

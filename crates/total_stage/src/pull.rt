@@ -25,9 +25,10 @@ pub(crate) enum Pulled {
     All(Vec<Totals>),
 }
 
-/// Pulls a stream to its end, and adds its rows. Each chunk is released.
+/// Pulls a stream to its end, and adds its rows, those of each chunk by workers. Each chunk is released.
 pub(crate) fn pull<U: ArrayStream, R: Threads + Sync, T: Tap>(
     picks: &[usize],
+    workers: u32,
     up: &mut RawStream<U>,
     rt: &R,
     alloc: Global,
@@ -36,6 +37,7 @@ pub(crate) fn pull<U: ArrayStream, R: Threads + Sync, T: Tap>(
     tap: &mut T,
     gate: &(dyn Gate + Sync),
 ) -> Result<Pulled, NoMemory>
+    requires workers { (1 ≤ workers) × (workers ≤ 64) }
     requires shared { IsSync R.row }
     requires live { IsTrue (meaning U.state up.old).live }
     requires lawful { IsTrue (meaning U.state up.old).lawful }
@@ -76,7 +78,20 @@ pub(crate) fn pull<U: ArrayStream, R: Threads + Sync, T: Tap>(
         if out.is_released() {
             return Ok(Pulled::All(sums));
         }
-        add_chunk(sums.as_mut_slice(), picks, up.typed(), out);
+        let added = add_chunk(
+            rt,
+            alloc,
+            sums.as_mut_slice(),
+            picks,
+            up.typed(),
+            out,
+            workers,
+            pass,
+            gate,
+        );
         out.release(pass);
+        if let Err(NoMemory) = added {
+            return Err(NoMemory);
+        }
     }
 }

@@ -1,18 +1,21 @@
 //! The totals of columns, and what a chunk adds to them.
-ghost use Rattle.std.specs.Prelude.{◌≡◌, ◌≤◌, ◌+◌, ◌^◌, ◌++◌, [], List, length, IfOk, OnOk};
+ghost use Rattle.std.specs.Prelude.{◌≡◌, ◌≤◌, ◌+◌, ◌*◌, ◌^◌, ◌++◌, [], ℕ, List, length, IfOk, OnOk};
 ghost use Rattle.fmt_string.specs.Table.{Row};
+ghost use Rattle.raw_array.specs.Members.{Cost};
 ghost use Rattle.layout_check.specs.TypedView.{typed_of};
-ghost use Rattle.layout_check.specs.Values.{rows_of, tree_items};
-ghost use Rattle.arr_import.specs.Cols.{window_of};
-ghost use Rattle.total_stage.specs.Sums.{AreSums, CanAdd, HaveBegun};
+ghost use Rattle.layout_check.specs.Values.{rows_of};
+ghost use Rattle.total_stage.specs.Sums.{AreParts, AreSums, CanAdd, HaveBegun};
 
+use crate::job::SumJob;
 use crate::numbers::Totals;
-use crate::window::window_totals;
-use arr_import::Col;
+use array_laws::pieces_are_the_whole;
+use edge_io::Gate;
+use fan_out::{fan_out, pieces_are_in_order};
 use layout_check::Typed;
 use raw_array::RawArray;
 use std::alloc::Global;
-use unit_pass::NoMemory;
+use std::thread::Threads;
+use unit_pass::{NoMemory, Pass};
 
 /// The totals of the picked columns, without rows.
 fn no_sums(alloc: Global, picks: &[usize]) -> Result<Vec<Totals>, NoMemory>
@@ -35,26 +38,60 @@ pub(crate) fn begin(alloc: Global, sums: &mut Vec<Totals>, picks: &[usize]) -> R
     Ok(())
 }
 
-/// The number of rows.
-fn count(rows: &Col<'_>) -> u32
-    requires { (window_of rows.now).count ≤ 2 ^ 30 }
-    ensures { result ≡ (window_of rows.now).count }
+/// Adds the totals of other rows to those of these rows, column by column.
+fn join_sums(sums: &mut [Totals], others: &[Totals])
+    requires few { (picks : List ℕ) × (rows : List Row) × (more : List Row) × AreSums sums.old picks rows × AreSums others.now picks more
+        × (length rows + length more ≤ 2 ^ 30) }
+    ensures { (picks : List ℕ) (rows more : List Row) → AreSums sums.old picks rows → AreSums others.now picks more → AreSums sums.new picks (rows ++ more) }
 {
-    rows.len() as u32
-}
-
-/// Adds the rows of a chunk, column by column.
-pub(crate) fn add_chunk(sums: &mut [Totals], picks: &[usize], typed: &Typed, chunk: &RawArray)
-    requires chunk { CanAdd picks.now (typed_of typed.now) chunk.now }
-    requires few { (rows : List Row) × AreSums sums.old picks.now rows × (length rows + tree_items chunk.now ≤ 2 ^ 30) }
-    ensures { (rows : List Row) → AreSums sums.old picks.now rows → AreSums sums.new picks.now (rows ++ rows_of (typed_of typed.now) chunk.now) }
-{
-    let rows = Col::of(typed, chunk);
-    let count = count(&rows);
-    for (k, pick) in picks.iter().enumerate() {
-        let column = rows.child(*pick);
+    for k in 0..others.len() {
         let mut sum = sums[k];
-        sum.join(window_totals(&column, 0, count));
+        sum.join(others[k]);
         sums[k] = sum;
     }
+}
+
+/// Adds the totals of the pieces of some rows, one behind the other.
+fn join_parts(sums: &mut [Totals], parts: &[Vec<Totals>], workers: u32)
+    requires some { 1 ≤ workers }
+    requires few { (picks : List ℕ) × (before : List Row) × (rows : List Row) × AreSums sums.old picks before × AreParts picks rows workers parts.now
+        × (length before + length rows ≤ 2 ^ 30) }
+    ensures { (picks : List ℕ) (before rows : List Row) → AreSums sums.old picks before → AreParts picks rows workers parts.now
+        → AreSums sums.new picks (before ++ rows) }
+{
+    pieces_are_in_order();
+    pieces_are_the_whole();
+    for part in parts {
+        join_sums(sums, part.as_slice());
+    }
+}
+
+/// Adds the rows of a chunk, each piece of them by a worker. The chunk keeps its rows, and all units are back.
+pub(crate) fn add_chunk<R: Threads + Sync>(
+    rt: &R,
+    alloc: Global,
+    sums: &mut [Totals],
+    picks: &[usize],
+    typed: &Typed,
+    chunk: &mut RawArray,
+    workers: u32,
+    pass: &mut Pass,
+    gate: &(dyn Gate + Sync),
+) -> Result<(), NoMemory>
+    requires chunk { CanAdd picks.now (typed_of typed.now) chunk.old }
+    requires few { (rows : List Row) × AreSums sums.old picks.now rows
+        × (length rows + length (rows_of (typed_of typed.now) chunk.old) ≤ 2 ^ 30) }
+    requires workers { (1 ≤ workers) × (workers ≤ 64) }
+    requires units { workers * Cost chunk.old ≤ pass.old.units }
+    ensures sums { OnOk result ((rows : List Row) → AreSums sums.old picks.now rows
+        → AreSums sums.new picks.now (rows ++ rows_of (typed_of typed.now) chunk.old)) }
+    ensures cost { Cost chunk.new ≡ Cost chunk.old }
+    ensures units { pass.new.units ≡ pass.old.units }
+    ensures blocks { pass.new.blocks ≡ pass.old.blocks }
+    ensures nodes { pass.new.nodes ≡ pass.old.nodes }
+{
+    let job = SumJob { alloc, picks };
+    let parts = fan_out(rt, alloc, chunk, typed, workers, pass, &job, gate)?;
+    join_parts(sums, parts.as_slice(), workers);
+    Ok(())
 }

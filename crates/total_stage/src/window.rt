@@ -10,7 +10,7 @@ use arr_import::Col;
 
 /// An item that is a number.
 #[inline(always)]
-fn number_at(items: &Col<'_>, i: u32) -> Option<i128>
+pub(crate) fn number_at(items: &Col<'_>, i: u32) -> Option<i128>
     requires { i < (window_of items.now).count }
     ensures some { IfSome result (λ number. item_at (window_of items.now) i ≡ Whole number) }
     ensures none { IfNone result ((number : ℤ) → item_at (window_of items.now) i ≢ Whole number) }

@@ -1,5 +1,5 @@
 //! The work that totals columns.
-ghost use Rattle.std.specs.Prelude.{◌≡◌, map, false};
+ghost use Rattle.std.specs.Prelude.{◌≡◌, ◌≤◌, map, false};
 ghost use Rattle.fmt_string.specs.ColumnView.{column_of};
 ghost use Rattle.stage_kernels.specs.Dues.{due_with};
 ghost use Rattle.stage_model.specs.declared.stage.Step.TheVariants as steps;
@@ -24,20 +24,26 @@ pub struct TotalsWork {
     picks: Vec<usize>,
     out: OutColumns,
     given: bool,
+    workers: u32,
+    ghost some_workers: { 1 ≤ workers },
+    ghost few_workers: { workers ≤ 64 },
 }
 
 impl TotalsWork {
     /// Totals columns by their numbers, from 0, each of whole numbers or of decimals of at most 28 digits; `out` are the four
-    /// columns of each. Takes no memory.
-    pub fn new(picks: Vec<usize>, out: OutColumns) -> TotalsWork
+    /// columns of each. The rows of each chunk are added up by so many workers. Takes no memory.
+    pub fn new(picks: Vec<usize>, out: OutColumns, workers: u32) -> TotalsWork
+        requires workers { (1 ≤ workers) × (workers ≤ 64) }
         ensures picks { result.picks.items ≡ picks.items }
         ensures out { result.out ≡ out }
         ensures given { result.given ≡ false }
+        ensures workers { result.workers ≡ workers }
     {
         TotalsWork {
             picks,
             out,
             given: false,
+            workers,
         }
     }
 }
@@ -67,7 +73,7 @@ impl Work for TotalsWork {
     ) -> Result<i32, NoMemory> {
         up.lawful_facts();
         let picks = self.picks.as_slice();
-        let pulled = pull(picks, up, rt, alloc, out, pass, tap, gate)?;
+        let pulled = pull(picks, self.workers, up, rt, alloc, out, pass, tap, gate)?;
         match pulled {
             Pulled::Refused(code) => Ok(code),
             Pulled::All(sums) => {
