@@ -7,7 +7,6 @@ use Rattle.fmt_string.specs.ColumnForms.{IsColumnKind}
 use Rattle.fmt_string.specs.Value.{Value, Null, Whole, Bytes}
 use Rattle.fmt_string.specs.declared.kind.DataType.{DataType}
 use Rattle.col_build.specs.Holding.{Holds}
-use Rattle.layout_check.specs.Values.{each, value_at}
 use Rattle.arr_import.specs.Window.{Window, items_of}
 use Rattle.stage_model.specs.Dictionary.{has_bytes}
 use Rattle.stream_face.specs.Lawful.{AreValues, HasBytes}
@@ -26,10 +25,6 @@ pub record HasTexts (type : DataType) (w : Window) : Type 0 where
   pub bytes : HasBytes type
   pub items : AreValues type (items_of w)
   pub few : w.count ≤ 2 ^ 30
-
--- the first items of a window
-abbrev pub first_items : Window → ℕ → List Value
-first_items w count = each (value_at w.typed w.array) w.start count
 
 -- ---- distinct texts
 

@@ -10,11 +10,12 @@ ghost use Rattle.stage_model.specs.Dictionary.{Dictionary, has_bytes};
 ghost use Rattle.dict_stage.specs.Indices.{Indices, index_type};
 ghost use Rattle.dict_stage.specs.Texts.{Codes, HasTexts, IsText, index_by, number_of, texts_after, texts_in, texts_with};
 
-use crate::item::{count, item_of, push};
+use crate::item::{count, item_of};
 use arr_import::Col;
 use col_build::{Builder, Item};
 use fmt_string::{DataType, Storage, clone_kind, storage_of};
 use indexmap::IndexSet;
+use stage_filter::push;
 use std::alloc::Global;
 use unit_pass::NoMemory;
 

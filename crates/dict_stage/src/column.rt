@@ -9,13 +9,13 @@ ghost use Rattle.arr_import.specs.Window.{items_of};
 ghost use Rattle.dict_stage.specs.Recoded.{CanRecode, IsRecoded};
 ghost use Rattle.dict_stage.specs.Texts.{HasTexts};
 
-use crate::built::built_column;
 use crate::coder::coded;
-use crate::item::{count, item_of, push};
+use crate::item::{count, item_of};
 use arr_import::Col;
 use col_build::Builder;
 use fmt_string::{ColKind, DataType, clone_kind, storage_of};
 use raw_array::RawArray;
+use stage_filter::{built_column, push};
 use std::alloc::Global;
 use unit_pass::{NoMemory, Pass, SUPPLY};
 

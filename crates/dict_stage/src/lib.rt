@@ -12,8 +12,6 @@
 //! What it leaves to others: which column a stage text names (`stage_plan`).
 #![tactic(auto)]
 
-mod built;
-mod children;
 mod chunk;
 mod coder;
 mod column;

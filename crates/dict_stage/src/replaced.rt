@@ -10,11 +10,11 @@ ghost use Rattle.column_laws.specs.Picking.{Replaced};
 ghost use Rattle.stage_kernels.specs.Unpacks.{ShowsChildren};
 ghost use Rattle.dict_stage.specs.Recoded.{HasPlace};
 
-use crate::children::{count_children, move_children};
 use arr_export::export_table;
 use array_laws::{lawful_structs_have_columns, windows_are_parts};
 use column_laws::{column_types_follow_picks, columns_can_be_taken};
 use raw_array::{PartlyMoved, RawArray, release_all, windows_keep_measures};
+use stage_kernels::{count_children, move_children};
 use std::alloc::Global;
 use unit_pass::{NoMemory, Pass, SUPPLY};
 
