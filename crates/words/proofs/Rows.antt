@@ -1,15 +1,15 @@
 -- What the getters' answers are in the rows of the matches.
-use Rattle.std.proofs.Common.{◌≡◌, ◌∙◌, ◌<◌, ◌≤◌, ap, sym, refl, arith, ℕ, List, [], length, Option, Some, None, option_map, map, codes, Result, Ok, Err, IfOk}
+use Rattle.std.proofs.Common.{◌≡◌, ◌∙◌, ap, sym, subst, ℕ, false, List, [], Option, Some, None, option_map, map, codes, Result, Ok, Err, IfOk}
 use Rattle.std.specs.Option.{unwrap_or}
 use Rattle.std.specs.Borrow.{Bor}
 use Rattle.clap.specs.Matches.{matched_of, raw_values}
 use Rattle.clap.specs.Words.{Row, Text, first_of, first_value, rows_of}
 use Rattle.clap.specs.declared.parser.matches.Found.{Found}
 use Rattle.clap.proofs.WalkLemmas.{first_value-rows, raw_values-rows}
-use Rattle.std.proofs.lemmas.Bool.{le-ltb, lt-ltb}
-use Rattle.std.proofs.lemmas.List.{length-map}
-use Rattle.words.specs.Words.{Options, batch_if, flag_in, given_in, most_stages, options_if, texts_in, with_batch}
-use Rattle.words.specs.declared.WordsFault.TheVariants.{Refused, TooManyStages}
+use Rattle.words.specs.declared.WordsFault.TheVariants.{Refused}
+use Rattle.words.specs.declared.WordsError.{WordsError}
+use Rattle.words.specs.declared.WordsError.TheVariants as error
+use Rattle.words.specs.Words.{Explains, Options, asks_audit, batch_if, flag_in, given_in, number_if, options_if, options_with, ruled, texts_in, with_numbers, workers_if}
 
 -- the text that `get_str` gave
 pub given_text : (f : Found) (id : Text) (o : Option (Bor Text)) → option_map (λ s. s.now) o ≡ first_value f id
@@ -40,34 +40,35 @@ copied items (Err x) xs ys is e = tt
 
 -- ---- what the rows ask for
 
--- the number of `--batch`, by the text that `get_str` gave
-pub batch_is : (f : Found) (o : Option (Bor Text)) (result asked : Option ℕ) → option_map (λ s. s.now) o ≡ first_value f (codes "batch")
-    → result ≡ batch_if (option_map (λ s. s.now) o) → result ≡ asked → batch_if (first_of (codes "batch") (rows_of f)) ≡ asked
-batch_is f o result asked given read is = ap batch_if (sym (given_text f (codes "batch") o given)) ∙ sym read ∙ is
+-- the number of an option, by the text that `get_str` gave
+pub number_is : (usual most : ℕ) (name : Text) (f : Found) (o : Option (Bor Text)) (result asked : Option ℕ)
+    → option_map (λ s. s.now) o ≡ first_value f name → result ≡ number_if usual most (option_map (λ s. s.now) o) → result ≡ asked
+    → number_if usual most (first_of name (rows_of f)) ≡ asked
+number_is usual most name f o result asked given read is = ap (number_if usual most) (sym (given_text f name o given)) ∙ sym read ∙ is
 
-pub no_batch : (rows : List Row) → batch_if (first_of (codes "batch") rows) ≡ None → options_if (given_in rows) ≡ Err Refused
-no_batch rows none = ap (with_batch (given_in rows)) none
+module _ (rows : List Row) where
+  abbrev pub batch_asked : Option ℕ
+  batch_asked = batch_if (first_of (codes "batch") rows)
 
-module _ (rows : List Row) (batch : ℕ) (stages : List (Bor Text)) (number : batch_if (first_of (codes "batch") rows) ≡ Some batch)
-    (texts : texts_behind stages ≡ texts_in (codes "stage") rows) where
-  count : length (texts_in (codes "stage") rows) ≡ length stages
-  count = ap length (sym texts) ∙ length-map stages (λ (s : Bor Text). s.now)
+  abbrev pub workers_asked : Option ℕ
+  workers_asked = workers_if (first_of (codes "workers") rows)
 
-  pub too_many : most_stages < length stages → options_if (given_in rows) ≡ Err TooManyStages
-  too_many many =
-      let more : most_stages < length (texts_in (codes "stage") rows) = omega (arith, many, count) in
-      ap (with_batch (given_in rows)) number ∙ rw (lt-ltb most_stages (length (texts_in (codes "stage") rows)) more) refl
+  pub no_batch : batch_asked ≡ None → options_if (given_in rows) ≡ None
+  no_batch none = ap (λ b. with_numbers (given_in rows) b workers_asked) none
 
-  -- options whose fields are those of the rows
-  pub options_are : (o : Options) → length stages ≤ most_stages → o.schema ≡ first_of (codes "schema") rows → o.batch ≡ batch
-      → o.audit ≡ flag_in (codes "audit") rows → o.null ≡ first_of (codes "null") rows → o.stages ≡ texts_behind stages → options_if (given_in rows) ≡ Ok o
-  options_are o few schema size audit null names =
-      let fit : length (texts_in (codes "stage") rows) ≤ most_stages = omega (arith, few, count) in
-      let same : ◌≡◌ {A = Options} o (record {
-        schema = first_of (codes "schema") rows;
-        batch = batch;
-        audit = flag_in (codes "audit") rows;
-        null = first_of (codes "null") rows;
-        stages = texts_in (codes "stage") rows;
-      }) = λ i. record { schema = schema i; batch = size i; audit = audit i; null = null i; stages = (names ∙ texts) i } in
-      ap (with_batch (given_in rows)) number ∙ rw (le-ltb most_stages (length (texts_in (codes "stage") rows)) fit) (ap (λ (x : Options). Ok x) (sym same))
+  module _ (batch : ℕ) (size : batch_asked ≡ Some batch) where
+    pub no_workers : workers_asked ≡ None → options_if (given_in rows) ≡ None
+    no_workers none = ap (λ b. with_numbers (given_in rows) b workers_asked) size ∙ ap (with_numbers (given_in rows) (Some batch)) none
+
+    -- options whose fields are those of the rows
+    pub options_are : (workers : ℕ) → workers_asked ≡ Some workers → (o : Options) → o.schema ≡ first_of (codes "schema") rows → o.batch ≡ batch
+        → o.workers ≡ workers → o.audit ≡ flag_in (codes "audit") rows → o.check ≡ flag_in (codes "check") rows → o.null ≡ first_of (codes "null") rows
+        → o.stages ≡ texts_in (codes "stage") rows → options_if (given_in rows) ≡ Some o
+    options_are workers count o schema batches many audit check null stages =
+        let same : ◌≡◌ {A = Options} o (options_with (given_in rows) batch workers) =
+        λ i. record { schema = schema i; batch = batches i; workers = many i; audit = audit i; check = check i; null = null i; stages = stages i } in
+        ap (λ b. with_numbers (given_in rows) b workers_asked) size ∙ ap (with_numbers (given_in rows) (Some batch)) count ∙ ap (λ (x : Options). Some x) (sym same)
+
+-- without options the words are refused, and ask for no audit
+pub refused-without : (taken : Option Options) (x : WordsError) → x ≡ error.Words Refused false → taken ≡ None → Explains taken x
+refused-without taken x is none = subst (Explains taken) (sym is) (ap ruled none, sym (ap asks_audit none))

@@ -1,7 +1,7 @@
 -- What the words of the command line mean: the matches that `clap` promises for a simple command and the rules on them, or a refusal.
 use Rattle.std.specs.Prelude.{◌≡◌, ◌≢◌, ⊤, ◌==◌, ◌&&◌, ◌||◌, ℕ, nat_le, nat_lt, not, Bool, true, false, List, [], ◌∷◌, length, map, Option, None, Some}
 use Rattle.std.specs.Prelude.{option_map, Result, Ok, Err, if◌then◌else◌, codes, String, string_bytes}
-use Rattle.std.specs.Option.{option_map_or, unwrap_or}
+use Rattle.std.specs.Option.{is_some, option_map_or, unwrap_or}
 use Rattle.std.specs.Char.{is_ascii_digit}
 use Rattle.std.specs.Str.{all_ascii_digits, bytes_eq}
 use Rattle.std.specs.Str.Parse.{digits_value}
@@ -13,7 +13,7 @@ use Rattle.clap.specs.declared.error.kind.ErrorKind.{ErrorKind}
 use Rattle.clap.specs.declared.error.kind.ErrorKind.TheVariants.{OutOfMemory}
 use Rattle.words.specs.declared.Words.{Words}
 use Rattle.words.specs.declared.WordsFault.{WordsFault}
-use Rattle.words.specs.declared.WordsFault.TheVariants.{Refused, TooManyStages}
+use Rattle.words.specs.declared.WordsFault.TheVariants.{Refused, TooManyStages, UsedWithCheck}
 use Rattle.words.specs.declared.WordsError.{WordsError}
 use Rattle.words.specs.declared.WordsError.TheVariants as error
 
@@ -44,7 +44,9 @@ arrowpipe =
     with_rules bare_command
     (text_rule (codes "schema") ∷
     text_rule (codes "batch") ∷
+    text_rule (codes "workers") ∷
     flag_rule (codes "audit") ∷
+    flag_rule (codes "check") ∷
     text_rule (codes "null") ∷
     words_rule (codes "stage") ∷
     [])
@@ -55,7 +57,9 @@ arrowpipe =
 pub record Given : Type 0 where
   pub schema : Option Text
   pub batch : Option Text
+  pub workers : Option Text
   pub audit : Bool
+  pub check : Bool
   pub null : Option Text
   pub stages : List Text
 
@@ -69,7 +73,9 @@ abbrev pub given_in : List Row → Given
 given_in rows = record {
   schema = first_of (codes "schema") rows;
   batch = first_of (codes "batch") rows;
+  workers = first_of (codes "workers") rows;
   audit = flag_in (codes "audit") rows;
+  check = flag_in (codes "check") rows;
   null = first_of (codes "null") rows;
   stages = texts_in (codes "stage") rows;
 }
@@ -97,7 +103,11 @@ pub record Options : Type 0 where
   pub schema : Option Text
   -- how many records a chunk has at most
   pub batch : ℕ
+  -- how many workers share the rows of a chunk
+  pub workers : ℕ
   pub audit : Bool
+  -- a tree is to be checked, and no table is read
+  pub check : Bool
   -- the text of `--null`
   pub null : Option Text
   -- the texts of the stages, in order
@@ -113,32 +123,82 @@ default_batch = 1024
 abbrev pub most_batch : ℕ
 most_batch = 1000000
 
+abbrev pub default_workers : ℕ
+default_workers = 1
+
+abbrev pub most_workers : ℕ
+most_workers = 64
+
 abbrev pub most_stages : ℕ
 most_stages = 16
 
--- the number of `--batch`, where it is one
+-- the number of an option, from 1 to the most, where its text is one; the usual one where the option isn't given
+abbrev pub number_if : ℕ → ℕ → Option Text → Option ℕ
+number_if usual most None = Some usual
+number_if usual most (Some text) = number_between 1 most text
+
+-- the number of `--batch`
 abbrev pub batch_if : Option Text → Option ℕ
-batch_if None = Some default_batch
-batch_if (Some text) = number_between 1 most_batch text
+batch_if text = number_if default_batch most_batch text
 
--- no more stages than may be
+-- the number of `--workers`
+abbrev pub workers_if : Option Text → Option ℕ
+workers_if text = number_if default_workers most_workers text
+
+-- a stage or a schema is asked for
+abbrev pub asks_of_table : Options → Bool
+asks_of_table options = is_some options.schema || nat_lt 0 (length options.stages)
+
+-- a tree is checked without a stage and without a schema
+abbrev pub fits_check : Options → Result Options WordsFault
+fits_check options = if options.check && asks_of_table options then Err UsedWithCheck else Ok options
+
+-- no more stages than may be, which is tried first
 abbrev pub few_stages : Options → Result Options WordsFault
-few_stages options = if nat_lt most_stages (length options.stages) then Err TooManyStages else Ok options
+few_stages options = if nat_lt most_stages (length options.stages) then Err TooManyStages else fits_check options
 
-abbrev pub with_batch : Given → Option ℕ → Result Options WordsFault
-with_batch given None = Err Refused
-with_batch given (Some batch) =
-    few_stages (record { schema = given.schema; batch = batch; audit = given.audit; null = given.null; stages = given.stages })
+-- the rules on what stands beside the stages: refused options meet none
+abbrev pub ruled : Option Options → Result Options WordsFault
+ruled None = Err Refused
+ruled (Some options) = few_stages options
 
--- the options, or why there are none: a number that is none is refused before stages are counted
-abbrev pub options_if : Given → Result Options WordsFault
-options_if given = with_batch given (batch_if given.batch)
+-- what is given, with the two numbers
+abbrev pub options_with : Given → ℕ → ℕ → Options
+options_with given batch workers = record {
+  schema = given.schema;
+  batch = batch;
+  workers = workers;
+  audit = given.audit;
+  check = given.check;
+  null = given.null;
+  stages = given.stages;
+}
+
+abbrev pub with_numbers : Given → Option ℕ → Option ℕ → Option Options
+with_numbers given None workers = None
+with_numbers given (Some batch) None = None
+with_numbers given (Some batch) (Some workers) = Some (options_with given batch workers)
+
+-- the options, where each number is one
+abbrev pub options_if : Given → Option Options
+options_if given = with_numbers given (batch_if given.batch) (workers_if given.workers)
 
 -- ---- the words
 
--- what the matches that clap promises ask for, where it takes the words
-unfoldable pub words_of : List Text → Result Options WordsFault
-words_of words = if takes arrowpipe words then options_if (given_in (matches_of arrowpipe words)) else Err Refused
+-- what the matches that clap promises ask for, where it takes the words and each number is one
+unfoldable pub taken_of : List Text → Option Options
+taken_of words = if takes arrowpipe words then options_if (given_in (matches_of arrowpipe words)) else None
+
+-- what the words mean: a number that is none is refused before stages are counted
+abbrev pub words_of : List Text → Result Options WordsFault
+words_of words = ruled (taken_of words)
+
+abbrev pub asks_audit : Option Options → Bool
+asks_audit taken = option_map_or (λ o. o.audit) taken false
+
+-- whether the audit is asked for: refused words alone can't ask for it
+abbrev pub audit_of : List Text → Bool
+audit_of words = asks_audit (taken_of words)
 
 -- ---- the program's values
 
@@ -146,20 +206,22 @@ abbrev pub options_of : Words → Options
 options_of w = record {
   schema = option_map (λ s. s.now) w.schema;
   batch = w.batch;
+  workers = w.workers;
   audit = w.audit;
+  check = w.check;
   null = option_map (λ s. s.now) w.null;
   stages = map (λ s. s.now) w.stages.items;
 }
 
--- the error is the fault, or memory ran out
-abbrev pub Explains : Result Options WordsFault → WordsError → Type 0
-Explains meaning error.NoMemory = ⊤
-Explains meaning (error.Words fault) = meaning ≡ Err fault
+-- the error is the fault, and tells whether the audit is asked for; or memory ran out
+abbrev pub Explains : Option Options → WordsError → Type 0
+Explains taken error.NoMemory = ⊤
+Explains taken (error.Words fault audit) = (ruled taken ≡ Err fault) × (audit ≡ asks_audit taken)
 
 -- what stands for an error of clap: want of memory alone is no fault of the words
 abbrev pub ErrorOf : ErrorKind → WordsError → Type 0
 ErrorOf kind error.NoMemory = kind ≡ OutOfMemory
-ErrorOf kind (error.Words fault) = (kind ≢ OutOfMemory) × (fault ≡ Refused)
+ErrorOf kind (error.Words fault audit) = (kind ≢ OutOfMemory) × (fault ≡ Refused) × (audit ≡ false)
 
 -- the texts of the words
 abbrev pub texts_of : List (String Global) → List Text

@@ -1,17 +1,21 @@
-//! The words of the command line: `arrowpipe [--schema TEXT] [--batch N] [--audit] [--null MARK] [STAGE ...]`.
+//! The words of the command line:
+//! `arrowpipe [--schema TEXT] [--batch N] [--workers W] [--audit] [--check] [--null MARK] [STAGE ...]`.
 //!
 //! The command is a simple one of `clap`, without help and version flags, and its words are those after the program's
 //! name. This crate owns what the words mean: the options that `clap` promises for them and the words that stand alone,
 //! which are the stages' texts, in order. Words are refused where `clap` doesn't take them, and then where `--batch`
-//! isn't decimal digits, without sign or leading zero, of a number from 1 to 1,000,000; more than 16 stages are a fault
-//! of their own. What the text of a schema or of a stage means is left to the crates above. Words are strings, so one
-//! that isn't UTF-8 never comes here.
+//! isn't decimal digits, without sign or leading zero, of a number from 1 to 1,000,000, or `--workers` of one from 1 to 64;
+//! more than 16 stages are a fault of their own, and so is `--check` beside a stage or `--schema`. What the text of a schema
+//! or of a stage means is left to the crates above. Words are strings, so one that isn't UTF-8 never comes here.
 #![tactic(auto)]
 
-ghost use Rattle.std.specs.Prelude.{◌≡◌, ◌≤◌, false, length, map, option_map, Ok, IfOk, IfErr, IfSome};
+ghost use Rattle.std.specs.Prelude.{◌≡◌, ◌≤◌, false, length, map, option_map, Some, Ok, IfOk, IfErr, IfSome};
 ghost use Rattle.clap.specs.Words.{rule_of, app_of, found_of, rows_of};
-ghost use Rattle.words.specs.Words.{bare_command, flag_rule, text_rule, words_rule, ErrorOf, Explains, arrowpipe, batch_if, flag_in, given_in};
-ghost use Rattle.words.specs.Words.{begins_number, number_between, options_if, options_of, texts_in, texts_of, words_of};
+ghost use Rattle.words.specs.Words.{bare_command, flag_rule, text_rule, words_rule, ErrorOf, Explains, arrowpipe, flag_in, given_in};
+ghost use Rattle.words.specs.Words.{begins_number, asks_of_table, number_between, number_if, options_if, options_of, ruled, taken_of, texts_in, texts_of};
+ghost use Rattle.words.specs.Words.{words_of};
+ghost use Rattle.words.specs.declared.WordsError.TheVariants as error;
+ghost use Rattle.words.specs.declared.WordsFault.TheVariants.{Refused};
 
 use clap::error::ErrorKind;
 use clap::{Arg, ArgAction, ArgMatches, Command};
@@ -24,6 +28,12 @@ const DEFAULT_BATCH: u32 = 1024;
 /// The largest number of `--batch`.
 const MOST_BATCH: u32 = 1_000_000;
 
+/// How many workers there are where `--workers` isn't given.
+const DEFAULT_WORKERS: u32 = 1;
+
+/// The largest number of `--workers`.
+const MOST_WORKERS: u32 = 64;
+
 /// The most words that may stand alone.
 const MOST_STAGES: usize = 16;
 
@@ -34,8 +44,12 @@ pub struct Words<'a> {
     pub schema: Option<&'a str>,
     /// The number of `--batch`, how many records a chunk has at most: 1 to 1,000,000, and 1024 without it.
     pub batch: u32,
+    /// The number of `--workers`, how many workers share the rows of a chunk: 1 to 64, and 1 without it.
+    pub workers: u32,
     /// Whether `--audit` was given.
     pub audit: bool,
+    /// Whether `--check` was given: a tree is to be checked. There is then no stage and no schema.
+    pub check: bool,
     /// The text of `--null`, which may be empty.
     pub null: Option<&'a str>,
     /// The words that stand alone, each a text as it stands, in order: at most 16.
@@ -46,16 +60,19 @@ pub struct Words<'a> {
 #[derive(Clone, Copy, Debug, PartialEq, Eq)]
 pub enum WordsFault {
     /// `clap` doesn't take them: an unknown option, an option twice, or one without its text. Or the text of `--batch`
-    /// is no number that may be.
+    /// or of `--workers` is no number that may be.
     Refused,
     /// More than 16 words stand alone.
     TooManyStages,
+    /// `--check` stands with a stage or with `--schema`, and there are no more than 16 stages.
+    UsedWithCheck,
 }
 
 /// Why there are no options.
 #[derive(Clone, Copy, Debug, PartialEq, Eq)]
 pub enum WordsError {
-    Words(WordsFault),
+    /// The words have this fault. `audit` tells whether `--audit` was given, but for [`WordsFault::Refused`], where it is false.
+    Words { fault: WordsFault, audit: bool },
     NoMemory,
 }
 
@@ -69,6 +86,9 @@ impl fmt::Display for WordsFault {
         match self {
             WordsFault::Refused => f.write_str("words refused"),
             WordsFault::TooManyStages => f.write_str("words: more than 16 stages"),
+            WordsFault::UsedWithCheck => {
+                f.write_str("words: --check takes no stage and no --schema")
+            }
         }
     }
 }
@@ -83,7 +103,7 @@ impl fmt::Display for WordsError {
 
     fn fmt<W: fmt::Write>(&self, f: &mut fmt::Formatter<W>) -> fmt::Result {
         match self {
-            WordsError::Words(fault) => write!(f, "{fault}"),
+            WordsError::Words { fault, audit: _ } => write!(f, "{fault}"),
             WordsError::NoMemory => f.write_str("out of memory"),
         }
     }
@@ -96,8 +116,10 @@ impl std::error::Error for WordsError {}
 /// stage. Behind `--` each word is a stage, whatever it begins with.
 pub fn read_words<'a>(alloc: Global, words: &'a [String]) -> Result<Words<'a>, WordsError>
     ensures taken { IfOk result (λ w. words_of (texts_of words.now) ≡ Ok (options_of w)) }
-    ensures refused { IfErr result (Explains (words_of (texts_of words.now))) }
+    ensures asked { IfOk result (λ w. taken_of (texts_of words.now) ≡ Some (options_of w)) }
+    ensures refused { IfErr result (Explains (taken_of (texts_of words.now))) }
     ensures batch { IfOk result (λ w. (1 ≤ w.batch) × (w.batch ≤ 1000000)) }
+    ensures workers { IfOk result (λ w. (1 ≤ w.workers) × (w.workers ≤ 64)) }
     ensures few { IfOk result (λ w. length w.stages.items ≤ 16) }
 {
     let command = match command(alloc) {
@@ -117,13 +139,17 @@ fn command<'a>(alloc: Global) -> Result<Command<'a>, AllocError>
     let bare = bare_command(alloc);
     let schema = text_option(alloc, "schema");
     let batch = text_option(alloc, "batch");
+    let workers = text_option(alloc, "workers");
     let audit = flag_option(alloc, "audit");
+    let check = flag_option(alloc, "check");
     let null = text_option(alloc, "null");
     let stage = lone_words(alloc, "stage");
     let command = bare
         .arg(schema)?
         .arg(batch)?
+        .arg(workers)?
         .arg(audit)?
+        .arg(check)?
         .arg(null)?
         .arg(stage)?;
     Ok(command)
@@ -168,43 +194,93 @@ fn error_by(kind: ErrorKind) -> WordsError
 {
     match kind {
         ErrorKind::OutOfMemory => WordsError::NoMemory,
-        _ => WordsError::Words(WordsFault::Refused),
+        _ => refused(),
+    }
+}
+
+/// The words are refused.
+fn refused() -> WordsError
+    ensures { result ≡ error.Words Refused false }
+{
+    WordsError::Words {
+        fault: WordsFault::Refused,
+        audit: false,
     }
 }
 
 /// What the matches ask for.
 fn options<'a>(alloc: Global, matches: &ArgMatches<'a>) -> Result<Words<'a>, WordsError>
-    ensures taken { IfOk result (λ w. options_if (given_in (rows_of (found_of matches.now))) ≡ Ok (options_of w)) }
+    ensures taken { IfOk result (λ w. ruled (options_if (given_in (rows_of (found_of matches.now)))) ≡ Ok (options_of w)) }
+    ensures asked { IfOk result (λ w. options_if (given_in (rows_of (found_of matches.now))) ≡ Some (options_of w)) }
     ensures refused { IfErr result (Explains (options_if (given_in (rows_of (found_of matches.now))))) }
     ensures batch { IfOk result (λ w. (1 ≤ w.batch) × (w.batch ≤ 1000000)) }
+    ensures workers { IfOk result (λ w. (1 ≤ w.workers) × (w.workers ≤ 64)) }
     ensures few { IfOk result (λ w. length w.stages.items ≤ 16) }
 {
-    let Some(batch) = batch(matches.get_str("batch")) else {
-        return Err(WordsError::Words(WordsFault::Refused));
+    let Some(batch) = number_given(matches.get_str("batch"), DEFAULT_BATCH, MOST_BATCH) else {
+        return Err(refused());
+    };
+    let Some(workers) = number_given(matches.get_str("workers"), DEFAULT_WORKERS, MOST_WORKERS)
+    else {
+        return Err(refused());
     };
     let stages = match lone_texts(alloc, matches, "stage") {
         Ok(stages) => stages,
         Err(_) => return Err(WordsError::NoMemory),
     };
-    if stages.len() > MOST_STAGES {
-        return Err(WordsError::Words(WordsFault::TooManyStages));
-    }
-    Ok(Words {
+    fitting(Words {
         schema: matches.get_str("schema"),
         batch,
+        workers,
         audit: flag(matches, "audit"),
+        check: flag(matches, "check"),
         null: matches.get_str("null"),
         stages,
     })
 }
 
-/// The number that the text of `--batch` spells, where it is one that may be.
-fn batch(text: Option<&str>) -> Option<u32>
-    ensures { result ≡ batch_if (option_map (λ s. s.now) text.entry) }
+/// The options, where there are no more stages than may be, and no stage and no schema where a tree is checked.
+fn fitting<'a>(words: Words<'a>) -> Result<Words<'a>, WordsError>
+    ensures taken { IfOk result (λ w. ruled (Some (options_of words.entry)) ≡ Ok (options_of w)) }
+    ensures asked { IfOk result (λ w. Some (options_of words.entry) ≡ Some (options_of w)) }
+    ensures refused { IfErr result (Explains (Some (options_of words.entry))) }
+    ensures batch { IfOk result (λ w. w.batch ≡ words.entry.batch) }
+    ensures workers { IfOk result (λ w. w.workers ≡ words.entry.workers) }
+    ensures few { IfOk result (λ w. length w.stages.items ≤ 16) }
+{
+    if words.stages.len() > MOST_STAGES {
+        return Err(ruled_out(WordsFault::TooManyStages, &words));
+    }
+    if words.check && asks_of_table(&words) {
+        return Err(ruled_out(WordsFault::UsedWithCheck, &words));
+    }
+    Ok(words)
+}
+
+/// A fault of words that may ask for the audit.
+fn ruled_out(fault: WordsFault, words: &Words<'_>) -> WordsError
+    ensures { result ≡ error.Words fault words.now.audit }
+{
+    WordsError::Words {
+        fault,
+        audit: words.audit,
+    }
+}
+
+/// Whether a stage or a schema is asked for.
+fn asks_of_table(words: &Words<'_>) -> bool
+    ensures { result ≡ asks_of_table (options_of words.now) }
+{
+    words.schema.is_some() || words.stages.len() > 0
+}
+
+/// The number that the text of an option spells, where it is one from 1 to the most; the usual one without a text.
+fn number_given(text: Option<&str>, usual: u32, most: u32) -> Option<u32>
+    ensures { result ≡ number_if usual most (option_map (λ s. s.now) text.entry) }
 {
     match text {
-        Some(text) => number(text, 1, MOST_BATCH),
-        None => Some(DEFAULT_BATCH),
+        Some(text) => number(text, 1, most),
+        None => Some(usual),
     }
 }
 

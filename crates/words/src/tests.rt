@@ -3,85 +3,169 @@ use crate::{WordsError, WordsFault, read_words};
 use std::test::Fail;
 
 /// The words, apart by blanks, and what they are read as.
-static CASES: [(&str, &str); 30] = [
+static CASES: [(&str, &str); 48] = [
     (
         "--schema a:l --audit",
-        "Ok(Words { schema: Some(\"a:l\"), batch: 1024, audit: true, null: None, stages: [] })",
+        "Ok(Words { schema: Some(\"a:l\"), batch: 1024, workers: 1, audit: true, check: false, null: None, stages: [] })",
     ),
     (
         "--",
-        "Ok(Words { schema: None, batch: 1024, audit: false, null: None, stages: [] })",
+        "Ok(Words { schema: None, batch: 1024, workers: 1, audit: false, check: false, null: None, stages: [] })",
     ),
     (
         "--schema=-a:u",
-        "Ok(Words { schema: Some(\"-a:u\"), batch: 1024, audit: false, null: None, stages: [] })",
+        "Ok(Words { schema: Some(\"-a:u\"), batch: 1024, workers: 1, audit: false, check: false, null: None, stages: [] })",
     ),
     (
         "--schema=",
-        "Ok(Words { schema: Some(\"\"), batch: 1024, audit: false, null: None, stages: [] })",
+        "Ok(Words { schema: Some(\"\"), batch: 1024, workers: 1, audit: false, check: false, null: None, stages: [] })",
     ),
     (
         "--null NA --audit",
-        "Ok(Words { schema: None, batch: 1024, audit: true, null: Some(\"NA\"), stages: [] })",
+        "Ok(Words { schema: None, batch: 1024, workers: 1, audit: true, check: false, null: Some(\"NA\"), stages: [] })",
     ),
     (
         "",
-        "Ok(Words { schema: None, batch: 1024, audit: false, null: None, stages: [\"\"] })",
+        "Ok(Words { schema: None, batch: 1024, workers: 1, audit: false, check: false, null: None, stages: [\"\"] })",
     ),
-    ("--null a --null b", "Err(Words(Refused))"),
-    ("--schema -a:u", "Err(Words(Refused))"),
-    ("--schema a:u --schema a:u", "Err(Words(Refused))"),
-    ("--help", "Err(Words(Refused))"),
+    (
+        "--null a --null b",
+        "Err(Words { fault: Refused, audit: false })",
+    ),
+    (
+        "--schema -a:u",
+        "Err(Words { fault: Refused, audit: false })",
+    ),
+    (
+        "--schema a:u --schema a:u",
+        "Err(Words { fault: Refused, audit: false })",
+    ),
+    ("--help", "Err(Words { fault: Refused, audit: false })"),
     (
         "--batch 1",
-        "Ok(Words { schema: None, batch: 1, audit: false, null: None, stages: [] })",
+        "Ok(Words { schema: None, batch: 1, workers: 1, audit: false, check: false, null: None, stages: [] })",
     ),
     (
         "--batch=1000000",
-        "Ok(Words { schema: None, batch: 1000000, audit: false, null: None, stages: [] })",
+        "Ok(Words { schema: None, batch: 1000000, workers: 1, audit: false, check: false, null: None, stages: [] })",
     ),
-    ("--batch 0", "Err(Words(Refused))"),
-    ("--batch 1000001", "Err(Words(Refused))"),
-    ("--batch 4294967297", "Err(Words(Refused))"),
-    ("--batch 01", "Err(Words(Refused))"),
-    ("--batch +1", "Err(Words(Refused))"),
-    ("--batch -1", "Err(Words(Refused))"),
-    ("--batch=-1", "Err(Words(Refused))"),
-    ("--batch 1x", "Err(Words(Refused))"),
-    ("--batch=", "Err(Words(Refused))"),
-    ("--batch 1 --batch 1", "Err(Words(Refused))"),
+    ("--batch 0", "Err(Words { fault: Refused, audit: false })"),
+    (
+        "--batch 1000001",
+        "Err(Words { fault: Refused, audit: false })",
+    ),
+    (
+        "--batch 4294967297",
+        "Err(Words { fault: Refused, audit: false })",
+    ),
+    ("--batch 01", "Err(Words { fault: Refused, audit: false })"),
+    ("--batch +1", "Err(Words { fault: Refused, audit: false })"),
+    ("--batch -1", "Err(Words { fault: Refused, audit: false })"),
+    ("--batch=-1", "Err(Words { fault: Refused, audit: false })"),
+    ("--batch 1x", "Err(Words { fault: Refused, audit: false })"),
+    ("--batch=", "Err(Words { fault: Refused, audit: false })"),
+    (
+        "--batch 1 --batch 1",
+        "Err(Words { fault: Refused, audit: false })",
+    ),
     (
         "select=a",
-        "Ok(Words { schema: None, batch: 1024, audit: false, null: None, stages: [\"select=a\"] })",
+        "Ok(Words { schema: None, batch: 1024, workers: 1, audit: false, check: false, null: None, stages: [\"select=a\"] })",
     ),
     (
         "drop=a slice=1,2 drop=a",
-        "Ok(Words { schema: None, batch: 1024, audit: false, null: None, stages: [\"drop=a\", \"slice=1,2\", \"drop=a\"] })",
+        "Ok(Words { schema: None, batch: 1024, workers: 1, audit: false, check: false, null: None, stages: [\"drop=a\", \"slice=1,2\", \"drop=a\"] })",
     ),
     (
         "a --audit b --batch 7 c",
-        "Ok(Words { schema: None, batch: 7, audit: true, null: None, stages: [\"a\", \"b\", \"c\"] })",
+        "Ok(Words { schema: None, batch: 7, workers: 1, audit: true, check: false, null: None, stages: [\"a\", \"b\", \"c\"] })",
     ),
     (
         "-- --audit",
-        "Ok(Words { schema: None, batch: 1024, audit: false, null: None, stages: [\"--audit\"] })",
+        "Ok(Words { schema: None, batch: 1024, workers: 1, audit: false, check: false, null: None, stages: [\"--audit\"] })",
     ),
     (
         "a -- b --",
-        "Ok(Words { schema: None, batch: 1024, audit: false, null: None, stages: [\"a\", \"b\", \"--\"] })",
+        "Ok(Words { schema: None, batch: 1024, workers: 1, audit: false, check: false, null: None, stages: [\"a\", \"b\", \"--\"] })",
     ),
     (
         "a b c d e f g h i j k l m n o p",
-        "Ok(Words { schema: None, batch: 1024, audit: false, null: None, \
+        "Ok(Words { schema: None, batch: 1024, workers: 1, audit: false, check: false, null: None, \
          stages: [\"a\", \"b\", \"c\", \"d\", \"e\", \"f\", \"g\", \"h\", \"i\", \"j\", \"k\", \"l\", \"m\", \"n\", \"o\", \"p\"] })",
     ),
     (
         "a b c d e f g h i j k l m n o p q",
-        "Err(Words(TooManyStages))",
+        "Err(Words { fault: TooManyStages, audit: false })",
+    ),
+    (
+        "a b c d e f g h i j k l m n o p q --audit",
+        "Err(Words { fault: TooManyStages, audit: true })",
+    ),
+    (
+        "--check --audit dict=a",
+        "Err(Words { fault: UsedWithCheck, audit: true })",
     ),
     (
         "a b c d e f g h i j k l m n o p q --batch 0",
-        "Err(Words(Refused))",
+        "Err(Words { fault: Refused, audit: false })",
+    ),
+    (
+        "--workers 4",
+        "Ok(Words { schema: None, batch: 1024, workers: 4, audit: false, check: false, null: None, stages: [] })",
+    ),
+    (
+        "--workers=64 select=a",
+        "Ok(Words { schema: None, batch: 1024, workers: 64, audit: false, check: false, null: None, stages: [\"select=a\"] })",
+    ),
+    ("--workers 0", "Err(Words { fault: Refused, audit: false })"),
+    (
+        "--workers 65",
+        "Err(Words { fault: Refused, audit: false })",
+    ),
+    (
+        "--workers 04",
+        "Err(Words { fault: Refused, audit: false })",
+    ),
+    (
+        "--workers +4",
+        "Err(Words { fault: Refused, audit: false })",
+    ),
+    ("--workers=", "Err(Words { fault: Refused, audit: false })"),
+    (
+        "--workers 1 --workers 1",
+        "Err(Words { fault: Refused, audit: false })",
+    ),
+    (
+        "--check",
+        "Ok(Words { schema: None, batch: 1024, workers: 1, audit: false, check: true, null: None, stages: [] })",
+    ),
+    (
+        "--null NA --check --batch 2 --workers 3 --audit",
+        "Ok(Words { schema: None, batch: 2, workers: 3, audit: true, check: true, null: Some(\"NA\"), stages: [] })",
+    ),
+    (
+        "--check --check",
+        "Err(Words { fault: Refused, audit: false })",
+    ),
+    (
+        "--check dict=a",
+        "Err(Words { fault: UsedWithCheck, audit: false })",
+    ),
+    (
+        "dict=a --check",
+        "Err(Words { fault: UsedWithCheck, audit: false })",
+    ),
+    (
+        "--schema a:l --check",
+        "Err(Words { fault: UsedWithCheck, audit: false })",
+    ),
+    (
+        "--check --schema=",
+        "Err(Words { fault: UsedWithCheck, audit: false })",
+    ),
+    (
+        "--check a b c d e f g h i j k l m n o p q",
+        "Err(Words { fault: TooManyStages, audit: false })",
     ),
 ];
 
@@ -101,11 +185,27 @@ fn words_are_taken_or_refused(rt: HostRuntime) -> Result<(), Fail> {
 }
 
 /// A fault, and its text.
-static TEXTS: [(WordsError, &str); 3] = [
-    (WordsError::Words(WordsFault::Refused), "words refused"),
+static TEXTS: [(WordsError, &str); 4] = [
     (
-        WordsError::Words(WordsFault::TooManyStages),
+        WordsError::Words {
+            fault: WordsFault::Refused,
+            audit: false,
+        },
+        "words refused",
+    ),
+    (
+        WordsError::Words {
+            fault: WordsFault::TooManyStages,
+            audit: false,
+        },
         "words: more than 16 stages",
+    ),
+    (
+        WordsError::Words {
+            fault: WordsFault::UsedWithCheck,
+            audit: false,
+        },
+        "words: --check takes no stage and no --schema",
     ),
     (WordsError::NoMemory, "out of memory"),
 ];

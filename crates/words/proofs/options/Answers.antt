@@ -1,23 +1,60 @@
-use Rattle.std.proofs.Common.{codes, refl, rules}
+use Rattle.std.proofs.Common.{codes, refl}
 use Rattle.clap.specs.Words.{found_of, rows_of}
-use Rattle.words.proofs.Rows.{batch_is, given_text, no_batch, options_are, too_many}
+use Rattle.words.specs.Words.{default_batch, default_workers, most_batch, most_workers}
+use Rattle.words.proofs.Rows.{given_text, no_batch, no_workers, number_is, options_are, refused-without}
+use Rattle.words.proofs.Taken.{asked_errs, asked_options, asked_ruled}
 use Rattle.words.proofs.options.Goals as goal
 
 pub returns-in_default-clause-refused : goal.returns-in_default-clause-refused
 returns-in_default-clause-refused c =
     let found = found_of c.args.matches.now in
-    no_batch (rows_of found) (batch_is found c.get_str.result c.batch.result _ c.get_str.ensures c.batch.ensures c.in_default.is)
+    refused-without _ c.refused.result c.refused.ensures (no_batch (rows_of found)
+    (number_is default_batch most_batch (codes "batch") found c.get_str.result c.number_given.result _ c.get_str.ensures c.number_given.ensures c.in_default.is))
 
-pub returns-then-len-gt-MOST_STAGES-clause-refused : goal.returns-then-len-gt-MOST_STAGES-clause-refused
-returns-then-len-gt-MOST_STAGES-clause-refused c =
+pub returns-in_default-number_given-clause-refused : goal.returns-in_default-number_given-clause-refused
+returns-in_default-number_given-clause-refused c =
     let found = found_of c.args.matches.now in
-    too_many (rows_of found) c.in-Some.batch c.in-Ok.stages.items
-    (batch_is found c.get_str.result c.batch.result _ c.get_str.ensures c.batch.ensures c.in-Some.is) c.in-Ok.ensures (search rules)
+    refused-without _ c.refused-in_default-number_given.result c.refused-in_default-number_given.ensures
+    (no_workers (rows_of found) c.in-Some.batch
+    (number_is default_batch most_batch (codes "batch") found c.get_str.result c.number_given.result _ c.get_str.ensures c.number_given.ensures c.in-Some.is)
+    (number_is default_workers most_workers (codes "workers") found c.get_str-2.result c.number_given-2.result _ c.get_str-2.ensures c.number_given-2.ensures
+    c.in_default-number_given.is))
 
 pub returns-clause-taken : goal.returns-clause-taken
 returns-clause-taken c =
     let found = found_of c.args.matches.now in
-    options_are (rows_of found) c.in-Some.batch c.in-Ok.stages.items
-    (batch_is found c.get_str.result c.batch.result _ c.get_str.ensures c.batch.ensures c.in-Some.is) c.in-Ok.ensures _ (search rules)
-    (given_text found (codes "schema") c.get_str-2.result c.get_str-2.ensures) refl c.flag.ensures
-    (given_text found (codes "null") c.get_str-3.result c.get_str-3.ensures) refl
+    asked_ruled _ _ c.fitting.result
+    (options_are (rows_of found) c.in-Some.batch
+    (number_is default_batch most_batch (codes "batch") found c.get_str.result c.number_given.result _ c.get_str.ensures c.number_given.ensures c.in-Some.is)
+    c.in-Some-number_given.workers
+    (number_is default_workers most_workers (codes "workers") found c.get_str-2.result c.number_given-2.result _ c.get_str-2.ensures c.number_given-2.ensures
+    c.in-Some-number_given.is)
+    _ (given_text found (codes "schema") c.get_str-3.result c.get_str-3.ensures) refl refl c.flag.ensures c.flag-2.ensures
+    (given_text found (codes "null") c.get_str-4.result c.get_str-4.ensures) c.in-Ok.ensures)
+    c.fitting.ensures.taken
+
+pub returns-clause-asked : goal.returns-clause-asked
+returns-clause-asked c =
+    let found = found_of c.args.matches.now in
+    asked_options _ _ c.fitting.result
+    (options_are (rows_of found) c.in-Some.batch
+    (number_is default_batch most_batch (codes "batch") found c.get_str.result c.number_given.result _ c.get_str.ensures c.number_given.ensures c.in-Some.is)
+    c.in-Some-number_given.workers
+    (number_is default_workers most_workers (codes "workers") found c.get_str-2.result c.number_given-2.result _ c.get_str-2.ensures c.number_given-2.ensures
+    c.in-Some-number_given.is)
+    _ (given_text found (codes "schema") c.get_str-3.result c.get_str-3.ensures) refl refl c.flag.ensures c.flag-2.ensures
+    (given_text found (codes "null") c.get_str-4.result c.get_str-4.ensures) c.in-Ok.ensures)
+    c.fitting.ensures.asked
+
+pub returns-clause-refused : goal.returns-clause-refused
+returns-clause-refused c =
+    let found = found_of c.args.matches.now in
+    asked_errs _ _ c.fitting.result
+    (options_are (rows_of found) c.in-Some.batch
+    (number_is default_batch most_batch (codes "batch") found c.get_str.result c.number_given.result _ c.get_str.ensures c.number_given.ensures c.in-Some.is)
+    c.in-Some-number_given.workers
+    (number_is default_workers most_workers (codes "workers") found c.get_str-2.result c.number_given-2.result _ c.get_str-2.ensures c.number_given-2.ensures
+    c.in-Some-number_given.is)
+    _ (given_text found (codes "schema") c.get_str-3.result c.get_str-3.ensures) refl refl c.flag.ensures c.flag-2.ensures
+    (given_text found (codes "null") c.get_str-4.result c.get_str-4.ensures) c.in-Ok.ensures)
+    c.fitting.ensures.refused

@@ -2,7 +2,7 @@ use Rattle.std.proofs.Common.{subst}
 use Rattle.clap.specs.Words.{app_of}
 use Rattle.clap.specs.declared.error.kind.ErrorKind.{ErrorKind}
 use Rattle.words.specs.Words.{ErrorOf, texts_of}
-use Rattle.words.proofs.Taken.{asked_errs, asked_options, refused_words, taken_words}
+use Rattle.words.proofs.Taken.{asked_errs, asked_options, asked_ruled, refused_words, taken_words}
 use Rattle.words.proofs.read_words.Goals as goal
 
 pub returns-in-Ok-try_get_matches_from : goal.returns-in-Ok-try_get_matches_from
@@ -11,9 +11,11 @@ returns-in-Ok-try_get_matches_from c =
     let taken = taken_words (app_of c.in-Ok.command) (texts_of c.args.words.now) parse.result c.in-Ok-try_get_matches_from.matches c.in-Ok.ensures
     c.in-Ok-try_get_matches_from.is parse.ensures.kinds parse.ensures.matches in
     record {
-      taken = asked_options _ _ c.options.result taken c.options.ensures.taken;
+      taken = asked_ruled _ _ c.options.result taken c.options.ensures.taken;
+      asked = asked_options _ _ c.options.result taken c.options.ensures.asked;
       refused = asked_errs _ _ c.options.result taken c.options.ensures.refused;
       batch = c.options.ensures.batch;
+      workers = c.options.ensures.workers;
       few = c.options.ensures.few;
     }
 
@@ -22,10 +24,12 @@ returns-in-Err-try_get_matches_from c =
     let parse = c.try_get_matches_from in
     record {
       taken = tt;
+      asked = tt;
       refused =
           refused_words (app_of c.in-Ok.command) (texts_of c.args.words.now) parse.result c.in-Err-try_get_matches_from.error c.error_by.result c.in-Ok.ensures
           c.in-Err-try_get_matches_from.is parse.ensures.passes
           (subst (λ (k : ErrorKind). ErrorOf k c.error_by.result) c.kind.ensures c.error_by.ensures);
       batch = tt;
+      workers = tt;
       few = tt;
     }
