@@ -1,0 +1,4 @@
+pub mod Coming
+mod SomeMeta
+mod SomeSchema
+pub mod OneCheck
