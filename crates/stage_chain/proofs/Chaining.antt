@@ -44,20 +44,11 @@ raw_above : (s : Stream) (link : ℕ) → ((later : ℕ) → link ≤ later → 
 raw_above s link none later above =
     elim (eqb_tells link later) [ inl h ↦ absurd (let e : link ≡ later = h.1 in omega (arith, e, above)) | inr h ↦ rw h.0 (none later (omega (arith, above))) ]
 
--- no link from the next one on is below a stage
-pub joints-above : (stage : Stage) (s up node : Stream) (link nodes : ℕ) → IsStarted link nodes s up → node ≡ over_stream stage up
-    → ((later : ℕ) → link ≤ later → s.joints later ≡ []) → (later : ℕ) → link + 1 ≤ later → node.joints later ≡ []
-joints-above stage s up node link nodes raw is none later above = rw (is, raw) (raw_above s link none later above)
-
 -- ---- what is shown
 
 pub joints-last : (stages : List Stage) (s up : Stream) (link nodes : ℕ) → stages ≡ [] → IsStarted link nodes s up
     → up.joints ≡ joints_with link s.joints (chain_links s stages)
 joints-last stages s up link nodes none raw = rw (none, raw) refl
-
-pub joints-step : (stage : Stage) (rest stages : List Stage) (s up node : Stream) (link nodes : ℕ) → stages ≡ stage ∷ rest → IsStarted link nodes s up
-    → node ≡ over_stream stage up → joints_with (link + 1) node.joints (chain_links node rest) ≡ joints_with link s.joints (chain_links s stages)
-joints-step stage rest stages s up node link nodes are raw is = rw (are, is, raw) refl
 
 -- ---- what is counted
 
@@ -73,18 +64,29 @@ counted-last stages s up link nodes a b d none raw schema more same counted =
       nodes = omega (arith, counted.nodes, more, schema, made);
     })
 
-pub counted-step : (stage : Stage) (rest stages : List Stage) (s up node : Stream) (link nodes : ℕ) (a b d : Tally) → stages ≡ stage ∷ rest
-    → IsStarted link nodes s up → node ≡ over_stream stage up
-    → Nodes (SchemaOf s.columns) ≡ table_nodes Made s.columns → b.nodes ≡ risen a.nodes (Nodes (SchemaOf s.columns)) → b.blocks ≡ a.blocks
-    → Counted (chain_traffic node rest) b d → Counted (chain_traffic s stages) a d
-counted-step stage rest stages s up node link nodes a b d are raw is schema more same counted =
-    let over : node ≡ over_stream stage (raw_state link nodes None (telling None s)) = is ∙ ap (over_stream stage) raw in
-    let now : Counted (chain_traffic (over_stream stage (raw_state link nodes None (telling None s))) rest) b d =
-    subst (λ (m : Stream). Counted (chain_traffic m rest) b d) over counted in
-    let chunks = chunks_after stage.step s.ending s.ahead in
-    let behind = links_behind (record { chunks = chunks; ending = s.ending }) rest in
-    let link_of : Link = record { maker = Some stage.step; columns = stage.columns; chunks = chunks } in
-    rw are (record {
-      blocks = omega (arith, now.blocks, same, sum_by-cons link_blocks link_of behind);
-      nodes = omega (arith, now.nodes, more, schema, sum_by-cons link_nodes link_of behind);
-    })
+-- ---- a stage over a stream that is started
+module _ (stage : Stage) (s up node : Stream) (link nodes : ℕ) (raw : IsStarted link nodes s up) (is : node ≡ over_stream stage up) where
+  -- no link from the next one on is below it
+  pub joints-above : ((later : ℕ) → link ≤ later → s.joints later ≡ []) → (later : ℕ) → link + 1 ≤ later → node.joints later ≡ []
+  joints-above none later above = rw (is, raw) (raw_above s link none later above)
+
+  -- what is shown
+  pub joints-step : (rest stages : List Stage) → stages ≡ stage ∷ rest
+      → joints_with (link + 1) node.joints (chain_links node rest) ≡ joints_with link s.joints (chain_links s stages)
+  joints-step rest stages are = rw (are, is, raw) refl
+
+  -- what is counted
+  pub counted-step : (rest stages : List Stage) (a b d : Tally) → stages ≡ stage ∷ rest
+      → Nodes (SchemaOf s.columns) ≡ table_nodes Made s.columns → b.nodes ≡ risen a.nodes (Nodes (SchemaOf s.columns)) → b.blocks ≡ a.blocks
+      → Counted (chain_traffic node rest) b d → Counted (chain_traffic s stages) a d
+  counted-step rest stages a b d are schema more same counted =
+      let over : node ≡ over_stream stage (raw_state link nodes None (telling None s)) = is ∙ ap (over_stream stage) raw in
+      let now : Counted (chain_traffic (over_stream stage (raw_state link nodes None (telling None s))) rest) b d =
+      subst (λ (m : Stream). Counted (chain_traffic m rest) b d) over counted in
+      let chunks = chunks_after stage.step s.ending s.ahead in
+      let behind = links_behind (record { chunks = chunks; ending = s.ending }) rest in
+      let link_of : Link = record { maker = Some stage.step; columns = stage.columns; chunks = chunks } in
+      rw are (record {
+        blocks = omega (arith, now.blocks, same, sum_by-cons link_blocks link_of behind);
+        nodes = omega (arith, now.nodes, more, schema, sum_by-cons link_nodes link_of behind);
+      })

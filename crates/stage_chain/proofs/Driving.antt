@@ -7,7 +7,7 @@ use Rattle.csv_model.specs.Text.{header_text, rows_text, table_text}
 use Rattle.csv_write.specs.CsvTexts.{HasText}
 use Rattle.csv_write.specs.declared.csv_text.CsvText.{CsvText}
 use Rattle.fmt_string.specs.Parts.{joined_rows}
-use Rattle.fmt_string.specs.Table.{Column}
+use Rattle.fmt_string.specs.Table.{Column, Row}
 use Rattle.stage_model.specs.Links.{ChunksGiveTheWhole, Link, Whole, last_columns}
 use Rattle.fmt_string.specs.Table.{Table}
 use Rattle.stage_model.specs.Stages.{table}
@@ -18,6 +18,7 @@ use Rattle.stream_face.specs.Streams.{Stream}
 use Rattle.stage_chain.specs.Chains.{chain_links, chunks_of, joints_with, last_rows, link_shows}
 use Rattle.stage_chain.specs.Runs.{ShowsAll, ShowsSome}
 use Rattle.stage_chain.specs.declared.fault.DriveFault.{DriveFault}
+use Rattle.stage_chain.proofs.Chaining.{IsStarted}
 
 -- ---- what is shown
 
@@ -67,6 +68,17 @@ shows-some s stages left before after same none shows = record {
 }
 
 -- ---- the text
+
+-- a text that gets these rows of these columns
+abbrev GetsRows : Result (Vec ℕ Global) DriveFault → CsvText → List Column → List Row → Type 0
+GetsRows r text columns rows =
+    IfOk r (λ made. (m written : List ℕ) → HasText text m columns written → made.items ≡ written ++ rows_text m columns rows)
+
+-- where no stage is left, the rows of the stream are the last ones
+pub text-last : (r : Result (Vec ℕ Global) DriveFault) (stages : List Stage) (s up : Stream) (link nodes : ℕ) (text : CsvText) → stages ≡ []
+    → IsStarted link nodes s up → GetsRows r text up.columns (joined_rows up.ahead)
+    → GetsRows r text (last_columns s.columns stages) (last_rows s stages)
+text-last r stages s up link nodes text none raw gives = rw none (subst (λ (m : Stream). GetsRows r text m.columns (joined_rows m.ahead)) raw gives)
 
 pub text-is : (r : Result (Vec ℕ Global) DriveFault) (s : Stream) (stages left : List Stage) (text : CsvText) (mark : List ℕ)
     → left ≡ stages → ChunksGiveTheWhole

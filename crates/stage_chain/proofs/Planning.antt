@@ -5,7 +5,6 @@ use Rattle.std.specs.List.{AllByRecursion, list_any}
 use Rattle.field_codec.specs.TextColumns.{HasTexts, HaveTexts}
 use Rattle.fmt_string.specs.ColumnForms.{AreColumnKinds}
 use Rattle.fmt_string.specs.Table.{Column, Kind, Flat, Dict, Columns}
-use Rattle.stage_kernels.specs.Plain.{IsMade}
 use Rattle.stage_model.specs.Links.{last_columns}
 use Rattle.stage_model.specs.Typing.{IsStageOver, RuleTest, Stage, columns_after, first_failing, is_struct, plan_end, plan_from, plan_links, plan_steps}
 use Rattle.stage_model.specs.Typing.{rules_of, stage_over, stage_unless, step_of, with_stage}
@@ -46,23 +45,21 @@ taken-stages number columns text (Err rule) behind stages is e = absurd (cc)
 taken-stages number columns text (Ok stage) (Err fault) stages is e = absurd (cc)
 taken-stages number columns text (Ok stage) (Ok more) stages is e = (stage, more, is, refl, cc)
 
--- stages that typing takes one behind the other, of kinds that there are works for
+-- stages that typing takes one behind the other
 pub are_stages : (number : ℕ) (columns : List Column) (texts : List StageText) (stages : List Stage) → plan_from number columns texts ≡ Ok stages
-    → AllByRecursion IsMade (map (λ (s : Stage). s.step) stages) → AreStages columns stages
-are_stages number columns [] stages e made =
+    → AreStages columns stages
+are_stages number columns [] stages e =
     let end = end-plain number (list_any (λ c. is_struct c.kind) columns) stages e in
     subst (AreStages columns) (sym end.0) end.1
-are_stages number columns (text ∷ texts) stages e made =
+are_stages number columns (text ∷ texts) stages e =
     let taken =
     taken-stages number columns text (stage_over columns text) (plan_from (number + 1) (columns_after columns text) texts) stages refl e in
     let stage = taken.0 in
     let more = taken.1 in
-    let both : AllByRecursion IsMade (stage.step ∷ map (λ (s : Stage). s.step) more) =
-    subst (λ (ss : List Stage). AllByRecursion IsMade (map (λ (s : Stage). s.step) ss)) taken.4 made in
     let behind : plan_from (number + 1) stage.columns texts ≡ Ok more =
     subst (λ cs. plan_from (number + 1) cs texts ≡ Ok more) (after-same columns text stage taken.2) taken.3 in
     subst (AreStages columns) (sym taken.4)
-    ((text, taken.2), both.0, are_stages (number + 1) stage.columns texts more behind both.1)
+    ((text, taken.2), are_stages (number + 1) stage.columns texts more behind)
 
 -- ---- the stages of a plan
 by-parts : (stages : List Stage) → stages_by (map (λ (s : Stage). s.step) stages) (map (λ (s : Stage). s.columns) stages) ≡ stages
@@ -76,11 +73,9 @@ plan-stages-are columns texts plan is =
     ∙ ap (λ links. stages_by (plan_steps is.stages) (drop 1 links)) is.links
     ∙ by-parts is.stages
 
-pub plan-are-stages : (columns : List Column) (texts : List StageText) (plan : Plan) → IsPlan columns texts plan → AllByRecursion IsMade plan.steps.items
-    → AreStages columns (plan_stages plan)
-plan-are-stages columns texts plan is made =
-    subst (AreStages columns) (sym (plan-stages-are columns texts plan is))
-    (are_stages 1 columns texts is.stages is.is (subst (AllByRecursion IsMade) is.steps made))
+pub plan-are-stages : (columns : List Column) (texts : List StageText) (plan : Plan) → IsPlan columns texts plan → AreStages columns (plan_stages plan)
+plan-are-stages columns texts plan is =
+    subst (AreStages columns) (sym (plan-stages-are columns texts plan is)) (are_stages 1 columns texts is.stages is.is)
 
 pub few-stages : (steps : List Step) (links : List (List Column)) → length (stages_by steps links) ≤ length steps
 few-stages [] links = omega arith
@@ -123,8 +118,8 @@ have-texts (c ∷ cs) plain all (suc k) none small =
     (omega (arith, small))
 
 -- the last columns have texts, since none is a struct
-pub last-texts : ((columns : List Column) (stage : Stage) → IsStageOver columns stage → IsMade stage.step → All (λ c. AreColumnKinds c.kind) columns
+pub last-texts : ((columns : List Column) (stage : Stage) → IsStageOver columns stage → All (λ c. AreColumnKinds c.kind) columns
     → All (λ c. AreColumnKinds c.kind) stage.columns) → (columns : List Column) (stages : List Stage) → AreStages columns stages
     → All (λ c. AreColumnKinds c.kind) columns → HaveTexts (last_columns columns stages)
 last-texts keeps columns [] are kinds = have-texts columns are kinds
-last-texts keeps columns (stage ∷ stages) are kinds = last-texts keeps stage.columns stages are.2 (keeps columns stage are.0 are.1 kinds)
+last-texts keeps columns (stage ∷ stages) are kinds = last-texts keeps stage.columns stages are.1 (keeps columns stage are.0 kinds)

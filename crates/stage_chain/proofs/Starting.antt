@@ -9,11 +9,11 @@ use Rattle.fmt_string.specs.ColumnView.{column_of}
 use Rattle.fmt_string.specs.Table.{Column, Row, Kind, Flat, Dict, Columns, Members, no_members, more_members}
 use Rattle.fmt_string.specs.declared.kind.ColumnType.{ColumnType}
 use Rattle.plan_laws.specs.Distinct.{DistinctPicks}
+use Rattle.dict_stage.specs.Fits.{DictFits, PlainFits}
 use Rattle.stage_filter.specs.Filters.{FilterFits}
 use Rattle.stage_kernels.specs.Dues.{due_with}
 use Rattle.stage_kernels.specs.Packs.{PackFits}
 use Rattle.stage_kernels.specs.Picks.{PickFits, picked_rows, with_nodes}
-use Rattle.stage_kernels.specs.Plain.{ArePlain}
 use Rattle.stage_kernels.specs.Unpacks.{UnpackFits}
 use Rattle.stage_kernels.specs.Structs.{column_structs, most_structs}
 use Rattle.stage_model.specs.Stages.{chunks_after}
@@ -43,73 +43,90 @@ kinds-ok (c ∷ cs) all (suc k) none small = kinds-ok cs (λ j d below. all (suc
 
 -- ---- what a work is made for
 
-pub select-fits : (picks items : List ℕ) (out kept : List ColumnType) (before : List Column) (step : Step) → items ≡ picks → kept ≡ out
-    → step ≡ steps.Select picks
-    → DistinctPicks step → FitsColumns (length before) step → HasColumns before step (map column_of out) → PickFits items kept before
-select-fits picks items out kept before step same whole is distinct within after =
-    rw (same, whole) (record {
-      distinct = subst DistinctPicks is distinct;
-      within = subst (FitsColumns (length before)) is within;
-      columns = subst (λ s. HasColumns before s (map column_of out)) is after;
-    })
-
-pub pack-fits : (rest picks stay go : List ℕ) (out kept : List ColumnType) (before : List Column) (step : Step) → stay ≡ rest → go ≡ picks → kept ≡ out
-    → step ≡ steps.Pack rest picks → DistinctPicks step → FitsColumns (length before) step → HasColumns before step (map column_of out)
-    → column_structs before ≤ most_structs → PackFits stay go kept before
-pack-fits rest picks stay go out kept before step same same_picks whole is distinct within after few =
-    let both = subst (FitsColumns (length before)) is within in
-    let made = subst (λ s. HasColumns before s (map column_of out)) is after in
-    rw (same, same_picks, whole) (record {
-      distinct = subst DistinctPicks is distinct;
-      stay = both.0;
-      go = both.1;
-      made = made.0;
-      columns = made.1;
-      few = few;
-    })
-
-pub filter-fits : (column place : ℕ) (test : Test) (constant : Const) (out kept : List ColumnType) (before : List Column) (step : Step) → place ≡ column
-    → kept ≡ out
-    → step ≡ steps.Filter column test constant → FitsColumns (length before) step → HasColumns before step (map column_of out) → ArePlain before
-    → column_structs before ≤ most_structs → FilterFits place kept before
-filter-fits column place test constant out kept before step same whole is within after plain few =
-    rw (same, whole) (record {
-      within = subst (FitsColumns (length before)) is within;
-      columns = (subst (λ s. HasColumns before s (map column_of out)) is after).0;
-      plain = plain;
-      few = few;
-    })
-
-pub unpack-fits : (column place : ℕ) (out kept : List ColumnType) (before : List Column) (step : Step) → place ≡ column → kept ≡ out
-    → step ≡ steps.Unpack column → FitsColumns (length before) step → HasColumns before step (map column_of out)
-    → column_structs before ≤ most_structs → UnpackFits place kept before
-unpack-fits column place out kept before step same whole is within after few =
-    let made = subst (λ s. HasColumns before s (map column_of out)) is after in
-    rw (same, whole) (record {
-      inside = subst (FitsColumns (length before)) is within;
-      fields = made.0;
-      is_struct = made.1;
-      columns = made.2;
-      few_structs = few;
-    })
-
 length-totals : (columns : List Column) → length (flat_map totals_columns columns) ≡ 4 * length columns
 length-totals [] = refl
 length-totals (c ∷ cs) = let e = length-totals cs in let both = length-append (totals_columns c) (flat_map totals_columns cs) in omega (arith, e, both)
 
-pub totals-fits : (picks items : List ℕ) (out kept : List ColumnType) (before : List Column) (step : Step) → items ≡ picks → kept ≡ out
-    → step ≡ steps.Totals picks → FitsColumns (length before) step → HasColumns before step (map column_of out)
-    → length (map column_of out) ≤ 4096 → TotalsFits items kept before
-totals-fits picks items out kept before step same whole is within after few =
-    let made = subst (λ s. HasColumns before s (map column_of out)) is after in
-    let as_many = ap length made.1 in
-    let four = length-totals (picked no_column picks before) in
-    let picked_many = length-map picks (λ p. get_or before p no_column) in
-    rw (same, whole) (record {
-      can = record { within = subst (FitsColumns (length before)) is within; summed = made.0 };
-      columns = made.1;
-      few = omega (arith, few, as_many, four, picked_many);
-    })
+module _ (out kept : List ColumnType) (before : List Column) (step : Step) (whole : kept ≡ out) (within : FitsColumns (length before) step)
+    (after : HasColumns before step (map column_of out)) where
+  pub select-fits : (picks items : List ℕ) → items ≡ picks → step ≡ steps.Select picks → DistinctPicks step → PickFits items kept before
+  select-fits picks items same is distinct =
+      rw (same, whole) (record {
+        distinct = subst DistinctPicks is distinct;
+        within = subst (FitsColumns (length before)) is within;
+        columns = subst (λ s. HasColumns before s (map column_of out)) is after;
+      })
+
+  pub pack-fits : (rest picks stay go : List ℕ) → stay ≡ rest → go ≡ picks → step ≡ steps.Pack rest picks → DistinctPicks step
+      → column_structs before ≤ most_structs → PackFits stay go kept before
+  pack-fits rest picks stay go same same_picks is distinct few =
+      let both = subst (FitsColumns (length before)) is within in
+      let made = subst (λ s. HasColumns before s (map column_of out)) is after in
+      rw (same, same_picks, whole) (record {
+        distinct = subst DistinctPicks is distinct;
+        stay = both.0;
+        go = both.1;
+        made = made.0;
+        columns = made.1;
+        few = few;
+      })
+
+  pub filter-fits : (column place : ℕ) (test : Test) (constant : Const) → place ≡ column → step ≡ steps.Filter column test constant
+      → column_structs before ≤ most_structs → FilterFits place kept before
+  filter-fits column place test constant same is few =
+      rw (same, whole) (record {
+        within = subst (FitsColumns (length before)) is within;
+        columns = (subst (λ s. HasColumns before s (map column_of out)) is after).0;
+        few = few;
+      })
+
+  pub unpack-fits : (column place : ℕ) → place ≡ column → step ≡ steps.Unpack column → column_structs before ≤ most_structs
+      → UnpackFits place kept before
+  unpack-fits column place same is few =
+      let made = subst (λ s. HasColumns before s (map column_of out)) is after in
+      rw (same, whole) (record {
+        inside = subst (FitsColumns (length before)) is within;
+        fields = made.0;
+        is_struct = made.1;
+        columns = made.2;
+        few_structs = few;
+      })
+
+  pub dict-fits : (column place : ℕ) → place ≡ column → step ≡ steps.Dict column → column_structs before ≤ most_structs → DictFits place kept before
+  dict-fits column place same is few =
+      let made = subst (λ s. HasColumns before s (map column_of out)) is after in
+      rw (same, whole) (record {
+        within = subst (FitsColumns (length before)) is within;
+        type = made.0;
+        is_plain = made.1;
+        has_bytes = made.2;
+        columns = made.3;
+        few_structs = few;
+      })
+
+  pub plain-fits : (column place : ℕ) → place ≡ column → step ≡ steps.Plain column → column_structs before ≤ most_structs → PlainFits place kept before
+  plain-fits column place same is few =
+      let made = subst (λ s. HasColumns before s (map column_of out)) is after in
+      rw (same, whole) (record {
+        within = subst (FitsColumns (length before)) is within;
+        type = made.0;
+        is_dict = made.1;
+        columns = made.2;
+        few_structs = few;
+      })
+
+  pub totals-fits : (picks items : List ℕ) → items ≡ picks → step ≡ steps.Totals picks → length (map column_of out) ≤ 4096
+      → TotalsFits items kept before
+  totals-fits picks items same is few =
+      let made = subst (λ s. HasColumns before s (map column_of out)) is after in
+      let as_many = ap length made.1 in
+      let four = length-totals (picked no_column picks before) in
+      let picked_many = length-map picks (λ p. get_or before p no_column) in
+      rw (same, whole) (record {
+        can = record { within = subst (FitsColumns (length before)) is within; summed = made.0 };
+        columns = made.1;
+        few = omega (arith, few, as_many, four, picked_many);
+      })
 
 -- ---- what it counts
 

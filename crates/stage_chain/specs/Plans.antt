@@ -7,7 +7,6 @@ use Rattle.std.specs.Global.{Global}
 use Rattle.fmt_string.specs.ColumnView.{column_of}
 use Rattle.fmt_string.specs.Table.{Column}
 use Rattle.fmt_string.specs.declared.kind.ColumnType.{ColumnType}
-use Rattle.stage_kernels.specs.Plain.{IsMade}
 use Rattle.stage_model.specs.Typing.{IsStageOver, Stage, is_struct}
 use Rattle.stage_model.specs.declared.stage.Step.{Step}
 use Rattle.stage_plan.specs.PlanWords.{columns_in}
@@ -29,7 +28,7 @@ stages_left planned = stages_in (into_iter_items planned)
 -- a struct
 abbrev pub AreStages : List Column → List Stage → Type 0
 AreStages columns [] = list_any (λ c. is_struct c.kind) columns ≡ false
-AreStages columns (stage ∷ stages) = IsStageOver columns stage × IsMade stage.step × AreStages stage.columns stages
+AreStages columns (stage ∷ stages) = IsStageOver columns stage × AreStages stage.columns stages
 
 -- steps with the columns after them
 abbrev pub stages_by : List Step → List (List Column) → List Stage

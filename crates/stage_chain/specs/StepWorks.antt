@@ -2,6 +2,7 @@
 use Rattle.std.specs.Prelude.{List, length, map}
 use Rattle.fmt_string.specs.ColumnView.{column_of}
 use Rattle.fmt_string.specs.Table.{Column, Row}
+use Rattle.dict_stage.specs.Fits.{DictFits, PlainFits}
 use Rattle.stage_filter.specs.Filters.{FilterFits}
 use Rattle.stage_kernels.specs.Dues.{due_with}
 use Rattle.stage_kernels.specs.Packs.{PackFits}
@@ -22,6 +23,8 @@ work_fits (works.Slice w) before = SliceFits w.out before
 work_fits (works.Filter w) before = FilterFits w.column w.out before
 work_fits (works.Pack w) before = PackFits w.rest.items w.picks.items w.out before
 work_fits (works.Unpack w) before = UnpackFits w.place w.out before
+work_fits (works.Dict w) before = DictFits w.column w.out before
+work_fits (works.Plain w) before = PlainFits w.column w.out before
 work_fits (works.Totals w) before = TotalsFits w.picks.items w.out before
 
 -- the columns after it
@@ -31,6 +34,8 @@ work_columns (works.Slice w) before = map column_of w.out
 work_columns (works.Filter w) before = map column_of w.out
 work_columns (works.Pack w) before = map column_of w.out
 work_columns (works.Unpack w) before = map column_of w.out
+work_columns (works.Dict w) before = map column_of w.out
+work_columns (works.Plain w) before = map column_of w.out
 work_columns (works.Totals w) before = map column_of w.out
 
 -- the tables that it still gives
@@ -40,6 +45,8 @@ work_ahead (works.Slice w) up = chunks_after (steps.Slice w.skip w.keep) up.endi
 work_ahead (works.Filter w) up = chunks_after (steps.Filter w.column w.test w.constant) up.ending up.ahead
 work_ahead (works.Pack w) up = chunks_after (steps.Pack w.rest.items w.picks.items) up.ending up.ahead
 work_ahead (works.Unpack w) up = chunks_after (steps.Unpack w.place) up.ending up.ahead
+work_ahead (works.Dict w) up = chunks_after (steps.Dict w.column) up.ending up.ahead
+work_ahead (works.Plain w) up = chunks_after (steps.Plain w.column) up.ending up.ahead
 work_ahead (works.Totals w) up = totals_ahead w.picks.items w.given up.ending up.ahead
 
 -- the blocks and nodes that its calls still count
@@ -54,6 +61,12 @@ work_due (works.Pack w) up =
     due_with step (map column_of w.out) (chunks_after step up.ending up.ahead) up.due
 work_due (works.Unpack w) up =
     let step = steps.Unpack w.place in
+    due_with step (map column_of w.out) (chunks_after step up.ending up.ahead) up.due
+work_due (works.Dict w) up =
+    let step = steps.Dict w.column in
+    due_with step (map column_of w.out) (chunks_after step up.ending up.ahead) up.due
+work_due (works.Plain w) up =
+    let step = steps.Plain w.column in
     due_with step (map column_of w.out) (chunks_after step up.ending up.ahead) up.due
 work_due (works.Totals w) up =
     due_with (steps.Totals w.picks.items) (map column_of w.out) (totals_ahead w.picks.items w.given up.ending up.ahead) up.due

@@ -7,7 +7,6 @@ ghost use Rattle.csv_write.specs.CsvTexts.{HasText};
 ghost use Rattle.fmt_string.specs.ColumnForms.{AreColumnKinds};
 ghost use Rattle.fmt_string.specs.Table.{Column};
 ghost use Rattle.unit_pass.specs.declared.pass.TheConstants.{CHUNK, ROOM, SUPPLY};
-ghost use Rattle.stage_kernels.specs.Plain.{ArePlain};
 ghost use Rattle.stage_kernels.specs.Structs.{column_structs};
 ghost use Rattle.stage_model.specs.Links.{last_columns};
 ghost use Rattle.stream_face.specs.Streams.{Stream, kept};
@@ -44,6 +43,7 @@ pub(crate) trait Chain {
         link: u32,
         stages: IntoIter<PlannedStage>,
         text: CsvText,
+        workers: u32,
         pass: &mut Pass,
         tap: &mut T,
         gate: &(dyn Gate + Sync),
@@ -53,8 +53,8 @@ pub(crate) trait Chain {
         requires lawful { IsTrue (S.state source).lawful }
         requires links { (later : ℕ) → link ≤ later → (S.state source).joints later ≡ [] }
         requires stages { AreStages (S.state source).columns (stages_left stages) }
-        requires plain { ArePlain (S.state source).columns }
         requires structs { column_structs (S.state source).columns ≤ link }
+        requires workers { (1 ≤ workers) × (workers ≤ 64) }
         requires numbers { link + length (stages_left stages) ≤ 16 }
         requires few { length (stages_left stages) ≤ LEFT }
         requires room { ROOM + CHUNK * (1 + length (stages_left stages)) ≤ pass.old.units }
@@ -105,6 +105,7 @@ impl Chain for Zero {
         link: u32,
         _stages: IntoIter<PlannedStage>,
         text: CsvText,
+        _workers: u32,
         pass: &mut Pass,
         tap: &mut T,
         gate: &(dyn Gate + Sync),
@@ -129,6 +130,7 @@ impl<N: Chain> Chain for Succ<N> {
         link: u32,
         stages: IntoIter<PlannedStage>,
         text: CsvText,
+        workers: u32,
         pass: &mut Pass,
         tap: &mut T,
         gate: &(dyn Gate + Sync),
@@ -142,8 +144,19 @@ impl<N: Chain> Chain for Succ<N> {
         let mut stages = stages;
         match stages.next() {
             None => write_rows(up, rt, alloc, text, pass, tap, gate),
-            Some(stage) => match Boxed::new(alloc, start_stage(up, stage)) {
-                Ok(above) => N::go(rt, alloc, above, link + 1, stages, text, pass, tap, gate),
+            Some(stage) => match Boxed::new(alloc, start_stage(up, stage, workers)) {
+                Ok(above) => N::go(
+                    rt,
+                    alloc,
+                    above,
+                    link + 1,
+                    stages,
+                    text,
+                    workers,
+                    pass,
+                    tap,
+                    gate,
+                ),
                 Err((above, NoMemory)) => refuse(above, pass),
             },
         }

@@ -1,7 +1,6 @@
 //! The stream of a stage.
 ghost use Rattle.std.specs.Prelude.{◌≡◌, ◌≤◌, All, IsTrue, None};
 ghost use Rattle.fmt_string.specs.ColumnForms.{AreColumnKinds};
-ghost use Rattle.stage_kernels.specs.Plain.{ArePlain, IsMade};
 ghost use Rattle.stage_kernels.specs.Structs.{column_structs, most_structs};
 ghost use Rattle.stage_model.specs.Typing.{IsStageOver};
 ghost use Rattle.stages.specs.Stages.{stage_state};
@@ -15,16 +14,16 @@ use crate::step_work::{StepWork, work_of};
 use stages::{OutColumns, Stage};
 use stream_face::{ArrayStream, RawStream};
 
-/// The stream of a stage over a checked stream. Takes no memory.
+/// The stream of a stage over a checked stream, by so many workers. Takes no memory.
 pub(crate) fn start_stage<U: ArrayStream>(
     up: RawStream<U>,
     stage: PlannedStage,
+    workers: u32,
 ) -> Stage<U, StepWork>
     requires live { IsTrue (meaning U.state up).live }
     requires lawful { IsTrue (meaning U.state up).lawful }
     requires stage { IsStageOver (meaning U.state up).columns (stage_in stage) }
-    requires made { IsMade stage.step }
-    requires plain { ArePlain (meaning U.state up).columns }
+    requires workers { (1 ≤ workers) × (workers ≤ 64) }
     requires structs { column_structs (meaning U.state up).columns ≤ most_structs }
     ensures { stage_state U.state work_columns work_ahead work_due result ≡ over_stream (stage_in stage) (meaning U.state up) }
 {
@@ -33,5 +32,5 @@ pub(crate) fn start_stage<U: ArrayStream>(
     plan_laws::schemas_are_small();
     let PlannedStage { step, columns } = stage;
     let out = OutColumns::new(columns);
-    Stage::start(up, work_of(step, out))
+    Stage::start(up, work_of(step, out, workers))
 }

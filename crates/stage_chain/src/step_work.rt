@@ -3,13 +3,13 @@ ghost use Rattle.std.specs.Prelude.{◌≡◌, ◌≤◌, List, map};
 ghost use Rattle.fmt_string.specs.ColumnView.{column_of};
 ghost use Rattle.fmt_string.specs.Table.{Column};
 ghost use Rattle.stage_kernels.specs.Dues.{due_with};
-ghost use Rattle.stage_kernels.specs.Plain.{ArePlain, IsMade};
 ghost use Rattle.stage_kernels.specs.Structs.{column_structs, most_structs};
 ghost use Rattle.stage_model.specs.Stages.{chunks_after};
 ghost use Rattle.stage_model.specs.Typing.{IsStageOver};
 ghost use Rattle.stream_face.specs.Streams.{Stream};
 ghost use Rattle.stage_chain.specs.StepWorks.{work_ahead, work_columns, work_due, work_fits};
 
+use dict_stage::{DictWork, PlainWork};
 use edge_io::Gate;
 use raw_array::RawArray;
 use raw_schema::RawSchema;
@@ -31,13 +31,15 @@ pub(crate) enum StepWork {
     Filter(FilterWork),
     Pack(PackWork),
     Unpack(UnpackWork),
+    Dict(DictWork),
+    Plain(PlainWork),
     Totals(TotalsWork),
 }
 
-/// The work of a step, whose columns after it these are. Takes no memory.
-pub(crate) fn work_of(step: Step, out: OutColumns) -> StepWork
-    requires made { IsMade step }
-    ensures fits { (before : List Column) → IsStageOver before (record { step = step; columns = map column_of out }) → ArePlain before
+/// The work of a step, whose columns after it these are, by so many workers. Takes no memory.
+pub(crate) fn work_of(step: Step, out: OutColumns, workers: u32) -> StepWork
+    requires workers { (1 ≤ workers) × (workers ≤ 64) }
+    ensures fits { (before : List Column) → IsStageOver before (record { step = step; columns = map column_of out })
         → column_structs before ≤ most_structs → work_fits result before }
     ensures columns { (before : List Column) → IsStageOver before (record { step = step; columns = map column_of out })
         → work_columns result before ≡ map column_of out }
@@ -54,13 +56,16 @@ pub(crate) fn work_of(step: Step, out: OutColumns) -> StepWork
             column,
             test,
             constant,
-        } => StepWork::Filter(FilterWork::new(column, test, constant, out)),
+        } => StepWork::Filter(FilterWork::new(column, test, constant, out, workers)),
         Step::Pack { rest, picks } => {
             StepWork::Pack(PackWork::new(rest.into_vec(), picks.into_vec(), out))
         }
         Step::Unpack { column } => StepWork::Unpack(UnpackWork::new(column, out)),
-        Step::Totals { columns } => StepWork::Totals(TotalsWork::new(columns.into_vec(), out)),
-        Step::Dict { .. } | Step::Plain { .. } => unreachable!(),
+        Step::Dict { column } => StepWork::Dict(DictWork::new(column, out)),
+        Step::Plain { column } => StepWork::Plain(PlainWork::new(column, out)),
+        Step::Totals { columns } => {
+            StepWork::Totals(TotalsWork::new(columns.into_vec(), out, workers))
+        }
     }
 }
 
@@ -80,6 +85,8 @@ impl Work for StepWork {
             StepWork::Filter(work) => work.schema(alloc, pass),
             StepWork::Pack(work) => work.schema(alloc, pass),
             StepWork::Unpack(work) => work.schema(alloc, pass),
+            StepWork::Dict(work) => work.schema(alloc, pass),
+            StepWork::Plain(work) => work.schema(alloc, pass),
             StepWork::Totals(work) => work.schema(alloc, pass),
         }
     }
@@ -100,6 +107,8 @@ impl Work for StepWork {
             StepWork::Filter(work) => work.next(up, rt, alloc, out, pass, tap, gate),
             StepWork::Pack(work) => work.next(up, rt, alloc, out, pass, tap, gate),
             StepWork::Unpack(work) => work.next(up, rt, alloc, out, pass, tap, gate),
+            StepWork::Dict(work) => work.next(up, rt, alloc, out, pass, tap, gate),
+            StepWork::Plain(work) => work.next(up, rt, alloc, out, pass, tap, gate),
             StepWork::Totals(work) => work.next(up, rt, alloc, out, pass, tap, gate),
         }
     }
@@ -111,6 +120,8 @@ impl Work for StepWork {
             StepWork::Filter(work) => work.lawful_facts(),
             StepWork::Pack(work) => work.lawful_facts(),
             StepWork::Unpack(work) => work.lawful_facts(),
+            StepWork::Dict(work) => work.lawful_facts(),
+            StepWork::Plain(work) => work.lawful_facts(),
             StepWork::Totals(work) => work.lawful_facts(),
         }
     }

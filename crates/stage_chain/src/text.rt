@@ -6,7 +6,6 @@ ghost use Rattle.csv_model.specs.Text.{header_text, table_text};
 ghost use Rattle.csv_write.specs.CsvTexts.{HasText};
 ghost use Rattle.field_codec.specs.TextColumns.{HaveTexts};
 ghost use Rattle.fmt_string.specs.Parts.{joined_rows};
-ghost use Rattle.stage_kernels.specs.Plain.{ArePlain, IsMade};
 ghost use Rattle.stage_kernels.specs.Structs.{column_structs};
 ghost use Rattle.stage_model.specs.Links.{Whole};
 ghost use Rattle.stage_model.specs.Stages.{table};
@@ -46,13 +45,15 @@ fn prepare(alloc: Global, plan: Plan, mark: &[u8]) -> Result<(CsvText, Vec<Plann
 
 /// The text of the table that the stages of a plan make of all rows of a source, a null as the mark. Each stage works on the
 /// chunks of a checked stream, and each chunk of each link is shown to the tap: link 0 is the source's, link K that of stage
-/// K. The source is released and spent on every outcome.
+/// K. The stages that have work for several workers (a filter, totals) give each chunk to so many; the text is the same for
+/// every number of them. The source is released and spent on every outcome.
 pub fn drive<S: ArrayStream, R: Threads + Sync, T: Tap>(
     rt: &R,
     alloc: Global,
     source: S,
     plan: Plan,
     mark: &[u8],
+    workers: u32,
     pass: &mut Pass,
     tap: &mut T,
     gate: &(dyn Gate + Sync),
@@ -62,13 +63,12 @@ pub fn drive<S: ArrayStream, R: Threads + Sync, T: Tap>(
     // The source is lawful and stands over no other checked stream.
     requires lawful { IsTrue (S.state source).lawful }
     requires no_joints { (link : ℕ) → (S.state source).joints link ≡ [] }
-    // Its columns are plain values.
+    // None of its columns is a struct.
     requires flat { column_structs (S.state source).columns ≡ 0 }
-    requires plain { ArePlain (S.state source).columns }
-    // The plan is what stages are over these columns, of kinds that there are works for, and they are at most 16.
+    // The plan is what stages are over these columns, and they are at most 16.
     requires plan { (texts : List AText) × IsPlan (S.state source).columns texts plan }
-    requires made { AllByRecursion IsMade plan.steps.items }
     requires few { length plan.steps.items ≤ 16 }
+    requires workers { (1 ≤ workers) × (workers ≤ 64) }
     requires room { 2 * ROOM ≤ pass.old.units }
     requires supply { pass.old.units + kept (S.state source) ≤ SUPPLY }
     // The text is that of the one table that the stages make of all rows, however they came in chunks.
@@ -98,6 +98,7 @@ pub fn drive<S: ArrayStream, R: Threads + Sync, T: Tap>(
             0,
             stages.into_iter(),
             text,
+            workers,
             pass,
             tap,
             gate,

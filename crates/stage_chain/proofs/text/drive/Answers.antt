@@ -23,7 +23,7 @@ use Rattle.stage_chain.proofs.text.drive.Goals as goal
 pub prepare-requires-clause-texts : goal.prepare-requires-clause-texts
 prepare-requires-clause-texts g c =
     let s = g.S.ArrayStream.state c.args.source in
-    let are = plan-are-stages s.columns c.requires.plan.0 c.args.plan c.requires.plan.1 c.requires.made in
+    let are = plan-are-stages s.columns c.requires.plan.0 c.args.plan c.requires.plan.1 in
     subst HaveTexts (sym (last-link-is s.columns c.requires.plan.0 c.args.plan c.requires.plan.1))
     (last-texts c.stages_keep_columns.ensures.kinds s.columns (plan_stages c.args.plan) are (c.lawful_facts.ensures.columns c.requires.lawful).kinds)
 
@@ -34,7 +34,7 @@ go-requires-clause-stages g c =
     let made : b ≡ s = c.in-Ok.ensures.made in
     let left : stages_left c.into_iter.result ≡ plan_stages c.args.plan = search rules in
     subst (λ (m : Stream). AreStages m.columns (stages_left c.into_iter.result)) (sym made)
-    (subst (AreStages s.columns) (sym left) (plan-are-stages s.columns c.requires.plan.0 c.args.plan c.requires.plan.1 c.requires.made))
+    (subst (AreStages s.columns) (sym left) (plan-are-stages s.columns c.requires.plan.0 c.args.plan c.requires.plan.1))
 
 pub go-requires-clause-numbers : goal.go-requires-clause-numbers
 go-requires-clause-numbers g c =
