@@ -3,12 +3,10 @@ use Rattle.std.proofs.Common.{◌≡◌, ◌∙◌, ◌<◌, ◌≤◌, ◌+◌,
 use Rattle.std.proofs.Common.{append_assoc}
 use Rattle.std.proofs.Common.{append-nil, inl, inr}
 use Rattle.std.proofs.lemmas.List.{drop_all, drop_more, length-append}
-use Rattle.std.specs.List.{AllByRecursion}
 use Rattle.stage_model.specs.StageGrammar.{stage_of}
 use Rattle.stage_model.specs.declared.fault.StageFault.{StageFault}
 use Rattle.stage_model.specs.declared.stage.StageText.{StageText}
 use Rattle.pipe_top.specs.Answer.{stage_before, stages_from}
-use Rattle.pipe_top.specs.Stages.{IsNamed}
 use Rattle.pipe_top.specs.declared.fault.RunFault.{RunFault}
 use Rattle.pipe_top.specs.declared.fault.RunFault.TheVariants as run
 
@@ -28,7 +26,6 @@ spelled texts = map (λ t. t.now) texts
 -- the stages of the texts before a place
 pub record ReadTo (texts : List (Bor (List ℕ))) (place : ℕ) (stages : List StageText) : Type 0 where
   pub is : stages_from 1 (spelled texts) ≡ stages_onto stages (stages_from (place + 1) (spelled (drop place texts)))
-  pub named : AllByRecursion IsNamed stages
   pub count : length stages ≡ place
 
 onto-none : (rest : Result (List StageText) RunFault) → rest ≡ stages_onto [] rest
@@ -40,12 +37,8 @@ onto-one-more : (done : List StageText) (number : ℕ) (stage : StageText) (rest
 onto-one-more done number stage (Ok rest) = ap (λ (l : List StageText). Ok l) (sym (append_assoc done (stage ∷ []) rest))
 onto-one-more done number stage (Err fault) = refl
 
-named-push : (stages : List StageText) (stage : StageText) → AllByRecursion IsNamed stages → IsNamed stage → AllByRecursion IsNamed (stages ++ stage ∷ [])
-named-push [] stage all named = (named, tt)
-named-push (first ∷ stages) stage all named = (all.0, named-push stages stage all.1 named)
-
 pub none-read : (texts : List (Bor (List ℕ))) → ReadTo texts 0 []
-none-read texts = record { is = onto-none (stages_from 1 (spelled texts)); named = tt; count = refl }
+none-read texts = record { is = onto-none (stages_from 1 (spelled texts)); count = refl }
 
 -- ---- one text before others
 -- a stage alone is the first of more
@@ -72,11 +65,10 @@ module _ (texts : List (Bor (List ℕ))) (place : ℕ) (stages : List StageText)
     here : stages_from 1 (spelled texts) ≡ stages_onto stages (stage_before (place + 1) (stage_of text) rest)
     here = far.is ∙ ap (λ (ts : List (Bor (List ℕ))). stages_onto stages (stages_from (place + 1) (spelled ts))) (drop_more texts place d within)
 
-    pub read-more : (stage : StageText) → stages_from (place + 1) (text ∷ []) ≡ Ok (stage ∷ []) → IsNamed stage
+    pub read-more : (stage : StageText) → stages_from (place + 1) (text ∷ []) ≡ Ok (stage ∷ [])
         → ReadTo texts (place + 1) (stages ++ stage ∷ [])
-    read-more stage found named = record {
+    read-more stage found = record {
       is = here ∙ ap (stages_onto stages) (first-of-more (place + 1) (stage_of text) stage rest found) ∙ onto-one-more stages (place + 1) stage rest;
-      named = named-push stages stage far.named named;
       count = length-append stages (stage ∷ []) ∙ ap (λ n. n + 1) far.count;
     }
 

@@ -7,7 +7,6 @@ use Rattle.fmt_string.specs.Kinds.{KindOk}
 use Rattle.fmt_string.specs.Table.{Column, Flat}
 use Rattle.fmt_string.specs.declared.kind.ColumnType.{ColumnType}
 use Rattle.field_codec.specs.TextColumns.{AreProper, IsFlatOf}
-use Rattle.stage_kernels.specs.Plain.{ArePlain, HasNoDict}
 use Rattle.stage_kernels.specs.Structs.{column_structs, structs}
 
 -- the numbers of their types are in their ranges
@@ -15,10 +14,6 @@ pub proper-kinds : (columns : List ColumnType) → AreProper (map column_of colu
 proper-kinds columns proper k d small =
     let there = proper k (column_of d) (subst (λ n. k < n) (sym (length-map columns column_of)) small) in
     subst (λ c. KindsOk c.kind) (get_or-map column_of columns k d (column_of d) small) (subst KindsOk (sym there.1) there.2)
-
--- none has a dictionary
-pub proper-plain : (columns : List Column) → AreProper columns → ArePlain columns
-proper-plain columns proper k d small = subst HasNoDict (sym (proper k d small).1) tt
 
 -- none is a struct
 pub proper-flat : (columns : List Column) → AreProper columns → column_structs columns ≡ 0

@@ -7,5 +7,5 @@ mod Written
 pub mod LinksMade
 pub mod PlanMade
 pub mod Flat
-pub mod NamedStages
 pub mod AskedStages
+mod TreeLines

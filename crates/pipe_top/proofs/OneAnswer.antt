@@ -1,12 +1,15 @@
 -- The words ask for one thing, and so there is one answer.
-use Rattle.std.proofs.Common.{◌≡◌, ◌∙◌, ℕ, List, [], Option, None, Some, Result, Ok, Err, ap, refl, sym}
+use Rattle.std.proofs.Common.{◌≡◌, ◌∙◌, ℕ, Bool, true, false, List, [], Option, None, Some, Result, Ok, Err, ap, refl, subst, sym}
 use Rattle.stage_model.specs.declared.stage.StageText.{StageText}
 use Rattle.stage_plan.specs.Types.{Reads}
 use Rattle.stage_plan.specs.declared.fault.TypesFault.{TypesFault}
 use Rattle.stage_plan.specs.declared.types.TypeEntry.{TypeEntry}
+use Rattle.csv_model.specs.Reading.{records_of}
+use Rattle.tree_check.specs.Checks.{Checked, ChecksTo}
 use Rattle.words.specs.Words.{Options, words_of}
 use Rattle.words.specs.declared.WordsFault.{WordsFault}
-use Rattle.pipe_top.specs.Answer.{Answer, EntriesAsk, IsAnswer, OptionsAsk, Request, StagesAsk, answer_to, asked_by, request_with, stages_from}
+use Rattle.pipe_top.specs.Answer.{Answer, AnswersWithin, EntriesAsk, Fault, IsAnswer, IsAnswerTo, OptionsAsk, Request, StagesAsk, Table, Task, TaskIs, Tree}
+use Rattle.pipe_top.specs.Answer.{answer_of_check, answer_of_records, asked_by, is_too_long, request_with, stages_from, table_of}
 use Rattle.pipe_top.specs.declared.fault.RunFault.{RunFault}
 use Rattle.pipe_top.specs.declared.fault.RunFault.TheVariants as run
 
@@ -32,19 +35,52 @@ module _ (some : (text : List ℕ) → (read : Result (List TypeEntry) TypesFaul
       is.2 ∙ ap (request_with options stages) (one-entries options.schema is.0 also.0 is.1 also.1) ∙ sym also.2
   one-request options (Err fault) one other is also = is ∙ sym also
 
-  some-asked : (options : Result Options WordsFault) → (asked : Result Request RunFault) × OptionsAsk options asked
-  some-asked (Ok options) = some-request options (stages_from 1 options.stages)
+  some-task : (check : Bool) (options : Options) → (asked : Result Task RunFault) × TaskIs check options asked
+  some-task true options = (Ok Tree, refl)
+  some-task false options = let request = some-request options (stages_from 1 options.stages) in (table_of request.0, (request.0, request.1, refl))
+
+  one-task : (check : Bool) (options : Options) (one other : Result Task RunFault) → TaskIs check options one → TaskIs check options other → one ≡ other
+  one-task true options one other is also = is ∙ sym also
+  one-task false options one other is also =
+      is.2 ∙ ap table_of (one-request options (stages_from 1 options.stages) is.0 also.0 is.1 also.1) ∙ sym also.2
+
+  some-asked : (options : Result Options WordsFault) → (asked : Result Task RunFault) × OptionsAsk options asked
+  some-asked (Ok options) = some-task options.check options
   some-asked (Err fault) = (Err (run.Words fault), refl)
 
-  one-asked : (options : Result Options WordsFault) (one other : Result Request RunFault) → OptionsAsk options one → OptionsAsk options other → one ≡ other
-  one-asked (Ok options) one other is also = one-request options (stages_from 1 options.stages) one other is also
+  one-asked : (options : Result Options WordsFault) (one other : Result Task RunFault) → OptionsAsk options one → OptionsAsk options other → one ≡ other
+  one-asked (Ok options) one other is also = one-task options.check options one other is also
   one-asked (Err fault) one other is also = is ∙ sym also
 
-  pub some-answer : (words : List (List ℕ)) (bytes : List ℕ) → (answer : Answer) × IsAnswer words bytes answer
-  some-answer words bytes =
-      let asked = some-asked (words_of words) in
-      (answer_to asked.0 bytes, record { asked = asked.0; asks = asked.1; is = refl })
+  module _ (some-check : (bytes : List ℕ) → (checked : Checked) × ChecksTo bytes checked)
+      (one-check : (bytes : List ℕ) (one other : Checked) → ChecksTo bytes one → ChecksTo bytes other → one ≡ other) where
+    some-within : (long : Bool) (task : Task) (bytes : List ℕ) → (answer : Answer) × AnswersWithin long task bytes answer
+    some-within true task bytes = (Fault run.InputTooLong, refl)
+    some-within false (Table request) bytes = (answer_of_records request (records_of bytes), refl)
+    some-within false Tree bytes = let check = some-check bytes in (answer_of_check check.0, (check.0, check.1, refl))
 
-  pub one-answer : (words : List (List ℕ)) (bytes : List ℕ) (one other : Answer) → IsAnswer words bytes one → IsAnswer words bytes other → one ≡ other
-  one-answer words bytes one other is also =
-      is.is ∙ ap (λ a. answer_to a bytes) (one-asked (words_of words) is.asked also.asked is.asks also.asks) ∙ sym also.is
+    one-within : (long : Bool) (task : Task) (bytes : List ℕ) (one other : Answer) → AnswersWithin long task bytes one
+        → AnswersWithin long task bytes other → one ≡ other
+    one-within true task bytes one other is also = is ∙ sym also
+    one-within false (Table request) bytes one other is also = is ∙ sym also
+    one-within false Tree bytes one other is also = is.2 ∙ ap answer_of_check (one-check bytes is.0 also.0 is.1 also.1) ∙ sym also.2
+
+    some-answer-to : (asked : Result Task RunFault) (bytes : List ℕ) → (answer : Answer) × IsAnswerTo asked bytes answer
+    some-answer-to (Ok task) bytes = some-within (is_too_long bytes) task bytes
+    some-answer-to (Err fault) bytes = (Fault fault, refl)
+
+    one-answer-to : (asked : Result Task RunFault) (bytes : List ℕ) (one other : Answer) → IsAnswerTo asked bytes one → IsAnswerTo asked bytes other
+        → one ≡ other
+    one-answer-to (Ok task) bytes one other is also = one-within (is_too_long bytes) task bytes one other is also
+    one-answer-to (Err fault) bytes one other is also = is ∙ sym also
+
+    pub some-answer : (words : List (List ℕ)) (bytes : List ℕ) → (answer : Answer) × IsAnswer words bytes answer
+    some-answer words bytes =
+        let asked = some-asked (words_of words) in
+        let answer = some-answer-to asked.0 bytes in
+        (answer.0, record { asked = asked.0; asks = asked.1; is = answer.1 })
+
+    pub one-answer : (words : List (List ℕ)) (bytes : List ℕ) (one other : Answer) → IsAnswer words bytes one → IsAnswer words bytes other → one ≡ other
+    one-answer words bytes one other is also =
+        one-answer-to also.asked bytes one other
+        (subst (λ a. IsAnswerTo a bytes one) (one-asked (words_of words) is.asked also.asked is.asks also.asks) is.is) also.is

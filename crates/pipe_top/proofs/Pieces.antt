@@ -62,3 +62,15 @@ pub first-less : (a c : Option (List ℕ)) (before now : ℕ) (xs ys : List ℕ)
 first-less a c before now xs ys first =
     let long : length (xs ++ ys) ≡ length xs + length ys = length-append xs ys in
     (first.0, omega (arith, long, first.1), subst (Appends a c) (sym (take-append-le first.0 xs ys first.1)) first.2, first.3)
+
+-- the first bytes of a text that has more behind them
+pub says-in-part : (r : Result (Unit {0}) WriteFault) (a c : Option (List ℕ)) (before now : ℕ) (xs ys text : List ℕ)
+    → IsErr r → xs ++ ys ≡ text → TookFirst a c before now xs → Says r a c before now text
+says-in-part r a c before now xs ys text failed is first =
+    subst (Says r a c before now) is (says-failed r a c before now (xs ++ ys) failed (first-less a c before now xs ys first))
+
+-- two texts that are one
+pub says-both : (r : Result (Unit {0}) WriteFault) (a b c : Option (List ℕ)) (before middle now : ℕ) (xs ys text : List ℕ)
+    → xs ++ ys ≡ text → Appends a b xs × (before ≤ middle) → Says r b c middle now ys → Says r a c before now text
+says-both r a b c before middle now xs ys text is first rest =
+    subst (Says r a c before now) is (says-then r a b c before middle now xs ys first.0 first.1 rest)

@@ -1,50 +1,13 @@
--- What is planned of stages that have a name.
+-- What is planned of stages.
 use Rattle.std.proofs.Common.{◌≡◌, ◌∙◌, ◌≤◌, ◌+◌, ℕ, List, [], ◌∷◌, Option, None, Some, Result, Ok, Err, map, length, get_or, ap, sym, refl, subst, suc, arith}
-use Rattle.std.specs.List.{AllByRecursion, list_any}
+use Rattle.std.specs.List.{list_any}
 use Rattle.fmt_string.specs.Table.{Column}
 use Rattle.stage_chain.specs.Plans.{links_of}
-use Rattle.stage_chain.proofs.Planning.{after-same, end-plain, taken-stages, unless-same}
-use Rattle.stage_kernels.specs.Plain.{IsMade}
-use Rattle.stage_model.specs.Typing.{Stage, columns_after, first_failing, is_struct, plan_from, plan_links, plan_steps, rules_of, stage_over, step_of}
+use Rattle.stage_chain.proofs.Planning.{after-same, end-plain, taken-stages}
+use Rattle.stage_model.specs.Typing.{Stage, columns_after, is_struct, plan_from, plan_links, plan_steps, stage_over}
 use Rattle.stage_model.specs.declared.stage.StageText.{StageText}
-use Rattle.stage_model.specs.declared.stage.StageText.TheVariants as texts
 use Rattle.stage_plan.specs.PlanWords.{IsPlan, columns_in}
 use Rattle.stage_plan.specs.declared.typing.Plan.{Plan}
-use Rattle.pipe_top.specs.Stages.{IsNamed}
-
-named-step : (columns : List Column) (text : StageText) → IsNamed text → IsMade (step_of columns text)
-named-step columns (texts.Select names) named = tt
-named-step columns (texts.Drop names) named = tt
-named-step columns (texts.Slice off len) named = tt
-named-step columns (texts.Filter name test constant) named = tt
-named-step columns (texts.Pack made names) named = tt
-named-step columns (texts.Unpack name) named = tt
-named-step columns (texts.Dict name) named = absurd named
-named-step columns (texts.Plain name) named = absurd named
-named-step columns (texts.Totals names) named = tt
-
-step-same : (columns : List Column) (text : StageText) (stage : Stage) → stage_over columns text ≡ Ok stage → step_of columns text ≡ stage.step
-step-same columns text stage e =
-    ap (λ (s : Stage). s.step)
-    (unless-same (first_failing (rules_of columns text)) (record { step = step_of columns text; columns = columns_after columns text }) stage e)
-
-made-from : (number : ℕ) (columns : List Column) (ts : List StageText) (stages : List Stage) → plan_from number columns ts ≡ Ok stages
-    → AllByRecursion IsNamed ts → AllByRecursion IsMade (map (λ (s : Stage). s.step) stages)
-made-from number columns [] stages e named =
-    let end = end-plain number (list_any (λ c. is_struct c.kind) columns) stages e in
-    subst (λ (ss : List Stage). AllByRecursion IsMade (map (λ (s : Stage). s.step) ss)) (sym end.0) tt
-made-from number columns (text ∷ ts) stages e named =
-    let taken = taken-stages number columns text (stage_over columns text) (plan_from (number + 1) (columns_after columns text) ts) stages refl e in
-    let stage = taken.0 in
-    let behind : plan_from (number + 1) stage.columns ts ≡ Ok taken.1 =
-    subst (λ cs. plan_from (number + 1) cs ts ≡ Ok taken.1) (after-same columns text stage taken.2) taken.3 in
-    subst (λ (ss : List Stage). AllByRecursion IsMade (map (λ (s : Stage). s.step) ss)) (sym taken.4)
-    (subst IsMade (step-same columns text stage taken.2) (named-step columns text named.0), made-from (number + 1) stage.columns ts taken.1 behind named.1)
-
--- steps of stages that have a name are of kinds that there are works for
-pub named-are-made : (columns : List Column) (ts : List StageText) (plan : Plan) → IsPlan columns ts plan → AllByRecursion IsNamed ts
-    → AllByRecursion IsMade plan.steps.items
-named-are-made columns ts plan is named = subst (AllByRecursion IsMade) (sym is.steps) (made-from 1 columns ts is.stages is.is named)
 
 count-from : (number : ℕ) (columns : List Column) (ts : List StageText) (stages : List Stage) → plan_from number columns ts ≡ Ok stages
     → length stages ≡ length ts

@@ -1,21 +1,17 @@
 -- What a run comes to, from what its parts come to.
-use Rattle.std.proofs.Common.{ℕ, ◌≡◌, ◌⊎◌, ◌++◌, ◌∙◌, Bool, true, false, List, Option, None, Some, IfSome, Result, Ok, Err, IfErr, OnErr, OnOk, [], ap, refl}
+use Rattle.std.proofs.Common.{ℕ, ◌≡◌, ◌⊎◌, ◌++◌, ◌∙◌, Bool, true, false, List, Option, None, Some, IfSome, Result, Ok, Err, IfErr, OnErr, OnOk, ap, refl}
 use Rattle.std.proofs.Common.{sym, subst}
 use Rattle.std.proofs.Common.{append-nil, inl, inr}
 use Rattle.std.proofs.lemmas.Bool.{false≢true}
 use Rattle.edge_io.specs.declared.WriteFault.{WriteFault}
 use Rattle.unit_pass.specs.declared.pass.Audit.{Audit}
-use Rattle.stage_chain.specs.Chains.{link_shows}
-use Rattle.stage_chain.specs.Runs.{ShowsSome}
-use Rattle.stream_face.specs.Calls.{Begins}
-use Rattle.stream_face.specs.Shown.{Seen, Shown, of_link}
-use Rattle.stream_face.proofs.Joints.{Begins-nil}
-use Rattle.pipe_top.specs.Traffic.{IsShownInPart, links_asked}
-use Rattle.pipe_top.specs.Answer.{Answer, Asks, IsAnswer, IsAnswerTo, IsInput, Request, Text, Fault, answer_to, cause_of, status_of, Cause, OfWords, OfTexts}
-use Rattle.pipe_top.specs.Answer.{OfPlan}
-use Rattle.pipe_top.specs.Answer.{OfRecords, OfLength, Reading, Writing, Memory}
+use Rattle.stage_chain.proofs.Chaining.{shows-nothing}
+use Rattle.stream_face.specs.Shown.{Seen}
+use Rattle.pipe_top.specs.Traffic.{IsShownInPart, ShowsAsked}
+use Rattle.pipe_top.specs.Answer.{Answer, Asks, IsAnswer, IsAnswerTo, IsInput, Table, Task, Tree, Text, Fault, cause_of, status_of}
+use Rattle.pipe_top.specs.Answer.{Cause, OfWords, OfTexts, OfPlan, OfRecords, OfTree, OfLength, Reading, Writing, Memory}
 use Rattle.pipe_top.specs.Outcomes.{AtWriteFault, AtWriting, GotFirst, GotText, asked_of, fault_in, is_decided}
-use Rattle.pipe_top.specs.declared.asked.Request.{Request as AsksFor}
+use Rattle.pipe_top.specs.declared.asked.Task.{Task as AsksTask}
 use Rattle.pipe_top.specs.Told.{Says, Told, Took, audit_if, fault_line}
 use Rattle.pipe_top.specs.declared.fault.RunFault.{RunFault}
 use Rattle.pipe_top.specs.declared.fault.RunFault.TheVariants as run
@@ -39,11 +35,11 @@ told-all r old new before now fault audit wanted asked (inr same) says =
     inl (took r old new before now _ (subst (λ w. Says r old new before now (fault_line fault ++ audit_if w audit)) same says))
 
 -- want of memory while the words are read is the run's
-pub no-memory : (request : Result AsksFor RunFault) (carried : Result (Unit {0}) RunFault) (fault : Option RunFault)
+pub no-memory : (request : Result AsksTask RunFault) (carried : Result (Unit {0}) RunFault) (fault : Option RunFault)
     → request ≡ Err run.NoMemory → IfErr request (λ f. carried ≡ Err f) → fault ≡ fault_in carried → fault ≡ Some run.NoMemory
 no-memory request carried fault is early told = told ∙ ap fault_in (subst (λ e. IfErr e (λ f. carried ≡ Err f)) is early)
 
-pub silent-audit : (request : Result AsksFor RunFault) (carried : Result (Unit {0}) RunFault) (fault : Option RunFault) (wanted asked : Bool)
+pub silent-audit : (request : Result AsksTask RunFault) (carried : Result (Unit {0}) RunFault) (fault : Option RunFault) (wanted asked : Bool)
     → IfErr request (λ f. carried ≡ Err f) → fault ≡ fault_in carried
     → ((request ≡ Err run.NoMemory) × (wanted ≡ false)) ⊎ (wanted ≡ asked) → ((fault ≡ Some run.NoMemory) × (wanted ≡ false)) ⊎ (wanted ≡ asked)
 silent-audit request carried fault wanted asked early told (inl none) = inl (no-memory request carried fault none.0 early told, none.1)
@@ -63,6 +59,7 @@ fault-cases (run.HeaderTwice column) = inl refl
 fault-cases (run.HeaderUnknown entry) = inl refl
 fault-cases (run.Ragged number found) = inl refl
 fault-cases (run.Field number column) = inl refl
+fault-cases (run.Tree fault) = inl refl
 fault-cases run.InputTooLong = inl refl
 fault-cases run.ReadFault = inr (inl refl)
 fault-cases (run.WriteFault taken) = inr (inr (inl (taken, refl)))
@@ -73,6 +70,7 @@ at-writing OfWords P Q step holds = tt
 at-writing OfTexts P Q step holds = tt
 at-writing OfPlan P Q step holds = tt
 at-writing OfRecords P Q step holds = tt
+at-writing OfTree P Q step holds = tt
 at-writing OfLength P Q step holds = tt
 at-writing Reading P Q step holds = tt
 at-writing (Writing n) P Q step holds = step n refl holds
@@ -84,7 +82,7 @@ at-writing Memory P Q step holds = tt
 at-input : (words : List (List ℕ)) (left : Option (List ℕ)) (bytes : List ℕ) (P : List ℕ → Type 0) → IsInput words left bytes → IfSome left P → P bytes
 at-input words left bytes P is holds = subst (λ l. IfSome l P) is holds
 
-module _ (words : List (List ℕ)) (left : Option (List ℕ)) (request : Result AsksFor RunFault) (carried : Result (Unit {0}) RunFault) (fault : Option RunFault)
+module _ (words : List (List ℕ)) (left : Option (List ℕ)) (request : Result AsksTask RunFault) (carried : Result (Unit {0}) RunFault) (fault : Option RunFault)
     (early : IfErr request (λ f. carried ≡ Err f)) (told : fault ≡ fault_in carried) (asks : (request ≡ Err run.NoMemory) ⊎ Asks words (asked_of request)) where
   answer-is : (bytes : List ℕ) (answer : Answer) → Asks words (asked_of request) → IsAnswerTo (asked_of request) bytes answer → IsAnswer words bytes answer
   answer-is bytes answer asked is = record { asked = asked_of request; asks = asked; is = is }
@@ -96,19 +94,20 @@ module _ (words : List (List ℕ)) (left : Option (List ℕ)) (request : Result 
       go (inl none) = absurd (never none)
       go (inr asked) = asked
 
-  -- want of memory while the words are read is the fault
-  fault-of-memory : (f : RunFault) → carried ≡ Err f → request ≡ Err run.NoMemory → f ≡ run.NoMemory
-  fault-of-memory f is none =
-      let memory : ◌≡◌ {A = Result (Unit {0}) RunFault} carried (Err run.NoMemory) = subst (λ e. IfErr e (λ f. carried ≡ Err f)) none early in
-      let same : ◌≡◌ {A = Result (Unit {0}) RunFault} (Err f) (Err run.NoMemory) = sym is ∙ memory in
-      let one : f ≡ run.NoMemory = cc in
-      one
+  module _ (f : RunFault) (is : carried ≡ Err f) where
+    -- want of memory while the words are read is the fault
+    fault-of-memory : request ≡ Err run.NoMemory → f ≡ run.NoMemory
+    fault-of-memory none =
+        let memory : ◌≡◌ {A = Result (Unit {0}) RunFault} carried (Err run.NoMemory) = subst (λ e. IfErr e (λ f. carried ≡ Err f)) none early in
+        let same : ◌≡◌ {A = Result (Unit {0}) RunFault} (Err f) (Err run.NoMemory) = sym is ∙ memory in
+        let one : f ≡ run.NoMemory = cc in
+        one
 
-  decided-asked : (f : RunFault) → is_decided f ≡ true → carried ≡ Err f → request ≡ Err run.NoMemory → ⊥
-  decided-asked f decided is none = false≢true (subst (λ f. is_decided f ≡ true) (fault-of-memory f is none) decided)
+    decided-asked : is_decided f ≡ true → request ≡ Err run.NoMemory → ⊥
+    decided-asked decided none = false≢true (subst (λ f. is_decided f ≡ true) (fault-of-memory none) decided)
 
-  writing-asked : (f : RunFault) (n : ℕ) → cause_of f ≡ Writing n → carried ≡ Err f → request ≡ Err run.NoMemory → ⊥
-  writing-asked f n writes is none = let never : ◌≡◌ {A = Cause} Memory (Writing n) = sym (ap cause_of (fault-of-memory f is none)) ∙ writes in cc
+    writing-asked : (n : ℕ) → cause_of f ≡ Writing n → request ≡ Err run.NoMemory → ⊥
+    writing-asked n writes none = let never : ◌≡◌ {A = Cause} Memory (Writing n) = sym (ap cause_of (fault-of-memory none)) ∙ writes in cc
 
   carried-ok : fault ≡ None → carried ≡ Ok tt
   carried-ok none = go carried (sym told ∙ none)
@@ -151,51 +150,30 @@ module _ (words : List (List ℕ)) (left : Option (List ℕ)) (request : Result 
           (λ n writes first bytes input.
           let here : GotFirst (IsAnswerTo (asked_of request) bytes) old new n =
           at-input words left bytes (λ l. GotFirst (IsAnswerTo (asked_of request) l) old new n) input first in
-          (here.0, answer-is bytes (Text here.0) (asked-unless (writing-asked f n writes is)) here.1, here.2, here.3))
+          (here.0, answer-is bytes (Text here.0) (asked-unless (writing-asked f is n writes)) here.1, here.2, here.3))
           wrote
 
   -- ---- the refusal
 
-  pub refused-by-answer : IfErr carried (λ f. is_decided f ≡ true → IfSome left (λ bytes. answer_to (asked_of request) bytes ≡ Fault f))
+  pub refused-by-answer : IfErr carried (λ f. is_decided f ≡ true → IfSome left (λ bytes. IsAnswerTo (asked_of request) bytes (Fault f)))
       → IfSome fault (λ f. is_decided f ≡ true → (bytes : List ℕ) → IsInput words left bytes → IsAnswer words bytes (Fault f))
   refused-by-answer got =
       subst (λ o. IfSome o (λ f. is_decided f ≡ true → (bytes : List ℕ) → IsInput words left bytes → IsAnswer words bytes (Fault f)))
       (sym told) (go carried refl got)
     where
       go : (r : Result (Unit {0}) RunFault) → carried ≡ r
-          → IfErr r (λ f. is_decided f ≡ true → IfSome left (λ bytes. answer_to (asked_of request) bytes ≡ Fault f))
+          → IfErr r (λ f. is_decided f ≡ true → IfSome left (λ bytes. IsAnswerTo (asked_of request) bytes (Fault f)))
           → IfSome (fault_in r) (λ f. is_decided f ≡ true → (bytes : List ℕ) → IsInput words left bytes → IsAnswer words bytes (Fault f))
       go (Ok done) is refused = tt
       go (Err f) is refused = λ decided bytes input.
-          answer-is bytes (Fault f) (asked-unless (decided-asked f decided is))
-          (sym (at-input words left bytes (λ l. answer_to (asked_of request) l ≡ Fault f) input (refused decided)))
+          answer-is bytes (Fault f) (asked-unless (decided-asked f is decided))
+          (at-input words left bytes (λ l. IsAnswerTo (asked_of request) l (Fault f)) input (refused decided))
 
   -- ---- which outcome it is
 
-  module _ (only : (request ≡ Err run.NoMemory) ⊎ ((asked : Result Request RunFault) → Asks words asked → asked ≡ asked_of request)) where
-    -- no other answer is the run's
-    one-answer : (bytes : List ℕ) (answer : Answer) → (request ≡ Err run.NoMemory → ⊥) → IsAnswer words bytes answer
-        → answer ≡ answer_to (asked_of request) bytes
-    one-answer bytes answer never is = go only
-      where
-        go : (request ≡ Err run.NoMemory) ⊎ ((asked : Result Request RunFault) → Asks words asked → asked ≡ asked_of request)
-            → answer ≡ answer_to (asked_of request) bytes
-        go (inl none) = absurd (never none)
-        go (inr alone) = is.is ∙ ap (λ a. answer_to a bytes) (alone is.asked is.asks)
-
-    both-answers : (bytes : List ℕ) (one other : Answer) → (request ≡ Err run.NoMemory → ⊥) → IsAnswer words bytes one
-        → IsAnswer words bytes other → one ≡ other
-    both-answers bytes one other never is-one is-other = one-answer bytes one never is-one ∙ sym (one-answer bytes other never is-other)
-
+  module _ (alone : (words : List (List ℕ)) (bytes : List ℕ) (one other : Answer) → IsAnswer words bytes one → IsAnswer words bytes other → one ≡ other) where
     module _ (ReadRose : Type 0) (status : ℕ) (status-is : status ≡ status_of fault) (read : fault ≡ Some run.ReadFault → ReadRose)
         (refused : IfSome fault (λ f. is_decided f ≡ true → (bytes : List ℕ) → IsInput words left bytes → IsAnswer words bytes (Fault f))) where
-      carried-err : (f : RunFault) → fault ≡ Some f → carried ≡ Err f
-      carried-err f is = go carried (sym told ∙ is)
-        where
-          go : (r : Result (Unit {0}) RunFault) → fault_in r ≡ Some f → r ≡ Err f
-          go (Ok done) is = let never : ◌≡◌ {A = Option RunFault} None (Some f) = is in cc
-          go (Err g) is = let some : ◌≡◌ {A = Option RunFault} (Some g) (Some f) = is in let one : g ≡ f = cc in ap Err one
-
       refused-at : (f : RunFault) → fault ≡ Some f → is_decided f ≡ true → (bytes : List ℕ) → IsInput words left bytes → IsAnswer words bytes (Fault f)
       refused-at f is =
           subst (λ o. IfSome o (λ f. is_decided f ≡ true → (bytes : List ℕ) → IsInput words left bytes → IsAnswer words bytes (Fault f))) is refused
@@ -214,7 +192,7 @@ module _ (words : List (List ℕ)) (left : Option (List ℕ)) (request : Result 
               → (fault ≡ Some told_fault) ⊎ (status ≡ 9)
           by-cause f is (inl decided) =
               let same : ◌≡◌ {A = Answer} (Fault f) (Fault told_fault) =
-              both-answers bytes (Fault f) (Fault told_fault) (decided-asked f decided (carried-err f is)) (refused-at f is decided bytes input) answer in
+              alone words bytes (Fault f) (Fault told_fault) (refused-at f is decided bytes input) answer in
               let one : f ≡ told_fault = cc in
               inl (is ∙ ap Some one)
           by-cause f is (inr (inl reading)) = absurd (no-read (read (is ∙ ap Some reading)))
@@ -224,7 +202,7 @@ module _ (words : List (List ℕ)) (left : Option (List ℕ)) (request : Result 
               (is ∙ ap Some writing) first in
               let here = all bytes input in
               let never : ◌≡◌ {A = Answer} (Text here.0) (Fault told_fault) =
-              both-answers bytes (Text here.0) (Fault told_fault) (writing-asked f taken (ap cause_of writing) (carried-err f is)) here.1 answer in
+              alone words bytes (Text here.0) (Fault told_fault) here.1 answer in
               cc
           by-cause f is (inr (inr (inr memory))) = inr (memory-status f is memory)
 
@@ -232,34 +210,57 @@ module _ (words : List (List ℕ)) (left : Option (List ℕ)) (request : Result 
           go None is =
               let here = text is bytes input in
               let never : ◌≡◌ {A = Answer} (Text here.0) (Fault told_fault) =
-              both-answers bytes (Text here.0) (Fault told_fault) (done-asked is) here.1 answer in
+              alone words bytes (Text here.0) (Fault told_fault) here.1 answer in
               cc
+          go (Some f) is = by-cause f is (fault-cases f)
+
+      -- where the answer is a text, nothing is refused
+      pub is-complete : (WriteRose : Type 0) (bytes text : List ℕ) → IfSome fault (λ f. AtWriteFault f (λ taken. WriteRose))
+          → IsInput words left bytes → IsAnswer words bytes (Text text) → (ReadRose → ⊥) → (WriteRose → ⊥) → (status ≡ 0) ⊎ (status ≡ 9)
+      is-complete WriteRose bytes text wrote input answer no-read no-write = go fault refl
+        where
+          by-cause : (f : RunFault) → fault ≡ Some f
+              → (is_decided f ≡ true) ⊎ ((f ≡ run.ReadFault) ⊎ (((taken : ℕ) × (f ≡ run.WriteFault taken)) ⊎ (f ≡ run.NoMemory)))
+              → (status ≡ 0) ⊎ (status ≡ 9)
+          by-cause f is (inl decided) =
+              let never : ◌≡◌ {A = Answer} (Fault f) (Text text) = alone words bytes (Fault f) (Text text) (refused-at f is decided bytes input) answer in
+              cc
+          by-cause f is (inr (inl reading)) = absurd (no-read (read (is ∙ ap Some reading)))
+          by-cause f is (inr (inr (inl (taken, writing)))) =
+              absurd (no-write (subst (λ o. IfSome o (λ f. AtWriteFault f (λ taken. WriteRose))) (is ∙ ap Some writing) wrote))
+          by-cause f is (inr (inr (inr memory))) = inr (memory-status f is memory)
+
+          go : (o : Option RunFault) → fault ≡ o → (status ≡ 0) ⊎ (status ≡ 9)
+          go None is = inl (status-is ∙ ap status_of is)
           go (Some f) is = by-cause f is (fault-cases f)
 
 -- ---- what is shown
 
 -- where nothing was shown, the first chunks of whatever links were
-nothing-shown : (joints : ℕ → List Shown) (old new : Option (List Seen)) → ShowsSome (link_shows []) old new → ShowsSome joints old new
-nothing-shown joints old new shows = record {
-  shown = shows.shown;
-  told = shows.told;
-  begins = λ k.
-      subst (λ seen. Begins seen (joints k)) (sym (Begins-nil (of_link k shows.shown) (shows.begins k))) (joints k, refl);
-}
+pub unshown : (asked : Result Task RunFault) (bytes : List ℕ) (old new : Option (List Seen)) → new ≡ old → ShowsAsked asked bytes old new
+unshown (Ok (Table request)) bytes old new same =
+    subst (λ n. ShowsAsked (Ok (Table request)) bytes old n) (sym same) (shows-nothing _ old)
+unshown (Ok Tree) bytes old new same = same
+unshown (Err fault) bytes old new same = same
 
-asked-shown : (words : List (List ℕ)) (bytes : List ℕ) (request : Result AsksFor RunFault) (asked : Result Request RunFault) (old new : Option (List Seen))
-    → (request ≡ Err run.NoMemory) ⊎ ((asked : Result Request RunFault) → Asks words asked → asked ≡ asked_of request) → Asks words asked
-    → ShowsSome (link_shows (links_asked (asked_of request) bytes)) old new → ShowsSome (link_shows (links_asked asked bytes)) old new
+pub unshown-left : (r : Result (Unit {0}) RunFault) (left : Option (List ℕ)) (asked : Result Task RunFault) (old new : Option (List Seen)) → new ≡ old
+    → OnErr r (IfSome left (λ bytes. ShowsAsked asked bytes old new))
+unshown-left (Ok done) left asked old new same = tt
+unshown-left (Err fault) None asked old new same = tt
+unshown-left (Err fault) (Some bytes) asked old new same = unshown asked bytes old new same
+
+asked-shown : (words : List (List ℕ)) (bytes : List ℕ) (request : Result AsksTask RunFault) (asked : Result Task RunFault) (old new : Option (List Seen))
+    → (request ≡ Err run.NoMemory) ⊎ ((asked : Result Task RunFault) → Asks words asked → asked ≡ asked_of request) → Asks words asked
+    → ShowsAsked (asked_of request) bytes old new → ShowsAsked asked bytes old new
 asked-shown words bytes request asked old new (inl none) asks shows =
-    nothing-shown (link_shows (links_asked asked bytes)) old new
-    (subst (λ (r : Result AsksFor RunFault). ShowsSome (link_shows (links_asked (asked_of r) bytes)) old new) none shows)
+    unshown asked bytes old new (subst (λ (r : Result AsksTask RunFault). ShowsAsked (asked_of r) bytes old new) none shows)
 asked-shown words bytes request asked old new (inr only) asks shows =
-    subst (λ (a : Result Request RunFault). ShowsSome (link_shows (links_asked a bytes)) old new) (sym (only asked asks)) shows
+    subst (λ (a : Result Task RunFault). ShowsAsked a bytes old new) (sym (only asked asks)) shows
 
-pub shown-in-part : (words : List (List ℕ)) (left : Option (List ℕ)) (request : Result AsksFor RunFault) (carried : Result (Unit {0}) RunFault)
+pub shown-in-part : (words : List (List ℕ)) (left : Option (List ℕ)) (request : Result AsksTask RunFault) (carried : Result (Unit {0}) RunFault)
     (fault : Option RunFault) (old new : Option (List Seen)) → fault ≡ fault_in carried
-    → (request ≡ Err run.NoMemory) ⊎ ((asked : Result Request RunFault) → Asks words asked → asked ≡ asked_of request)
-    → OnErr carried (IfSome left (λ bytes. ShowsSome (link_shows (links_asked (asked_of request) bytes)) old new))
+    → (request ≡ Err run.NoMemory) ⊎ ((asked : Result Task RunFault) → Asks words asked → asked ≡ asked_of request)
+    → OnErr carried (IfSome left (λ bytes. ShowsAsked (asked_of request) bytes old new))
     → IfSome fault (λ _. (bytes : List ℕ) → IsInput words left bytes → IsShownInPart words bytes old new)
 shown-in-part words left request (Ok done) fault old new told only shows =
     subst (λ o. IfSome o (λ _. (bytes : List ℕ) → IsInput words left bytes → IsShownInPart words bytes old new)) (sym told) tt
@@ -267,4 +268,4 @@ shown-in-part words left request (Err f) fault old new told only shows =
     subst (λ o. IfSome o (λ _. (bytes : List ℕ) → IsInput words left bytes → IsShownInPart words bytes old new)) (sym told)
     (λ bytes input asked asks.
     asked-shown words bytes request asked old new only asks
-    (at-input words left bytes (λ l. ShowsSome (link_shows (links_asked (asked_of request) l)) old new) input shows))
+    (at-input words left bytes (λ l. ShowsAsked (asked_of request) l old new) input shows))

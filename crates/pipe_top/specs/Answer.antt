@@ -1,8 +1,9 @@
--- What a run answers: the text of the table that was read, or the first fault, and the status of each fault.
-use Rattle.std.specs.Prelude.{◌≡◌, ℕ, ◌+◌, nat_lt, List, [], ◌∷◌, length, Option, None, Some, Result, Ok, Err, if◌then◌else◌}
+-- What a run answers: the text of the table that was read or the report of the tree that was checked, or the first fault, and
+-- the status of each fault.
+use Rattle.std.specs.Prelude.{◌≡◌, ℕ, ◌+◌, nat_lt, Bool, true, false, List, [], ◌∷◌, length, Option, None, Some, Result, Ok, Err}
 use Rattle.fmt_string.specs.Table.{Column, Row}
 use Rattle.csv_read.specs.Entries.{entries_of}
-use Rattle.csv_model.specs.Header.{Entry, header_of}
+use Rattle.csv_model.specs.Header.{header_of}
 use Rattle.csv_model.specs.Reading.{Record, behind_header, body, records_of}
 use Rattle.csv_model.specs.Text.{table_text}
 use Rattle.fmt_string.specs.declared.row_fault.RowFault.{RowFault}
@@ -23,6 +24,9 @@ use Rattle.stage_plan.specs.Types.{Reads}
 use Rattle.stage_plan.specs.declared.fault.TypesFault.{TypesFault}
 use Rattle.stage_plan.specs.declared.fault.TypesFault.TheVariants as types
 use Rattle.stage_plan.specs.declared.types.TypeEntry.{TypeEntry}
+use Rattle.tree_check.specs.Checks.{Checked, ChecksTo}
+use Rattle.tree_check.specs.declared.fault.CheckFault.{CheckFault}
+use Rattle.tree_check.specs.declared.fault.CheckFault.TheVariants as check
 use Rattle.words.specs.Words.{Options, mark_of, words_of}
 use Rattle.words.specs.declared.WordsFault.{WordsFault}
 use Rattle.pipe_top.specs.declared.fault.RunFault.{RunFault}
@@ -58,7 +62,12 @@ abbrev pub fault_of_chain : DriveFault → RunFault
 fault_of_chain (chain.Row fault) = fault_of_row fault
 fault_of_chain chain.NoMemory = run.NoMemory
 
--- ---- what is asked for, and its answer
+-- the fault of a run whose tree has no report
+abbrev pub fault_of_check : CheckFault → RunFault
+fault_of_check (check.Tree fault) = run.Tree fault
+fault_of_check check.NoMemory = run.NoMemory
+
+-- ---- what is asked for of a table, and its answer
 -- what is asked for: types of columns by name, stages, the most rows of a batch, and the mark for null
 pub record Request : Type 0 where
   pub entries : List TypeEntry
@@ -88,14 +97,39 @@ answer_of_columns request (Err fault) records = Fault (fault_of_header fault)
 abbrev pub answer_of_records : Request → List Record → Answer
 answer_of_records request records = answer_of_columns request (header_of (entries_of request.entries) records) (behind_header records)
 
+-- ---- what is asked for, and its answer
+
+-- a table by stages, or a tree to check
+pub data Task : Type 0 where
+  Table : Request → Task
+  Tree : Task
+
+-- the report of a tree, or its fault
+abbrev pub answer_of_check : Checked → Answer
+answer_of_check (Ok report) = Text report
+answer_of_check (Err fault) = Fault (run.Tree fault)
+
+-- the answer to a task, and to an input that isn't too long
+abbrev pub AnswersTask : Task → List ℕ → Answer → Type 0
+AnswersTask (Table request) bytes answer = answer ≡ answer_of_records request (records_of bytes)
+AnswersTask Tree bytes answer = (checked : Checked) × ChecksTo bytes checked × (answer ≡ answer_of_check checked)
+
 -- the most bytes that are read
 abbrev pub input_limit : ℕ
 input_limit = 1_073_741_824
 
--- the answer to what is asked for and the bytes of an input
-abbrev pub answer_of_bytes : Request → List ℕ → Answer
-answer_of_bytes request bytes =
-    if nat_lt input_limit (length bytes) then Fault run.InputTooLong else answer_of_records request (records_of bytes)
+-- the input has more bytes than are read
+abbrev pub is_too_long : List ℕ → Bool
+is_too_long bytes = nat_lt input_limit (length bytes)
+
+-- the answer, where it is told whether the input is too long
+abbrev pub AnswersWithin : Bool → Task → List ℕ → Answer → Type 0
+AnswersWithin true task bytes answer = answer ≡ Fault run.InputTooLong
+AnswersWithin false task bytes answer = AnswersTask task bytes answer
+
+-- the answer to a task and the bytes of an input
+abbrev pub AnswersBytes : Task → List ℕ → Answer → Type 0
+AnswersBytes task bytes answer = AnswersWithin (is_too_long bytes) task bytes answer
 
 -- ---- what the words ask for
 
@@ -135,16 +169,26 @@ StagesAsk options (Ok stages) asked =
     (entries : Result (List TypeEntry) RunFault) × EntriesAsk options.schema entries × (asked ≡ request_with options stages entries)
 StagesAsk options (Err fault) asked = asked ≡ Err fault
 
--- what options ask for; stages are counted from 1
+-- what options ask for of a table; stages are counted from 1
 abbrev pub RequestIs : Options → Result Request RunFault → Type 0
 RequestIs options asked = StagesAsk options (stages_from 1 options.stages) asked
 
-abbrev pub OptionsAsk : Result Options WordsFault → Result Request RunFault → Type 0
-OptionsAsk (Ok options) asked = RequestIs options asked
+-- what is asked for of a table is the task
+abbrev pub table_of : Result Request RunFault → Result Task RunFault
+table_of (Ok request) = Ok (Table request)
+table_of (Err fault) = Err fault
+
+-- a tree is to be checked, or else a table is asked for
+abbrev pub TaskIs : Bool → Options → Result Task RunFault → Type 0
+TaskIs true options asked = asked ≡ Ok Tree
+TaskIs false options asked = (request : Result Request RunFault) × RequestIs options request × (asked ≡ table_of request)
+
+abbrev pub OptionsAsk : Result Options WordsFault → Result Task RunFault → Type 0
+OptionsAsk (Ok options) asked = TaskIs options.check options asked
 OptionsAsk (Err fault) asked = asked ≡ Err (run.Words fault)
 
 -- the words ask for this, or are refused for this fault, whatever the input is
-abbrev pub Asks : List (List ℕ) → Result Request RunFault → Type 0
+abbrev pub Asks : List (List ℕ) → Result Task RunFault → Type 0
 Asks words asked = OptionsAsk (words_of words) asked
 
 -- the input of a run with these words: what the source tells that it has
@@ -152,16 +196,13 @@ abbrev pub IsInput : List (List ℕ) → Option (List ℕ) → List ℕ → Type
 IsInput words left bytes = left ≡ Some bytes
 
 -- the answer to what is asked for and the bytes of the input
-abbrev pub answer_to : Result Request RunFault → List ℕ → Answer
-answer_to (Ok request) bytes = answer_of_bytes request bytes
-answer_to (Err fault) bytes = Fault fault
-
-abbrev pub IsAnswerTo : Result Request RunFault → List ℕ → Answer → Type 0
-IsAnswerTo asked bytes answer = answer ≡ answer_to asked bytes
+abbrev pub IsAnswerTo : Result Task RunFault → List ℕ → Answer → Type 0
+IsAnswerTo (Ok task) bytes answer = AnswersBytes task bytes answer
+IsAnswerTo (Err fault) bytes answer = answer ≡ Fault fault
 
 -- the answer to the words of the command and the bytes of its input
 pub record IsAnswer (words : List (List ℕ)) (bytes : List ℕ) (answer : Answer) : Type 0 where
-  pub asked : Result Request RunFault
+  pub asked : Result Task RunFault
   pub asks : Asks words asked
   pub is : IsAnswerTo asked bytes answer
 
@@ -177,6 +218,8 @@ pub data Cause : Type 0 where
   OfPlan : Cause
   -- the header and the records
   OfRecords : Cause
+  -- the tree that is checked
+  OfTree : Cause
   -- the length of the input
   OfLength : Cause
   Reading : Cause
@@ -196,6 +239,7 @@ cause_of (run.HeaderTwice column) = OfRecords
 cause_of (run.HeaderUnknown entry) = OfRecords
 cause_of (run.Ragged number found) = OfRecords
 cause_of (run.Field number column) = OfRecords
+cause_of (run.Tree fault) = OfTree
 cause_of run.InputTooLong = OfLength
 cause_of run.ReadFault = Reading
 cause_of (run.WriteFault taken) = Writing taken
@@ -209,6 +253,7 @@ status_by OfRecords = 4
 status_by OfLength = 5
 status_by Reading = 6
 status_by (Writing taken) = 7
+status_by OfTree = 8
 status_by Memory = 9
 
 -- the status of a run, which is a function of its fault

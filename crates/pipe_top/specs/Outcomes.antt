@@ -3,10 +3,11 @@ use Rattle.std.specs.Prelude.{ℕ, ◌≤◌, Bool, true, false, List, Option, N
 use Rattle.std.specs.Global.{Global}
 use Rattle.std.specs.Io.KnownBytes.{Appends}
 use Rattle.stage_plan.specs.declared.types.TypeEntry.{TypeEntry}
-use Rattle.words.specs.Words.{Options}
-use Rattle.words.specs.declared.WordsFault.{WordsFault}
-use Rattle.pipe_top.specs.Answer.{Answer, Text, Request, Cause, OfWords, OfTexts, OfPlan, OfRecords, OfLength, Reading, Writing, Memory, cause_of}
+use Rattle.pipe_top.specs.Answer.{Answer, Text, Request, Task, Table, Tree, Cause, OfWords, OfTexts, OfPlan}
+use Rattle.pipe_top.specs.Answer.{OfRecords, OfTree, OfLength, Reading, Writing, Memory, cause_of}
 use Rattle.pipe_top.specs.declared.asked.Request.{Request as AsksFor}
+use Rattle.pipe_top.specs.declared.asked.Task.{Task as AsksTask}
+use Rattle.pipe_top.specs.declared.asked.Task.TheVariants as tasks
 use Rattle.pipe_top.specs.declared.fault.RunFault.{RunFault}
 
 -- the words and the bytes of the input decide a fault of this cause
@@ -15,6 +16,7 @@ decides OfWords = true
 decides OfTexts = true
 decides OfPlan = true
 decides OfRecords = true
+decides OfTree = true
 decides OfLength = true
 decides Reading = false
 decides (Writing taken) = false
@@ -61,17 +63,27 @@ abbrev pub entries_asked : Result (Vec TypeEntry Global) RunFault → Result (Li
 entries_asked (Ok entries) = Ok entries.items
 entries_asked (Err fault) = Err fault
 
+-- the number of workers changes no answer
 abbrev pub request_of : AsksFor → Request
 request_of asked = record { entries = asked.entries.items; stages = asked.stages.items; batch = asked.batch; mark = asked.mark }
 
-abbrev pub asked_of : Result AsksFor RunFault → Result Request RunFault
-asked_of (Ok asked) = Ok (request_of asked)
+abbrev pub request_asked : Result AsksFor RunFault → Result Request RunFault
+request_asked (Ok asked) = Ok (request_of asked)
+request_asked (Err fault) = Err fault
+
+-- what the program has read of the words, as the definitions see it
+abbrev pub task_of : AsksTask → Task
+task_of (tasks.Table request) = Table (request_of request)
+task_of tasks.Tree = Tree
+
+abbrev pub asked_of : Result AsksTask RunFault → Result Task RunFault
+asked_of (Ok asked) = Ok (task_of asked)
 asked_of (Err fault) = Err fault
 
--- the words ask for the audit
-abbrev pub wants_audit : Result Options WordsFault → Bool
-wants_audit (Ok options) = options.audit
-wants_audit (Err fault) = false
+-- what holds of the request for a table
+abbrev pub IfTable : AsksTask → (AsksFor → Type 0) → Type 0
+IfTable (tasks.Table request) P = P request
+IfTable tasks.Tree P = ⊤
 
 -- the fault of a result
 abbrev pub fault_in : Result Unit RunFault → Option RunFault

@@ -8,6 +8,7 @@ use Rattle.edge_io.specs.declared.WriteFault.{WriteFault}
 use Rattle.stage_model.specs.FaultTexts.{rule_text, stage_fault_text}
 use Rattle.stage_plan.specs.declared.fault.TypesRule.{TypesRule}
 use Rattle.stage_plan.specs.declared.fault.TypesRule.TheVariants as types
+use Rattle.tree_check.specs.FaultTexts.{tree_fault_text}
 use Rattle.unit_pass.specs.declared.pass.Audit.{Audit}
 use Rattle.words.specs.declared.WordsFault.TheVariants as words
 use Rattle.pipe_top.specs.declared.fault.RunFault.{RunFault}
@@ -23,6 +24,7 @@ entry_text types.Twice = codes ": named before"
 abbrev pub fault_text : RunFault → List ℕ
 fault_text (run.Words words.Refused) = codes "words refused"
 fault_text (run.Words words.TooManyStages) = codes "words: more than 16 stages"
+fault_text (run.Words words.UsedWithCheck) = codes "words: --check takes no stage and no --schema"
 fault_text (run.Stage number fault) = codes "stage " ++ decimal number ++ codes ": " ++ stage_fault_text fault
 fault_text (run.Schema entry rule) = codes "schema entry " ++ decimal entry ++ entry_text rule
 fault_text (run.Plan number rule) = codes "stage " ++ decimal number ++ codes ": " ++ rule_text rule
@@ -33,6 +35,7 @@ fault_text (run.HeaderTwice column) = codes "header column " ++ decimal column +
 fault_text (run.HeaderUnknown entry) = codes "schema entry " ++ decimal entry ++ codes ": no such column"
 fault_text (run.Ragged number found) = codes "record " ++ decimal number ++ codes ": " ++ decimal found ++ codes " fields"
 fault_text (run.Field number column) = codes "record " ++ decimal number ++ codes ", column " ++ decimal column ++ codes ": not a value of its type"
+fault_text (run.Tree fault) = tree_fault_text fault
 fault_text run.InputTooLong = codes "input longer than 1073741824 bytes"
 fault_text run.ReadFault = codes "read failed"
 fault_text (run.WriteFault taken) = codes "write failed after " ++ decimal taken ++ codes " bytes"

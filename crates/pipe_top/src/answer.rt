@@ -1,6 +1,5 @@
-//! The answer to the bytes of an input.
+//! The text of a table, made of the bytes of an input.
 ghost use Rattle.std.specs.Prelude.{◌≡◌, ◌⊎◌, ◌≤◌, ◌*◌, ◌^◌, vec_len, length, ℕ, List, IfErr, IfOk, OnErr, OnOk, All, Ok, map, get_or, []};
-ghost use Rattle.std.specs.List.{AllByRecursion};
 ghost use Rattle.std.specs.Thread.{IsSync};
 ghost use Rattle.csv_model.specs.Batches.{batches_in};
 ghost use Rattle.csv_model.specs.Header.{header_of, most_columns};
@@ -13,13 +12,11 @@ ghost use Rattle.fmt_string.specs.Kinds.{KindOk};
 ghost use Rattle.stage_chain.specs.Chains.{link_shows};
 ghost use Rattle.stage_chain.specs.Plans.{links_of as plan_links};
 ghost use Rattle.stage_chain.specs.Runs.{ShowsAll, ShowsSome};
-ghost use Rattle.stage_kernels.specs.Plain.{IsMade};
 ghost use Rattle.stage_model.specs.Typing.{plan_of};
 ghost use Rattle.stage_plan.specs.PlanWords.{IsPlan, columns_in};
 ghost use Rattle.unit_pass.specs.declared.pass.TheConstants.{ROOM, SUPPLY};
 ghost use Rattle.pipe_top.specs.Answer.{Fault, Request as ARequest, Text, answer_of_plan, answer_of_records, input_limit};
 ghost use Rattle.pipe_top.specs.Outcomes.{request_of};
-ghost use Rattle.pipe_top.specs.Stages.{IsNamed};
 ghost use Rattle.pipe_top.specs.Traffic.{LinksTraffic, links_of};
 
 use crate::asked::Request;
@@ -68,10 +65,8 @@ fn plan_stages(
     stages: &[StageText],
 ) -> Result<Plan, RunFault>
     requires proper { AreProper (map column_of columns.items) }
-    requires named { AllByRecursion IsNamed stages.now }
     requires few { length stages.now ≤ 16 }
     ensures found { IfOk result (IsPlan (map column_of columns.items) stages.now) }
-    ensures made { IfOk result (λ plan. AllByRecursion IsMade plan.steps.items) }
     ensures few { IfOk result (λ plan. length plan.steps.items ≤ 16) }
     ensures read { IfOk result (λ plan. get_or (plan_links plan) 0 [] ≡ map column_of columns.items) }
     ensures links { IfOk result (λ plan. 1 ≤ vec_len plan.links) }
@@ -132,10 +127,11 @@ pub(crate) fn answer_input<R: Threads + Sync, T: Tap>(
     requires units { 2 * ROOM ≤ pass.old.units }
     requires proper { All (λ e. KindOk e.kind) request.now.entries.items }
     requires allowed { All (λ e. IsAllowed e.kind) request.now.entries.items }
-    requires named { AllByRecursion IsNamed request.now.stages.items }
     requires few { length request.now.stages.items ≤ 16 }
     requires some_rows { 1 ≤ request.now.batch }
     requires few_rows { request.now.batch ≤ 1000000 }
+    requires some_workers { 1 ≤ request.now.workers }
+    requires few_workers { request.now.workers ≤ 64 }
     ensures text { IfOk result (λ text. answer_of_records (request_of request.now) (records_of bytes.now) ≡ Text text.items) }
     ensures fault { IfErr result
         (λ fault. (fault ≡ RunFault.NoMemory) ⊎ (answer_of_records (request_of request.now) (records_of bytes.now) ≡ Fault fault)) }
@@ -154,7 +150,8 @@ pub(crate) fn answer_input<R: Threads + Sync, T: Tap>(
     };
     let plan = plan_stages(alloc, columns, request.stages.as_slice())?;
     let source = source_of(alloc, records, read_columns(&plan), request.batch, mark)?;
-    match drive(rt, alloc, source, plan, mark, pass, tap, gate) {
+    let workers = request.workers;
+    match drive(rt, alloc, source, plan, mark, workers, pass, tap, gate) {
         Ok(text) => Ok(text),
         Err(fault) => Err(RunFault::from(fault)),
     }

@@ -1,14 +1,12 @@
 //! What the words ask for.
 ghost use Rattle.std.specs.Prelude.{◌≡◌, ◌≤◌, ◌⊎◌, ◌∷◌, true, false, [], ℕ, List, Result, All, Ok, Err, IfErr, IfOk, length, map, option_map};
-ghost use Rattle.std.specs.List.{AllByRecursion};
 ghost use Rattle.std.specs.Option.{unwrap_or};
 ghost use Rattle.field_codec.specs.TextColumns.{IsAllowed};
 ghost use Rattle.fmt_string.specs.Kinds.{KindOk};
 ghost use Rattle.stage_plan.specs.declared.types.TypeEntry.{TypeEntry as AnEntry};
-ghost use Rattle.words.specs.Words.{options_of, texts_of, words_of};
-ghost use Rattle.pipe_top.specs.Answer.{Asks, EntriesAsk, Request as ARequest, RequestIs, StagesAsk, stages_from};
-ghost use Rattle.pipe_top.specs.Outcomes.{asked_of, entries_asked, is_early, wants_audit};
-ghost use Rattle.pipe_top.specs.Stages.{IsNamed};
+ghost use Rattle.words.specs.Words.{audit_of, options_of, texts_of};
+ghost use Rattle.pipe_top.specs.Answer.{Asks, EntriesAsk, Request as ARequest, RequestIs, StagesAsk, Task as ATask, TaskIs, stages_from};
+ghost use Rattle.pipe_top.specs.Outcomes.{IfTable, asked_of, entries_asked, is_early, request_asked};
 ghost use Rattle.pipe_top.specs.declared.fault.RunFault.{RunFault as AFault};
 
 use crate::fault::RunFault;
@@ -17,68 +15,101 @@ use std::alloc::Global;
 use unit_pass::{Name, NoMemory};
 use words::{Words, WordsError, read_words};
 
-/// What is asked for: types of columns by name, stages, the most rows of a batch, and the mark for null.
+/// What is asked for of a table: types of columns by name, stages, the most rows of a batch, how many workers share the rows
+/// of a chunk, and the mark for null.
 #[derive(Drop)]
 pub(crate) struct Request {
     pub(crate) entries: Vec<TypeEntry>,
     pub(crate) stages: Vec<StageText>,
     pub(crate) batch: u32,
+    pub(crate) workers: u32,
     pub(crate) mark: Name,
+}
+
+/// What is asked for: a table by stages, or a tree to check.
+#[derive(Drop)]
+pub(crate) enum Task {
+    Table(Request),
+    Tree,
 }
 
 /// What the words ask for, or why they are refused.
 #[derive(Drop)]
 pub(crate) struct Asked {
     pub(crate) audit: bool,
-    pub(crate) request: Result<Request, RunFault>,
+    pub(crate) task: Result<Task, RunFault>,
 }
 
 /// Reads the words and the texts among them.
 pub(crate) fn read_asked(alloc: Global, words: &[String]) -> Asked
-    ensures asks { (result.request ≡ Err RunFault.NoMemory) ⊎ Asks (texts_of words.now) (asked_of result.request) }
-    ensures only { (result.request ≡ Err RunFault.NoMemory)
-        ⊎ ((asked : Result ARequest AFault) → Asks (texts_of words.now) asked → asked ≡ asked_of result.request) }
-    ensures early { IfErr result.request (λ fault. (is_early fault ≡ true) ⊎ (fault ≡ RunFault.NoMemory)) }
-    ensures proper { IfOk result.request (λ r. All (λ e. KindOk e.kind) r.entries.items) }
-    ensures allowed { IfOk result.request (λ r. All (λ e. IsAllowed e.kind) r.entries.items) }
-    ensures named { IfOk result.request (λ r. AllByRecursion IsNamed r.stages.items) }
-    ensures few { IfOk result.request (λ r. length r.stages.items ≤ 16) }
-    ensures batch { IfOk result.request (λ r. (1 ≤ r.batch) × (r.batch ≤ 1000000)) }
-    ensures audit { (result.request ≡ Err RunFault.NoMemory) × (result.audit ≡ false) ⊎ (result.audit ≡ wants_audit (words_of (texts_of words.now))) }
+    ensures asks { (result.task ≡ Err RunFault.NoMemory) ⊎ Asks (texts_of words.now) (asked_of result.task) }
+    ensures only { (result.task ≡ Err RunFault.NoMemory)
+        ⊎ ((asked : Result ATask AFault) → Asks (texts_of words.now) asked → asked ≡ asked_of result.task) }
+    ensures early { IfErr result.task (λ fault. (is_early fault ≡ true) ⊎ (fault ≡ RunFault.NoMemory)) }
+    ensures proper { IfOk result.task (λ t. IfTable t (λ r. All (λ e. KindOk e.kind) r.entries.items)) }
+    ensures allowed { IfOk result.task (λ t. IfTable t (λ r. All (λ e. IsAllowed e.kind) r.entries.items)) }
+    ensures few { IfOk result.task (λ t. IfTable t (λ r. length r.stages.items ≤ 16)) }
+    ensures batch { IfOk result.task (λ t. IfTable t (λ r. (1 ≤ r.batch) × (r.batch ≤ 1000000))) }
+    ensures workers { IfOk result.task (λ t. IfTable t (λ r. (1 ≤ r.workers) × (r.workers ≤ 64))) }
+    ensures audit { (result.task ≡ Err RunFault.NoMemory) × (result.audit ≡ false) ⊎ (result.audit ≡ audit_of (texts_of words.now)) }
 {
     match read_words(alloc, words) {
         Ok(read) => Asked {
             audit: read.audit,
-            request: read_request(alloc, &read),
+            task: read_task(alloc, &read),
         },
-        Err(WordsError::Words(fault)) => refused(RunFault::Words(fault)),
-        Err(WordsError::NoMemory) => refused(RunFault::NoMemory),
+        Err(WordsError::Words { fault, audit }) => refused(RunFault::Words(fault), audit),
+        Err(WordsError::NoMemory) => refused(RunFault::NoMemory, false),
     }
 }
 
-/// The words are refused.
-fn refused(fault: RunFault) -> Asked
-    ensures request { result.request ≡ Err fault }
-    ensures audit { result.audit ≡ false }
+/// The words are refused, and may ask for the audit yet.
+fn refused(fault: RunFault, audit: bool) -> Asked
+    ensures task { result.task ≡ Err fault }
+    ensures audit { result.audit ≡ audit }
 {
     Asked {
-        audit: false,
-        request: Err(fault),
+        audit,
+        task: Err(fault),
     }
 }
 
-/// What options ask for: a stage text is refused before the schema text.
+/// What options ask for: the check of a tree, or else a table.
+fn read_task(alloc: Global, options: &Words<'_>) -> Result<Task, RunFault>
+    requires few { length options.now.stages.items ≤ 16 }
+    requires batch { (1 ≤ options.now.batch) × (options.now.batch ≤ 1000000) }
+    requires workers { (1 ≤ options.now.workers) × (options.now.workers ≤ 64) }
+    ensures asks { (result ≡ Err RunFault.NoMemory) ⊎ TaskIs options.now.check (options_of options.now) (asked_of result) }
+    ensures only { (result ≡ Err RunFault.NoMemory)
+        ⊎ ((asked : Result ATask AFault) → TaskIs options.now.check (options_of options.now) asked → asked ≡ asked_of result) }
+    ensures early { IfErr result (λ fault. (is_early fault ≡ true) ⊎ (fault ≡ RunFault.NoMemory)) }
+    ensures proper { IfOk result (λ t. IfTable t (λ r. All (λ e. KindOk e.kind) r.entries.items)) }
+    ensures allowed { IfOk result (λ t. IfTable t (λ r. All (λ e. IsAllowed e.kind) r.entries.items)) }
+    ensures few { IfOk result (λ t. IfTable t (λ r. length r.stages.items ≤ 16)) }
+    ensures batch { IfOk result (λ t. IfTable t (λ r. (1 ≤ r.batch) × (r.batch ≤ 1000000))) }
+    ensures workers { IfOk result (λ t. IfTable t (λ r. (1 ≤ r.workers) × (r.workers ≤ 64))) }
+{
+    if options.check {
+        return Ok(Task::Tree);
+    }
+    match read_request(alloc, options) {
+        Ok(request) => Ok(Task::Table(request)),
+        Err(fault) => Err(fault),
+    }
+}
+
+/// What options ask for of a table: a stage text is refused before the schema text.
 fn read_request(alloc: Global, options: &Words<'_>) -> Result<Request, RunFault>
     requires few { length options.now.stages.items ≤ 16 }
-    ensures asks { (result ≡ Err RunFault.NoMemory) ⊎ RequestIs (options_of options.now) (asked_of result) }
+    ensures asks { (result ≡ Err RunFault.NoMemory) ⊎ RequestIs (options_of options.now) (request_asked result) }
     ensures only { (result ≡ Err RunFault.NoMemory)
-        ⊎ ((asked : Result ARequest AFault) → RequestIs (options_of options.now) asked → asked ≡ asked_of result) }
+        ⊎ ((asked : Result ARequest AFault) → RequestIs (options_of options.now) asked → asked ≡ request_asked result) }
     ensures early { IfErr result (λ fault. (is_early fault ≡ true) ⊎ (fault ≡ RunFault.NoMemory)) }
     ensures proper { IfOk result (λ r. All (λ e. KindOk e.kind) r.entries.items) }
     ensures allowed { IfOk result (λ r. All (λ e. IsAllowed e.kind) r.entries.items) }
-    ensures named { IfOk result (λ r. AllByRecursion IsNamed r.stages.items) }
     ensures few { IfOk result (λ r. length r.stages.items ≡ length options.now.stages.items) }
     ensures batch { IfOk result (λ r. r.batch ≡ options.now.batch) }
+    ensures workers { IfOk result (λ r. r.workers ≡ options.now.workers) }
 {
     match read_stages(alloc, options.stages.as_slice()) {
         Ok(stages) => read_others(alloc, options, stages),
@@ -92,14 +123,15 @@ fn read_others(
     options: &Words<'_>,
     stages: Vec<StageText>,
 ) -> Result<Request, RunFault>
-    ensures asks { (result ≡ Err RunFault.NoMemory) ⊎ StagesAsk (options_of options.now) (Ok stages.items) (asked_of result) }
+    ensures asks { (result ≡ Err RunFault.NoMemory) ⊎ StagesAsk (options_of options.now) (Ok stages.items) (request_asked result) }
     ensures only { (result ≡ Err RunFault.NoMemory)
-        ⊎ ((asked : Result ARequest AFault) → StagesAsk (options_of options.now) (Ok stages.items) asked → asked ≡ asked_of result) }
+        ⊎ ((asked : Result ARequest AFault) → StagesAsk (options_of options.now) (Ok stages.items) asked → asked ≡ request_asked result) }
     ensures early { IfErr result (λ fault. (is_early fault ≡ true) ⊎ (fault ≡ RunFault.NoMemory)) }
     ensures proper { IfOk result (λ r. All (λ e. KindOk e.kind) r.entries.items) }
     ensures allowed { IfOk result (λ r. All (λ e. IsAllowed e.kind) r.entries.items) }
     ensures stages { IfOk result (λ r. r.stages.items ≡ stages.items) }
     ensures batch { IfOk result (λ r. r.batch ≡ options.now.batch) }
+    ensures workers { IfOk result (λ r. r.workers ≡ options.now.workers) }
 {
     match read_entries(alloc, options.schema) {
         Ok(entries) => {
@@ -108,6 +140,7 @@ fn read_others(
                 entries,
                 stages,
                 batch: options.batch,
+                workers: options.workers,
                 mark,
             })
         }
@@ -121,7 +154,6 @@ fn read_stages(alloc: Global, texts: &[&str]) -> Result<Vec<StageText>, RunFault
     ensures found { IfOk result (λ stages. stages_from 1 (map (λ t. t.now) texts.now) ≡ Ok stages.items) }
     ensures fault { IfErr result (λ fault. (fault ≡ RunFault.NoMemory) ⊎ (stages_from 1 (map (λ t. t.now) texts.now) ≡ Err fault)) }
     ensures early { IfErr result (λ fault. (is_early fault ≡ true) ⊎ (fault ≡ RunFault.NoMemory)) }
-    ensures named { IfOk result (λ stages. AllByRecursion IsNamed stages.items) }
     ensures count { IfOk result (λ stages. length stages.items ≡ length texts.now) }
 {
     let mut stages = Vec::new(alloc);
@@ -140,7 +172,6 @@ fn read_numbered(alloc: Global, number: u32, text: &str) -> Result<StageText, Ru
     ensures found { IfOk result (λ stage. stages_from number (text.now ∷ []) ≡ Ok (stage ∷ [])) }
     ensures fault { IfErr result (λ fault. (fault ≡ RunFault.NoMemory) ⊎ (stages_from number (text.now ∷ []) ≡ Err fault)) }
     ensures early { IfErr result (λ fault. (is_early fault ≡ true) ⊎ (fault ≡ RunFault.NoMemory)) }
-    ensures named { IfOk result IsNamed }
 {
     match read_stage(alloc, text) {
         Ok(stage) => Ok(stage),

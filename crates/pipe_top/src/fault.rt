@@ -3,6 +3,7 @@ use csv_model::HeaderFault;
 use fmt_string::RowFault;
 use stage_chain::DriveFault;
 use stage_plan::{PlanFault, PlanRule, StageFault, TypesRule};
+use tree_check::{CheckFault, TreeFault};
 use unit_pass::NoMemory;
 use words::WordsFault;
 
@@ -38,6 +39,8 @@ pub enum RunFault {
     ReadFault,
     /// The sink failed after so many bytes of the text.
     WriteFault { taken: u64 },
+    /// The tree that was to be checked has no report: its text, its schema or its array is at fault.
+    Tree(TreeFault),
     /// Memory ran out.
     NoMemory,
 }
@@ -96,6 +99,20 @@ impl From<DriveFault> for RunFault {
             DriveFault::Row(RowFault::Ragged { row, found }) => RunFault::Ragged { row, found },
             DriveFault::Row(RowFault::Field { row, column }) => RunFault::Field { row, column },
             DriveFault::NoMemory => RunFault::NoMemory,
+        }
+    }
+}
+
+impl From<CheckFault> for RunFault {
+    ghost use Rattle.std.specs.Prelude.{◌≡◌};
+    ghost use Rattle.pipe_top.specs.Answer.{fault_of_check};
+
+    ghost from_gives = { λ fault given. given ≡ fault_of_check fault };
+
+    fn from(fault: CheckFault) -> RunFault {
+        match fault {
+            CheckFault::Tree(fault) => RunFault::Tree(fault),
+            CheckFault::NoMemory => RunFault::NoMemory,
         }
     }
 }

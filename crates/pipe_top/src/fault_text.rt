@@ -2,12 +2,13 @@
 ghost use Rattle.std.specs.Prelude.{◌≡◌, ◌++◌, codes, decimal};
 ghost use Rattle.stage_model.specs.FaultTexts.{rule_text, stage_fault_text};
 ghost use Rattle.pipe_top.specs.Told.{entry_text, fault_text};
-ghost use Rattle.pipe_top.specs.SaidTexts.{digits_of, said_text};
+ghost use Rattle.pipe_top.specs.SaidTexts.{digits_of, said_text, told_text};
 
 use crate::fault::RunFault;
 use itoa::Buffer;
 use stage_plan::{PlanRule, StageFault, TypesRule};
 use std::fmt;
+use tree_check::TreeFault;
 use words::WordsFault;
 
 /// A text with at most two numbers in it.
@@ -20,30 +21,37 @@ pub(crate) struct Said {
     pub(crate) back: &'static str,
 }
 
+/// What is told of a fault: a text with at most two numbers in it, or the fault of a tree, whose way to a node may be long.
+#[derive(Clone, Copy)]
+pub(crate) enum Told {
+    Text(Said),
+    Tree(TreeFault),
+}
+
 /// A text without a number.
-fn plain(text: &'static str) -> Said
-    ensures { said_text result ≡ text.now }
+fn plain(text: &'static str) -> Told
+    ensures { told_text result ≡ text.now }
 {
-    Said {
+    Told::Text(Said {
         front: text,
         first: None,
         middle: "",
         second: None,
         back: "",
-    }
+    })
 }
 
 /// A text with a number.
-fn counted(front: &'static str, number: u64, back: &'static str) -> Said
-    ensures { said_text result ≡ front.now ++ decimal number ++ back.now }
+fn counted(front: &'static str, number: u64, back: &'static str) -> Told
+    ensures { told_text result ≡ front.now ++ decimal number ++ back.now }
 {
-    Said {
+    Told::Text(Said {
         front,
         first: Some(number),
         middle: back,
         second: None,
         back: "",
-    }
+    })
 }
 
 /// A text with two numbers.
@@ -53,25 +61,28 @@ fn placed(
     middle: &'static str,
     second: u64,
     back: &'static str,
-) -> Said
-    ensures { said_text result ≡ front.now ++ decimal first ++ middle.now ++ decimal second ++ back.now }
+) -> Told
+    ensures { told_text result ≡ front.now ++ decimal first ++ middle.now ++ decimal second ++ back.now }
 {
-    Said {
+    Told::Text(Said {
         front,
         first: Some(first),
         middle,
         second: Some(second),
         back,
-    }
+    })
 }
 
-/// The text of a fault.
-pub(crate) fn said_of(fault: RunFault) -> Said
-    ensures { said_text result ≡ fault_text fault }
+/// What is told of a fault.
+pub(crate) fn told_of(fault: RunFault) -> Told
+    ensures { told_text result ≡ fault_text fault }
 {
     match fault {
         RunFault::Words(WordsFault::Refused) => plain("words refused"),
         RunFault::Words(WordsFault::TooManyStages) => plain("words: more than 16 stages"),
+        RunFault::Words(WordsFault::UsedWithCheck) => {
+            plain("words: --check takes no stage and no --schema")
+        }
         RunFault::Stage { stage, rule } => counted("stage ", stage as u64, stage_text(rule)),
         RunFault::Schema { entry, rule } => counted("schema entry ", entry, entry_text(rule)),
         RunFault::Plan { stage, rule } => counted("stage ", stage as u64, rule_text(rule)),
@@ -95,6 +106,7 @@ pub(crate) fn said_of(fault: RunFault) -> Said
         RunFault::InputTooLong => plain("input longer than 1073741824 bytes"),
         RunFault::ReadFault => plain("read failed"),
         RunFault::WriteFault { taken } => counted("write failed after ", taken, " bytes"),
+        RunFault::Tree(fault) => Told::Tree(fault),
         RunFault::NoMemory => plain("out of memory"),
     }
 }
@@ -145,6 +157,23 @@ pub(crate) fn digits<'a>(number: Option<u64>, room: &'a mut Buffer) -> &'a str
     }
 }
 
+impl fmt::Display for Said {
+    ghost use Rattle.std.specs.Prelude.{Some};
+    ghost use Rattle.pipe_top.specs.SaidTexts.{said_text};
+
+    ghost output = { λ said. Some (said_text said) };
+
+    fn fmt<W: fmt::Write>(&self, f: &mut fmt::Formatter<W>) -> fmt::Result {
+        let mut one = Buffer::new();
+        let mut two = Buffer::new();
+        f.write_str(self.front)?;
+        f.write_str(digits(self.first, &mut one))?;
+        f.write_str(self.middle)?;
+        f.write_str(digits(self.second, &mut two))?;
+        f.write_str(self.back)
+    }
+}
+
 impl fmt::Display for RunFault {
     ghost use Rattle.std.specs.Prelude.{Some};
     ghost use Rattle.pipe_top.specs.Told.{fault_text};
@@ -152,14 +181,10 @@ impl fmt::Display for RunFault {
     ghost output = { λ fault. Some (fault_text fault) };
 
     fn fmt<W: fmt::Write>(&self, f: &mut fmt::Formatter<W>) -> fmt::Result {
-        let said = said_of(*self);
-        let mut one = Buffer::new();
-        let mut two = Buffer::new();
-        f.write_str(said.front)?;
-        f.write_str(digits(said.first, &mut one))?;
-        f.write_str(said.middle)?;
-        f.write_str(digits(said.second, &mut two))?;
-        f.write_str(said.back)
+        match told_of(*self) {
+            Told::Text(said) => write!(f, "{said}"),
+            Told::Tree(fault) => write!(f, "{fault}"),
+        }
     }
 }
 

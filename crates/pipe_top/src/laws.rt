@@ -8,4 +8,5 @@ pub fn one_answer()
     ensures alone { (words : List (List ℕ)) (bytes : List ℕ) (one other : Answer) → IsAnswer words bytes one → IsAnswer words bytes other → one ≡ other }
 {
     stage_plan::one_reading();
+    tree_check::one_check();
 }

@@ -11,10 +11,10 @@ use stream_face::{NoTap, Tap};
 
 /// What a run came to, what it wrote and what it told.
 #[derive(Drop)]
-struct Ran {
-    outcome: Outcome,
-    sink: MemSink,
-    errs: MemSink,
+pub(crate) struct Ran {
+    pub(crate) outcome: Outcome,
+    pub(crate) sink: MemSink,
+    pub(crate) errs: MemSink,
 }
 
 /// Runs with these words over a text, and shows each chunk to a tap.
@@ -46,7 +46,7 @@ fn run_shown<R: Threads + Sync, T: Tap>(
 }
 
 /// Runs with the words of a line over a text.
-fn run_line<R: Threads + Sync>(
+pub(crate) fn run_line<R: Threads + Sync>(
     rt: &R,
     alloc: Global,
     line: &str,
@@ -73,7 +73,7 @@ const PAYMENTS: &[u8] =
 
 // Each row has the words, an input, the blocks and nodes that are made, and the text that is written.
 
-static TABLES: [(&str, &[u8], (u64, u64), &[u8]); 14] = [
+static TABLES: [(&str, &[u8], (u64, u64), &[u8]); 24] = [
     (
         "--schema id:l;amount:d:10,2;paid:b select=id,name,paid filter=paid,eq,true",
         PAYMENTS,
@@ -148,6 +148,63 @@ static TABLES: [(&str, &[u8], (u64, u64), &[u8]); 14] = [
         (6, 12),
         b"id_count,id_sum,id_min,id_max\n0,0,~,~\n",
     ),
+    // Dictionaries: a null has no entry, and each chunk has a dictionary of its own.
+    (
+        "dict=k",
+        b"k,v\nx,1\n,2\ny,3\nx,4\n",
+        (9, 13),
+        b"k,v\nx,1\n,2\ny,3\nx,4\n",
+    ),
+    (
+        "dict=k plain=k",
+        b"k,v\nx,1\n,2\ny,3\nx,4\n",
+        (12, 18),
+        b"k,v\nx,1\n,2\ny,3\nx,4\n",
+    ),
+    (
+        "--batch 2 dict=k",
+        b"k\nx\ny\nx\nx\n",
+        (10, 15),
+        b"k\nx\ny\nx\nx\n",
+    ),
+    ("dict=k", b"k\n", (0, 5), b"k\n"),
+    // A filter has new indices, and the dictionary that there was.
+    (
+        "--schema n:l dict=k filter=n,gt,1",
+        b"k,n\nx,1\ny,2\nx,3\n",
+        (8, 20),
+        b"k,n\ny,2\nx,3\n",
+    ),
+    (
+        "--schema n:l dict=k filter=n,gt,1 plain=k",
+        b"k,n\nx,1\ny,2\nx,3\n",
+        (10, 25),
+        b"k,n\ny,2\nx,3\n",
+    ),
+    (
+        "dict=k filter=k,valid",
+        b"k,v\nx,1\n,2\ny,3\nx,4\n",
+        (12, 20),
+        b"k,v\nx,1\ny,3\nx,4\n",
+    ),
+    (
+        "dict=k filter=k,null",
+        b"k,v\nx,1\n,2\ny,3\nx,4\n",
+        (13, 20),
+        b"k,v\n,2\n",
+    ),
+    (
+        "--schema n:l dict=k slice=1,2 filter=n,ne,2",
+        b"k,n\nx,1\ny,2\nx,3\n",
+        (8, 24),
+        b"k,n\nx,3\n",
+    ),
+    (
+        "--schema n:l dict=k pack=p,k filter=n,gt,1 unpack=p",
+        b"k,n\nx,1\ny,2\nx,3\n",
+        (8, 34),
+        b"n,k\n2,y\n3,x\n",
+    ),
 ];
 
 #[test]
@@ -187,7 +244,7 @@ fn sixteen_stages_run(rt: HostRuntime) -> Result<(), Fail> {
 
 // Each row has the words, an input, the fault, and its line.
 
-static REFUSED: [(&str, &[u8], RunFault, &[u8]); 14] = [
+static REFUSED: [(&str, &[u8], RunFault, &[u8]); 17] = [
     (
         "foo=1",
         b"a\n1\n",
@@ -198,22 +255,49 @@ static REFUSED: [(&str, &[u8], RunFault, &[u8]); 14] = [
         b"arrowpipe: stage 1: unknown stage\n",
     ),
     (
-        "dict=a",
-        b"a\n1\n",
-        RunFault::Stage {
-            stage: 1,
-            rule: StageFault::UnknownStage,
+        "dict=k filter=k,eq,x",
+        b"k\nx\n",
+        RunFault::Plan {
+            stage: 2,
+            rule: PlanRule::WrongType,
         },
-        b"arrowpipe: stage 1: unknown stage\n",
+        b"arrowpipe: stage 2: wrong column type\n",
     ),
     (
-        "select=a plain=a",
-        b"a\n1\n",
-        RunFault::Stage {
+        "dict=k dict=k",
+        b"k\nx\n",
+        RunFault::Plan {
             stage: 2,
-            rule: StageFault::UnknownStage,
+            rule: PlanRule::WrongType,
         },
-        b"arrowpipe: stage 2: unknown stage\n",
+        b"arrowpipe: stage 2: wrong column type\n",
+    ),
+    (
+        "--schema a:l dict=a",
+        b"a\n1\n",
+        RunFault::Plan {
+            stage: 1,
+            rule: PlanRule::WrongType,
+        },
+        b"arrowpipe: stage 1: wrong column type\n",
+    ),
+    (
+        "plain=a",
+        b"a\n1\n",
+        RunFault::Plan {
+            stage: 1,
+            rule: PlanRule::WrongType,
+        },
+        b"arrowpipe: stage 1: wrong column type\n",
+    ),
+    (
+        "dict=a,b",
+        b"a,b\n1,2\n",
+        RunFault::Stage {
+            stage: 1,
+            rule: StageFault::BadArguments,
+        },
+        b"arrowpipe: stage 1: bad arguments\n",
     ),
     (
         "totals=a",

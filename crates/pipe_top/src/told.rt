@@ -1,9 +1,11 @@
 //! What is told of the fault and of the audit. No line takes memory.
 ghost use Rattle.std.specs.Prelude.{◌++◌};
+ghost use Rattle.pipe_top.specs.SaidTexts.{said_text};
 ghost use Rattle.pipe_top.specs.Told.{Says, audit_if, audit_line, fault_line, fault_text, joined, line_of};
 
 use crate::fault::RunFault;
-use crate::fault_text::{digits, said_of};
+use crate::fault_text::{Said, Told, digits, told_of};
+use crate::tree_line::tell_tree;
 use edge_io::{Sink, WriteFault, write_all};
 use itoa::Buffer;
 use unit_pass::Audit;
@@ -61,7 +63,16 @@ fn tell_audit<E: Sink>(errs: &mut E, audit: &Audit) -> Result<(), WriteFault>
 fn tell_fault<E: Sink>(errs: &mut E, fault: RunFault) -> Result<(), WriteFault>
     ensures { Says result (E.taken errs.old) (E.taken errs.new) (E.faults errs.old) (E.faults errs.new) (line_of (fault_text fault)) }
 {
-    let said = said_of(fault);
+    match told_of(fault) {
+        Told::Text(said) => tell_said(errs, &said),
+        Told::Tree(fault) => tell_tree(errs, &fault),
+    }
+}
+
+/// The line of a text.
+fn tell_said<E: Sink>(errs: &mut E, said: &Said) -> Result<(), WriteFault>
+    ensures { Says result (E.taken errs.old) (E.taken errs.new) (E.faults errs.old) (E.faults errs.new) (line_of (said_text said.now)) }
+{
     let mut one = Buffer::new();
     let mut two = Buffer::new();
     let first = digits(said.first, &mut one);
@@ -81,7 +92,7 @@ fn tell_fault<E: Sink>(errs: &mut E, fault: RunFault) -> Result<(), WriteFault>
 }
 
 /// Writes the pieces one after the other.
-fn say<E: Sink>(errs: &mut E, pieces: &[&str]) -> Result<(), WriteFault>
+pub(crate) fn say<E: Sink>(errs: &mut E, pieces: &[&str]) -> Result<(), WriteFault>
     ensures { Says result (E.taken errs.old) (E.taken errs.new) (E.faults errs.old) (E.faults errs.new) (joined pieces.now) }
 {
     for piece in pieces {

@@ -1,30 +1,28 @@
 //! The top call.
 ghost use Rattle.std.specs.Prelude.{◌≡◌, ◌<◌, ◌≤◌, ◌*◌, ◌⊎◌, ◌++◌, true, false, All, Some, None, Ok, Err, IfOk, IfErr, IfSome, OnOk, OnErr, length, ℕ, List};
-ghost use Rattle.std.specs.List.{AllByRecursion};
 ghost use Rattle.std.specs.Thread.{IsSync};
 ghost use Rattle.std.specs.Io.KnownBytes.{IsAtEnd, Keeps};
 ghost use Rattle.field_codec.specs.TextColumns.{IsAllowed};
 ghost use Rattle.fmt_string.specs.Kinds.{KindOk};
 ghost use Rattle.edge_io.specs.Edge.{LosesPrefix, Rose};
 ghost use Rattle.unit_pass.specs.declared.pass.TheConstants.{ROOM};
-ghost use Rattle.words.specs.Words.{texts_of, words_of};
-ghost use Rattle.pipe_top.specs.Answer.{Asks, Fault, IsAnswer, IsAnswerTo, IsInput, Text, answer_to, input_limit, status_of};
-ghost use Rattle.pipe_top.specs.Outcomes.{AtWriteFault, GotFirst, GotText, asked_of, fault_in, is_decided, is_early, is_write_fault, request_of, wants_audit};
-ghost use Rattle.stage_chain.specs.Chains.{link_shows};
-ghost use Rattle.stage_chain.specs.Runs.{ShowsAll, ShowsSome};
-ghost use Rattle.pipe_top.specs.Stages.{IsNamed};
+ghost use Rattle.words.specs.Words.{audit_of, texts_of};
+ghost use Rattle.pipe_top.specs.Answer.{AnswersBytes, Asks, Fault, IsAnswer, IsAnswerTo, IsInput, Text, input_limit, status_of};
+ghost use Rattle.pipe_top.specs.Outcomes.{AtWriteFault, GotFirst, GotText, IfTable, asked_of, fault_in, is_decided, is_early, is_write_fault, task_of};
 ghost use Rattle.pipe_top.specs.Told.{Told, audit_if};
-ghost use Rattle.pipe_top.specs.Traffic.{IsShown, IsShownInPart, IsTraffic, LinksTraffic, links_asked};
+ghost use Rattle.pipe_top.specs.Traffic.{CountsTask, IsShown, IsShownInPart, IsTraffic, ShowsAsked, ShowsTask};
 ghost use Rattle.pipe_top.specs.declared.fault.RunFault.{RunFault as AFault};
 
 use crate::answer::answer_input;
-use crate::asked::{Asked, Request, read_asked};
+use crate::asked::{Asked, Task, read_asked};
 use crate::fault::RunFault;
+use crate::laws::one_answer;
 use crate::told::tell;
 use edge_io::{Gate, ReadFault, Sink, Source, WriteFault, read_all, write_all};
 use std::alloc::Global;
 use std::thread::Threads;
 use stream_face::Tap;
+use tree_check::check_tree;
 use unit_pass::{Audit, Pass, ROOM, open_desk};
 
 /// The most bytes that are read.
@@ -34,16 +32,18 @@ const INPUT_LIMIT: u64 = 1 << 30;
 #[derive(Clone, Copy, PartialEq, Eq, Debug)]
 pub struct Outcome {
     /// A function of the fault: 0 without one; 2 for the words, 3 for the stages and the schema text, 4 for the header and the
-    /// records, 5 for an input that is too long, 6 and 7 for reading and writing, 9 for want of memory.
+    /// records, 5 for an input that is too long, 6 and 7 for reading and writing, 8 for the tree, 9 for want of memory.
     pub status: u8,
     pub fault: Option<RunFault>,
     /// The blocks and nodes that were made, and that none is left.
     pub audit: Audit,
 }
 
-/// Reads the source to its end and writes the text of the table that the stages make of the table that it spells.
+/// Reads the source to its end and writes the text of the table that the stages make of the table that it spells, or the report
+/// of the tree that it tells of.
 ///
-/// `words` are those after the program's name: `[--schema TEXT] [--batch N] [--audit] [--null MARK] [STAGE ...]`. A column
+/// `words` are those after the program's name:
+/// `[--schema TEXT] [--batch N] [--workers W] [--audit] [--check] [--null MARK] [STAGE ...]`. A column
 /// holds values of the type that the schema text asks for, and UTF-8 text where it asks for none; a field that equals the
 /// mark is a null, by default the empty one, and a null is written as the mark. The header's names are UTF-8 and differ,
 /// there are at most 1,024 of them, and each entry of the schema text names one of them. There are at most 16 stages, each
@@ -51,6 +51,10 @@ pub struct Outcome {
 ///
 /// The first of these faults is told: of the words, of the stage texts, of the schema text, of reading, of the header, of the
 /// stages over its columns, of the records.
+///
+/// With `--check`, which takes no stage and no schema text, the source is a schema tree and an array tree as lines of text. They
+/// are checked as a stranger's would be, and the text is the report of the array. The first of these faults is told: of the
+/// words, of reading, of the text, of the schema, of the array. The tap sees nothing, and `N`, `W` and the mark change nothing.
 ///
 /// Each chunk that passes from the source or from a stage is checked and then shown to the tap: link 0 is the source's, link
 /// K that of stage K ("The Arrow C Stream Interface").
@@ -94,19 +98,19 @@ pub fn run<R: Threads + Sync, S: Source, K: Sink, E: Sink, T: Tap>(
     ensures status { result.status ≡ status_of result.fault }
     ensures prefix { LosesPrefix (S.left source.old) (S.left source.new) }
     // On success the tap was shown each chunk of each link, once and in order; else the first ones of each, and nothing where
-    // there are no links.
+    // there are no links. The check of a tree shows nothing.
     ensures shows { result.fault ≡ None → (bytes : List ℕ) → IsInput (texts_of words.now) (S.left source.old) bytes
         → IsShown (texts_of words.now) bytes (T.seen tap.old) (T.seen tap.new) }
     ensures shows_some { IfSome result.fault (λ _. (bytes : List ℕ) → IsInput (texts_of words.now) (S.left source.old) bytes
         → IsShownInPart (texts_of words.now) bytes (T.seen tap.old) (T.seen tap.new)) }
-    // Nothing is left, and on success as many blocks and nodes were made as the links need.
+    // Nothing is left, and on success as many blocks and nodes were made as the links or the tree need.
     ensures audit { result.audit.left ≡ 0 }
     ensures audit_counts { result.fault ≡ None → (bytes : List ℕ) → IsInput (texts_of words.now) (S.left source.old) bytes
         → IsTraffic (texts_of words.now) bytes result.audit.blocks result.audit.nodes }
-    // The sink of diagnostics took the fault's line and then the audit's where the words ask for it, or the first bytes
+    // The sink of diagnostics took the fault's line and then the audit's where the words ask for it and aren't refused, or the first bytes
     // of that where its own faults rose. Without memory the audit's line may be missing.
     ensures diagnostics { Told (E.taken errs.old) (E.taken errs.new) (E.faults errs.old) (E.faults errs.new) result.fault
-        (audit_if (wants_audit (words_of (texts_of words.now))) result.audit) }
+        (audit_if (audit_of (texts_of words.now)) result.audit) }
     // Where no fault rises the answer is given, or there was no memory.
     ensures complete { (bytes text : List ℕ) → IsInput (texts_of words.now) (S.left source.old) bytes → IsAnswer (texts_of words.now) bytes (Text text)
         → ¬ (Rose (S.faults source.old) (S.faults source.new)) → ¬ (Rose (K.faults sink.old) (K.faults sink.new)) → (result.status ≡ 0) ⊎ (result.status ≡ 9) }
@@ -114,12 +118,13 @@ pub fn run<R: Threads + Sync, S: Source, K: Sink, E: Sink, T: Tap>(
         → IsAnswer (texts_of words.now) bytes (Fault fault)
         → ¬ (Rose (S.faults source.old) (S.faults source.new)) → (result.fault ≡ Some fault) ⊎ (result.status ≡ 9) }
 {
+    one_answer();
     let (desk, mut pass) = open_desk();
     let Asked {
         audit: wanted,
-        request,
+        task,
     } = read_asked(alloc, words);
-    let carried = carry_out(rt, alloc, request, source, sink, &mut pass, tap, gate);
+    let carried = carry_out(rt, alloc, task, source, sink, &mut pass, tap, gate);
     let audit = desk.close(pass);
     let outcome = outcome_of(carried, audit);
     let _told = tell(errs, outcome.fault, &outcome.audit, wanted);
@@ -165,6 +170,7 @@ fn status(fault: RunFault) -> u8
         RunFault::InputTooLong => 5,
         RunFault::ReadFault => 6,
         RunFault::WriteFault { taken: _ } => 7,
+        RunFault::Tree(_) => 8,
         RunFault::NoMemory => 9,
     }
 }
@@ -187,11 +193,45 @@ fn read_input<S: Source>(alloc: Global, source: &mut S) -> Result<Vec<u8>, RunFa
     }
 }
 
+/// The text that answers a task and an input, or the first fault of the input.
+fn answer_task<R: Threads + Sync, T: Tap>(
+    rt: &R,
+    alloc: Global,
+    bytes: &[u8],
+    task: &Task,
+    pass: &mut Pass,
+    tap: &mut T,
+    gate: &(dyn Gate + Sync),
+) -> Result<Vec<u8>, RunFault>
+    requires shared { IsSync R.row }
+    requires short { length bytes.now ≤ input_limit }
+    requires units { 2 * ROOM ≤ pass.old.units }
+    requires proper { IfTable task.now (λ r. All (λ e. KindOk e.kind) r.entries.items) }
+    requires allowed { IfTable task.now (λ r. All (λ e. IsAllowed e.kind) r.entries.items) }
+    requires few { IfTable task.now (λ r. length r.stages.items ≤ 16) }
+    requires batch { IfTable task.now (λ r. (1 ≤ r.batch) × (r.batch ≤ 1000000)) }
+    requires workers { IfTable task.now (λ r. (1 ≤ r.workers) × (r.workers ≤ 64)) }
+    ensures text { IfOk result (λ text. AnswersBytes (task_of task.now) bytes.now (Text text.items)) }
+    ensures fault { IfErr result (λ fault. (fault ≡ RunFault.NoMemory) ⊎ AnswersBytes (task_of task.now) bytes.now (Fault fault)) }
+    ensures units { pass.new.units ≡ pass.old.units }
+    ensures counts { OnOk result (CountsTask (task_of task.now) bytes.now pass.old.blocks pass.old.nodes pass.new.blocks pass.new.nodes) }
+    ensures shows { OnOk result (ShowsTask (task_of task.now) bytes.now (T.seen tap.old) (T.seen tap.new)) }
+    ensures shows_some { OnErr result (ShowsAsked (Ok (task_of task.now)) bytes.now (T.seen tap.old) (T.seen tap.new)) }
+{
+    match task {
+        Task::Table(request) => answer_input(rt, alloc, bytes, request, pass, tap, gate),
+        Task::Tree => match check_tree(alloc, bytes, pass) {
+            Ok(report) => Ok(report),
+            Err(fault) => Err(RunFault::from(fault)),
+        },
+    }
+}
+
 /// Reads the source, makes the text and writes it, where the words are taken.
 fn carry_out<R: Threads + Sync, S: Source, K: Sink, T: Tap>(
     rt: &R,
     alloc: Global,
-    request: Result<Request, RunFault>,
+    task: Result<Task, RunFault>,
     source: &mut S,
     sink: &mut K,
     pass: &mut Pass,
@@ -200,36 +240,34 @@ fn carry_out<R: Threads + Sync, S: Source, K: Sink, T: Tap>(
 ) -> Result<(), RunFault>
     requires shared { IsSync R.row }
     requires units { 2 * ROOM ≤ pass.old.units }
-    requires proper { IfOk request (λ r. All (λ e. KindOk e.kind) r.entries.items) }
-    requires allowed { IfOk request (λ r. All (λ e. IsAllowed e.kind) r.entries.items) }
-    requires named { IfOk request (λ r. AllByRecursion IsNamed r.stages.items) }
-    requires few { IfOk request (λ r. length r.stages.items ≤ 16) }
-    requires batch { IfOk request (λ r. (1 ≤ r.batch) × (r.batch ≤ 1000000)) }
-    requires early { IfErr request (λ fault. (is_early fault ≡ true) ⊎ (fault ≡ RunFault.NoMemory)) }
-    ensures text { OnOk result (IfSome (S.left source.old) (λ bytes. GotText (IsAnswerTo (asked_of request) bytes) (K.taken sink.old) (K.taken sink.new))) }
+    requires proper { IfOk task (λ t. IfTable t (λ r. All (λ e. KindOk e.kind) r.entries.items)) }
+    requires allowed { IfOk task (λ t. IfTable t (λ r. All (λ e. IsAllowed e.kind) r.entries.items)) }
+    requires few { IfOk task (λ t. IfTable t (λ r. length r.stages.items ≤ 16)) }
+    requires batch { IfOk task (λ t. IfTable t (λ r. (1 ≤ r.batch) × (r.batch ≤ 1000000))) }
+    requires workers { IfOk task (λ t. IfTable t (λ r. (1 ≤ r.workers) × (r.workers ≤ 64))) }
+    requires early { IfErr task (λ fault. (is_early fault ≡ true) ⊎ (fault ≡ RunFault.NoMemory)) }
+    ensures text { OnOk result (IfSome (S.left source.old) (λ bytes. GotText (IsAnswerTo (asked_of task) bytes) (K.taken sink.old) (K.taken sink.new))) }
     ensures text_read_to_end { OnOk result (IsAtEnd (S.left source.new)) }
-    ensures refused { IfErr result (λ fault. is_decided fault ≡ true → IfSome (S.left source.old) (λ bytes. answer_to (asked_of request) bytes ≡ Fault fault)) }
-    ensures refused_early { IfErr request (λ fault. result ≡ Err fault) }
-    ensures refused_early_only { IfErr result (λ fault. is_early fault ≡ true → asked_of request ≡ Err fault) }
-    ensures refused_unread { IfErr request (λ _. Keeps (S.left source.old) (S.left source.new)) }
-    ensures refused_unfailed { IfErr request (λ _. S.faults source.new ≡ S.faults source.old) }
+    ensures refused { IfErr result (λ fault. is_decided fault ≡ true → IfSome (S.left source.old) (λ bytes. IsAnswerTo (asked_of task) bytes (Fault fault))) }
+    ensures refused_early { IfErr task (λ fault. result ≡ Err fault) }
+    ensures refused_early_only { IfErr result (λ fault. is_early fault ≡ true → asked_of task ≡ Err fault) }
+    ensures refused_unread { IfErr task (λ _. Keeps (S.left source.old) (S.left source.new)) }
+    ensures refused_unfailed { IfErr task (λ _. S.faults source.new ≡ S.faults source.old) }
     ensures read_fault { result ≡ Err RunFault.ReadFault → Rose (S.faults source.old) (S.faults source.new) }
     ensures write_fault { IfErr result (λ fault. AtWriteFault fault (λ taken. Rose (K.faults sink.old) (K.faults sink.new))) }
     ensures write_fault_prefix { IfErr result (λ fault. AtWriteFault fault
-        (λ taken. IfSome (S.left source.old) (λ bytes. GotFirst (IsAnswerTo (asked_of request) bytes) (K.taken sink.old) (K.taken sink.new) taken))) }
+        (λ taken. IfSome (S.left source.old) (λ bytes. GotFirst (IsAnswerTo (asked_of task) bytes) (K.taken sink.old) (K.taken sink.new) taken))) }
     ensures unwritten { IfErr result (λ fault. is_write_fault fault ≡ false → Keeps (K.taken sink.old) (K.taken sink.new)) }
     ensures prefix { LosesPrefix (S.left source.old) (S.left source.new) }
     ensures units { pass.new.units ≡ pass.old.units }
-    ensures counts { OnOk result (IfSome (S.left source.old)
-        (λ bytes. LinksTraffic (links_asked (asked_of request) bytes) pass.old.blocks pass.old.nodes pass.new.blocks pass.new.nodes)) }
-    ensures shows { OnOk result (IfSome (S.left source.old) (λ bytes. ShowsAll (link_shows (links_asked (asked_of request) bytes)) (T.seen tap.old)
-        (T.seen tap.new))) }
-    ensures shows_some { OnErr result (IfSome (S.left source.old)
-        (λ bytes. ShowsSome (link_shows (links_asked (asked_of request) bytes)) (T.seen tap.old) (T.seen tap.new))) }
+    ensures counts { OnOk result (IfOk task (λ t. IfSome (S.left source.old)
+        (λ bytes. CountsTask (task_of t) bytes pass.old.blocks pass.old.nodes pass.new.blocks pass.new.nodes))) }
+    ensures shows { OnOk result (IfOk task (λ t. IfSome (S.left source.old) (λ bytes. ShowsTask (task_of t) bytes (T.seen tap.old) (T.seen tap.new)))) }
+    ensures shows_some { OnErr result (IfSome (S.left source.old) (λ bytes. ShowsAsked (asked_of task) bytes (T.seen tap.old) (T.seen tap.new))) }
 {
-    let request = request?;
+    let task = task?;
     let bytes = read_input(alloc, source)?;
-    let text = answer_input(rt, alloc, &bytes, &request, pass, tap, gate)?;
+    let text = answer_task(rt, alloc, &bytes, &task, pass, tap, gate)?;
     match write_all(sink, &text) {
         Ok(()) => Ok(()),
         Err(WriteFault::Failed { taken }) => Err(RunFault::WriteFault { taken }),

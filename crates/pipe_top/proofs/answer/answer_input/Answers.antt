@@ -14,7 +14,6 @@ use Rattle.stage_chain.specs.Faults.{IfRow}
 use Rattle.stage_chain.specs.Plans.{plan_stages}
 use Rattle.stage_chain.specs.Runs.{ShowsAll, ShowsSome}
 use Rattle.stage_chain.proofs.Planning.{plan-stages-are}
-use Rattle.stage_kernels.specs.Plain.{ArePlain}
 use Rattle.stage_kernels.specs.Structs.{column_structs}
 use Rattle.stage_model.specs.Links.{Whole}
 use Rattle.stage_model.specs.Stages.{table}
@@ -23,7 +22,7 @@ use Rattle.stream_face.specs.Streams.{Stream}
 use Rattle.pipe_top.specs.Answer.{Fault, Text, answer_of_records, fault_of_row}
 use Rattle.pipe_top.specs.Outcomes.{request_of}
 use Rattle.pipe_top.proofs.Bodies.{driven-text, driven-told, source-is, told-here}
-use Rattle.pipe_top.proofs.Flat.{proper-flat, proper-plain}
+use Rattle.pipe_top.proofs.Flat.{proper-flat}
 use Rattle.pipe_top.proofs.LinksMade.{chain-counts, chain-links-are}
 use Rattle.pipe_top.proofs.answer.answer_input.Goals as goal
 
@@ -72,22 +71,6 @@ drive-requires-clause-flat g c = λ _ _.
     source-is s request.mark c.as_slice-mark.result.now cols (map column_of c.read_columns.result.now) (behind_header records) _ request.batch
     c.in_ok-source.ensures c.as_slice-mark.ensures first behind in
     ap (λ (m : Stream). column_structs m.columns) is ∙ proper-flat cols c.in-Ok.ensures.proper
-
-pub drive-requires-clause-plain : goal.drive-requires-clause-plain
-drive-requires-clause-plain g c = λ _ _.
-    let request = request_of c.args.request.now in
-    let records = records_of c.args.bytes.now in
-    let cols = map column_of c.in-Ok.columns.items in
-    let found : header_of (entries_of request.entries) records ≡ Ok cols =
-    subst (λ es. header_of (entries_of es) records ≡ Ok cols) c.as_slice.ensures.value
-    (subst (λ (rs : List Record). header_of (entries_of c.as_slice.result.now) rs ≡ Ok cols) c.in_ok-records.ensures.records c.in-Ok.ensures.found) in
-    let behind = c.in-Ok.ensures.behind ∙ ap behind_header c.in_ok-records.ensures.records in
-    let first : map column_of c.read_columns.result.now ≡ cols = c.read_columns.ensures ∙ c.in_ok-plan.ensures.read in
-    let s = source_state c.in_ok-source.source in
-    let is : s ≡ stream_of cols (batches_in request.mark cols (behind_header records) request.batch) =
-    source-is s request.mark c.as_slice-mark.result.now cols (map column_of c.read_columns.result.now) (behind_header records) _ request.batch
-    c.in_ok-source.ensures c.as_slice-mark.ensures first behind in
-    subst (λ (m : Stream). ArePlain m.columns) (sym is) (proper-plain cols c.in-Ok.ensures.proper)
 
 -- ---- the text of the table
 pub returns-in-Ok-drive-clause-text : goal.returns-in-Ok-drive-clause-text

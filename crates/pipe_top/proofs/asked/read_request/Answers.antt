@@ -2,7 +2,7 @@ use Rattle.std.proofs.Common.{◌≡◌, ◌⊎◌, ◌∙◌, ℕ, List, Result
 use Rattle.stage_model.specs.declared.stage.StageText.{StageText}
 use Rattle.words.specs.Words.{Options, options_of}
 use Rattle.pipe_top.specs.Answer.{Request, RequestIs, StagesAsk, stages_from}
-use Rattle.pipe_top.specs.Outcomes.{asked_of}
+use Rattle.pipe_top.specs.Outcomes.{request_asked}
 use Rattle.pipe_top.specs.declared.asked.Request.{Request as AsksFor}
 use Rattle.pipe_top.specs.declared.fault.RunFault.{RunFault}
 use Rattle.pipe_top.specs.declared.fault.RunFault.TheVariants as run
@@ -10,8 +10,8 @@ use Rattle.pipe_top.proofs.asked.read_request.Goals as goal
 
 -- what the options with their stages alone ask for, the options ask for
 only-request : (options : Options) (stages : List StageText) (r : Result AsksFor RunFault) → stages_from 1 options.stages ≡ Ok stages
-    → (r ≡ Err run.NoMemory) ⊎ ((asked : Result Request RunFault) → StagesAsk options (Ok stages) asked → asked ≡ asked_of r)
-    → (r ≡ Err run.NoMemory) ⊎ ((asked : Result Request RunFault) → RequestIs options asked → asked ≡ asked_of r)
+    → (r ≡ Err run.NoMemory) ⊎ ((asked : Result Request RunFault) → StagesAsk options (Ok stages) asked → asked ≡ request_asked r)
+    → (r ≡ Err run.NoMemory) ⊎ ((asked : Result Request RunFault) → RequestIs options asked → asked ≡ request_asked r)
 only-request options stages r is (inl none) = inl none
 only-request options stages r is (inr only) = inr (λ asked asks. only asked (subst (λ s. StagesAsk options s asked) is asks))
 

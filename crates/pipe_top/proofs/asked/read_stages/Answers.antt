@@ -16,5 +16,4 @@ pub loop-place-preserved : goal.loop-place-preserved
 loop-place-preserved c =
     let texts = c.args.texts.now in
     subst (ReadTo texts (c.loop-place.place + 1)) (sym c.in-Ok.ensures.items)
-    (read-more texts c.loop-place.place c.loop-place.stages.items c.loop-place.invariant _ (omega arith) c.in_ok-stage.stage c.in_ok-stage.ensures.found
-    c.in_ok-stage.ensures.named)
+    (read-more texts c.loop-place.place c.loop-place.stages.items c.loop-place.invariant _ (omega arith) c.in_ok-stage.stage c.in_ok-stage.ensures.found)

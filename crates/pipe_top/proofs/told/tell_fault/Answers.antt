@@ -1,15 +1,15 @@
-use Rattle.std.proofs.Common.{◌∙◌, ◌++◌, ap, subst}
-use Rattle.pipe_top.specs.SaidTexts.{digits_of}
-use Rattle.pipe_top.specs.Told.{Says, fault_text}
-use Rattle.pipe_top.proofs.FaultLines.{line-pieces}
+use Rattle.std.proofs.Common.{subst}
+use Rattle.pipe_top.specs.Told.{Says, line_of}
 use Rattle.pipe_top.proofs.told.tell_fault.Goals as goal
 
-pub returns : goal.returns
-returns g c =
-    let said = c.said_of-said.result in
-    subst (Says c.say.result (g.E.Sink.taken c.args.errs.now) (g.E.Sink.taken c.say.new.errs) (g.E.Sink.faults c.args.errs.now)
-    (g.E.Sink.faults c.say.new.errs))
-    (line-pieces said.front.now c.digits-first.result.now said.middle.now c.digits-second.result.now said.back.now (fault_text c.args.fault)
-    (ap (λ d. said.front.now ++ (d ++ (said.middle.now ++ (c.digits-second.result.now ++ said.back.now)))) c.digits-first.ensures
-    ∙ ap (λ d. said.front.now ++ (digits_of said.first ++ (said.middle.now ++ (d ++ said.back.now)))) c.digits-second.ensures
-    ∙ c.said_of-said.ensures)) c.say.ensures
+pub returns-in-Text : goal.returns-in-Text
+returns-in-Text g c =
+    subst (λ t. Says c.tell_said.result (g.E.Sink.taken c.args.errs.now) (g.E.Sink.taken c.tell_said.new.errs)
+    (g.E.Sink.faults c.args.errs.now) (g.E.Sink.faults c.tell_said.new.errs) (line_of t))
+    c.in-Text.ensures c.tell_said.ensures
+
+pub returns-in-Tree : goal.returns-in-Tree
+returns-in-Tree g c =
+    subst (λ t. Says c.tell_tree.result (g.E.Sink.taken c.args.errs.now) (g.E.Sink.taken c.tell_tree.new.errs)
+    (g.E.Sink.faults c.args.errs.now) (g.E.Sink.faults c.tell_tree.new.errs) (line_of t))
+    c.in-Tree.ensures c.tell_tree.ensures

@@ -1,0 +1,142 @@
+//! Runs with several workers: texts, blocks and nodes are those of one worker, and two workers are seen side by side.
+use crate::payment_tests::{CHAIN, TOTALS, payments};
+use crate::run;
+use crate::stage_tests::Ran;
+use crate::tests::{sink_of, sink_with_room, source_of, words_of};
+use edge_io::{Gate, OpenGate};
+use std::alloc::Global;
+use std::sync::atomic::{AtomicU64, Ordering};
+use std::test::Fail;
+use std::thread;
+use std::thread::Threads;
+use stream_face::NoTap;
+
+/// Worker 1 raises its flag, and worker 0 looks for it, so many times at most, and notes whether it saw it. Workers that run
+/// one after another never show it, since worker 0 has then gone on before worker 1 comes.
+#[derive(Drop)]
+struct Meet {
+    came: AtomicU64,
+    seen: AtomicU64,
+}
+
+impl Gate for Meet {
+    fn pass(&self, worker: u32) {
+        if worker == 1 {
+            self.came.store(1, Ordering::SeqCst);
+        }
+        if worker == 0 {
+            for _ in 0..1_000_000 {
+                if self.came.load(Ordering::SeqCst) == 1 {
+                    self.seen.store(1, Ordering::SeqCst);
+                    break;
+                }
+                thread::yield_now();
+            }
+        }
+    }
+}
+
+/// Runs with so many workers and the words of a line over a text.
+fn run_by<R: Threads + Sync>(
+    rt: &R,
+    alloc: Global,
+    workers: u32,
+    line: &str,
+    bytes: &[u8],
+    gate: &(dyn Gate + Sync),
+) -> Result<Ran, Fail> {
+    let all = format!(in alloc; "--workers {workers} {line}")?;
+    let words = words_of(alloc, all.as_str())?;
+    let mut source = source_of(alloc, bytes, 4096, &[])?;
+    let mut sink = sink_with_room(alloc, 20_000, 4096, &[])?;
+    let mut errs = sink_of(alloc, 5, &[])?;
+    let outcome = run(
+        rt,
+        alloc,
+        &words,
+        &mut source,
+        &mut sink,
+        &mut errs,
+        &mut NoTap,
+        gate,
+    );
+    Ok(Ran {
+        outcome,
+        sink,
+        errs,
+    })
+}
+
+// Each row has the words, an input, the text, and the blocks and nodes that are made, by however many workers.
+
+static ROWS: [(&str, &[u8], &[u8], (u64, u64)); 2] = [
+    (
+        "--schema n:l filter=n,gt,2",
+        b"n\n1\n2\n3\n4\n5\n",
+        b"n\n3\n4\n5\n",
+        (2, 8),
+    ),
+    (
+        "--schema id:l totals=id",
+        b"id\n-9223372036854775808\n-9223372036854775808\n",
+        b"id_count,id_sum,id_min,id_max\n2,-18446744073709551616,-9223372036854775808,-9223372036854775808\n",
+        (5, 14),
+    ),
+];
+
+#[test]
+fn two_of_four_workers_are_seen_side_by_side(rt: HostRuntime) -> Result<(), Fail> {
+    for (line, bytes, text, traffic) in ROWS {
+        let meet = Meet {
+            came: AtomicU64::new(0),
+            seen: AtomicU64::new(0),
+        };
+        let ran = run_by(&rt, rt.alloc(), 4, line, bytes, &meet)?;
+        assert_eq!(rt; ran.sink.taken(), text, "the text of {line}");
+        let made = (ran.outcome.audit.blocks, ran.outcome.audit.nodes);
+        assert_eq!(rt; made, traffic, "the blocks and nodes of {line}");
+        assert_eq!(rt;
+            meet.seen.load(Ordering::SeqCst),
+            1,
+            "the workers of {line}"
+        );
+    }
+    Ok(())
+}
+
+#[test]
+fn any_number_of_workers_gives_the_same(rt: HostRuntime) -> Result<(), Fail> {
+    for (line, bytes, text, traffic) in ROWS {
+        for workers in [1u32, 2, 3, 64] {
+            let ran = run_by(&rt, rt.alloc(), workers, line, bytes, &OpenGate)?;
+            assert_eq!(rt; ran.outcome.status, 0, "the status of {line} by {workers}");
+            assert_eq!(rt; ran.sink.taken(), text, "the text of {line} by {workers}");
+            let made = (ran.outcome.audit.blocks, ran.outcome.audit.nodes);
+            assert_eq!(rt;
+                made,
+                traffic,
+                "the blocks and nodes of {line} by {workers}"
+            );
+            assert_eq!(rt;
+                ran.outcome.audit.left,
+                0,
+                "what is left of {line} by {workers}"
+            );
+        }
+    }
+    Ok(())
+}
+
+#[test]
+fn four_workers_total_a_thousand_payments_in_chunks_of_seven(rt: HostRuntime) -> Result<(), Fail> {
+    let alloc = rt.alloc();
+    let line = format!(in alloc; "--batch 7 {CHAIN}")?;
+    let bytes = payments(alloc, 1000)?;
+    let mut text = TOTALS.to_vec(alloc)?;
+    text.extend_from_slice(b"500,250000,1,999,500,250125.00,1.25,999.25\n")?;
+    let ran = run_by(&rt, alloc, 4, line.as_str(), &bytes, &OpenGate)?;
+    assert_eq!(rt; ran.outcome.status, 0);
+    assert_eq!(rt; ran.sink.taken(), text.as_slice());
+    assert_eq!(rt; ran.outcome.audit.left, 0);
+    Ok(())
+}
