@@ -106,7 +106,8 @@ module _ (builder : Builder) (kind : DataType) (values : List Value) (wide text 
   pub offsets-held : HasOffsets wide (map bytes_of values) builder.offsets.items
   offsets-held = bytes-held.0
 
-  pub blocks-between : count_if builder.validity.items + count_if (offset_bytes wide (map bytes_of values)) + count_if builder.bytes.items ≡ blocks_of kind values
+  pub blocks-between : count_if builder.validity.items + count_if (offset_bytes wide (map bytes_of values)) + count_if builder.bytes.items
+      ≡ blocks_of kind values
   blocks-between =
       sym (
       ap present_count (held-between (offset_bytes wide (map bytes_of values)) refl)

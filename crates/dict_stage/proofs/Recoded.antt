@@ -137,7 +137,8 @@ indices-of type vs =
       kind_ok = tt;
       live = tt;
       not_deep = omega arith;
-      places = subst (λ n. All (IsPlaceOf n) (Indices vs)) count (subst (All (IsPlaceOf (length texts))) (indices-are vs) (places texts vs (are-in-after [] vs)));
+      places = subst (λ n. All (IsPlaceOf n) (Indices vs)) count
+          (subst (All (IsPlaceOf (length texts))) (indices-are vs) (places texts vs (are-in-after [] vs)));
     }
 
 -- ---- blocks
@@ -173,7 +174,8 @@ index-blocks type vs has are few =
     blocks-are index_type (Indices vs) index-kind (index-values vs few).0
     ∙ ap (flat_blocks index_type) (sym (indices-are vs)) ∙ index-are (texts_after [] vs) vs (texts-of type vs has are.0)
 
-pub entry-blocks : (type : DataType) (vs : List Value) → IsColumnKind type → AreValues type vs → blocks_of type (Dictionary vs) ≡ flat_blocks type (Dictionary vs)
+pub entry-blocks : (type : DataType) (vs : List Value) → IsColumnKind type → AreValues type vs
+    → blocks_of type (Dictionary vs) ≡ flat_blocks type (Dictionary vs)
 entry-blocks type vs is are = blocks-are type (Dictionary vs) is (entry-values type vs are).0
 
 -- ---- the arrays, made

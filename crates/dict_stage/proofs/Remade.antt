@@ -1,5 +1,6 @@
 -- What the arrays and the chunks that are made anew mean.
-use Rattle.std.proofs.Common.{◌≡◌, ◌≢◌, ◌∙◌, ◌≤◌, ◌<◌, ◌+◌, ◌*◌, ◌^◌, ℕ, zero, suc, Bool, true, false, not, List, [], ◌∷◌, ◌++◌, length, map, get_or, take, drop, All}
+use Rattle.std.proofs.Common.{◌≡◌, ◌≢◌, ◌∙◌, ◌≤◌, ◌<◌, ◌+◌, ◌*◌, ◌^◌, ℕ, zero, suc, Bool}
+use Rattle.std.proofs.Common.{true, false, not, List, [], ◌∷◌, ◌++◌, length, map, get_or, take, drop, All}
 use Rattle.std.proofs.Common.{None, Some, refl, sym, ap, subst, arith}
 use Rattle.std.proofs.lemmas.List.{drop-map, length-map, map-append, take-map}
 use Rattle.std.specs.List.{AllByRecursion}
@@ -241,7 +242,8 @@ module _ (dict : Bool) (place : ℕ) (type : DataType) (before : List Column) (i
     as-long : tree_items t ≡ length vs
     as-long = sym (row-count (type_of_columns before) t place) ∙ ap (λ (rs : List Row). length (column_values place rs)) chunk.rows_are
 
-    of-full : FlatValued → (d : Bool) (type : DataType) (xs : List Value) → TextsOf type xs → DictsAreFull (text_kind d type) (recoded_tree (text_kind d type) xs)
+    of-full : FlatValued → (d : Bool) (type : DataType) (xs : List Value) → TextsOf type xs
+        → DictsAreFull (text_kind d type) (recoded_tree (text_kind d type) xs)
     of-full flat true type xs texts = subst (All (λ v. v ≢ Null)) (sym (dictionary-valued flat type xs texts)) (dictionary-full xs)
     of-full flat false type xs texts = tt
 
@@ -281,7 +283,8 @@ module _ (dict : Bool) (place : ℕ) (type : DataType) (before : List Column) (i
 
     pub chunk-after : FlatValued
         → ((d : Bool) (kind : DataType) (xs : List Value) → TextsOf kind xs → LayoutOk (type_of_kind (text_kind d kind)) (recoded_tree (text_kind d kind) xs))
-        → ((d : Bool) (kind : DataType) (xs : List Value) → TextsOf kind xs → values_of (type_of_kind (text_kind d kind)) (recoded_tree (text_kind d kind) xs) ≡ xs)
+        → ((d : Bool) (kind : DataType) (xs : List Value) → TextsOf kind xs
+        → values_of (type_of_kind (text_kind d kind)) (recoded_tree (text_kind d kind) xs) ≡ xs)
         → MakesChunk → KeepsRows → ((columns : List Column) → AreLive (types_of_columns columns)) → IsSmall
         → length (children_of t) ≡ length before
         → IsChunkOf after rows made

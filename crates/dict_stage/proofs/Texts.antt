@@ -177,7 +177,8 @@ has-own texts text =
     list_any-append (there text) texts (text ∷ [])
     ∙ or-right (has_bytes texts text) (has_bytes (text ∷ []) text) (or-left (bytes_eq text text) false (nat_list_eq_equiv.refl text))
 
-has-with-by : (b : Bool) (texts : List (List ℕ)) (text q : List ℕ) → has_bytes texts text ≡ b → has_bytes texts q ≡ true → has_bytes (texts_with texts text) q ≡ true
+has-with-by : (b : Bool) (texts : List (List ℕ)) (text q : List ℕ) → has_bytes texts text ≡ b → has_bytes texts q ≡ true
+    → has_bytes (texts_with texts text) q ≡ true
 has-with-by true texts text q e has = ap (λ (ts : List (List ℕ)). has_bytes ts q) (with-old texts text e) ∙ has
 has-with-by false texts text q e has = ap (λ (ts : List (List ℕ)). has_bytes ts q) (with-new texts text e) ∙ has-push texts text q has
 
@@ -217,7 +218,8 @@ keeps-with-by true texts text q e has = ap (λ (ts : List (List ℕ)). number_of
 keeps-with-by false texts text q e has = ap (λ (ts : List (List ℕ)). number_of ts q) (with-new texts text e) ∙ keeps-number texts text q has
 
 -- the indices of values whose texts are among them stay
-pub indices-stay : (texts : List (List ℕ)) (text : List ℕ) (vs : List Value) → AreIn texts vs → map (index_by (texts_with texts text)) vs ≡ map (index_by texts) vs
+pub indices-stay : (texts : List (List ℕ)) (text : List ℕ) (vs : List Value) → AreIn texts vs
+    → map (index_by (texts_with texts text)) vs ≡ map (index_by texts) vs
 indices-stay texts text [] are = refl
 indices-stay texts text (Bytes q ∷ vs) are =
     λ i. Whole (pos (keeps-with-by (has_bytes texts text) texts text q refl are.0 i)) ∷ indices-stay texts text vs are.1 i

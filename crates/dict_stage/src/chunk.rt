@@ -44,7 +44,8 @@ fn new_column(
     requires chunk { CanRecodeChunk (kind_of kind.now) place (typed_of typed.now) chunk.now }
     requires units { 8 ≤ pass.old.units }
     requires room { pass.old.units ≤ SUPPLY }
-    ensures made { IfOk result (λ column. IsRecoded (kind_of kind.now) (column_values place (rows_of (typed_of typed.now) chunk.now)) column pass.old pass.new) }
+    ensures made { IfOk result (λ column.
+        IsRecoded (kind_of kind.now) (column_values place (rows_of (typed_of typed.now) chunk.now)) column pass.old pass.new) }
     ensures units_back { OnErr result (pass.new.units ≡ pass.old.units) }
 {
     let rows = Col::of(typed, chunk);

@@ -49,7 +49,8 @@ pub few_digits : (count most : ℕ) → count ≤ most → 10 ^ count ≤ 10 ^ m
 few_digits count most few = pow-le-pow_right {n = 10} (omega arith) {i = count} {j = most} few
 
 -- ---- a digit that follows the front, and a number that grows too large
-module _ (text : List ℕ) (count value : ℕ) (front : Front text count value) (within : count < length text) (is : is_ascii_digit (get_or text count 0) ≡ true) where
+module _ (text : List ℕ) (count value : ℕ) (front : Front text count value)
+    (within : count < length text) (is : is_ascii_digit (get_or text count 0) ≡ true) where
   pub front_more : (next : ℕ) → next ≡ value * 10 + (get_or text count 0 - 48) → Front text (count + 1) next
   front_more next e = record {
     digits = below_more (λ k. is_ascii_digit (get_or text k 0) ≡ true) count front.digits is;

@@ -1,5 +1,6 @@
 -- What holds of the columns before a stage, and their measures, behind it.
-use Rattle.std.proofs.Common.{arith, rules, ◌≡◌, ◌≤◌, ◌<◌, ◌+◌, ◌*◌, ◌∙◌, ℕ, zero, suc, pos, Bool, true, false, true≢false, List, [], ◌∷◌, ◌++◌, length, map, get_or}
+use Rattle.std.proofs.Common.{arith, rules, ◌≡◌, ◌≤◌, ◌<◌, ◌+◌, ◌*◌, ◌∙◌, ℕ, zero, suc, pos}
+use Rattle.std.proofs.Common.{Bool, true, false, true≢false, List, [], ◌∷◌, ◌++◌, length, map, get_or}
 use Rattle.std.proofs.Common.{take, drop, refl, sym, ap, subst, inr, take-append-drop}
 use Rattle.std.specs.Int.{w32}
 use Rattle.std.specs.List.{All, flat_map, list_all}
@@ -14,7 +15,8 @@ use Rattle.fmt_string.specs.Table.{Column, Kind, Flat, Dict, Columns, Members, n
 use Rattle.fmt_string.specs.declared.kind.DataType.{DataType}
 use Rattle.fmt_string.specs.declared.kind.DataType.TheVariants as kinds
 use Rattle.arr_move.specs.TreeActs.{Distinct}
-use Rattle.stage_model.specs.Typing.{FitsColumns, HasColumns, IsStageOver, Stage, column, column_at, columns_after, is_bytes, is_summed, most_columns, no_column, rules_of}
+use Rattle.stage_model.specs.Typing.{FitsColumns, HasColumns, IsStageOver, Stage, column, column_at, columns_after, is_bytes}
+use Rattle.stage_model.specs.Typing.{is_summed, most_columns, no_column, rules_of}
 use Rattle.stage_model.specs.Typing.{scale_of, step_of, totals_columns}
 use Rattle.stage_model.specs.declared.stage.Step.{Step}
 use Rattle.stage_model.specs.declared.stage.Step.TheVariants as steps

@@ -179,7 +179,8 @@ pub next-place : RootLaw → ItemsLaw → (kind : DataType) (array : ArrayTree) 
     → IsPlace array validity stored (from + start + number) (start + number)
 next-place root items kind array start kept can k number from validity stored small is begins valid same =
     let inside = can.inside k 0 small in
-    place-of root items kind array can.ok (start + number) (from + start + number) validity stored (omega (arith, is, inside)) (omega (arith, begins)) valid same
+    place-of root items kind array can.ok (start + number) (from + start + number)
+    validity stored (omega (arith, is, inside)) (omega (arith, begins)) valid same
 
 -- ---- the indices of some items
 

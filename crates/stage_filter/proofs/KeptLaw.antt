@@ -106,7 +106,8 @@ module _ (flat_lawful : FlatLawful) (flat_valued : FlatValued) (index_lawful : I
         flat_lawful kind vs (values-fit kind vs can.kinds can.items (omega (arith, long, can.few)))
     lawful-kept (Dict kind) array start kept can =
         let has = has-dictionary root parts items kind array can.ok in
-        index_lawful index_type (indices_at array start kept) (flat_type kind None) (dictionary_at array) (indices-fit kind array start kept has can.inside can.few)
+        index_lawful index_type (indices_at array start kept) (flat_type kind None) (dictionary_at array)
+        (indices-fit kind array start kept has can.inside can.few)
         (are-indices kind array start kept has can.inside) has.ok
     lawful-kept (Columns ms) array start kept can =
         let inner = first (members_of array) + start in
@@ -169,7 +170,8 @@ module _ (flat_lawful : FlatLawful) (flat_valued : FlatValued) (index_lawful : I
         flat_valued kind vs (values-fit kind vs can.kinds can.items (omega (arith, long, can.few)))
     valued-kept (Dict kind) array start kept can =
         let has = has-dictionary root parts items kind array can.ok in
-        index_valued index_type (indices_at array start kept) (flat_type kind None) (dictionary_at array) (indices-fit kind array start kept has can.inside can.few)
+        index_valued index_type (indices_at array start kept) (flat_type kind None) (dictionary_at array)
+        (indices-fit kind array start kept has can.inside can.few)
         (are-indices kind array start kept has can.inside)
         ∙ looked-up kind array start kept has can.inside
     valued-kept (Columns ms) array start kept can =
@@ -233,7 +235,8 @@ module _ (flat_lawful : FlatLawful) (flat_valued : FlatValued) (index_lawful : I
   pub kept-rows : (columns : List Column) (chunk : ArrayTree) (kept : List ℕ) → CanMoveRows columns chunk 0 kept
       → rows_of (type_of_columns columns) (kept_chunk columns chunk kept) ≡ rows_at (type_of_columns columns) chunk 0 kept
   kept-rows columns chunk kept =
-      subst (λ (cs : List Column). CanMoveRows cs chunk 0 kept → rows_of (type_of_columns cs) (kept_chunk cs chunk kept) ≡ rows_at (type_of_columns cs) chunk 0 kept)
+      subst (λ (cs : List Column). CanMoveRows cs chunk 0 kept → rows_of (type_of_columns cs) (kept_chunk cs chunk kept)
+      ≡ rows_at (type_of_columns cs) chunk 0 kept)
       (columns-back columns)
       (rows-struct (members columns) chunk 0 kept)
 

@@ -65,6 +65,7 @@ moved-more cs c array child start kept rows arrays more made before middle after
       left = omega (arith, are.left, is.left, most-push cs c);
       blocks = risen-more before.blocks middle.blocks after.blocks (blocks_from Moved 0 cs rows) (kind_blocks Moved c.kind values) are.blocks is.blocks
           ∙ ap (risen before.blocks) (ap (λ n. blocks_from Moved 0 cs rows + n) blocks ∙ sym (blocks-push 0 cs c rows));
-      nodes = risen-more before.nodes middle.nodes after.nodes (sum_by (λ (b : Column). kind_nodes Moved b.kind) cs) (kind_nodes Moved c.kind) are.nodes is.nodes
+      nodes = risen-more before.nodes middle.nodes after.nodes
+          (sum_by (λ (b : Column). kind_nodes Moved b.kind) cs) (kind_nodes Moved c.kind) are.nodes is.nodes
           ∙ ap (risen before.nodes) (sym nodes);
     }

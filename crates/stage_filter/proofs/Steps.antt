@@ -104,10 +104,13 @@ module _ (root : RootLaw) (parts : PartsLaw) (items : ItemsLaw) where
       let inner = first (members_of array) + start in
       let node = root typed array tt can.ok in
       let type : get_or (types_of_columns columns) k Released ≡ type_of_kind c.kind = type-at columns k c small ∙ ap type_of_column is in
-      let kid : child_at typed k ≡ type_of_kind c.kind = ap (λ (ts : List KindTree). get_or ts k Released) (tree_list-trees (types_of_columns columns)) ∙ type in
+      let kid : child_at typed k ≡ type_of_kind c.kind =
+      ap (λ (ts : List KindTree). get_or ts k Released) (tree_list-trees (types_of_columns columns)) ∙ type in
       let many = kids-long columns in
-      let ok : LayoutOk (type_of_kind c.kind) child = subst (λ (t : KindTree). LayoutOk t child) kid ((parts typed array tt can.ok).kids k (omega (arith, many, small))) in
-      let long : end (members_of array) ≤ tree_items child = (items typed array tt can.ok).needed k (subst (λ (t : KindTree). IsLive t) (sym kid) (live-type c.kind)) in
+      let ok : LayoutOk (type_of_kind c.kind) child =
+      subst (λ (t : KindTree). LayoutOk t child) kid ((parts typed array tt can.ok).kids k (omega (arith, many, small))) in
+      let long : end (members_of array) ≤ tree_items child =
+      (items typed array tt can.ok).needed k (subst (λ (t : KindTree). IsLive t) (sym kid) (live-type c.kind)) in
       let values = values-from columns array start k (type_of_kind c.kind) node.live type kept in
       let deep = ap (λ (b : Column). Depth (type_of_column b)) is in
       let depth = depth-at columns k c small in

@@ -47,9 +47,11 @@ pub struct RawStream<S: ArrayStream> {
     known: Known,
     failure: Option<Failure>,
     ghost lives: { is_live known.schema ≡ (S.state inner).live },
-    ghost same: { IsTrue (S.state inner).live → IsTrue (S.state inner).lawful → known.schema ≡ SchemaOf (S.state inner).columns } by { Prim.hlevel (Coded-set coded_schema) },
+    ghost same: { IsTrue (S.state inner).live → IsTrue (S.state inner).lawful
+        → known.schema ≡ SchemaOf (S.state inner).columns } by { Prim.hlevel (Coded-set coded_schema) },
     ghost own_link: { IsTrue (S.state inner).live → IsTrue (S.state inner).lawful → failure ≡ None → is_nil ((S.state inner).joints link) ≡ true },
-    ghost ends: { IsTrue (S.state inner).live → (fault : RowFaultValue) → why failure ≡ Some (faults.Row fault) → (S.state inner).ending ≡ Some fault } by { Prim.hlevel (codes, rows.the_row.coded) },
+    ghost ends: { IsTrue (S.state inner).live → (fault : RowFaultValue) → why failure ≡ Some (faults.Row fault)
+        → (S.state inner).ending ≡ Some fault } by { Prim.hlevel (codes, rows.the_row.coded) },
 }
 
 /// Why a get call of the inner stream refused.

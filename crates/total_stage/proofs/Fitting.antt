@@ -45,7 +45,8 @@ joined-long (rows ∷ more) = omega (arith, length-append rows (joined_rows more
 pub table-values : (columns : List Column) (place : ℕ) (kind : DataType) (rows : List Row) → place < length columns
     → (get_or columns place no_column).kind ≡ Flat kind → IsTable columns rows → AllByRecursion (IsValueOf kind) (column_values place rows)
 table-values columns place kind rows inside is table =
-    let items : AreValues kind (column_values place rows) = subst (λ (k : Kind). AreItems k (column_values place rows)) is (table.items place no_column inside) in
+    let items : AreValues kind (column_values place rows) =
+    subst (λ (k : Kind). AreItems k (column_values place rows)) is (table.items place no_column inside) in
     recursion_from_All (IsValueOf kind) (column_values place rows) items.0
 
 joined-values : (columns : List Column) (place : ℕ) (kind : DataType) (ahead : List (List Row)) → place < length columns

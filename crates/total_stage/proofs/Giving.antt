@@ -1,5 +1,6 @@
 -- What totals make of the answers of the stream below them.
-use Rattle.std.proofs.Common.{arith, ◌≡◌, ◌≢◌, ◌∙◌, ◌≤◌, ◌<◌, ◌+◌, ◌*◌, ◌++◌, ℕ, ℤ, pos, Bool, true, false, List, [], ◌∷◌, length, map, get_or, IsTrue, refl, sym, ap, subst, inl, inr}
+use Rattle.std.proofs.Common.{arith, ◌≡◌, ◌≢◌, ◌∙◌, ◌≤◌, ◌<◌, ◌+◌, ◌*◌, ◌++◌, ℕ, ℤ, pos, Bool, true}
+use Rattle.std.proofs.Common.{false, List, [], ◌∷◌, length, map, get_or, IsTrue, refl, sym, ap, subst, inl, inr}
 use Rattle.std.specs.Prelude.{◌⊎◌, ◌^◌, Option, None, Some, All}
 use Rattle.std.specs.List.{sum_by}
 use Rattle.std.proofs.lemmas.List.{length-map}
@@ -130,7 +131,8 @@ answers-given picks columns after s n out ending gone = record {
 
 -- the laws of chunks of rows
 abbrev MakesChunk : Type 0
-MakesChunk = (columns : List Column) (rows : List Row) → FitFrom 0 columns rows → length rows ≤ 2 ^ 40 → ChunkOk (type_of_columns columns) (chunk_of columns rows)
+MakesChunk = (columns : List Column) (rows : List Row) → FitFrom 0 columns rows → length rows ≤ 2 ^ 40 →
+    ChunkOk (type_of_columns columns) (chunk_of columns rows)
 
 abbrev MakesRows : Type 0
 MakesRows = (columns : List Column) (rows : List Row) → FitFrom 0 columns rows → All (λ (row : Row). length row ≡ length columns) rows

@@ -1,5 +1,6 @@
 -- Builders that hold the columns of a row, one after the other.
-use Rattle.std.proofs.Common.{arith, ◌≡◌, ◌∙◌, ◌≤◌, ◌<◌, ◌+◌, ◌++◌, ℕ, zero, suc, ℤ, List, [], ◌∷◌, length, map, take, get_or, All, refl, sym, ap, subst, below_more}
+use Rattle.std.proofs.Common.{arith, ◌≡◌, ◌∙◌, ◌≤◌, ◌<◌, ◌+◌, ◌++◌, ℕ, zero, suc, ℤ, List}
+use Rattle.std.proofs.Common.{[], ◌∷◌, length, map, take, get_or, All, refl, sym, ap, subst, below_more}
 use Rattle.std.proofs.Math.Seq.{take-length}
 use Rattle.std.proofs.lemmas.List.{get_or-map, length-append, length-map}
 use Rattle.std.specs.Prelude.{Option}

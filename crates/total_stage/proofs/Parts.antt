@@ -101,5 +101,6 @@ pub part-is : (picks : List ℕ) (rows : List Row) (workers : ℕ) (parts : List
     → AreParts picks rows workers parts → w < length parts → part ≡ get_or parts w part
     → AreSums part.items picks (rows_between (border (length rows) workers w) (border (length rows) workers (w + 1)) rows)
 part-is picks rows workers parts w part are inside is =
-    subst (λ (v : Vec Totals Global). AreSums v.items picks (rows_between (border (length rows) workers w) (border (length rows) workers (w + 1)) rows)) (sym is)
+    subst (λ (v : Vec Totals Global). AreSums v.items picks (rows_between (border (length rows) workers w) (border (length rows) workers (w + 1)) rows))
+    (sym is)
     (are.1 w part (omega (arith, inside, are.0)))

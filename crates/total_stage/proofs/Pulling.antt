@@ -1,5 +1,6 @@
 -- How far a stream was pulled, and what is added up.
-use Rattle.std.proofs.Common.{arith, ◌≡◌, ◌∙◌, ◌≤◌, ◌<◌, ◌+◌, ◌++◌, ◌^◌, ℕ, ℤ, pos, List, [], ◌∷◌, length, get_or, All, IsTrue, refl, sym, ap, subst, inl, inr, true}
+use Rattle.std.proofs.Common.{arith, ◌≡◌, ◌∙◌, ◌≤◌, ◌<◌, ◌+◌, ◌++◌, ◌^◌, ℕ, ℤ, pos, List}
+use Rattle.std.proofs.Common.{[], ◌∷◌, length, get_or, All, IsTrue, refl, sym, ap, subst, inl, inr, true}
 use Rattle.std.specs.Prelude.{◌⊎◌, Option, None, Some}
 use Rattle.std.specs.List.{AllByRecursion}
 use Rattle.std.proofs.lemmas.Grind.{flat_map-append}
@@ -174,7 +175,8 @@ pub began-fresh : (s m : Stream) (seen later : Option (List Seen)) (before after
     → IsFresh s
 began-fresh s m seen later before after lawful ran fresh = record {
   lawful = lawful;
-  no_failure = none-if s.failure (λ refusal failed. let k : ◌≡◌ {A = Option Refusal} None (Some refusal) = sym fresh.no_failure ∙ ran.failed refusal failed in cc);
+  no_failure = none-if s.failure (λ refusal failed.
+      let k : ◌≡◌ {A = Option Refusal} None (Some refusal) = sym fresh.no_failure ∙ ran.failed refusal failed in cc);
 }
 
 -- ---- a call that gave a chunk

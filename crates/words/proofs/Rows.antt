@@ -9,7 +9,8 @@ use Rattle.clap.proofs.WalkLemmas.{first_value-rows, raw_values-rows}
 use Rattle.words.specs.declared.WordsFault.TheVariants.{Refused}
 use Rattle.words.specs.declared.WordsError.{WordsError}
 use Rattle.words.specs.declared.WordsError.TheVariants as error
-use Rattle.words.specs.Words.{Explains, Options, asks_audit, batch_if, flag_in, given_in, number_if, options_if, options_with, ruled, texts_in, with_numbers, workers_if}
+use Rattle.words.specs.Words.{Explains, Options, asks_audit, batch_if, flag_in, given_in, number_if}
+use Rattle.words.specs.Words.{options_if, options_with, ruled, texts_in, with_numbers, workers_if}
 
 -- the text that `get_str` gave
 pub given_text : (f : Found) (id : Text) (o : Option (Bor Text)) → option_map (λ s. s.now) o ≡ first_value f id
@@ -67,7 +68,8 @@ module _ (rows : List Row) where
     options_are workers count o schema batches many audit check null stages =
         let same : ◌≡◌ {A = Options} o (options_with (given_in rows) batch workers) =
         λ i. record { schema = schema i; batch = batches i; workers = many i; audit = audit i; check = check i; null = null i; stages = stages i } in
-        ap (λ b. with_numbers (given_in rows) b workers_asked) size ∙ ap (with_numbers (given_in rows) (Some batch)) count ∙ ap (λ (x : Options). Some x) (sym same)
+        ap (λ b. with_numbers (given_in rows) b workers_asked) size
+        ∙ ap (with_numbers (given_in rows) (Some batch)) count ∙ ap (λ (x : Options). Some x) (sym same)
 
 -- without options the words are refused, and ask for no audit
 pub refused-without : (taken : Option Options) (x : WordsError) → x ≡ error.Words Refused false → taken ≡ None → Explains taken x

@@ -9,7 +9,8 @@ pub returns-in_default-clause-refused : goal.returns-in_default-clause-refused
 returns-in_default-clause-refused c =
     let found = found_of c.args.matches.now in
     refused-without _ c.refused.result c.refused.ensures (no_batch (rows_of found)
-    (number_is default_batch most_batch (codes "batch") found c.get_str.result c.number_given.result _ c.get_str.ensures c.number_given.ensures c.in_default.is))
+    (number_is default_batch most_batch (codes "batch") found
+    c.get_str.result c.number_given.result _ c.get_str.ensures c.number_given.ensures c.in_default.is))
 
 pub returns-in_default-number_given-clause-refused : goal.returns-in_default-number_given-clause-refused
 returns-in_default-number_given-clause-refused c =

@@ -37,6 +37,7 @@ recoded_column-requires-clause-items c =
 
 pub returns-clause-made : goal.returns-clause-made
 returns-clause-made c =
-    subst (λ (vs : List Value). IfOk c.recoded_column.result (λ column. IsRecoded (kind_of c.args.kind.now) vs column c.args.pass.now c.recoded_column.new.pass))
+    subst (λ (vs : List Value). IfOk c.recoded_column.result
+    (λ column. IsRecoded (kind_of c.args.kind.now) vs column c.args.pass.now c.recoded_column.new.pass))
     (own-values (typed_of c.args.typed.now) c.args.chunk.now c.args.place (window_of c.of-rows.result) (window_of c.child.result) c.of-rows.ensures.window
     c.child.ensures.window c.child.ensures.fields) c.recoded_column.ensures.made

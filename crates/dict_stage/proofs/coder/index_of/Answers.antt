@@ -17,7 +17,8 @@ returns-after-new-clause-coded c = λ type texts codes.
     (elim c.if-new.branch [
       | then-new+in_ok-push-in-Bytes w ↦
           codes-new coder c.if-new.coder type texts text codes (is-false (has_bytes (texts_in coder.texts) text) (sym found.new ∙ w.if-new.true))
-          (ap (λ d. texts_in d.texts) w.coder-is ∙ found.texts) (subst (λ d. Adds (Bytes text) coder.entries d.entries) (sym w.coder-is) w.in_ok-push-in-Bytes.ensures)
+          (ap (λ d. texts_in d.texts) w.coder-is ∙ found.texts)
+          (subst (λ d. Adds (Bytes text) coder.entries d.entries) (sym w.coder-is) w.in_ok-push-in-Bytes.ensures)
       | else-new w ↦
           codes-old coder c.if-new.coder type texts text codes (is-true (has_bytes (texts_in coder.texts) text) (sym found.new ∙ w.if-new.false))
           (ap (λ d. texts_in d.texts) w.coder-is ∙ found.texts) (ap (λ d. d.entries) w.coder-is)

@@ -68,7 +68,8 @@ loop-pick-preserved c =
           (λ none.
           let last : k ≡ length before = omega (arith, c.loop-pick.invariant.count) in
           subst (λ (t : Totals). AreTotals t (numbers_at place rows))
-          (sym (ap (λ (ts : List Totals). get_or ts k none) now ∙ ap (λ (n : ℕ). get_or (before ++ made ∷ []) n none) last ∙ get_or-append_seam before made [] none))
+          (sym (ap (λ (ts : List Totals). get_or ts k none) now
+          ∙ ap (λ (n : ℕ). get_or (before ++ made ∷ []) n none) last ∙ get_or-append_seam before made [] none))
           here);
       room = omega (arith, c.push_reserved.ensures.capacity, c.loop-pick.invariant.room);
     }

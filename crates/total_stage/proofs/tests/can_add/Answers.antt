@@ -35,7 +35,8 @@ returns c = λ yes.
     let typed = typed_of c.args.typed.now in
     let chunk = c.args.chunk.now in
     let own = window_of c.child.result in
-    let all : own.count ≡ tree_items chunk = ap (λ (w : Window). w.count) (c.child.ensures.window ∙ ap (λ (w : Window). child_window w 0) c.of-rows.ensures.window) in
+    let all : own.count ≡ tree_items chunk =
+    ap (λ (w : Window). w.count) (c.child.ensures.window ∙ ap (λ (w : Window). child_window w 0) c.of-rows.ensures.window) in
     let above = ap (λ (w : Window). w.count) c.of-rows.ensures.window in
     record {
       types = c.requires.ok;

@@ -1,4 +1,5 @@
-use Rattle.std.proofs.Common.{rules, arith, ◌≡◌, ◌≤◌, ◌∙◌, ◌+◌, ◌*◌, ◌∷◌, [], ℕ, pos, Bool, List, true, false, length, map, to_z, of_z, IsTrue, sym, ap, subst, refl}
+use Rattle.std.proofs.Common.{rules, arith, ◌≡◌, ◌≤◌, ◌∙◌, ◌+◌, ◌*◌, ◌∷◌, [], ℕ, pos, Bool}
+use Rattle.std.proofs.Common.{List, true, false, length, map, to_z, of_z, IsTrue, sym, ap, subst, refl}
 use Rattle.std.specs.Int.{w32}
 use Rattle.std.proofs.lemmas.List.{length-map}
 use Rattle.csv_read.specs.Chunks.{chunk_blocks, chunk_of}
@@ -102,7 +103,8 @@ returns-in_ok-made-in-All-clause-answers g c = λ fresh.
     let cost = ap Cost c.put.ensures in
     let law = c.chunks_have_their_rows.ensures in
     subst (λ (given : Bool). Answers (totalled picks given columns up) (totalled picks true columns n) (pos 0) c.put.new.self) (sym was)
-    (answers-row law.chunk law.rows picks columns columns up n c.put.new.self all.0 fit tree (omega (arith, cost, long, wide, c.in_ok-made-in-All.ensures.small))
+    (answers-row law.chunk law.rows picks columns columns up n c.put.new.self all.0 fit tree
+    (omega (arith, cost, long, wide, c.in_ok-made-in-All.ensures.small))
     (omega (arith, long, few)))
 
 pub returns-in_ok-made-in-All-clause-counts : goal.returns-in_ok-made-in-All-clause-counts
