@@ -2,12 +2,12 @@
 use Rattle.std.proofs.Common.{◌≡◌, true, false, refl, codes, replicate, List, [], ◌∷◌, Some, None, Ok, Err}
 use Rattle.clap.specs.Words.{Text}
 use Rattle.clap.proofs.OnLiterals.{clap_on_literals}
-use Rattle.words.specs.Words.{Options, taken_of, words_of}
-use Rattle.words.specs.declared.WordsFault.TheVariants.{Refused, TooManyStages, UsedWithCheck}
+use Rattle.words.specs.Words.{Options, made_of, taken_of, words_of}
+use Rattle.words.specs.declared.WordsFault.TheVariants.{Refused, TooManyStages, UsedWithCheck, UsedWithSelftest}
 
 -- ---- the schema, and the audit
 abbrev plain : Options
-plain = record { schema = None; batch = 1024; workers = 1; audit = false; check = false; null = None; stages = [] }
+plain = record { schema = None; batch = 1024; workers = 1; audit = false; check = false; selftest = None; null = None; stages = [] }
 
 none_is : words_of [] ≡ Ok plain
 unfolding taken_of clap_on_literals
@@ -179,6 +179,71 @@ check_batch_is : words_of (codes "--check" ∷ codes "a" ∷ codes "--batch=0" �
 unfolding taken_of clap_on_literals
 check_batch_is = refl
 
+-- ---- rows that are made
+selftest_is : words_of (codes "--selftest" ∷ codes "1" ∷ []) ≡ Ok (record plain { selftest = Some 1 })
+unfolding taken_of clap_on_literals
+selftest_is = refl
+
+most_selftest_is : words_of (codes "--selftest=1000000" ∷ []) ≡ Ok (record plain { selftest = Some 1000000 })
+unfolding taken_of clap_on_literals
+most_selftest_is = refl
+
+past_selftest_is : words_of (codes "--selftest" ∷ codes "1000001" ∷ []) ≡ Err Refused
+unfolding taken_of clap_on_literals
+past_selftest_is = refl
+
+no_selftest_is : words_of (codes "--selftest" ∷ codes "0" ∷ []) ≡ Err Refused
+unfolding taken_of clap_on_literals
+no_selftest_is = refl
+
+zero_first_selftest_is : words_of (codes "--selftest" ∷ codes "01" ∷ []) ≡ Err Refused
+unfolding taken_of clap_on_literals
+zero_first_selftest_is = refl
+
+repeated_selftest_is : words_of (codes "--selftest" ∷ codes "1" ∷ codes "--selftest" ∷ codes "1" ∷ []) ≡ Err Refused
+unfolding taken_of clap_on_literals
+repeated_selftest_is = refl
+
+abbrev among : List Text
+among =
+    codes "--null" ∷ codes "NA" ∷ codes "--selftest" ∷ codes "5" ∷ codes "--batch" ∷ codes "7" ∷ codes "--workers" ∷ codes "4" ∷ codes "--audit" ∷ []
+
+selftest_among_is : words_of among
+    ≡ Ok (record plain { batch = 7; workers = 4; audit = true; selftest = Some 5; null = Some (codes "NA") })
+unfolding taken_of clap_on_literals
+selftest_among_is = refl
+
+made_is : made_of among ≡ Some 5
+unfolding taken_of clap_on_literals
+made_is = refl
+
+selftest_stage_is : words_of (codes "--selftest" ∷ codes "5" ∷ codes "dict=a" ∷ []) ≡ Err UsedWithSelftest
+unfolding taken_of clap_on_literals
+selftest_stage_is = refl
+
+selftest_schema_is : words_of (codes "--schema=" ∷ codes "--selftest" ∷ codes "5" ∷ []) ≡ Err UsedWithSelftest
+unfolding taken_of clap_on_literals
+selftest_schema_is = refl
+
+selftest_check_is : words_of (codes "--check" ∷ codes "--selftest" ∷ codes "5" ∷ []) ≡ Err UsedWithSelftest
+unfolding taken_of clap_on_literals
+selftest_check_is = refl
+
+-- words with a fault make no rows
+none_made_is : made_of (codes "--check" ∷ codes "--selftest" ∷ codes "5" ∷ []) ≡ None
+unfolding taken_of clap_on_literals
+none_made_is = refl
+
+-- a check that takes no stage comes before it
+check_stage_selftest_is : words_of (codes "--check" ∷ codes "a" ∷ codes "--selftest" ∷ codes "1" ∷ []) ≡ Err UsedWithCheck
+unfolding taken_of clap_on_literals
+check_stage_selftest_is = refl
+
+-- a number that is none comes before it
+selftest_number_stage_is : words_of (codes "--selftest" ∷ codes "0" ∷ codes "dict=a" ∷ []) ≡ Err Refused
+unfolding taken_of clap_on_literals
+selftest_number_stage_is = refl
+
 -- ---- stages, and other words
 stage_is : words_of (codes "select=a" ∷ []) ≡ Ok (record plain { stages = codes "select=a" ∷ [] })
 unfolding taken_of clap_on_literals
@@ -211,6 +276,11 @@ seventeen_is = refl
 check_seventeen_is : words_of (codes "--check" ∷ codes "a" ∷ sixteen) ≡ Err TooManyStages
 unfolding taken_of clap_on_literals
 check_seventeen_is = refl
+
+-- too many stages come before rows that are made without one
+selftest_seventeen_is : words_of (codes "--selftest" ∷ codes "5" ∷ codes "a" ∷ sixteen) ≡ Err TooManyStages
+unfolding taken_of clap_on_literals
+selftest_seventeen_is = refl
 
 -- a number that is none comes before too many stages
 both_faults_is : words_of (codes "a" ∷ codes "--batch=0" ∷ sixteen) ≡ Err Refused

@@ -1,7 +1,7 @@
 -- The texts of faults.
 use Rattle.std.specs.Prelude.{ℕ, List, codes}
 use Rattle.words.specs.declared.WordsFault.{WordsFault}
-use Rattle.words.specs.declared.WordsFault.TheVariants.{Refused, TooManyStages, UsedWithCheck}
+use Rattle.words.specs.declared.WordsFault.TheVariants.{Refused, TooManyStages, UsedWithCheck, UsedWithSelftest}
 use Rattle.words.specs.declared.WordsError.{WordsError}
 use Rattle.words.specs.declared.WordsError.TheVariants as error
 
@@ -9,6 +9,7 @@ abbrev pub fault_text : WordsFault → List ℕ
 fault_text Refused = codes "words refused"
 fault_text TooManyStages = codes "words: more than 16 stages"
 fault_text UsedWithCheck = codes "words: --check takes no stage and no --schema"
+fault_text UsedWithSelftest = codes "words: --selftest takes no stage, no --schema and no --check"
 
 abbrev pub error_text : WordsError → List ℕ
 error_text (error.Words fault audit) = fault_text fault

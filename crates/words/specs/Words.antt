@@ -13,7 +13,7 @@ use Rattle.clap.specs.declared.error.kind.ErrorKind.{ErrorKind}
 use Rattle.clap.specs.declared.error.kind.ErrorKind.TheVariants.{OutOfMemory}
 use Rattle.words.specs.declared.Words.{Words}
 use Rattle.words.specs.declared.WordsFault.{WordsFault}
-use Rattle.words.specs.declared.WordsFault.TheVariants.{Refused, TooManyStages, UsedWithCheck}
+use Rattle.words.specs.declared.WordsFault.TheVariants.{Refused, TooManyStages, UsedWithCheck, UsedWithSelftest}
 use Rattle.words.specs.declared.WordsError.{WordsError}
 use Rattle.words.specs.declared.WordsError.TheVariants as error
 
@@ -47,6 +47,7 @@ arrowpipe =
     text_rule (codes "workers") ∷
     flag_rule (codes "audit") ∷
     flag_rule (codes "check") ∷
+    text_rule (codes "selftest") ∷
     text_rule (codes "null") ∷
     words_rule (codes "stage") ∷
     [])
@@ -60,6 +61,7 @@ pub record Given : Type 0 where
   pub workers : Option Text
   pub audit : Bool
   pub check : Bool
+  pub selftest : Option Text
   pub null : Option Text
   pub stages : List Text
 
@@ -76,6 +78,7 @@ given_in rows = record {
   workers = first_of (codes "workers") rows;
   audit = flag_in (codes "audit") rows;
   check = flag_in (codes "check") rows;
+  selftest = first_of (codes "selftest") rows;
   null = first_of (codes "null") rows;
   stages = texts_in (codes "stage") rows;
 }
@@ -108,6 +111,8 @@ pub record Options : Type 0 where
   pub audit : Bool
   -- a tree is to be checked, and no table is read
   pub check : Bool
+  -- how many rows are made in place of an input, where that is asked for
+  pub selftest : Option ℕ
   -- the text of `--null`
   pub null : Option Text
   -- the texts of the stages, in order
@@ -129,6 +134,9 @@ default_workers = 1
 abbrev pub most_workers : ℕ
 most_workers = 64
 
+abbrev pub most_rows : ℕ
+most_rows = 1000000
+
 abbrev pub most_stages : ℕ
 most_stages = 16
 
@@ -145,13 +153,22 @@ batch_if text = number_if default_batch most_batch text
 abbrev pub workers_if : Option Text → Option ℕ
 workers_if text = number_if default_workers most_workers text
 
+-- the number of `--selftest`, from 1 to the most, where its text is one; without a text there is none, and no rows are made
+abbrev pub rows_if : Option Text → Option (Option ℕ)
+rows_if None = Some None
+rows_if (Some text) = option_map (λ n. Some n) (number_between 1 most_rows text)
+
 -- a stage or a schema is asked for
 abbrev pub asks_of_table : Options → Bool
 asks_of_table options = is_some options.schema || nat_lt 0 (length options.stages)
 
--- a tree is checked without a stage and without a schema
+-- rows are made without a stage, without a schema and without a tree to check
+abbrev pub fits_selftest : Options → Result Options WordsFault
+fits_selftest options = if is_some options.selftest && (options.check || asks_of_table options) then Err UsedWithSelftest else Ok options
+
+-- a tree is checked without a stage and without a schema, which is tried next
 abbrev pub fits_check : Options → Result Options WordsFault
-fits_check options = if options.check && asks_of_table options then Err UsedWithCheck else Ok options
+fits_check options = if options.check && asks_of_table options then Err UsedWithCheck else fits_selftest options
 
 -- no more stages than may be, which is tried first
 abbrev pub few_stages : Options → Result Options WordsFault
@@ -162,26 +179,28 @@ abbrev pub ruled : Option Options → Result Options WordsFault
 ruled None = Err Refused
 ruled (Some options) = few_stages options
 
--- what is given, with the two numbers
-abbrev pub options_with : Given → ℕ → ℕ → Options
-options_with given batch workers = record {
+-- what is given, with the three numbers
+abbrev pub options_with : Given → ℕ → ℕ → Option ℕ → Options
+options_with given batch workers selftest = record {
   schema = given.schema;
   batch = batch;
   workers = workers;
   audit = given.audit;
   check = given.check;
+  selftest = selftest;
   null = given.null;
   stages = given.stages;
 }
 
-abbrev pub with_numbers : Given → Option ℕ → Option ℕ → Option Options
-with_numbers given None workers = None
-with_numbers given (Some batch) None = None
-with_numbers given (Some batch) (Some workers) = Some (options_with given batch workers)
+abbrev pub with_numbers : Given → Option ℕ → Option ℕ → Option (Option ℕ) → Option Options
+with_numbers given None workers selftest = None
+with_numbers given (Some batch) None selftest = None
+with_numbers given (Some batch) (Some workers) None = None
+with_numbers given (Some batch) (Some workers) (Some selftest) = Some (options_with given batch workers selftest)
 
 -- the options, where each number is one
 abbrev pub options_if : Given → Option Options
-options_if given = with_numbers given (batch_if given.batch) (workers_if given.workers)
+options_if given = with_numbers given (batch_if given.batch) (workers_if given.workers) (rows_if given.selftest)
 
 -- ---- the words
 
@@ -200,6 +219,14 @@ asks_audit taken = option_map_or (λ o. o.audit) taken false
 abbrev pub audit_of : List Text → Bool
 audit_of words = asks_audit (taken_of words)
 
+-- how many rows are made in place of an input, where words that are taken ask for that
+abbrev pub made_by : Result Options WordsFault → Option ℕ
+made_by (Ok options) = options.selftest
+made_by (Err fault) = None
+
+abbrev pub made_of : List Text → Option ℕ
+made_of words = made_by (words_of words)
+
 -- ---- the program's values
 
 abbrev pub options_of : Words → Options
@@ -209,6 +236,7 @@ options_of w = record {
   workers = w.workers;
   audit = w.audit;
   check = w.check;
+  selftest = w.selftest;
   null = option_map (λ s. s.now) w.null;
   stages = map (λ s. s.now) w.stages.items;
 }

@@ -1,19 +1,20 @@
 //! The words of the command line:
-//! `arrowpipe [--schema TEXT] [--batch N] [--workers W] [--audit] [--check] [--null MARK] [STAGE ...]`.
+//! `arrowpipe [--schema TEXT] [--batch N] [--workers W] [--audit] [--check] [--selftest N] [--null MARK] [STAGE ...]`.
 //!
 //! The command is a simple one of `clap`, without help and version flags, and its words are those after the program's
 //! name. This crate owns what the words mean: the options that `clap` promises for them and the words that stand alone,
 //! which are the stages' texts, in order. Words are refused where `clap` doesn't take them, and then where `--batch`
-//! isn't decimal digits, without sign or leading zero, of a number from 1 to 1,000,000, or `--workers` of one from 1 to 64;
-//! more than 16 stages are a fault of their own, and so is `--check` beside a stage or `--schema`. What the text of a schema
-//! or of a stage means is left to the crates above. Words are strings, so one that isn't UTF-8 never comes here.
+//! isn't decimal digits, without sign or leading zero, of a number from 1 to 1,000,000, or `--workers` of one from 1 to 64,
+//! or `--selftest` of one from 1 to 1,000,000; more than 16 stages are a fault of their own, then `--check` beside a stage or
+//! `--schema`, and then `--selftest` beside a stage, `--schema` or `--check`. What the text of a schema or of a stage means is
+//! left to the crates above. Words are strings, so one that isn't UTF-8 never comes here.
 #![tactic(auto)]
 
-ghost use Rattle.std.specs.Prelude.{◌≡◌, ◌≤◌, false, length, map, option_map, Some, Ok, IfOk, IfErr, IfSome};
+ghost use Rattle.std.specs.Prelude.{◌≡◌, ◌≤◌, false, [], length, map, option_map, None, Some, Ok, IfOk, IfErr, IfSome};
 ghost use Rattle.clap.specs.Words.{rule_of, app_of, found_of, rows_of};
 ghost use Rattle.words.specs.Words.{bare_command, flag_rule, text_rule, words_rule, ErrorOf, Explains, arrowpipe, flag_in, given_in};
-ghost use Rattle.words.specs.Words.{begins_number, asks_of_table, number_between, number_if, options_if, options_of, ruled, taken_of, texts_in, texts_of};
-ghost use Rattle.words.specs.Words.{words_of};
+ghost use Rattle.words.specs.Words.{begins_number, asks_of_table, number_between, number_if, options_if, options_of, rows_if, ruled};
+ghost use Rattle.words.specs.Words.{taken_of, texts_in, texts_of, words_of};
 ghost use Rattle.words.specs.declared.WordsError.TheVariants as error;
 ghost use Rattle.words.specs.declared.WordsFault.TheVariants.{Refused};
 
@@ -34,6 +35,9 @@ const DEFAULT_WORKERS: u32 = 1;
 /// The largest number of `--workers`.
 const MOST_WORKERS: u32 = 64;
 
+/// The largest number of `--selftest`.
+const MOST_ROWS: u32 = 1_000_000;
+
 /// The most words that may stand alone.
 const MOST_STAGES: usize = 16;
 
@@ -50,6 +54,9 @@ pub struct Words<'a> {
     pub audit: bool,
     /// Whether `--check` was given: a tree is to be checked. There is then no stage and no schema.
     pub check: bool,
+    /// The number of `--selftest`, how many rows are made in place of an input: 1 to 1,000,000. There is then no stage,
+    /// no schema and no check.
+    pub selftest: Option<u32>,
     /// The text of `--null`, which may be empty.
     pub null: Option<&'a str>,
     /// The words that stand alone, each a text as it stands, in order: at most 16.
@@ -59,13 +66,15 @@ pub struct Words<'a> {
 /// Why the words are no command.
 #[derive(Clone, Copy, Debug, PartialEq, Eq)]
 pub enum WordsFault {
-    /// `clap` doesn't take them: an unknown option, an option twice, or one without its text. Or the text of `--batch`
-    /// or of `--workers` is no number that may be.
+    /// `clap` doesn't take them: an unknown option, an option twice, or one without its text. Or the text of `--batch`,
+    /// of `--workers` or of `--selftest` is no number that may be.
     Refused,
     /// More than 16 words stand alone.
     TooManyStages,
     /// `--check` stands with a stage or with `--schema`, and there are no more than 16 stages.
     UsedWithCheck,
+    /// `--selftest` stands with a stage, with `--schema` or with `--check`, and there is neither of the two faults above.
+    UsedWithSelftest,
 }
 
 /// Why there are no options.
@@ -88,6 +97,9 @@ impl fmt::Display for WordsFault {
             WordsFault::TooManyStages => f.write_str("words: more than 16 stages"),
             WordsFault::UsedWithCheck => {
                 f.write_str("words: --check takes no stage and no --schema")
+            }
+            WordsFault::UsedWithSelftest => {
+                f.write_str("words: --selftest takes no stage, no --schema and no --check")
             }
         }
     }
@@ -120,7 +132,9 @@ pub fn read_words<'a>(alloc: Global, words: &'a [String]) -> Result<Words<'a>, W
     ensures refused { IfErr result (Explains (taken_of (texts_of words.now))) }
     ensures batch { IfOk result (λ w. (1 ≤ w.batch) × (w.batch ≤ 1000000)) }
     ensures workers { IfOk result (λ w. (1 ≤ w.workers) × (w.workers ≤ 64)) }
+    ensures rows { IfOk result (λ w. IfSome w.selftest (λ n. (1 ≤ n) × (n ≤ 1000000))) }
     ensures few { IfOk result (λ w. length w.stages.items ≤ 16) }
+    ensures fits { IfOk result (λ w. IfSome w.selftest (λ n. (w.check ≡ false) × (w.schema ≡ None) × (w.stages.items ≡ []))) }
 {
     let command = match command(alloc) {
         Ok(command) => command,
@@ -142,6 +156,7 @@ fn command<'a>(alloc: Global) -> Result<Command<'a>, AllocError>
     let workers = text_option(alloc, "workers");
     let audit = flag_option(alloc, "audit");
     let check = flag_option(alloc, "check");
+    let selftest = text_option(alloc, "selftest");
     let null = text_option(alloc, "null");
     let stage = lone_words(alloc, "stage");
     let command = bare
@@ -150,6 +165,7 @@ fn command<'a>(alloc: Global) -> Result<Command<'a>, AllocError>
         .arg(workers)?
         .arg(audit)?
         .arg(check)?
+        .arg(selftest)?
         .arg(null)?
         .arg(stage)?;
     Ok(command)
@@ -215,13 +231,18 @@ fn options<'a>(alloc: Global, matches: &ArgMatches<'a>) -> Result<Words<'a>, Wor
     ensures refused { IfErr result (Explains (options_if (given_in (rows_of (found_of matches.now))))) }
     ensures batch { IfOk result (λ w. (1 ≤ w.batch) × (w.batch ≤ 1000000)) }
     ensures workers { IfOk result (λ w. (1 ≤ w.workers) × (w.workers ≤ 64)) }
+    ensures rows { IfOk result (λ w. IfSome w.selftest (λ n. (1 ≤ n) × (n ≤ 1000000))) }
     ensures few { IfOk result (λ w. length w.stages.items ≤ 16) }
+    ensures fits { IfOk result (λ w. IfSome w.selftest (λ n. (w.check ≡ false) × (w.schema ≡ None) × (w.stages.items ≡ []))) }
 {
     let Some(batch) = number_given(matches.get_str("batch"), DEFAULT_BATCH, MOST_BATCH) else {
         return Err(refused());
     };
     let Some(workers) = number_given(matches.get_str("workers"), DEFAULT_WORKERS, MOST_WORKERS)
     else {
+        return Err(refused());
+    };
+    let Some(selftest) = rows_given(matches.get_str("selftest")) else {
         return Err(refused());
     };
     let stages = match lone_texts(alloc, matches, "stage") {
@@ -234,25 +255,32 @@ fn options<'a>(alloc: Global, matches: &ArgMatches<'a>) -> Result<Words<'a>, Wor
         workers,
         audit: flag(matches, "audit"),
         check: flag(matches, "check"),
+        selftest,
         null: matches.get_str("null"),
         stages,
     })
 }
 
-/// The options, where there are no more stages than may be, and no stage and no schema where a tree is checked.
+/// The options, where there are no more stages than may be, no stage and no schema where a tree is checked, and none of
+/// these and no check where rows are made.
 fn fitting<'a>(words: Words<'a>) -> Result<Words<'a>, WordsError>
     ensures taken { IfOk result (λ w. ruled (Some (options_of words.entry)) ≡ Ok (options_of w)) }
     ensures asked { IfOk result (λ w. Some (options_of words.entry) ≡ Some (options_of w)) }
     ensures refused { IfErr result (Explains (Some (options_of words.entry))) }
     ensures batch { IfOk result (λ w. w.batch ≡ words.entry.batch) }
     ensures workers { IfOk result (λ w. w.workers ≡ words.entry.workers) }
+    ensures rows { IfOk result (λ w. w.selftest ≡ words.entry.selftest) }
     ensures few { IfOk result (λ w. length w.stages.items ≤ 16) }
+    ensures fits { IfOk result (λ w. IfSome w.selftest (λ n. (w.check ≡ false) × (w.schema ≡ None) × (w.stages.items ≡ []))) }
 {
     if words.stages.len() > MOST_STAGES {
         return Err(ruled_out(WordsFault::TooManyStages, &words));
     }
     if words.check && asks_of_table(&words) {
         return Err(ruled_out(WordsFault::UsedWithCheck, &words));
+    }
+    if words.selftest.is_some() && (words.check || asks_of_table(&words)) {
+        return Err(ruled_out(WordsFault::UsedWithSelftest, &words));
     }
     Ok(words)
 }
@@ -281,6 +309,16 @@ fn number_given(text: Option<&str>, usual: u32, most: u32) -> Option<u32>
     match text {
         Some(text) => number(text, 1, most),
         None => Some(usual),
+    }
+}
+
+/// How many rows the text of an option asks for, where it is a number from 1 to the most; without a text none are made.
+fn rows_given(text: Option<&str>) -> Option<Option<u32>>
+    ensures { result ≡ rows_if (option_map (λ s. s.now) text.entry) }
+{
+    match text {
+        Some(text) => number(text, 1, MOST_ROWS).map(Some),
+        None => Some(None),
     }
 }
 

@@ -3,30 +3,30 @@ use crate::{WordsError, WordsFault, read_words};
 use std::test::Fail;
 
 /// The words, apart by blanks, and what they are read as.
-static CASES: [(&str, &str); 48] = [
+static CASES: [(&str, &str); 68] = [
     (
         "--schema a:l --audit",
-        "Ok(Words { schema: Some(\"a:l\"), batch: 1024, workers: 1, audit: true, check: false, null: None, stages: [] })",
+        "Ok(Words { schema: Some(\"a:l\"), batch: 1024, workers: 1, audit: true, check: false, selftest: None, null: None, stages: [] })",
     ),
     (
         "--",
-        "Ok(Words { schema: None, batch: 1024, workers: 1, audit: false, check: false, null: None, stages: [] })",
+        "Ok(Words { schema: None, batch: 1024, workers: 1, audit: false, check: false, selftest: None, null: None, stages: [] })",
     ),
     (
         "--schema=-a:u",
-        "Ok(Words { schema: Some(\"-a:u\"), batch: 1024, workers: 1, audit: false, check: false, null: None, stages: [] })",
+        "Ok(Words { schema: Some(\"-a:u\"), batch: 1024, workers: 1, audit: false, check: false, selftest: None, null: None, stages: [] })",
     ),
     (
         "--schema=",
-        "Ok(Words { schema: Some(\"\"), batch: 1024, workers: 1, audit: false, check: false, null: None, stages: [] })",
+        "Ok(Words { schema: Some(\"\"), batch: 1024, workers: 1, audit: false, check: false, selftest: None, null: None, stages: [] })",
     ),
     (
         "--null NA --audit",
-        "Ok(Words { schema: None, batch: 1024, workers: 1, audit: true, check: false, null: Some(\"NA\"), stages: [] })",
+        "Ok(Words { schema: None, batch: 1024, workers: 1, audit: true, check: false, selftest: None, null: Some(\"NA\"), stages: [] })",
     ),
     (
         "",
-        "Ok(Words { schema: None, batch: 1024, workers: 1, audit: false, check: false, null: None, stages: [\"\"] })",
+        "Ok(Words { schema: None, batch: 1024, workers: 1, audit: false, check: false, selftest: None, null: None, stages: [\"\"] })",
     ),
     (
         "--null a --null b",
@@ -43,11 +43,11 @@ static CASES: [(&str, &str); 48] = [
     ("--help", "Err(Words { fault: Refused, audit: false })"),
     (
         "--batch 1",
-        "Ok(Words { schema: None, batch: 1, workers: 1, audit: false, check: false, null: None, stages: [] })",
+        "Ok(Words { schema: None, batch: 1, workers: 1, audit: false, check: false, selftest: None, null: None, stages: [] })",
     ),
     (
         "--batch=1000000",
-        "Ok(Words { schema: None, batch: 1000000, workers: 1, audit: false, check: false, null: None, stages: [] })",
+        "Ok(Words { schema: None, batch: 1000000, workers: 1, audit: false, check: false, selftest: None, null: None, stages: [] })",
     ),
     ("--batch 0", "Err(Words { fault: Refused, audit: false })"),
     (
@@ -70,27 +70,28 @@ static CASES: [(&str, &str); 48] = [
     ),
     (
         "select=a",
-        "Ok(Words { schema: None, batch: 1024, workers: 1, audit: false, check: false, null: None, stages: [\"select=a\"] })",
+        "Ok(Words { schema: None, batch: 1024, workers: 1, audit: false, check: false, selftest: None, null: None, stages: [\"select=a\"] })",
     ),
     (
         "drop=a slice=1,2 drop=a",
-        "Ok(Words { schema: None, batch: 1024, workers: 1, audit: false, check: false, null: None, stages: [\"drop=a\", \"slice=1,2\", \"drop=a\"] })",
+        "Ok(Words { schema: None, batch: 1024, workers: 1, audit: false, check: false, selftest: None, null: None, \
+         stages: [\"drop=a\", \"slice=1,2\", \"drop=a\"] })",
     ),
     (
         "a --audit b --batch 7 c",
-        "Ok(Words { schema: None, batch: 7, workers: 1, audit: true, check: false, null: None, stages: [\"a\", \"b\", \"c\"] })",
+        "Ok(Words { schema: None, batch: 7, workers: 1, audit: true, check: false, selftest: None, null: None, stages: [\"a\", \"b\", \"c\"] })",
     ),
     (
         "-- --audit",
-        "Ok(Words { schema: None, batch: 1024, workers: 1, audit: false, check: false, null: None, stages: [\"--audit\"] })",
+        "Ok(Words { schema: None, batch: 1024, workers: 1, audit: false, check: false, selftest: None, null: None, stages: [\"--audit\"] })",
     ),
     (
         "a -- b --",
-        "Ok(Words { schema: None, batch: 1024, workers: 1, audit: false, check: false, null: None, stages: [\"a\", \"b\", \"--\"] })",
+        "Ok(Words { schema: None, batch: 1024, workers: 1, audit: false, check: false, selftest: None, null: None, stages: [\"a\", \"b\", \"--\"] })",
     ),
     (
         "a b c d e f g h i j k l m n o p",
-        "Ok(Words { schema: None, batch: 1024, workers: 1, audit: false, check: false, null: None, \
+        "Ok(Words { schema: None, batch: 1024, workers: 1, audit: false, check: false, selftest: None, null: None, \
          stages: [\"a\", \"b\", \"c\", \"d\", \"e\", \"f\", \"g\", \"h\", \"i\", \"j\", \"k\", \"l\", \"m\", \"n\", \"o\", \"p\"] })",
     ),
     (
@@ -111,11 +112,11 @@ static CASES: [(&str, &str); 48] = [
     ),
     (
         "--workers 4",
-        "Ok(Words { schema: None, batch: 1024, workers: 4, audit: false, check: false, null: None, stages: [] })",
+        "Ok(Words { schema: None, batch: 1024, workers: 4, audit: false, check: false, selftest: None, null: None, stages: [] })",
     ),
     (
         "--workers=64 select=a",
-        "Ok(Words { schema: None, batch: 1024, workers: 64, audit: false, check: false, null: None, stages: [\"select=a\"] })",
+        "Ok(Words { schema: None, batch: 1024, workers: 64, audit: false, check: false, selftest: None, null: None, stages: [\"select=a\"] })",
     ),
     ("--workers 0", "Err(Words { fault: Refused, audit: false })"),
     (
@@ -137,11 +138,11 @@ static CASES: [(&str, &str); 48] = [
     ),
     (
         "--check",
-        "Ok(Words { schema: None, batch: 1024, workers: 1, audit: false, check: true, null: None, stages: [] })",
+        "Ok(Words { schema: None, batch: 1024, workers: 1, audit: false, check: true, selftest: None, null: None, stages: [] })",
     ),
     (
         "--null NA --check --batch 2 --workers 3 --audit",
-        "Ok(Words { schema: None, batch: 2, workers: 3, audit: true, check: true, null: Some(\"NA\"), stages: [] })",
+        "Ok(Words { schema: None, batch: 2, workers: 3, audit: true, check: true, selftest: None, null: Some(\"NA\"), stages: [] })",
     ),
     (
         "--check --check",
@@ -167,6 +168,80 @@ static CASES: [(&str, &str); 48] = [
         "--check a b c d e f g h i j k l m n o p q",
         "Err(Words { fault: TooManyStages, audit: false })",
     ),
+    (
+        "--selftest 5",
+        "Ok(Words { schema: None, batch: 1024, workers: 1, audit: false, check: false, selftest: Some(5), null: None, stages: [] })",
+    ),
+    (
+        "--selftest 1",
+        "Ok(Words { schema: None, batch: 1024, workers: 1, audit: false, check: false, selftest: Some(1), null: None, stages: [] })",
+    ),
+    (
+        "--selftest=1000000",
+        "Ok(Words { schema: None, batch: 1024, workers: 1, audit: false, check: false, selftest: Some(1000000), null: None, stages: [] })",
+    ),
+    (
+        "--null NA --selftest 5 --batch 7 --workers 4 --audit",
+        "Ok(Words { schema: None, batch: 7, workers: 4, audit: true, check: false, selftest: Some(5), null: Some(\"NA\"), stages: [] })",
+    ),
+    (
+        "--selftest 0",
+        "Err(Words { fault: Refused, audit: false })",
+    ),
+    (
+        "--selftest 1000001",
+        "Err(Words { fault: Refused, audit: false })",
+    ),
+    (
+        "--selftest 4294967297",
+        "Err(Words { fault: Refused, audit: false })",
+    ),
+    (
+        "--selftest 01",
+        "Err(Words { fault: Refused, audit: false })",
+    ),
+    (
+        "--selftest +1",
+        "Err(Words { fault: Refused, audit: false })",
+    ),
+    ("--selftest=", "Err(Words { fault: Refused, audit: false })"),
+    ("--selftest", "Err(Words { fault: Refused, audit: false })"),
+    (
+        "--selftest 1 --selftest 1",
+        "Err(Words { fault: Refused, audit: false })",
+    ),
+    (
+        "--selftest 0 dict=a",
+        "Err(Words { fault: Refused, audit: false })",
+    ),
+    (
+        "--selftest 5 dict=a",
+        "Err(Words { fault: UsedWithSelftest, audit: false })",
+    ),
+    (
+        "dict=a --audit --selftest 5",
+        "Err(Words { fault: UsedWithSelftest, audit: true })",
+    ),
+    (
+        "--schema= --selftest 5",
+        "Err(Words { fault: UsedWithSelftest, audit: false })",
+    ),
+    (
+        "--check --selftest 5",
+        "Err(Words { fault: UsedWithSelftest, audit: false })",
+    ),
+    (
+        "--check a --selftest 5",
+        "Err(Words { fault: UsedWithCheck, audit: false })",
+    ),
+    (
+        "--check --schema a:l --selftest 5",
+        "Err(Words { fault: UsedWithCheck, audit: false })",
+    ),
+    (
+        "--selftest 5 a b c d e f g h i j k l m n o p q",
+        "Err(Words { fault: TooManyStages, audit: false })",
+    ),
 ];
 
 #[test]
@@ -185,7 +260,7 @@ fn words_are_taken_or_refused(rt: HostRuntime) -> Result<(), Fail> {
 }
 
 /// A fault, and its text.
-static TEXTS: [(WordsError, &str); 4] = [
+static TEXTS: [(WordsError, &str); 5] = [
     (
         WordsError::Words {
             fault: WordsFault::Refused,
@@ -206,6 +281,13 @@ static TEXTS: [(WordsError, &str); 4] = [
             audit: false,
         },
         "words: --check takes no stage and no --schema",
+    ),
+    (
+        WordsError::Words {
+            fault: WordsFault::UsedWithSelftest,
+            audit: false,
+        },
+        "words: --selftest takes no stage, no --schema and no --check",
     ),
     (WordsError::NoMemory, "out of memory"),
 ];

@@ -9,5 +9,6 @@ returns c =
     let workers = c.in_ok-arg-3.ensures.shape c.text_option-workers.ensures.local ∙ ap₂ with_rule batch c.text_option-workers.ensures.rule in
     let audit = c.in_ok-arg-4.ensures.shape c.flag_option-audit.ensures.local ∙ ap₂ with_rule workers c.flag_option-audit.ensures.rule in
     let check = c.in_ok-arg-5.ensures.shape c.flag_option-check.ensures.local ∙ ap₂ with_rule audit c.flag_option-check.ensures.rule in
-    let null = c.in_ok-arg-6.ensures.shape c.text_option-null.ensures.local ∙ ap₂ with_rule check c.text_option-null.ensures.rule in
+    let selftest = c.in_ok-arg-6.ensures.shape c.text_option-selftest.ensures.local ∙ ap₂ with_rule check c.text_option-selftest.ensures.rule in
+    let null = c.in_ok-arg-7.ensures.shape c.text_option-null.ensures.local ∙ ap₂ with_rule selftest c.text_option-null.ensures.rule in
     c.in_ok-command.ensures.shape c.lone_words-stage.ensures.local ∙ ap₂ with_rule null c.lone_words-stage.ensures.rule

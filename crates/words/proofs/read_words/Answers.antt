@@ -16,7 +16,9 @@ returns-in-Ok-try_get_matches_from c =
       refused = asked_errs _ _ c.options.result taken c.options.ensures.refused;
       batch = c.options.ensures.batch;
       workers = c.options.ensures.workers;
+      rows = c.options.ensures.rows;
       few = c.options.ensures.few;
+      fits = c.options.ensures.fits;
     }
 
 pub returns-in-Err-try_get_matches_from : goal.returns-in-Err-try_get_matches_from
@@ -31,5 +33,7 @@ returns-in-Err-try_get_matches_from c =
           (subst (λ (k : ErrorKind). ErrorOf k c.error_by.result) c.kind.ensures c.error_by.ensures);
       batch = tt;
       workers = tt;
+      rows = tt;
       few = tt;
+      fits = tt;
     }
