@@ -1,0 +1,78 @@
+//! The text of a table that is made from a number, in place of an input.
+//!
+//! It is CSV: the header `id,name,amount,paid`, then the rows 1 to n. Row i has i as its `id`, an item named for the last
+//! digit of i, an amount of i and a quarter, and `true` where i is odd. Each line ends with a line feed, and no field is
+//! quoted. So whoever knows n knows each byte.
+//!
+//! The text takes one block of memory, which is asked for before the first byte is written, and a row takes no memory of its
+//! own. The definitions stand in `specs/Made.antt`.
+#![tactic(auto)]
+
+ghost use Rattle.std.specs.Prelude.{◌≡◌, ◌≤◌, ◌++◌, ℕ, length, codes, IfOk, OnOk};
+ghost use Rattle.made_table.specs.Made.{made, made_row, paid_text};
+
+use itoa::Buffer;
+use std::alloc::Global;
+use unit_pass::NoMemory;
+
+#[cfg(test)]
+mod tests;
+
+/// The line of the names.
+const HEADER: [u8; 20] = *b"id,name,amount,paid\n";
+
+/// The text with so many rows. It answers [`NoMemory`] where the block for the whole text is refused.
+pub fn made(alloc: Global, n: u32) -> Result<Vec<u8>, NoMemory>
+    ensures text { IfOk result (λ v. v.items ≡ made n) }
+{
+    let mut text = Vec::with_capacity(alloc, room(n))?;
+    text.extend_from_slice(&HEADER)?;
+    for i in 0..n {
+        push_row(&mut text, i + 1)?;
+    }
+    Ok(text)
+}
+
+/// As many bytes as the text with so many rows takes at most.
+fn room(n: u32) -> usize
+    ensures { length (made n) ≤ result }
+{
+    let mut buffer = Buffer::new();
+    let digits = buffer.format(n).len();
+    HEADER.len() + n as usize * (2 * digits + 17)
+}
+
+/// Appends a row.
+fn push_row(bytes: &mut Vec<u8>, i: u32) -> Result<(), NoMemory>
+    ensures { OnOk result (bytes.new.items ≡ bytes.old.items ++ made_row i) }
+{
+    let mut buffer = Buffer::new();
+    let digits = buffer.format(i).as_bytes();
+    bytes.extend_from_slice(digits)?;
+    bytes.extend_from_slice(b",item")?;
+    bytes.extend_from_slice(&[b'0' + (i % 10) as u8, b','])?;
+    bytes.extend_from_slice(digits)?;
+    bytes.extend_from_slice(b".25,")?;
+    bytes.extend_from_slice(paid(i))?;
+    Ok(())
+}
+
+/// Whether a row is paid, and the end of its line.
+fn paid(i: u32) -> &'static [u8]
+    ensures { result.now ≡ paid_text i ++ codes "\n" }
+{
+    if i % 2 == 1 { b"true\n" } else { b"false\n" }
+}
+
+/// A law: the text of a million rows or fewer has at most 2^30 bytes.
+pub fn made_is_short()
+    ensures { (n : ℕ) → n ≤ 1_000_000 → length (made n) ≤ 1_073_741_824 }
+{}
+
+/// A law: what the definitions say of small numbers.
+pub fn worked_texts()
+    ensures none { made 0 ≡ codes "id,name,amount,paid\n" }
+    ensures one { made 1 ≡ codes "id,name,amount,paid\n1,item1,1.25,true\n" }
+    ensures two { made 2 ≡ codes "id,name,amount,paid\n1,item1,1.25,true\n2,item2,2.25,false\n" }
+    ensures tenth { made_row 10 ≡ codes "10,item0,10.25,false\n" }
+{}
