@@ -8,4 +8,5 @@ pub mod LinksMade
 pub mod PlanMade
 pub mod Flat
 pub mod AskedStages
+pub mod Meant
 mod TreeLines

@@ -9,7 +9,7 @@ use Rattle.tree_check.specs.Checks.{Checked, ChecksTo}
 use Rattle.words.specs.Words.{Options, words_of}
 use Rattle.words.specs.declared.WordsFault.{WordsFault}
 use Rattle.pipe_top.specs.Answer.{Answer, AnswersWithin, EntriesAsk, Fault, IsAnswer, IsAnswerTo, OptionsAsk, Request, StagesAsk, Table, Task, TaskIs, Tree}
-use Rattle.pipe_top.specs.Answer.{answer_of_check, answer_of_records, asked_by, is_too_long, request_with, stages_from, table_of}
+use Rattle.pipe_top.specs.Answer.{answer_of_check, answer_of_records, asked_by, is_too_long, meant_by, request_with, stages_from, table_of}
 use Rattle.pipe_top.specs.declared.fault.RunFault.{RunFault}
 use Rattle.pipe_top.specs.declared.fault.RunFault.TheVariants as run
 
@@ -45,11 +45,11 @@ module _ (some : (text : List ℕ) → (read : Result (List TypeEntry) TypesFaul
       is.2 ∙ ap table_of (one-request options (stages_from 1 options.stages) is.0 also.0 is.1 also.1) ∙ sym also.2
 
   some-asked : (options : Result Options WordsFault) → (asked : Result Task RunFault) × OptionsAsk options asked
-  some-asked (Ok options) = some-task options.check options
+  some-asked (Ok options) = some-task options.check (meant_by options.selftest options)
   some-asked (Err fault) = (Err (run.Words fault), refl)
 
   one-asked : (options : Result Options WordsFault) (one other : Result Task RunFault) → OptionsAsk options one → OptionsAsk options other → one ≡ other
-  one-asked (Ok options) one other is also = one-task options.check options one other is also
+  one-asked (Ok options) one other is also = one-task options.check (meant_by options.selftest options) one other is also
   one-asked (Err fault) one other is also = is ∙ sym also
 
   module _ (some-check : (bytes : List ℕ) → (checked : Checked) × ChecksTo bytes checked)

@@ -8,7 +8,8 @@ use Rattle.unit_pass.specs.declared.pass.Audit.{Audit}
 use Rattle.stage_chain.proofs.Chaining.{shows-nothing}
 use Rattle.stream_face.specs.Shown.{Seen}
 use Rattle.pipe_top.specs.Traffic.{IsShownInPart, ShowsAsked}
-use Rattle.pipe_top.specs.Answer.{Answer, Asks, IsAnswer, IsAnswerTo, IsInput, Table, Task, Tree, Text, Fault, cause_of, status_of}
+use Rattle.words.specs.Words.{made_of}
+use Rattle.pipe_top.specs.Answer.{Answer, Asks, IsAnswer, IsAnswerTo, IsInput, Table, Task, Tree, Text, Fault, cause_of, input_by, status_of}
 use Rattle.pipe_top.specs.Answer.{Cause, OfWords, OfTexts, OfPlan, OfRecords, OfTree, OfLength, Reading, Writing, Memory}
 use Rattle.pipe_top.specs.Outcomes.{AtWriteFault, AtWriting, GotFirst, GotText, asked_of, fault_in, is_decided}
 use Rattle.pipe_top.specs.declared.asked.Task.{Task as AsksTask}
@@ -78,12 +79,18 @@ at-writing Memory P Q step holds = tt
 
 -- ---- what is asked for, and what the words ask for
 
--- what holds of the bytes that the source tells, holds of its input
-at-input : (words : List (List ℕ)) (left : Option (List ℕ)) (bytes : List ℕ) (P : List ℕ → Type 0) → IsInput words left bytes → IfSome left P → P bytes
-at-input words left bytes P is holds = subst (λ l. IfSome l P) is holds
+-- what holds of the bytes that were read, holds of the input
+at-input : (words : List (List ℕ)) (left : Option (List ℕ)) (rows : Option ℕ) (bytes : List ℕ) (P : List ℕ → Type 0) → rows ≡ made_of words
+    → IsInput words left bytes → IfSome (input_by rows left) P → P bytes
+at-input words left rows bytes P same is holds = subst (λ l. IfSome l P) (ap (λ r. input_by r left) same ∙ is) holds
 
-module _ (words : List (List ℕ)) (left : Option (List ℕ)) (request : Result AsksTask RunFault) (carried : Result (Unit {0}) RunFault) (fault : Option RunFault)
-    (early : IfErr request (λ f. carried ≡ Err f)) (told : fault ≡ fault_in carried) (asks : (request ≡ Err run.NoMemory) ⊎ Asks words (asked_of request)) where
+module _ (words : List (List ℕ)) (left : Option (List ℕ)) (rows : Option ℕ) (request : Result AsksTask RunFault) (carried : Result (Unit {0}) RunFault)
+    (fault : Option RunFault) (early : IfErr request (λ f. carried ≡ Err f)) (told : fault ≡ fault_in carried)
+    (asks : (request ≡ Err run.NoMemory) ⊎ Asks words (asked_of request)) (same : (request ≡ Err run.NoMemory) ⊎ (rows ≡ made_of words)) where
+  -- the bytes that were read
+  abbrev input : Option (List ℕ)
+  input = input_by rows left
+
   answer-is : (bytes : List ℕ) (answer : Answer) → Asks words (asked_of request) → IsAnswerTo (asked_of request) bytes answer → IsAnswer words bytes answer
   answer-is bytes answer asked is = record { asked = asked_of request; asks = asked; is = is }
 
@@ -93,6 +100,13 @@ module _ (words : List (List ℕ)) (left : Option (List ℕ)) (request : Result 
       go : (request ≡ Err run.NoMemory) ⊎ Asks words (asked_of request) → Asks words (asked_of request)
       go (inl none) = absurd (never none)
       go (inr asked) = asked
+
+  made-unless : (request ≡ Err run.NoMemory → ⊥) → rows ≡ made_of words
+  made-unless never = go same
+    where
+      go : (request ≡ Err run.NoMemory) ⊎ (rows ≡ made_of words) → rows ≡ made_of words
+      go (inl none) = absurd (never none)
+      go (inr is) = is
 
   module _ (f : RunFault) (is : carried ≡ Err f) where
     -- want of memory while the words are read is the fault
@@ -125,49 +139,50 @@ module _ (words : List (List ℕ)) (left : Option (List ℕ)) (request : Result 
 
   -- ---- the text
 
-  pub text-of-answer : (old new : Option (List ℕ)) → OnOk carried (IfSome left (λ bytes. GotText (IsAnswerTo (asked_of request) bytes) old new))
+  pub text-of-answer : (old new : Option (List ℕ)) → OnOk carried (IfSome input (λ bytes. GotText (IsAnswerTo (asked_of request) bytes) old new))
       → fault ≡ None → (bytes : List ℕ) → IsInput words left bytes → GotText (IsAnswer words bytes) old new
-  text-of-answer old new got none bytes input =
-      let whole : IfSome left (λ l. GotText (IsAnswerTo (asked_of request) l) old new) =
-      subst (λ r. OnOk r (IfSome left (λ l. GotText (IsAnswerTo (asked_of request) l) old new))) (carried-ok none) got in
-      let here = at-input words left bytes (λ l. GotText (IsAnswerTo (asked_of request) l) old new) input whole in
+  text-of-answer old new got none bytes is =
+      let whole : IfSome input (λ l. GotText (IsAnswerTo (asked_of request) l) old new) =
+      subst (λ r. OnOk r (IfSome input (λ l. GotText (IsAnswerTo (asked_of request) l) old new))) (carried-ok none) got in
+      let here = at-input words left rows bytes (λ l. GotText (IsAnswerTo (asked_of request) l) old new) (made-unless (done-asked none)) is whole in
       (here.0, answer-is bytes (Text here.0) (asked-unless (done-asked none)) here.1, here.2)
 
   pub prefix-of-answer : (old new : Option (List ℕ))
-      → IfErr carried (λ f. AtWriteFault f (λ taken. IfSome left (λ bytes. GotFirst (IsAnswerTo (asked_of request) bytes) old new taken)))
+      → IfErr carried (λ f. AtWriteFault f (λ taken. IfSome input (λ bytes. GotFirst (IsAnswerTo (asked_of request) bytes) old new taken)))
       → IfSome fault (λ f. AtWriteFault f (λ taken. (bytes : List ℕ) → IsInput words left bytes → GotFirst (IsAnswer words bytes) old new taken))
   prefix-of-answer old new got =
       subst (λ o. IfSome o (λ f. AtWriteFault f (λ taken. (bytes : List ℕ) → IsInput words left bytes → GotFirst (IsAnswer words bytes) old new taken)))
       (sym told) (go carried refl got)
     where
       go : (r : Result (Unit {0}) RunFault) → carried ≡ r
-          → IfErr r (λ f. AtWriteFault f (λ taken. IfSome left (λ bytes. GotFirst (IsAnswerTo (asked_of request) bytes) old new taken)))
+          → IfErr r (λ f. AtWriteFault f (λ taken. IfSome input (λ bytes. GotFirst (IsAnswerTo (asked_of request) bytes) old new taken)))
           → IfSome (fault_in r) (λ f. AtWriteFault f (λ taken. (bytes : List ℕ) → IsInput words left bytes → GotFirst (IsAnswer words bytes) old new taken))
       go (Ok done) is wrote = tt
       go (Err f) is wrote =
-          at-writing (cause_of f) (λ taken. IfSome left (λ bytes. GotFirst (IsAnswerTo (asked_of request) bytes) old new taken))
+          at-writing (cause_of f) (λ taken. IfSome input (λ bytes. GotFirst (IsAnswerTo (asked_of request) bytes) old new taken))
           (λ taken. (bytes : List ℕ) → IsInput words left bytes → GotFirst (IsAnswer words bytes) old new taken)
-          (λ n writes first bytes input.
+          (λ n writes first bytes here-is.
           let here : GotFirst (IsAnswerTo (asked_of request) bytes) old new n =
-          at-input words left bytes (λ l. GotFirst (IsAnswerTo (asked_of request) l) old new n) input first in
+          at-input words left rows bytes (λ l. GotFirst (IsAnswerTo (asked_of request) l) old new n)
+          (made-unless (writing-asked f is n writes)) here-is first in
           (here.0, answer-is bytes (Text here.0) (asked-unless (writing-asked f is n writes)) here.1, here.2, here.3))
           wrote
 
   -- ---- the refusal
 
-  pub refused-by-answer : IfErr carried (λ f. is_decided f ≡ true → IfSome left (λ bytes. IsAnswerTo (asked_of request) bytes (Fault f)))
+  pub refused-by-answer : IfErr carried (λ f. is_decided f ≡ true → IfSome input (λ bytes. IsAnswerTo (asked_of request) bytes (Fault f)))
       → IfSome fault (λ f. is_decided f ≡ true → (bytes : List ℕ) → IsInput words left bytes → IsAnswer words bytes (Fault f))
   refused-by-answer got =
       subst (λ o. IfSome o (λ f. is_decided f ≡ true → (bytes : List ℕ) → IsInput words left bytes → IsAnswer words bytes (Fault f)))
       (sym told) (go carried refl got)
     where
       go : (r : Result (Unit {0}) RunFault) → carried ≡ r
-          → IfErr r (λ f. is_decided f ≡ true → IfSome left (λ bytes. IsAnswerTo (asked_of request) bytes (Fault f)))
+          → IfErr r (λ f. is_decided f ≡ true → IfSome input (λ bytes. IsAnswerTo (asked_of request) bytes (Fault f)))
           → IfSome (fault_in r) (λ f. is_decided f ≡ true → (bytes : List ℕ) → IsInput words left bytes → IsAnswer words bytes (Fault f))
       go (Ok done) is refused = tt
-      go (Err f) is refused = λ decided bytes input.
+      go (Err f) is refused = λ decided bytes here-is.
           answer-is bytes (Fault f) (asked-unless (decided-asked f is decided))
-          (at-input words left bytes (λ l. IsAnswerTo (asked_of request) l (Fault f)) input (refused decided))
+          (at-input words left rows bytes (λ l. IsAnswerTo (asked_of request) l (Fault f)) (made-unless (decided-asked f is decided)) here-is (refused decided))
 
   -- ---- which outcome it is
 
@@ -185,14 +200,14 @@ module _ (words : List (List ℕ)) (left : Option (List ℕ)) (request : Result 
           → (fault ≡ None → (bytes : List ℕ) → IsInput words left bytes → GotText (IsAnswer words bytes) old new)
           → IfSome fault (λ f. AtWriteFault f (λ taken. (bytes : List ℕ) → IsInput words left bytes → GotFirst (IsAnswer words bytes) old new taken))
           → IsInput words left bytes → IsAnswer words bytes (Fault told_fault) → (ReadRose → ⊥) → (fault ≡ Some told_fault) ⊎ (status ≡ 9)
-      is-complete-fault old new bytes told_fault text first input answer no-read = go fault refl
+      is-complete-fault old new bytes told_fault text first given answer no-read = go fault refl
         where
           by-cause : (f : RunFault) → fault ≡ Some f
               → (is_decided f ≡ true) ⊎ ((f ≡ run.ReadFault) ⊎ (((taken : ℕ) × (f ≡ run.WriteFault taken)) ⊎ (f ≡ run.NoMemory)))
               → (fault ≡ Some told_fault) ⊎ (status ≡ 9)
           by-cause f is (inl decided) =
               let same : ◌≡◌ {A = Answer} (Fault f) (Fault told_fault) =
-              alone words bytes (Fault f) (Fault told_fault) (refused-at f is decided bytes input) answer in
+              alone words bytes (Fault f) (Fault told_fault) (refused-at f is decided bytes given) answer in
               let one : f ≡ told_fault = cc in
               inl (is ∙ ap Some one)
           by-cause f is (inr (inl reading)) = absurd (no-read (read (is ∙ ap Some reading)))
@@ -200,7 +215,7 @@ module _ (words : List (List ℕ)) (left : Option (List ℕ)) (request : Result 
               let all =
               subst (λ o. IfSome o (λ f. AtWriteFault f (λ taken. (bytes : List ℕ) → IsInput words left bytes → GotFirst (IsAnswer words bytes) old new taken)))
               (is ∙ ap Some writing) first in
-              let here = all bytes input in
+              let here = all bytes given in
               let never : ◌≡◌ {A = Answer} (Text here.0) (Fault told_fault) =
               alone words bytes (Text here.0) (Fault told_fault) here.1 answer in
               cc
@@ -208,7 +223,7 @@ module _ (words : List (List ℕ)) (left : Option (List ℕ)) (request : Result 
 
           go : (o : Option RunFault) → fault ≡ o → (fault ≡ Some told_fault) ⊎ (status ≡ 9)
           go None is =
-              let here = text is bytes input in
+              let here = text is bytes given in
               let never : ◌≡◌ {A = Answer} (Text here.0) (Fault told_fault) =
               alone words bytes (Text here.0) (Fault told_fault) here.1 answer in
               cc
@@ -217,13 +232,13 @@ module _ (words : List (List ℕ)) (left : Option (List ℕ)) (request : Result 
       -- where the answer is a text, nothing is refused
       pub is-complete : (WriteRose : Type 0) (bytes text : List ℕ) → IfSome fault (λ f. AtWriteFault f (λ taken. WriteRose))
           → IsInput words left bytes → IsAnswer words bytes (Text text) → (ReadRose → ⊥) → (WriteRose → ⊥) → (status ≡ 0) ⊎ (status ≡ 9)
-      is-complete WriteRose bytes text wrote input answer no-read no-write = go fault refl
+      is-complete WriteRose bytes text wrote given answer no-read no-write = go fault refl
         where
           by-cause : (f : RunFault) → fault ≡ Some f
               → (is_decided f ≡ true) ⊎ ((f ≡ run.ReadFault) ⊎ (((taken : ℕ) × (f ≡ run.WriteFault taken)) ⊎ (f ≡ run.NoMemory)))
               → (status ≡ 0) ⊎ (status ≡ 9)
           by-cause f is (inl decided) =
-              let never : ◌≡◌ {A = Answer} (Fault f) (Text text) = alone words bytes (Fault f) (Text text) (refused-at f is decided bytes input) answer in
+              let never : ◌≡◌ {A = Answer} (Fault f) (Text text) = alone words bytes (Fault f) (Text text) (refused-at f is decided bytes given) answer in
               cc
           by-cause f is (inr (inl reading)) = absurd (no-read (read (is ∙ ap Some reading)))
           by-cause f is (inr (inr (inl (taken, writing)))) =
@@ -234,6 +249,18 @@ module _ (words : List (List ℕ)) (left : Option (List ℕ)) (request : Result 
           go None is = inl (status-is ∙ ap status_of is)
           go (Some f) is = by-cause f is (fault-cases f)
 
+-- ---- where rows are made
+
+if-some : {A : Type 0} (o : Option ℕ) → A → IfSome o (λ n. A)
+if-some None holds = tt
+if-some (Some n) holds = holds
+
+-- what holds where rows are made holds where the words ask for that: want of memory while they are read is a refusal
+pub made-keeps : (A : Type 0) (words : List (List ℕ)) (rows : Option ℕ) (request : Result AsksTask RunFault)
+    → (request ≡ Err run.NoMemory) ⊎ (rows ≡ made_of words) → IfErr request (λ f. A) → IfSome rows (λ n. A) → IfSome (made_of words) (λ n. A)
+made-keeps A words rows request (inl none) early made = if-some (made_of words) (subst (λ r. IfErr r (λ f. A)) none early)
+made-keeps A words rows request (inr same) early made = subst (λ r. IfSome r (λ n. A)) same made
+
 -- ---- what is shown
 
 -- where nothing was shown, the first chunks of whatever links were
@@ -243,29 +270,32 @@ unshown (Ok (Table request)) bytes old new same =
 unshown (Ok Tree) bytes old new same = same
 unshown (Err fault) bytes old new same = same
 
-pub unshown-left : (r : Result (Unit {0}) RunFault) (left : Option (List ℕ)) (asked : Result Task RunFault) (old new : Option (List Seen)) → new ≡ old
+pub unshown-input : (r : Result (Unit {0}) RunFault) (left : Option (List ℕ)) (asked : Result Task RunFault) (old new : Option (List Seen)) → new ≡ old
     → OnErr r (IfSome left (λ bytes. ShowsAsked asked bytes old new))
-unshown-left (Ok done) left asked old new same = tt
-unshown-left (Err fault) None asked old new same = tt
-unshown-left (Err fault) (Some bytes) asked old new same = unshown asked bytes old new same
+unshown-input (Ok done) left asked old new same = tt
+unshown-input (Err fault) None asked old new same = tt
+unshown-input (Err fault) (Some bytes) asked old new same = unshown asked bytes old new same
 
-asked-shown : (words : List (List ℕ)) (bytes : List ℕ) (request : Result AsksTask RunFault) (asked : Result Task RunFault) (old new : Option (List Seen))
-    → (request ≡ Err run.NoMemory) ⊎ ((asked : Result Task RunFault) → Asks words asked → asked ≡ asked_of request) → Asks words asked
-    → ShowsAsked (asked_of request) bytes old new → ShowsAsked asked bytes old new
-asked-shown words bytes request asked old new (inl none) asks shows =
-    unshown asked bytes old new (subst (λ (r : Result AsksTask RunFault). ShowsAsked (asked_of r) bytes old new) none shows)
-asked-shown words bytes request asked old new (inr only) asks shows =
-    subst (λ (a : Result Task RunFault). ShowsAsked a bytes old new) (sym (only asked asks)) shows
+module _ (words : List (List ℕ)) (left : Option (List ℕ)) (rows : Option ℕ) (request : Result AsksTask RunFault) (old new : Option (List Seen))
+    (none : IfErr request (λ _. new ≡ old)) where
+  asked-shown : (request ≡ Err run.NoMemory) ⊎ ((asked : Result Task RunFault) → Asks words asked → asked ≡ asked_of request)
+      → (request ≡ Err run.NoMemory) ⊎ (rows ≡ made_of words) → IfSome (input_by rows left) (λ bytes. ShowsAsked (asked_of request) bytes old new)
+      → (bytes : List ℕ) → IsInput words left bytes → IsShownInPart words bytes old new
+  asked-shown (inl memory) same shows bytes is asked asks =
+      unshown asked bytes old new (subst (λ (r : Result AsksTask RunFault). IfErr r (λ _. new ≡ old)) memory none)
+  asked-shown (inr only) (inl memory) shows bytes is asked asks =
+      unshown asked bytes old new (subst (λ (r : Result AsksTask RunFault). IfErr r (λ _. new ≡ old)) memory none)
+  asked-shown (inr only) (inr same) shows bytes is asked asks =
+      subst (λ (a : Result Task RunFault). ShowsAsked a bytes old new) (sym (only asked asks))
+      (at-input words left rows bytes (λ l. ShowsAsked (asked_of request) l old new) same is shows)
 
-pub shown-in-part : (words : List (List ℕ)) (left : Option (List ℕ)) (request : Result AsksTask RunFault) (carried : Result (Unit {0}) RunFault)
-    (fault : Option RunFault) (old new : Option (List Seen)) → fault ≡ fault_in carried
-    → (request ≡ Err run.NoMemory) ⊎ ((asked : Result Task RunFault) → Asks words asked → asked ≡ asked_of request)
-    → OnErr carried (IfSome left (λ bytes. ShowsAsked (asked_of request) bytes old new))
-    → IfSome fault (λ _. (bytes : List ℕ) → IsInput words left bytes → IsShownInPart words bytes old new)
-shown-in-part words left request (Ok done) fault old new told only shows =
-    subst (λ o. IfSome o (λ _. (bytes : List ℕ) → IsInput words left bytes → IsShownInPart words bytes old new)) (sym told) tt
-shown-in-part words left request (Err f) fault old new told only shows =
-    subst (λ o. IfSome o (λ _. (bytes : List ℕ) → IsInput words left bytes → IsShownInPart words bytes old new)) (sym told)
-    (λ bytes input asked asks.
-    asked-shown words bytes request asked old new only asks
-    (at-input words left bytes (λ l. ShowsAsked (asked_of request) l old new) input shows))
+  pub shown-in-part : (carried : Result (Unit {0}) RunFault) (fault : Option RunFault) → fault ≡ fault_in carried
+      → (request ≡ Err run.NoMemory) ⊎ ((asked : Result Task RunFault) → Asks words asked → asked ≡ asked_of request)
+      → (request ≡ Err run.NoMemory) ⊎ (rows ≡ made_of words)
+      → OnErr carried (IfSome (input_by rows left) (λ bytes. ShowsAsked (asked_of request) bytes old new))
+      → IfSome fault (λ _. (bytes : List ℕ) → IsInput words left bytes → IsShownInPart words bytes old new)
+  shown-in-part (Ok done) fault told only same shows =
+      subst (λ o. IfSome o (λ _. (bytes : List ℕ) → IsInput words left bytes → IsShownInPart words bytes old new)) (sym told) tt
+  shown-in-part (Err f) fault told only same shows =
+      subst (λ o. IfSome o (λ _. (bytes : List ℕ) → IsInput words left bytes → IsShownInPart words bytes old new)) (sym told)
+      (asked-shown only same shows)

@@ -1,6 +1,6 @@
 -- What a run answers: the text of the table that was read or the report of the tree that was checked, or the first fault, and
 -- the status of each fault.
-use Rattle.std.specs.Prelude.{◌≡◌, ℕ, ◌+◌, nat_lt, Bool, true, false, List, [], ◌∷◌, length, Option, None, Some, Result, Ok, Err}
+use Rattle.std.specs.Prelude.{◌≡◌, ℕ, ◌+◌, nat_lt, Bool, true, false, List, [], ◌∷◌, length, Option, None, Some, Result, Ok, Err, codes}
 use Rattle.fmt_string.specs.Table.{Column, Row}
 use Rattle.csv_read.specs.Entries.{entries_of}
 use Rattle.csv_model.specs.Header.{header_of}
@@ -27,7 +27,8 @@ use Rattle.stage_plan.specs.declared.types.TypeEntry.{TypeEntry}
 use Rattle.tree_check.specs.Checks.{Checked, ChecksTo}
 use Rattle.tree_check.specs.declared.fault.CheckFault.{CheckFault}
 use Rattle.tree_check.specs.declared.fault.CheckFault.TheVariants as check
-use Rattle.words.specs.Words.{Options, mark_of, words_of}
+use Rattle.made_table.specs.Made.{made}
+use Rattle.words.specs.Words.{Options, made_of, mark_of, words_of}
 use Rattle.words.specs.declared.WordsFault.{WordsFault}
 use Rattle.pipe_top.specs.declared.fault.RunFault.{RunFault}
 use Rattle.pipe_top.specs.declared.fault.RunFault.TheVariants as run
@@ -183,17 +184,46 @@ abbrev pub TaskIs : Bool → Options → Result Task RunFault → Type 0
 TaskIs true options asked = asked ≡ Ok Tree
 TaskIs false options asked = (request : Result Request RunFault) × RequestIs options request × (asked ≡ table_of request)
 
+-- the types of the columns of a table that is made from a number
+abbrev pub chain_schema : List ℕ
+chain_schema = codes "id:l;amount:d:10,2;paid:b"
+
+-- the stages over them
+abbrev pub chain_stages : List (List ℕ)
+chain_stages =
+    codes "pack=p,id,amount" ∷
+    codes "unpack=p" ∷
+    codes "dict=name" ∷
+    codes "filter=paid,eq,true" ∷
+    codes "plain=name" ∷
+    codes "totals=id,amount" ∷
+    []
+
+-- the options of this chain: the batch as taken, and no mark
+abbrev pub chain_of : Options → Options
+chain_of options = record options { schema = Some chain_schema; null = None; stages = chain_stages }
+
+-- the options that are meant: those of the chain where rows are made in place of an input
+abbrev pub meant_by : Option ℕ → Options → Options
+meant_by None options = options
+meant_by (Some rows) options = chain_of options
+
 abbrev pub OptionsAsk : Result Options WordsFault → Result Task RunFault → Type 0
-OptionsAsk (Ok options) asked = TaskIs options.check options asked
+OptionsAsk (Ok options) asked = TaskIs options.check (meant_by options.selftest options) asked
 OptionsAsk (Err fault) asked = asked ≡ Err (run.Words fault)
 
 -- the words ask for this, or are refused for this fault, whatever the input is
 abbrev pub Asks : List (List ℕ) → Result Task RunFault → Type 0
 Asks words asked = OptionsAsk (words_of words) asked
 
--- the input of a run with these words: what the source tells that it has
+-- the bytes that a run reads: those that the source tells that it has, or those of the rows that are made in place of them
+abbrev pub input_by : Option ℕ → Option (List ℕ) → Option (List ℕ)
+input_by None left = left
+input_by (Some rows) left = Some (made rows)
+
+-- the input of a run with these words
 abbrev pub IsInput : List (List ℕ) → Option (List ℕ) → List ℕ → Type 0
-IsInput words left bytes = left ≡ Some bytes
+IsInput words left bytes = input_by (made_of words) left ≡ Some bytes
 
 -- the answer to what is asked for and the bytes of the input
 abbrev pub IsAnswerTo : Result Task RunFault → List ℕ → Answer → Type 0

@@ -1,7 +1,7 @@
 -- What the outcome of a run says of the answer and of the sink.
 use Rattle.std.specs.Prelude.{ℕ, ◌≤◌, Bool, true, false, List, Option, None, Some, Result, Ok, Err, Vec, ⊤, length, take}
 use Rattle.std.specs.Global.{Global}
-use Rattle.std.specs.Io.KnownBytes.{Appends}
+use Rattle.std.specs.Io.KnownBytes.{Appends, IsAtEnd, Keeps}
 use Rattle.stage_plan.specs.declared.types.TypeEntry.{TypeEntry}
 use Rattle.pipe_top.specs.Answer.{Answer, Text, Request, Task, Table, Tree, Cause, OfWords, OfTexts, OfPlan}
 use Rattle.pipe_top.specs.Answer.{OfRecords, OfTree, OfLength, Reading, Writing, Memory, cause_of}
@@ -49,6 +49,11 @@ AtWriting _ P = ⊤
 
 abbrev pub AtWriteFault : RunFault → (ℕ → Type 0) → Type 0
 AtWriteFault fault P = AtWriting (cause_of fault) P
+
+-- the source was read to its end, or is as before where rows are made in place of its bytes
+abbrev pub IsRead : Option ℕ → Option (List ℕ) → Option (List ℕ) → Type 0
+IsRead None before after = IsAtEnd after
+IsRead (Some rows) before after = Keeps before after
 
 -- an answer is a text, and the sink got all of it
 abbrev pub GotText : (Answer → Type 0) → Option (List ℕ) → Option (List ℕ) → Type 0

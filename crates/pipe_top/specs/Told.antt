@@ -10,7 +10,7 @@ use Rattle.stage_plan.specs.declared.fault.TypesRule.{TypesRule}
 use Rattle.stage_plan.specs.declared.fault.TypesRule.TheVariants as types
 use Rattle.tree_check.specs.FaultTexts.{tree_fault_text}
 use Rattle.unit_pass.specs.declared.pass.Audit.{Audit}
-use Rattle.words.specs.declared.WordsFault.TheVariants as words
+use Rattle.words.specs.FaultTexts.{fault_text as words_text}
 use Rattle.pipe_top.specs.declared.fault.RunFault.{RunFault}
 use Rattle.pipe_top.specs.declared.fault.RunFault.TheVariants as run
 
@@ -22,9 +22,7 @@ entry_text types.Twice = codes ": named before"
 
 -- what is told of a fault
 abbrev pub fault_text : RunFault → List ℕ
-fault_text (run.Words words.Refused) = codes "words refused"
-fault_text (run.Words words.TooManyStages) = codes "words: more than 16 stages"
-fault_text (run.Words words.UsedWithCheck) = codes "words: --check takes no stage and no --schema"
+fault_text (run.Words fault) = words_text fault
 fault_text (run.Stage number fault) = codes "stage " ++ decimal number ++ codes ": " ++ stage_fault_text fault
 fault_text (run.Schema entry rule) = codes "schema entry " ++ decimal entry ++ entry_text rule
 fault_text (run.Plan number rule) = codes "stage " ++ decimal number ++ codes ": " ++ rule_text rule

@@ -1,11 +1,12 @@
 //! What the words ask for.
-ghost use Rattle.std.specs.Prelude.{◌≡◌, ◌≤◌, ◌⊎◌, ◌∷◌, true, false, [], ℕ, List, Result, All, Ok, Err, IfErr, IfOk, length, map, option_map};
+ghost use Rattle.std.specs.Prelude.{◌≡◌, ◌≤◌, ◌⊎◌, ◌∷◌, true, false, [], ℕ, List, Result, All, Ok, Err, IfErr, IfOk, IfSome, None, length, map, option_map};
 ghost use Rattle.std.specs.Option.{unwrap_or};
 ghost use Rattle.field_codec.specs.TextColumns.{IsAllowed};
 ghost use Rattle.fmt_string.specs.Kinds.{KindOk};
 ghost use Rattle.stage_plan.specs.declared.types.TypeEntry.{TypeEntry as AnEntry};
-ghost use Rattle.words.specs.Words.{audit_of, options_of, texts_of};
-ghost use Rattle.pipe_top.specs.Answer.{Asks, EntriesAsk, Request as ARequest, RequestIs, StagesAsk, Task as ATask, TaskIs, stages_from};
+ghost use Rattle.words.specs.Words.{audit_of, made_of, options_of, texts_of};
+ghost use Rattle.pipe_top.specs.Answer.{Asks, EntriesAsk, Request as ARequest, RequestIs, StagesAsk, Task as ATask, TaskIs, chain_of, meant_by};
+ghost use Rattle.pipe_top.specs.Answer.{stages_from};
 ghost use Rattle.pipe_top.specs.Outcomes.{IfTable, asked_of, entries_asked, is_early, request_asked};
 ghost use Rattle.pipe_top.specs.declared.fault.RunFault.{RunFault as AFault};
 
@@ -14,6 +15,19 @@ use stage_plan::{StageFault, StageText, TypeEntry, TypesFault, read_stage, read_
 use std::alloc::Global;
 use unit_pass::{Name, NoMemory};
 use words::{Words, WordsError, read_words};
+
+/// The types of the columns of a table that is made from a number.
+const CHAIN_SCHEMA: &str = "id:l;amount:d:10,2;paid:b";
+
+/// The stages over a table that is made from a number.
+const CHAIN_STAGES: [&str; 6] = [
+    "pack=p,id,amount",
+    "unpack=p",
+    "dict=name",
+    "filter=paid,eq,true",
+    "plain=name",
+    "totals=id,amount",
+];
 
 /// What is asked for of a table: types of columns by name, stages, the most rows of a batch, how many workers share the rows
 /// of a chunk, and the mark for null.
@@ -37,6 +51,8 @@ pub(crate) enum Task {
 #[derive(Drop)]
 pub(crate) struct Asked {
     pub(crate) audit: bool,
+    /// How many rows are made in place of an input, where that is asked for.
+    pub(crate) made: Option<u32>,
     pub(crate) task: Result<Task, RunFault>,
 }
 
@@ -52,10 +68,13 @@ pub(crate) fn read_asked(alloc: Global, words: &[String]) -> Asked
     ensures batch { IfOk result.task (λ t. IfTable t (λ r. (1 ≤ r.batch) × (r.batch ≤ 1000000))) }
     ensures workers { IfOk result.task (λ t. IfTable t (λ r. (1 ≤ r.workers) × (r.workers ≤ 64))) }
     ensures audit { (result.task ≡ Err RunFault.NoMemory) × (result.audit ≡ false) ⊎ (result.audit ≡ audit_of (texts_of words.now)) }
+    ensures made { (result.task ≡ Err RunFault.NoMemory) ⊎ (result.made ≡ made_of (texts_of words.now)) }
+    ensures few_rows { IfSome result.made (λ rows. rows ≤ 1000000) }
 {
     match read_words(alloc, words) {
         Ok(read) => Asked {
             audit: read.audit,
+            made: read.selftest,
             task: read_task(alloc, &read),
         },
         Err(WordsError::Words { fault, audit }) => refused(RunFault::Words(fault), audit),
@@ -67,21 +86,25 @@ pub(crate) fn read_asked(alloc: Global, words: &[String]) -> Asked
 fn refused(fault: RunFault, audit: bool) -> Asked
     ensures task { result.task ≡ Err fault }
     ensures audit { result.audit ≡ audit }
+    ensures made { result.made ≡ None }
 {
     Asked {
         audit,
+        made: None,
         task: Err(fault),
     }
 }
 
-/// What options ask for: the check of a tree, or else a table.
+/// What options ask for: the check of a tree, or else a table, which may be one that is made.
 fn read_task(alloc: Global, options: &Words<'_>) -> Result<Task, RunFault>
     requires few { length options.now.stages.items ≤ 16 }
     requires batch { (1 ≤ options.now.batch) × (options.now.batch ≤ 1000000) }
     requires workers { (1 ≤ options.now.workers) × (options.now.workers ≤ 64) }
-    ensures asks { (result ≡ Err RunFault.NoMemory) ⊎ TaskIs options.now.check (options_of options.now) (asked_of result) }
+    ensures asks { (result ≡ Err RunFault.NoMemory)
+        ⊎ TaskIs options.now.check (meant_by options.now.selftest (options_of options.now)) (asked_of result) }
     ensures only { (result ≡ Err RunFault.NoMemory)
-        ⊎ ((asked : Result ATask AFault) → TaskIs options.now.check (options_of options.now) asked → asked ≡ asked_of result) }
+        ⊎ ((asked : Result ATask AFault) → TaskIs options.now.check (meant_by options.now.selftest (options_of options.now)) asked
+        → asked ≡ asked_of result) }
     ensures early { IfErr result (λ fault. (is_early fault ≡ true) ⊎ (fault ≡ RunFault.NoMemory)) }
     ensures proper { IfOk result (λ t. IfTable t (λ r. All (λ e. KindOk e.kind) r.entries.items)) }
     ensures allowed { IfOk result (λ t. IfTable t (λ r. All (λ e. IsAllowed e.kind) r.entries.items)) }
@@ -92,6 +115,50 @@ fn read_task(alloc: Global, options: &Words<'_>) -> Result<Task, RunFault>
     if options.check {
         return Ok(Task::Tree);
     }
+    match options.selftest {
+        None => read_table(alloc, options),
+        Some(_) => {
+            let chain = chain_options(alloc, options)?;
+            read_table(alloc, &chain)
+        }
+    }
+}
+
+/// The options of a run made from a number: the chain over the columns that are made, with the batch and the workers as taken.
+fn chain_options(alloc: Global, options: &Words<'_>) -> Result<Words<'static>, NoMemory>
+    ensures chain { IfOk result (λ chain. options_of chain ≡ chain_of (options_of options.now)) }
+    ensures few { IfOk result (λ chain. length chain.stages.items ≤ 16) }
+    ensures batch { IfOk result (λ chain. chain.batch ≡ options.now.batch) }
+    ensures workers { IfOk result (λ chain. chain.workers ≡ options.now.workers) }
+{
+    let stages = Vec::from_slice(alloc, &CHAIN_STAGES)?;
+    Ok(Words {
+        schema: Some(CHAIN_SCHEMA),
+        batch: options.batch,
+        workers: options.workers,
+        audit: options.audit,
+        check: options.check,
+        selftest: options.selftest,
+        null: None,
+        stages,
+    })
+}
+
+/// The table that options ask for.
+fn read_table(alloc: Global, options: &Words<'_>) -> Result<Task, RunFault>
+    requires few { length options.now.stages.items ≤ 16 }
+    requires batch { (1 ≤ options.now.batch) × (options.now.batch ≤ 1000000) }
+    requires workers { (1 ≤ options.now.workers) × (options.now.workers ≤ 64) }
+    ensures asks { (result ≡ Err RunFault.NoMemory) ⊎ TaskIs false (options_of options.now) (asked_of result) }
+    ensures only { (result ≡ Err RunFault.NoMemory)
+        ⊎ ((asked : Result ATask AFault) → TaskIs false (options_of options.now) asked → asked ≡ asked_of result) }
+    ensures early { IfErr result (λ fault. (is_early fault ≡ true) ⊎ (fault ≡ RunFault.NoMemory)) }
+    ensures proper { IfOk result (λ t. IfTable t (λ r. All (λ e. KindOk e.kind) r.entries.items)) }
+    ensures allowed { IfOk result (λ t. IfTable t (λ r. All (λ e. IsAllowed e.kind) r.entries.items)) }
+    ensures few { IfOk result (λ t. IfTable t (λ r. length r.stages.items ≤ 16)) }
+    ensures batch { IfOk result (λ t. IfTable t (λ r. (1 ≤ r.batch) × (r.batch ≤ 1000000))) }
+    ensures workers { IfOk result (λ t. IfTable t (λ r. (1 ≤ r.workers) × (r.workers ≤ 64))) }
+{
     match read_request(alloc, options) {
         Ok(request) => Ok(Task::Table(request)),
         Err(fault) => Err(fault),

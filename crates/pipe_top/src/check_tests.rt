@@ -376,6 +376,25 @@ fn a_text_that_ends_early_names_the_line_behind_it(rt: HostRuntime) -> Result<()
     Ok(())
 }
 
+/// A control byte is no part of any line.
+#[test]
+fn a_line_that_is_spoiled_at_any_place_is_named(rt: HostRuntime) -> Result<(), Fail> {
+    let bytes = SMALL.as_bytes();
+    let mut line = 1_u64;
+    for at in 0..bytes.len() {
+        if bytes[at] == b'\n' {
+            line = line.wrapping_add(1);
+            continue;
+        }
+        let mut text = bytes.to_vec(rt.alloc())?;
+        text[at] = 7;
+        let wanted = format!(in rt.alloc(); "tree line {line}: not expected")?;
+        expect_fault(&rt, rt.alloc(), &text, 8, wanted.as_str())?;
+    }
+    assert_eq!(rt; line, 9, "each of eight lines was spoiled");
+    Ok(())
+}
+
 #[test]
 fn bad_escapes_and_numbers_name_their_line(rt: HostRuntime) -> Result<(), Fail> {
     let rows: [(&str, u64); 12] = [

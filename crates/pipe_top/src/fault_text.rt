@@ -83,6 +83,9 @@ pub(crate) fn told_of(fault: RunFault) -> Told
         RunFault::Words(WordsFault::UsedWithCheck) => {
             plain("words: --check takes no stage and no --schema")
         }
+        RunFault::Words(WordsFault::UsedWithSelftest) => {
+            plain("words: --selftest takes no stage, no --schema and no --check")
+        }
         RunFault::Stage { stage, rule } => counted("stage ", stage as u64, stage_text(rule)),
         RunFault::Schema { entry, rule } => counted("schema entry ", entry, entry_text(rule)),
         RunFault::Plan { stage, rule } => counted("stage ", stage as u64, rule_text(rule)),

@@ -54,7 +54,11 @@ pub fn worked_answers()
 #[cfg(test)]
 mod check_tests;
 #[cfg(test)]
+mod failure_tests;
+#[cfg(test)]
 mod field_tests;
+#[cfg(test)]
+mod made_tests;
 #[cfg(test)]
 mod payment_tests;
 #[cfg(test)]

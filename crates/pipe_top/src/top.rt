@@ -6,9 +6,11 @@ ghost use Rattle.field_codec.specs.TextColumns.{IsAllowed};
 ghost use Rattle.fmt_string.specs.Kinds.{KindOk};
 ghost use Rattle.edge_io.specs.Edge.{LosesPrefix, Rose};
 ghost use Rattle.unit_pass.specs.declared.pass.TheConstants.{ROOM};
-ghost use Rattle.words.specs.Words.{audit_of, texts_of};
-ghost use Rattle.pipe_top.specs.Answer.{AnswersBytes, Asks, Fault, IsAnswer, IsAnswerTo, IsInput, Text, input_limit, status_of};
-ghost use Rattle.pipe_top.specs.Outcomes.{AtWriteFault, GotFirst, GotText, IfTable, asked_of, fault_in, is_decided, is_early, is_write_fault, task_of};
+ghost use Rattle.made_table.specs.Made.{made};
+ghost use Rattle.words.specs.Words.{audit_of, made_of, texts_of};
+ghost use Rattle.pipe_top.specs.Answer.{AnswersBytes, Asks, Fault, IsAnswer, IsAnswerTo, IsInput, Text, input_by, input_limit};
+ghost use Rattle.pipe_top.specs.Answer.{status_of};
+ghost use Rattle.pipe_top.specs.Outcomes.{AtWriteFault, GotFirst, GotText, IfTable, IsRead, asked_of, fault_in, is_decided, is_early, is_write_fault, task_of};
 ghost use Rattle.pipe_top.specs.Told.{Told, audit_if};
 ghost use Rattle.pipe_top.specs.Traffic.{CountsTask, IsShown, IsShownInPart, IsTraffic, ShowsAsked, ShowsTask};
 ghost use Rattle.pipe_top.specs.declared.fault.RunFault.{RunFault as AFault};
@@ -19,6 +21,7 @@ use crate::fault::RunFault;
 use crate::laws::one_answer;
 use crate::told::tell;
 use edge_io::{Gate, ReadFault, Sink, Source, WriteFault, read_all, write_all};
+use made_table::{made, made_is_short};
 use std::alloc::Global;
 use std::thread::Threads;
 use stream_face::Tap;
@@ -43,7 +46,7 @@ pub struct Outcome {
 /// of the tree that it tells of.
 ///
 /// `words` are those after the program's name:
-/// `[--schema TEXT] [--batch N] [--workers W] [--audit] [--check] [--null MARK] [STAGE ...]`. A column
+/// `[--schema TEXT] [--batch N] [--workers W] [--audit] [--check] [--selftest N] [--null MARK] [STAGE ...]`. A column
 /// holds values of the type that the schema text asks for, and UTF-8 text where it asks for none; a field that equals the
 /// mark is a null, by default the empty one, and a null is written as the mark. The header's names are UTF-8 and differ,
 /// there are at most 1,024 of them, and each entry of the schema text names one of them. There are at most 16 stages, each
@@ -55,6 +58,9 @@ pub struct Outcome {
 /// With `--check`, which takes no stage and no schema text, the source is a schema tree and an array tree as lines of text. They
 /// are checked as a stranger's would be, and the text is the report of the array. The first of these faults is told: of the
 /// words, of reading, of the text, of the schema, of the array. The tap sees nothing, and `N`, `W` and the mark change nothing.
+///
+/// With `--selftest N`, which takes no stage, no schema text and no `--check`, the source is left alone: so many rows are made in
+/// its place (`made_table`), and go through a chain of stages of their own (`specs/Answer.antt`). The mark changes nothing.
 ///
 /// Each chunk that passes from the source or from a stage is checked and then shown to the tap: link 0 is the source's, link
 /// K that of stage K ("The Arrow C Stream Interface").
@@ -72,10 +78,10 @@ pub fn run<R: Threads + Sync, S: Source, K: Sink, E: Sink, T: Tap>(
     gate: &(dyn Gate + Sync),
 ) -> Outcome
     requires shared { IsSync R.row }
-    // Success: the answer is a text, all of it is in the sink, and the source was read to its end.
+    // Success: the answer is a text, all of it is in the sink, and the source was read to its end, or rows were made in its place.
     ensures text { result.fault ≡ None → (bytes : List ℕ) → IsInput (texts_of words.now) (S.left source.old) bytes
         → GotText (IsAnswer (texts_of words.now) bytes) (K.taken sink.old) (K.taken sink.new) }
-    ensures text_read_to_end { result.fault ≡ None → IsAtEnd (S.left source.new) }
+    ensures text_read_to_end { result.fault ≡ None → IsRead (made_of (texts_of words.now)) (S.left source.old) (S.left source.new) }
     // A fault of the words or of the input is exactly the answer's.
     ensures refused { IfSome result.fault (λ fault. is_decided fault ≡ true → (bytes : List ℕ) → IsInput (texts_of words.now) (S.left source.old) bytes
         → IsAnswer (texts_of words.now) bytes (Fault fault)) }
@@ -85,8 +91,12 @@ pub fn run<R: Threads + Sync, S: Source, K: Sink, E: Sink, T: Tap>(
     ensures refused_early_only { IfSome result.fault (λ fault. is_early fault ≡ true → Asks (texts_of words.now) (Err fault)) }
     ensures refused_unread { (fault : AFault) → Asks (texts_of words.now) (Err fault) → Keeps (S.left source.old) (S.left source.new) }
     ensures refused_unfailed { (fault : AFault) → Asks (texts_of words.now) (Err fault) → S.faults source.new ≡ S.faults source.old }
-    // A read fails only where the source's faults rose, and a write where the sink's did.
-    ensures read_fault { result.fault ≡ Some RunFault.ReadFault → Rose (S.faults source.old) (S.faults source.new) }
+    // Where rows are made in place of an input, the source is as before, whatever the run comes to.
+    ensures made_unread { IfSome (made_of (texts_of words.now)) (λ rows. Keeps (S.left source.old) (S.left source.new)) }
+    ensures made_unfailed { IfSome (made_of (texts_of words.now)) (λ rows. S.faults source.new ≡ S.faults source.old) }
+    // A read fails only where no rows are made and the source's faults rose, and a write where the sink's did.
+    ensures read_fault { result.fault ≡ Some RunFault.ReadFault
+        → (made_of (texts_of words.now) ≡ None) × Rose (S.faults source.old) (S.faults source.new) }
     ensures write_fault { IfSome result.fault (λ fault. AtWriteFault fault (λ taken. Rose (K.faults sink.old) (K.faults sink.new))) }
     // After a failed write the sink has the first bytes of the text, and after any other fault it is as before.
     ensures write_fault_prefix { IfSome result.fault
@@ -122,9 +132,10 @@ pub fn run<R: Threads + Sync, S: Source, K: Sink, E: Sink, T: Tap>(
     let (desk, mut pass) = open_desk();
     let Asked {
         audit: wanted,
+        made,
         task,
     } = read_asked(alloc, words);
-    let carried = carry_out(rt, alloc, task, source, sink, &mut pass, tap, gate);
+    let carried = carry_out(rt, alloc, made, task, source, sink, &mut pass, tap, gate);
     let audit = desk.close(pass);
     let outcome = outcome_of(carried, audit);
     let _told = tell(errs, outcome.fault, &outcome.audit, wanted);
@@ -175,8 +186,43 @@ fn status(fault: RunFault) -> u8
     }
 }
 
+/// The bytes of the input: those that the source has, which is read to its end, or those of so many rows that are made.
+fn read_input<S: Source>(
+    alloc: Global,
+    rows: Option<u32>,
+    source: &mut S,
+) -> Result<Vec<u8>, RunFault>
+    requires few { IfSome rows (λ n. n ≤ 1000000) }
+    ensures bytes { IfOk result (λ v. IfSome (input_by rows (S.left source.old)) (λ bytes. bytes ≡ v.items)) }
+    ensures fits { IfOk result (λ v. length v.items ≤ input_limit) }
+    ensures end { OnOk result (IsRead rows (S.left source.old) (S.left source.new)) }
+    ensures fault { IfErr result (λ fault. (fault ≡ RunFault.NoMemory)
+        ⊎ (fault ≡ RunFault.ReadFault) × (rows ≡ None) × Rose (S.faults source.old) (S.faults source.new)
+        ⊎ (fault ≡ RunFault.InputTooLong) × IfSome (input_by rows (S.left source.old)) (λ bytes. input_limit < length bytes)) }
+    ensures made_unread { IfSome rows (λ n. Keeps (S.left source.old) (S.left source.new)) }
+    ensures made_unfailed { IfSome rows (λ n. S.faults source.new ≡ S.faults source.old) }
+    ensures prefix { LosesPrefix (S.left source.old) (S.left source.new) }
+{
+    match rows {
+        Some(rows) => make_input(alloc, rows),
+        None => read_source(alloc, source),
+    }
+}
+
+/// The bytes of so many rows.
+fn make_input(alloc: Global, rows: u32) -> Result<Vec<u8>, RunFault>
+    requires few { rows ≤ 1000000 }
+    ensures bytes { IfOk result (λ v. made rows ≡ v.items) }
+    ensures fits { IfOk result (λ v. length v.items ≤ input_limit) }
+    ensures fault { IfErr result (λ fault. fault ≡ RunFault.NoMemory) }
+{
+    made_is_short();
+    let bytes = made(alloc, rows)?;
+    Ok(bytes)
+}
+
 /// Reads the source to its end.
-fn read_input<S: Source>(alloc: Global, source: &mut S) -> Result<Vec<u8>, RunFault>
+fn read_source<S: Source>(alloc: Global, source: &mut S) -> Result<Vec<u8>, RunFault>
     ensures bytes { IfOk result (λ v. IfSome (S.left source.old) (λ bytes. bytes ≡ v.items)) }
     ensures fits { IfOk result (λ v. length v.items ≤ input_limit) }
     ensures end { OnOk result (IsAtEnd (S.left source.new)) }
@@ -227,10 +273,11 @@ fn answer_task<R: Threads + Sync, T: Tap>(
     }
 }
 
-/// Reads the source, makes the text and writes it, where the words are taken.
+/// Reads the source or makes so many rows, makes the text and writes it, where the words are taken.
 fn carry_out<R: Threads + Sync, S: Source, K: Sink, T: Tap>(
     rt: &R,
     alloc: Global,
+    rows: Option<u32>,
     task: Result<Task, RunFault>,
     source: &mut S,
     sink: &mut K,
@@ -239,6 +286,7 @@ fn carry_out<R: Threads + Sync, S: Source, K: Sink, T: Tap>(
     gate: &(dyn Gate + Sync),
 ) -> Result<(), RunFault>
     requires shared { IsSync R.row }
+    requires few_rows { IfSome rows (λ n. n ≤ 1000000) }
     requires units { 2 * ROOM ≤ pass.old.units }
     requires proper { IfOk task (λ t. IfTable t (λ r. All (λ e. KindOk e.kind) r.entries.items)) }
     requires allowed { IfOk task (λ t. IfTable t (λ r. All (λ e. IsAllowed e.kind) r.entries.items)) }
@@ -246,27 +294,35 @@ fn carry_out<R: Threads + Sync, S: Source, K: Sink, T: Tap>(
     requires batch { IfOk task (λ t. IfTable t (λ r. (1 ≤ r.batch) × (r.batch ≤ 1000000))) }
     requires workers { IfOk task (λ t. IfTable t (λ r. (1 ≤ r.workers) × (r.workers ≤ 64))) }
     requires early { IfErr task (λ fault. (is_early fault ≡ true) ⊎ (fault ≡ RunFault.NoMemory)) }
-    ensures text { OnOk result (IfSome (S.left source.old) (λ bytes. GotText (IsAnswerTo (asked_of task) bytes) (K.taken sink.old) (K.taken sink.new))) }
-    ensures text_read_to_end { OnOk result (IsAtEnd (S.left source.new)) }
-    ensures refused { IfErr result (λ fault. is_decided fault ≡ true → IfSome (S.left source.old) (λ bytes. IsAnswerTo (asked_of task) bytes (Fault fault))) }
+    ensures text { OnOk result (IfSome (input_by rows (S.left source.old))
+        (λ bytes. GotText (IsAnswerTo (asked_of task) bytes) (K.taken sink.old) (K.taken sink.new))) }
+    ensures text_read_to_end { OnOk result (IsRead rows (S.left source.old) (S.left source.new)) }
+    ensures refused { IfErr result (λ fault. is_decided fault ≡ true
+        → IfSome (input_by rows (S.left source.old)) (λ bytes. IsAnswerTo (asked_of task) bytes (Fault fault))) }
     ensures refused_early { IfErr task (λ fault. result ≡ Err fault) }
     ensures refused_early_only { IfErr result (λ fault. is_early fault ≡ true → asked_of task ≡ Err fault) }
     ensures refused_unread { IfErr task (λ _. Keeps (S.left source.old) (S.left source.new)) }
     ensures refused_unfailed { IfErr task (λ _. S.faults source.new ≡ S.faults source.old) }
-    ensures read_fault { result ≡ Err RunFault.ReadFault → Rose (S.faults source.old) (S.faults source.new) }
+    ensures made_unread { IfSome rows (λ n. Keeps (S.left source.old) (S.left source.new)) }
+    ensures made_unfailed { IfSome rows (λ n. S.faults source.new ≡ S.faults source.old) }
+    ensures read_fault { result ≡ Err RunFault.ReadFault → (rows ≡ None) × Rose (S.faults source.old) (S.faults source.new) }
     ensures write_fault { IfErr result (λ fault. AtWriteFault fault (λ taken. Rose (K.faults sink.old) (K.faults sink.new))) }
     ensures write_fault_prefix { IfErr result (λ fault. AtWriteFault fault
-        (λ taken. IfSome (S.left source.old) (λ bytes. GotFirst (IsAnswerTo (asked_of task) bytes) (K.taken sink.old) (K.taken sink.new) taken))) }
+        (λ taken. IfSome (input_by rows (S.left source.old))
+        (λ bytes. GotFirst (IsAnswerTo (asked_of task) bytes) (K.taken sink.old) (K.taken sink.new) taken))) }
     ensures unwritten { IfErr result (λ fault. is_write_fault fault ≡ false → Keeps (K.taken sink.old) (K.taken sink.new)) }
     ensures prefix { LosesPrefix (S.left source.old) (S.left source.new) }
     ensures units { pass.new.units ≡ pass.old.units }
-    ensures counts { OnOk result (IfOk task (λ t. IfSome (S.left source.old)
+    ensures counts { OnOk result (IfOk task (λ t. IfSome (input_by rows (S.left source.old))
         (λ bytes. CountsTask (task_of t) bytes pass.old.blocks pass.old.nodes pass.new.blocks pass.new.nodes))) }
-    ensures shows { OnOk result (IfOk task (λ t. IfSome (S.left source.old) (λ bytes. ShowsTask (task_of t) bytes (T.seen tap.old) (T.seen tap.new)))) }
-    ensures shows_some { OnErr result (IfSome (S.left source.old) (λ bytes. ShowsAsked (asked_of task) bytes (T.seen tap.old) (T.seen tap.new))) }
+    ensures shows { OnOk result (IfOk task (λ t. IfSome (input_by rows (S.left source.old))
+        (λ bytes. ShowsTask (task_of t) bytes (T.seen tap.old) (T.seen tap.new)))) }
+    ensures unshown { IfErr task (λ _. T.seen tap.new ≡ T.seen tap.old) }
+    ensures shows_some { OnErr result (IfSome (input_by rows (S.left source.old))
+        (λ bytes. ShowsAsked (asked_of task) bytes (T.seen tap.old) (T.seen tap.new))) }
 {
     let task = task?;
-    let bytes = read_input(alloc, source)?;
+    let bytes = read_input(alloc, rows, source)?;
     let text = answer_task(rt, alloc, &bytes, &task, pass, tap, gate)?;
     match write_all(sink, &text) {
         Ok(()) => Ok(()),

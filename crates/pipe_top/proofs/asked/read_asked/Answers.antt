@@ -1,6 +1,6 @@
 use Rattle.std.proofs.Common.{◌≡◌, ◌⊎◌, ℕ, List, Result, Ok, Err, subst, sym, inl, inr}
 use Rattle.words.specs.Words.{Options, words_of}
-use Rattle.pipe_top.specs.Answer.{Asks, OptionsAsk, Task, TaskIs}
+use Rattle.pipe_top.specs.Answer.{Asks, OptionsAsk, Task, TaskIs, meant_by}
 use Rattle.pipe_top.specs.Outcomes.{asked_of}
 use Rattle.pipe_top.specs.declared.asked.Task.{Task as AsksTask}
 use Rattle.pipe_top.specs.declared.fault.RunFault.{RunFault}
@@ -9,13 +9,13 @@ use Rattle.pipe_top.proofs.asked.read_asked.Goals as goal
 
 -- what the options alone ask for, the words ask for
 only-asked : (words : List (List ℕ)) (options : Options) (r : Result AsksTask RunFault) → words_of words ≡ Ok options
-    → (r ≡ Err run.NoMemory) ⊎ ((asked : Result Task RunFault) → TaskIs options.check options asked → asked ≡ asked_of r)
+    → (r ≡ Err run.NoMemory) ⊎ ((asked : Result Task RunFault) → TaskIs options.check (meant_by options.selftest options) asked → asked ≡ asked_of r)
     → (r ≡ Err run.NoMemory) ⊎ ((asked : Result Task RunFault) → Asks words asked → asked ≡ asked_of r)
 only-asked words options r is (inl none) = inl none
 only-asked words options r is (inr only) = inr (λ asked asks. only asked (subst (λ w. OptionsAsk w asked) is asks))
 
 all-asked : (words : List (List ℕ)) (options : Options) (r : Result AsksTask RunFault) → words_of words ≡ Ok options
-    → (r ≡ Err run.NoMemory) ⊎ TaskIs options.check options (asked_of r) → (r ≡ Err run.NoMemory) ⊎ Asks words (asked_of r)
+    → (r ≡ Err run.NoMemory) ⊎ TaskIs options.check (meant_by options.selftest options) (asked_of r) → (r ≡ Err run.NoMemory) ⊎ Asks words (asked_of r)
 all-asked words options r is (inl none) = inl none
 all-asked words options r is (inr asks) = inr (subst (λ w. OptionsAsk w (asked_of r)) (sym is) asks)
 

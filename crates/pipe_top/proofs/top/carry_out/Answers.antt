@@ -1,14 +1,16 @@
 use Rattle.std.proofs.Common.{rules, ap, refl, subst, take}
 use Rattle.std.specs.Io.KnownBytes.{Appends}
 use Rattle.edge_io.specs.Edge.{taken_by}
+use Rattle.pipe_top.specs.Answer.{input_by}
 use Rattle.pipe_top.specs.Outcomes.{asked_of, task_of}
-use Rattle.pipe_top.proofs.Runs.{unshown-left}
+use Rattle.pipe_top.proofs.Runs.{unshown-input}
 use Rattle.pipe_top.proofs.Written.{first-written}
 use Rattle.pipe_top.proofs.top.carry_out.Goals as goal
 
 pub returns-in_err-bytes-clause-shows_some : goal.returns-in_err-bytes-clause-shows_some
 returns-in_err-bytes-clause-shows_some g c =
-    unshown-left c.from_residual-in_err-bytes.result (g.S.Source.left c.args.source.now) (asked_of c.args.task) (g.T.Tap.seen c.args.tap.now)
+    unshown-input c.from_residual-in_err-bytes.result (input_by c.args.rows (g.S.Source.left c.args.source.now))
+    (asked_of c.args.task) (g.T.Tap.seen c.args.tap.now)
     (g.T.Tap.seen c.args.tap.now) refl
 
 pub returns-clause-write_fault_prefix : goal.returns-clause-write_fault_prefix
@@ -17,7 +19,8 @@ returns-clause-write_fault_prefix g c =
     let wrote =
     subst (λ text. Appends (g.K.Sink.taken c.args.sink.now) (g.K.Sink.taken c.write_all.new.sink) (take (taken_by c.in-Err-Failed.field-0) text))
     c.deref-2.ensures.value c.in-Err-Failed.ensures.prefix in
-    let got = first-written (g.S.Source.left c.args.source.now) (g.K.Sink.taken c.args.sink.now) (g.K.Sink.taken c.write_all.new.sink) (asked_of c.args.task)
+    let got = first-written (input_by c.args.rows (g.S.Source.left c.args.source.now))
+    (g.K.Sink.taken c.args.sink.now) (g.K.Sink.taken c.write_all.new.sink) (asked_of c.args.task)
     (task_of c.in_ok-task.task) c.in_ok-bytes.bytes.items asked c.in_ok-bytes.ensures.bytes c.in_ok-text.text.items (taken_by c.in-Err-Failed.field-0)
     (search rules) (search rules) wrote in
     search (rules, got)

@@ -1,5 +1,6 @@
 use Rattle.std.proofs.Common.{rules}
-use Rattle.pipe_top.proofs.Runs.{is-complete, is-complete-fault, prefix-of-answer, refused-by-answer, shown-in-part, silent-audit, text-of-answer, told-all}
+use Rattle.pipe_top.proofs.Runs.{is-complete, is-complete-fault, made-keeps, prefix-of-answer, refused-by-answer}
+use Rattle.pipe_top.proofs.Runs.{shown-in-part, silent-audit, text-of-answer, told-all}
 use Rattle.pipe_top.proofs.top.run.Goals as goal
 
 pub returns-clause-diagnostics : goal.returns-clause-diagnostics
@@ -15,16 +16,14 @@ returns-clause-diagnostics g c =
 pub returns-clause-refused : goal.returns-clause-refused
 returns-clause-refused g c =
     let carried = c.carry_out-carried.ensures in
-    refused-by-answer _ (g.S.Source.left c.args.source.now) c.read_asked-wanted.result.task c.carry_out-carried.result _ carried.refused_early
-    c.outcome_of-outcome.ensures.fault
-    c.read_asked-wanted.ensures.asks carried.refused
+    refused-by-answer _ (g.S.Source.left c.args.source.now) c.read_asked-wanted.result.made c.read_asked-wanted.result.task c.carry_out-carried.result _
+    carried.refused_early c.outcome_of-outcome.ensures.fault c.read_asked-wanted.ensures.asks c.read_asked-wanted.ensures.made carried.refused
 
 pub returns-clause-write_fault_prefix : goal.returns-clause-write_fault_prefix
 returns-clause-write_fault_prefix g c =
     let carried = c.carry_out-carried.ensures in
-    prefix-of-answer _ (g.S.Source.left c.args.source.now) c.read_asked-wanted.result.task c.carry_out-carried.result _ carried.refused_early
-    c.outcome_of-outcome.ensures.fault
-    c.read_asked-wanted.ensures.asks _ _ carried.write_fault_prefix
+    prefix-of-answer _ (g.S.Source.left c.args.source.now) c.read_asked-wanted.result.made c.read_asked-wanted.result.task c.carry_out-carried.result _
+    carried.refused_early c.outcome_of-outcome.ensures.fault c.read_asked-wanted.ensures.asks c.read_asked-wanted.ensures.made _ _ carried.write_fault_prefix
 
 pub returns-clause-complete_fault : goal.returns-clause-complete_fault
 returns-clause-complete_fault g c bytes fault input answer no-read =
@@ -33,9 +32,11 @@ returns-clause-complete_fault g c bytes fault input answer no-read =
     let carried = c.carry_out-carried.ensures in
     let told = c.outcome_of-outcome.ensures.fault in
     let asks = c.read_asked-wanted.ensures.asks in
-    let refused = refused-by-answer _ left request c.carry_out-carried.result _ carried.refused_early told asks carried.refused in
-    let first = prefix-of-answer _ left request c.carry_out-carried.result _ carried.refused_early told asks _ _ carried.write_fault_prefix in
-    is-complete-fault _ left request c.carry_out-carried.result _ carried.refused_early told asks c.one_answer.ensures.alone
+    let rows = c.read_asked-wanted.result.made in
+    let same = c.read_asked-wanted.ensures.made in
+    let refused = refused-by-answer _ left rows request c.carry_out-carried.result _ carried.refused_early told asks same carried.refused in
+    let first = prefix-of-answer _ left rows request c.carry_out-carried.result _ carried.refused_early told asks same _ _ carried.write_fault_prefix in
+    is-complete-fault _ left rows request c.carry_out-carried.result _ carried.refused_early told asks same c.one_answer.ensures.alone
     _ c.outcome_of-outcome.result.status c.outcome_of-outcome.ensures.status (search rules) refused _ _ bytes fault (search rules) first input answer no-read
 
 pub returns-clause-complete : goal.returns-clause-complete
@@ -45,19 +46,26 @@ returns-clause-complete g c bytes text input answer no-read no-write =
     let carried = c.carry_out-carried.ensures in
     let told = c.outcome_of-outcome.ensures.fault in
     let asks = c.read_asked-wanted.ensures.asks in
-    let refused = refused-by-answer _ left request c.carry_out-carried.result _ carried.refused_early told asks carried.refused in
-    is-complete _ left request c.carry_out-carried.result _ carried.refused_early told asks c.one_answer.ensures.alone
+    let rows = c.read_asked-wanted.result.made in
+    let same = c.read_asked-wanted.ensures.made in
+    let refused = refused-by-answer _ left rows request c.carry_out-carried.result _ carried.refused_early told asks same carried.refused in
+    is-complete _ left rows request c.carry_out-carried.result _ carried.refused_early told asks same c.one_answer.ensures.alone
     _ c.outcome_of-outcome.result.status c.outcome_of-outcome.ensures.status (search rules) refused _ bytes text (search rules) input answer no-read no-write
 
 pub returns-clause-text : goal.returns-clause-text
 returns-clause-text g c =
     let carried = c.carry_out-carried.ensures in
-    text-of-answer _ (g.S.Source.left c.args.source.now) c.read_asked-wanted.result.task c.carry_out-carried.result _ carried.refused_early
-    c.outcome_of-outcome.ensures.fault
-    c.read_asked-wanted.ensures.asks _ _ carried.text
+    text-of-answer _ (g.S.Source.left c.args.source.now) c.read_asked-wanted.result.made c.read_asked-wanted.result.task c.carry_out-carried.result _
+    carried.refused_early c.outcome_of-outcome.ensures.fault c.read_asked-wanted.ensures.asks c.read_asked-wanted.ensures.made _ _ carried.text
 
 pub returns-clause-shows_some : goal.returns-clause-shows_some
 returns-clause-shows_some g c =
     let carried = c.carry_out-carried.ensures in
-    shown-in-part _ (g.S.Source.left c.args.source.now) c.read_asked-wanted.result.task c.carry_out-carried.result _ _ _
-    c.outcome_of-outcome.ensures.fault c.read_asked-wanted.ensures.only carried.shows_some
+    shown-in-part _ (g.S.Source.left c.args.source.now) c.read_asked-wanted.result.made c.read_asked-wanted.result.task _ _ carried.unshown
+    c.carry_out-carried.result _ c.outcome_of-outcome.ensures.fault c.read_asked-wanted.ensures.only c.read_asked-wanted.ensures.made carried.shows_some
+
+pub returns-clause-made_unread : goal.returns-clause-made_unread
+returns-clause-made_unread g c =
+    let carried = c.carry_out-carried.ensures in
+    made-keeps _ _ c.read_asked-wanted.result.made c.read_asked-wanted.result.task c.read_asked-wanted.ensures.made carried.refused_unread
+    carried.made_unread
