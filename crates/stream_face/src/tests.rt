@@ -101,6 +101,8 @@ enum Given {
     Other,
     /// It counts a null row.
     NullRow,
+    /// Two whole numbers of 32 bits, and no table.
+    Numbers,
 }
 
 const RISING: [u8; 12] = [0, 0, 0, 0, 1, 0, 0, 0, 2, 0, 0, 0];
@@ -125,6 +127,16 @@ fn texts(rt: &impl Abort, alloc: Global, given: Given, pass: &mut Pass) -> RawAr
 }
 
 fn table(rt: &impl Abort, alloc: Global, given: Given, pass: &mut Pass) -> RawArray {
+    if given == Given::Numbers {
+        return array(
+            rt,
+            alloc,
+            (2, 0),
+            &[None, Some(&[7u8; 8])],
+            Vec::new(alloc),
+            pass,
+        );
+    }
     let mut columns = Vec::new(alloc);
     let column = match given {
         Given::Gone => RawArray::released(),
@@ -213,10 +225,11 @@ fn stranger(
     Stranger::new(rt, schema, arrays, bank, shy, end)
 }
 
-/// The stream of texts at this link.
+/// The stream of these chunks under a schema of this format, at this link.
 fn joint(
     rt: &impl Abort,
     alloc: Global,
+    format: &[u8],
     givens: &[Given],
     end: End,
     link: u32,
@@ -224,7 +237,7 @@ fn joint(
 ) -> RawStream<Stranger>
     ensures { (meaning ⟦<Stranger as ArrayStream>⟧.state result).held ≤ 1100 }
 {
-    let inner = stranger(rt, alloc, Some(b"+s"), givens, false, end, pass);
+    let inner = stranger(rt, alloc, Some(format), givens, false, end, pass);
     assert!(rt; pass.units() >= ROOM);
     match RawStream::start(alloc, inner, link, pass) {
         Ok(stream) => {
@@ -319,8 +332,11 @@ impl Tap for FullTap {
     }
 }
 
-/// What is no chunk of texts: its rule, place and numbers, and the way to the node.
-static REFUSED: [(Given, LayoutRule, u64, i128, i128, &[u32]); 5] = [
+/// What is no chunk: its rule, place and numbers, and the way to the node.
+type Refusal = (Given, LayoutRule, u64, i128, i128, &'static [u32]);
+
+/// What is no chunk of texts.
+static REFUSED: [Refusal; 5] = [
     (Given::Falling, LayoutRule::OffsetsFall, 1, 2, 1, &[0]),
     (Given::WrongNulls, LayoutRule::NullCount, 0, 1, 0, &[0]),
     (Given::Gone, LayoutRule::Released, 0, 0, 0, &[0]),
@@ -328,19 +344,21 @@ static REFUSED: [(Given, LayoutRule, u64, i128, i128, &[u32]); 5] = [
     (Given::NullRow, LayoutRule::TopNulls, 0, 1, 0, &[]),
 ];
 
-/// A call that refuses a chunk by the fault of this row.
+/// What is lawful under its schema, and no chunk, since that is no struct's.
+static NO_STRUCT: Refusal = (Given::Numbers, LayoutRule::TopKind, 0, 0, 0, &[]);
+
+/// A call that refuses a chunk by this fault.
 fn refused<R: Threads + Sync + Abort, T: Tap>(
     rt: &R,
     alloc: Global,
     stream: &mut RawStream<Stranger>,
     pass: &mut Pass,
     tap: &mut T,
-    row: usize,
+    refusal: &Refusal,
 )
-    requires { row < 5 }
     ensures { (meaning ⟦<Stranger as ArrayStream>⟧.state stream.new).held ≡ (meaning ⟦<Stranger as ArrayStream>⟧.state stream.old).held }
 {
-    let (given, rule, place, left, right, way) = REFUSED[row];
+    let (given, rule, place, left, right, way) = *refusal;
     assert_eq!(rt;
         next(rt, alloc, stream, pass, tap),
         (22, false),
@@ -360,25 +378,39 @@ fn refused<R: Threads + Sync + Abort, T: Tap>(
 #[test]
 fn a_chunk_that_fails_the_check_is_refused(rt: HostRuntime) {
     let alloc = rt.alloc();
-    for row in 0..REFUSED.len() {
-        let given = REFUSED[row].0;
+    for refusal in &REFUSED {
+        let given = refusal.0;
         let (desk, mut pass) = open_desk();
         let givens = [Given::Good, given, Given::Good];
-        let mut stream = joint(&rt, alloc, &givens, End::Ends, 3, &mut pass);
+        let mut stream = joint(&rt, alloc, b"+s", &givens, End::Ends, 3, &mut pass);
         let mut sights = Sights {
             seen: Vec::new(alloc),
         };
         let first = next(&rt, alloc, &mut stream, &mut pass, &mut sights);
         assert_eq!(rt; first, (0, true), "before {given:?}");
         assert!(rt; stream.fault().is_none() && stream.last_error().is_none());
-        refused(&rt, alloc, &mut stream, &mut pass, &mut sights, row);
-        refused(&rt, alloc, &mut stream, &mut pass, &mut sights, row);
+        refused(&rt, alloc, &mut stream, &mut pass, &mut sights, refusal);
+        refused(&rt, alloc, &mut stream, &mut pass, &mut sights, refusal);
         assert!(rt;
             sights.seen.as_slice() == [(3u32, 2i64)].as_slice(),
             "{given:?}"
         );
         ended(&rt, stream, desk, pass);
     }
+}
+
+#[test]
+fn a_chunk_under_a_schema_of_no_struct_is_refused(rt: HostRuntime) {
+    let alloc = rt.alloc();
+    let (desk, mut pass) = open_desk();
+    let mut stream = joint(&rt, alloc, b"i", &[Given::Numbers], End::Ends, 0, &mut pass);
+    let mut sights = Sights {
+        seen: Vec::new(alloc),
+    };
+    refused(&rt, alloc, &mut stream, &mut pass, &mut sights, &NO_STRUCT);
+    refused(&rt, alloc, &mut stream, &mut pass, &mut sights, &NO_STRUCT);
+    assert!(rt; sights.seen.is_empty());
+    ended(&rt, stream, desk, pass);
 }
 
 /// How a stream ends behind a chunk: the code, and the fault.
@@ -419,7 +451,7 @@ fn an_end_and_a_code_stay(rt: HostRuntime) {
     let alloc = rt.alloc();
     for (end, code, fault) in &ENDS {
         let (desk, mut pass) = open_desk();
-        let mut stream = joint(&rt, alloc, &[Given::Good], *end, 0, &mut pass);
+        let mut stream = joint(&rt, alloc, b"+s", &[Given::Good], *end, 0, &mut pass);
         let first = next(&rt, alloc, &mut stream, &mut pass, &mut NoTap);
         assert_eq!(rt; first, (0, true), "before {end:?}");
         at_end(&rt, alloc, &mut stream, &mut pass, *code, *fault);
@@ -486,7 +518,7 @@ fn a_tap_without_memory_ends_the_stream(rt: HostRuntime) {
     let alloc = rt.alloc();
     let (desk, mut pass) = open_desk();
     let givens = [Given::Good, Given::Good];
-    let mut stream = joint(&rt, alloc, &givens, End::Ends, 0, &mut pass);
+    let mut stream = joint(&rt, alloc, b"+s", &givens, End::Ends, 0, &mut pass);
     let refused = next(&rt, alloc, &mut stream, &mut pass, &mut FullTap);
     assert_eq!(rt; refused, (12, false));
     assert_eq!(rt; stream.fault(), Some(StreamFault::NoMemory));
