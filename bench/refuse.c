@@ -5,6 +5,7 @@
 #include <errno.h>
 #include <stdio.h>
 #include <stdlib.h>
+#include <sys/syscall.h>
 #include <unistd.h>
 
 static long count, refused = -1;
@@ -44,4 +45,11 @@ __attribute__((destructor)) static void tell(void) {
   char line[64];
   if (getenv("COUNT"))
     (void)!write(2, line, snprintf(line, sizeof line, "allocations %ld\n", count));
+}
+
+// A program that ends so runs no destructors.
+void _exit(int status) {
+  tell();
+  for (;;)
+    syscall(SYS_exit_group, status);
 }
