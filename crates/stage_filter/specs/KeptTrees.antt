@@ -1,8 +1,7 @@
--- The arrays that are made of values, and those that are made of some items of an array: a struct is one of arrays of its columns
--- ("Arrow Columnar Format", "Struct Layout" and "Dictionary-encoded Layout").
+-- The arrays that are made of some items of an array, by numbers that are counted from an item of its window on: a struct is one
+-- of arrays of its columns ("Arrow Columnar Format", "Struct Layout" and "Dictionary-encoded Layout").
 use Rattle.std.specs.Prelude.{ℕ, ◌+◌, true, List, [], ◌∷◌, length, get_or, drop, None, Some}
-use Rattle.fmt_string.specs.Parts.{column_values}
-use Rattle.fmt_string.specs.Table.{Column, Row, Kind, Flat, Dict, Columns, Members, no_members, more_members}
+use Rattle.fmt_string.specs.Table.{Column, Kind, Flat, Dict, Columns, Members, no_members, more_members}
 use Rattle.fmt_string.specs.Value.{Value}
 use Rattle.fmt_string.specs.declared.kind.DataType.{DataType}
 use Rattle.fmt_string.specs.declared.kind.DataType.TheVariants as kinds
@@ -11,31 +10,7 @@ use Rattle.raw_array.specs.Members.{ArrayTree, members_of}
 use Rattle.layout_check.specs.ColumnKinds.{type_of_kind}
 use Rattle.layout_check.specs.Layout.{first}
 use Rattle.arr_export.specs.ArrayTrees.{column_tree, flat_type, table_tree}
-use Rattle.stage_model.specs.Traffic.{member_values}
 use Rattle.stage_filter.specs.Kept.{values_at}
-
--- ---- of values
-
-abbrev mutual
-  -- the array of a column; of one with a dictionary there is none
-  pub kind_tree : Kind → List Value → ArrayTree
-  kind_tree (Flat kind) values = column_tree kind values None
-  kind_tree (Dict kind) values = Released
-  kind_tree (Columns members) values = table_tree (length values) (member_trees members 0 values)
-
-  pub member_trees : Members → ℕ → List Value → List ArrayTree
-  member_trees no_members place values = []
-  member_trees (more_members name kind rest) place values = kind_tree kind (member_values place values) ∷ member_trees rest (place + 1) values
-
-abbrev pub trees_from : ℕ → List Column → List Row → List ArrayTree
-trees_from place [] rows = []
-trees_from place (c ∷ cs) rows = kind_tree c.kind (column_values place rows) ∷ trees_from (place + 1) cs rows
-
--- the chunk of rows
-abbrev pub chunk_tree : List Column → List Row → ArrayTree
-chunk_tree columns rows = table_tree (length rows) (trees_from 0 columns rows)
-
--- ---- of some items of an array, by numbers that are counted from an item of its window on
 
 -- indices are signed numbers of 32 bits
 abbrev pub index_type : DataType

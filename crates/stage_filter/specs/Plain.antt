@@ -1,7 +1,6 @@
--- Columns without dictionaries, and what new arrays of columns draw at most.
+-- What new arrays of columns draw at most.
 use Rattle.std.specs.Prelude.{ℕ, ◌+◌, List, [], ◌∷◌}
 use Rattle.fmt_string.specs.Table.{Column, Kind, Flat, Dict, Columns, Members, no_members, more_members}
-pub use Rattle.stage_kernels.specs.Plain.{ArePlain, HasNoDict, HaveNoDict}
 
 abbrev mutual
   -- the units that a new array draws: a node and at most three buffers of values or indices, and a node of a struct. A dictionary

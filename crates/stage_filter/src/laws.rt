@@ -1,7 +1,6 @@
-//! What the chunks that are made of values, and of rows of a chunk, mean.
-ghost use Rattle.std.specs.Prelude.{◌≡◌, ◌^◌, ◌<◌, ◌≤◌, ℕ, List, length, get_or, All};
-ghost use Rattle.fmt_string.specs.ColumnForms.{AreColumnKinds};
-ghost use Rattle.fmt_string.specs.Table.{Column, Dict, Row};
+//! What the chunks that are made of rows of a chunk mean.
+ghost use Rattle.std.specs.Prelude.{◌≡◌, ◌<◌, ℕ, List, length, get_or};
+ghost use Rattle.fmt_string.specs.Table.{Column, Dict};
 ghost use Rattle.fmt_string.specs.declared.kind.DataType.{DataType as AType};
 ghost use Rattle.tree_model.specs.Tree.{child_at, dictionary_at};
 ghost use Rattle.raw_array.specs.Members.{ArrayTree, Cost, Like};
@@ -9,11 +8,10 @@ ghost use Rattle.layout_check.specs.ColumnKinds.{type_of_columns};
 ghost use Rattle.layout_check.specs.Kinds.{KindTree};
 ghost use Rattle.layout_check.specs.Values.{rows_of, values_of};
 ghost use Rattle.layout_check.specs.Walk.{ChunkOk};
-ghost use Rattle.stream_face.specs.Lawful.{DictsAreFull, IsTable};
+ghost use Rattle.stream_face.specs.Lawful.{DictsAreFull};
 ghost use Rattle.stage_filter.specs.Kept.{rows_at};
-ghost use Rattle.stage_filter.specs.KeptTrees.{chunk_tree, kept_chunk};
+ghost use Rattle.stage_filter.specs.KeptTrees.{kept_chunk};
 ghost use Rattle.stage_filter.specs.Moving.{CanMoveRows};
-ghost use Rattle.stage_filter.specs.Plain.{ArePlain};
 
 use arr_export::{
     encoded_columns_are_lawful, indexed_columns_are_lawful, lawful_columns_make_a_chunk,
@@ -21,18 +19,6 @@ use arr_export::{
 use array_laws::{shares_show_the_same, trees_that_show_the_same};
 use layout_check::lawful_trees;
 use raw_array::like_trees_are_ordered;
-
-/// A law: the chunk that is made of the rows of a table of plain columns meets the rules of a chunk, and its rows are these
-/// ("Arrow Columnar Format", "Struct Layout").
-pub fn rows_make_a_chunk()
-    ensures chunk { (columns : List Column) (rows : List Row) → All (λ c. AreColumnKinds c.kind) columns → ArePlain columns → IsTable columns rows
-        → length rows ≤ 2 ^ 30 → ChunkOk (type_of_columns columns) (chunk_tree columns rows) }
-    ensures rows { (columns : List Column) (rows : List Row) → All (λ c. AreColumnKinds c.kind) columns → ArePlain columns → IsTable columns rows
-        → length rows ≤ 2 ^ 30 → rows_of (type_of_columns columns) (chunk_tree columns rows) ≡ rows }
-{
-    encoded_columns_are_lawful();
-    lawful_columns_make_a_chunk();
-}
 
 /// A law: the chunk that is made of some rows of a chunk meets the rules of a chunk, and its rows are these; a column with a
 /// dictionary has the dictionary that it had, and no dictionary has a null ("Arrow Columnar Format", "Struct Layout" and

@@ -30,4 +30,4 @@ mod workers;
 pub use built::{built_column, give_up};
 pub use filter::FilterWork;
 pub use item::push;
-pub use laws::{kept_rows_make_a_chunk, rows_make_a_chunk};
+pub use laws::kept_rows_make_a_chunk;

@@ -8,7 +8,7 @@
 //! What it promises: its stage gives the one chunk that `stage_model` says of totals, and none where the stream below ends at
 //! a record; its columns are of the types that `stage_model` names, and a lawful stream stays lawful. Sums are exact: no sum
 //! of a lawful stream's numbers leaves its type. The number of workers changes none of this. The chunk is made anew, with a
-//! node for each column.
+//! node of its own and one for each column.
 //!
 //! What it leaves to others: which columns a stage text names (`stage_plan`), and the chunk of the row, which `csv_read` makes
 //! of builders.
