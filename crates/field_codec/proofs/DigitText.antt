@@ -57,7 +57,7 @@ unit_digits (suc k) n small =
     ∙ ap (λ (d : ℕ). decimal (m / 10) ++ (digit_glyph false d ∷ [])) digit
     ∙ ap (λ (ds : List ℕ). ds ++ (digit_glyph false (n % 10) ∷ [])) rest
 
-wide : (m : ℕ) → m < 2 ^ 64 → m < 10 ^ 64
+pub wide : (m : ℕ) → m < 2 ^ 64 → m < 10 ^ 64
 wide m small = omega (arith, small)
 
 pub unit-long : (k n : ℕ) → k ≤ 18 → length (decimal (10 ^ k + n % 10 ^ k)) ≡ k + 1

@@ -100,7 +100,7 @@ length-last_digits zero n = refl
 length-last_digits (suc count) n =
     omega (arith, length-append (last_digits 10 count (n / 10)) (digit_glyph false (n % 10) ∷ []), length-last_digits count (n / 10))
 
-point_is : (places n : ℕ) → 0 < places → point_text places n ≡ decimal (n / 10 ^ places) ++ (46 ∷ last_digits 10 places n)
+pub point_is : (places n : ℕ) → 0 < places → point_text places n ≡ decimal (n / 10 ^ places) ++ (46 ∷ last_digits 10 places n)
 point_is zero n some = absurd (omega (arith, some))
 point_is (suc more) n some = refl
 

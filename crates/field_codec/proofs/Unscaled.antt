@@ -14,7 +14,7 @@ use Rattle.std.proofs.lemmas.Nat.{pow-add}
 use Rattle.std.proofs.lemmas.Str.Parse.{digits_value-take-le}
 use Rattle.std.proofs.Math.Nat.{pow-succ', one-le-pow, mul-le-mul_left, mul-le-mul_right, mul-lt-mul_of_pos_right, pow-le-pow_right}
 use Rattle.fmt_string.specs.FieldText.{is_numeral, fraction_of, unscaled, read_unscaled, read_decimal}
-use Rattle.fmt_string.specs.Value.{Whole}
+use Rattle.fmt_string.specs.Value.{Value, Whole}
 use Rattle.field_codec.proofs.Numbers.{all_front, part_digits}
 use Rattle.field_codec.specs.Fractions.{fraction_text, IsPastDecimals}
 
@@ -31,7 +31,7 @@ value_after n (c ∷ cs) =
     let more : n * 10 ^ suc (length cs) ≡ n * (10 * p) = ap (λ (x : ℕ). n * x) (pow-succ' 10 (length cs)) in
     omega (arith, value_after (n * 10 + d) cs, value_after (0 * 10 + d) cs, regroup n d p, more)
 
-after_append : (n : ℕ) (xs ys : List ℕ) → digits_value_after 10 n (xs ++ ys) ≡ digits_value_after 10 (digits_value_after 10 n xs) ys
+pub after_append : (n : ℕ) (xs ys : List ℕ) → digits_value_after 10 n (xs ++ ys) ≡ digits_value_after 10 (digits_value_after 10 n xs) ys
 after_append n [] ys = refl
 after_append n (x ∷ xs) ys = after_append (n * 10 + digit_value x) xs ys
 
@@ -249,3 +249,10 @@ pub past_decimal : (precision places : ℕ) (text digits : List ℕ) → digits 
 past_decimal precision places text digits e few large =
     past_then precision (starts_with_minus text) (read_unscaled places (without_leading_sign text)) few
     (subst (λ (ds : List ℕ). IsPastDecimals (read_unscaled places ds)) e large)
+
+pub decimal_is : (precision places : ℕ) (text digits : List ℕ) (number : ℕ) (minus : Bool) → digits ≡ without_leading_sign text
+    → minus ≡ starts_with_minus text → Some number ≡ read_unscaled places digits → number < 10 ^ precision
+    → ◌≡◌ {A = Option Value} (Some (Whole (if minus then neg_ℤ (pos number) else pos number))) (read_decimal precision places text)
+decimal_is precision places text digits number minus e is_minus read small =
+    let number_is : read_unscaled places (without_leading_sign text) ≡ Some number = ap (read_unscaled places) (sym e) ∙ sym read in
+    rw (number_is, lt-ltb number (10 ^ precision) small, is_minus) refl

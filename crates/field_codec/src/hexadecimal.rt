@@ -1,15 +1,55 @@
 //! Hexadecimal digits: the bits of floats, and bytes.
-ghost use Rattle.std.specs.Prelude.{◌≡◌, ◌*◌, ◌/◌, ◌<◌, ◌≤◌, true, false, length, option_map, None, Some, IfOk, IfSome, IfNone};
+ghost use Rattle.std.specs.Prelude.{◌≡◌, ◌∷◌, [], ◌*◌, ◌/◌, ◌<◌, ◌≤◌, if◌then◌else◌, false, length, option_map, IfOk};
 ghost use Rattle.std.specs.Fmt.{digit_glyph};
 ghost use Rattle.std.specs.Char.{is_ascii_hexdigit, digit_value};
 ghost use Rattle.fmt_string.specs.FieldText.{hex_bytes, hex_text, last_digits, read_bits};
 ghost use Rattle.fmt_string.specs.Value.{Bits};
 
+use crate::room::sized;
 use fmt_string::decode_hex;
-use hex::encode_to_slice;
 use unit_pass::NoMemory;
 
+/// The value of each byte that is a digit, and 16 for any other.
+static DIGITS: [u8; 256] = [
+    0x10, 0x10, 0x10, 0x10, 0x10, 0x10, 0x10, 0x10, 0x10, 0x10, 0x10, 0x10, 0x10, 0x10, 0x10, 0x10,
+    0x10, 0x10, 0x10, 0x10, 0x10, 0x10, 0x10, 0x10, 0x10, 0x10, 0x10, 0x10, 0x10, 0x10, 0x10, 0x10,
+    0x10, 0x10, 0x10, 0x10, 0x10, 0x10, 0x10, 0x10, 0x10, 0x10, 0x10, 0x10, 0x10, 0x10, 0x10, 0x10,
+    0x00, 0x01, 0x02, 0x03, 0x04, 0x05, 0x06, 0x07, 0x08, 0x09, 0x10, 0x10, 0x10, 0x10, 0x10, 0x10,
+    0x10, 0x0A, 0x0B, 0x0C, 0x0D, 0x0E, 0x0F, 0x10, 0x10, 0x10, 0x10, 0x10, 0x10, 0x10, 0x10, 0x10,
+    0x10, 0x10, 0x10, 0x10, 0x10, 0x10, 0x10, 0x10, 0x10, 0x10, 0x10, 0x10, 0x10, 0x10, 0x10, 0x10,
+    0x10, 0x0a, 0x0b, 0x0c, 0x0d, 0x0e, 0x0f, 0x10, 0x10, 0x10, 0x10, 0x10, 0x10, 0x10, 0x10, 0x10,
+    0x10, 0x10, 0x10, 0x10, 0x10, 0x10, 0x10, 0x10, 0x10, 0x10, 0x10, 0x10, 0x10, 0x10, 0x10, 0x10,
+    0x10, 0x10, 0x10, 0x10, 0x10, 0x10, 0x10, 0x10, 0x10, 0x10, 0x10, 0x10, 0x10, 0x10, 0x10, 0x10,
+    0x10, 0x10, 0x10, 0x10, 0x10, 0x10, 0x10, 0x10, 0x10, 0x10, 0x10, 0x10, 0x10, 0x10, 0x10, 0x10,
+    0x10, 0x10, 0x10, 0x10, 0x10, 0x10, 0x10, 0x10, 0x10, 0x10, 0x10, 0x10, 0x10, 0x10, 0x10, 0x10,
+    0x10, 0x10, 0x10, 0x10, 0x10, 0x10, 0x10, 0x10, 0x10, 0x10, 0x10, 0x10, 0x10, 0x10, 0x10, 0x10,
+    0x10, 0x10, 0x10, 0x10, 0x10, 0x10, 0x10, 0x10, 0x10, 0x10, 0x10, 0x10, 0x10, 0x10, 0x10, 0x10,
+    0x10, 0x10, 0x10, 0x10, 0x10, 0x10, 0x10, 0x10, 0x10, 0x10, 0x10, 0x10, 0x10, 0x10, 0x10, 0x10,
+    0x10, 0x10, 0x10, 0x10, 0x10, 0x10, 0x10, 0x10, 0x10, 0x10, 0x10, 0x10, 0x10, 0x10, 0x10, 0x10,
+    0x10, 0x10, 0x10, 0x10, 0x10, 0x10, 0x10, 0x10, 0x10, 0x10, 0x10, 0x10, 0x10, 0x10, 0x10, 0x10,
+];
+
+/// The two digits of each byte.
+static PAIRS: [u8; 512] = *b"\
+    000102030405060708090a0b0c0d0e0f\
+    101112131415161718191a1b1c1d1e1f\
+    202122232425262728292a2b2c2d2e2f\
+    303132333435363738393a3b3c3d3e3f\
+    404142434445464748494a4b4c4d4e4f\
+    505152535455565758595a5b5c5d5e5f\
+    606162636465666768696a6b6c6d6e6f\
+    707172737475767778797a7b7c7d7e7f\
+    808182838485868788898a8b8c8d8e8f\
+    909192939495969798999a9b9c9d9e9f\
+    a0a1a2a3a4a5a6a7a8a9aaabacadaeaf\
+    b0b1b2b3b4b5b6b7b8b9babbbcbdbebf\
+    c0c1c2c3c4c5c6c7c8c9cacbcccdcecf\
+    d0d1d2d3d4d5d6d7d8d9dadbdcdddedf\
+    e0e1e2e3e4e5e6e7e8e9eaebecedeeef\
+    f0f1f2f3f4f5f6f7f8f9fafbfcfdfeff";
+
 /// The number that exactly as many digits as so many bits have write, most significant first.
+#[inline(always)]
 pub fn read_bits(bits: u8, text: &[u8]) -> Option<u64>
     requires { bits ≤ 64 }
     ensures { option_map Bits result ≡ read_bits (bits / 4) text.now }
@@ -17,35 +57,57 @@ pub fn read_bits(bits: u8, text: &[u8]) -> Option<u64>
     if text.len() != usize::from(bits / 4) {
         return None;
     }
-    let mut number = 0;
-    for byte in text {
-        number = number * 16 + u64::from(digit(*byte)?);
+    read_digits(text)
+}
+
+/// The eight bytes that 16 digits write.
+#[inline(always)]
+pub fn read_eight(text: &[u8]) -> Option<[u8; 8]>
+    requires { length text.now ≡ 16 }
+    ensures { result ≡ hex_bytes text.now }
+{
+    Some(read_digits(text)?.to_be_bytes())
+}
+
+/// The number that a text of digits writes.
+#[inline(always)]
+fn read_digits(text: &[u8]) -> Option<u64>
+    requires { length text.now ≤ 16 }
+    ensures { option_map Bits result ≡ read_bits (length text.now) text.now }
+{
+    let mut number: u64 = 0;
+    // At most 15 where each byte so far is a digit.
+    let mut all: u8 = 0;
+    for place in 0..text.len() {
+        let digit = digit(text[place]);
+        number = number.wrapping_mul(16).wrapping_add(u64::from(digit));
+        all |= digit;
+    }
+    if all > 15 {
+        return None;
     }
     Some(number)
 }
 
-/// The value of a digit.
-fn digit(byte: u8) -> Option<u8>
-    ensures is { IfSome result (λ d. is_ascii_hexdigit byte ≡ true) }
-    ensures value { IfSome result (λ d. d ≡ digit_value byte) }
-    ensures small { IfSome result (λ d. d < 16) }
-    ensures none { IfNone result (is_ascii_hexdigit byte ≡ false) }
+/// The value of a digit, and 16 for a byte that is none.
+#[inline(always)]
+fn digit(byte: u8) -> u8
+    ensures { result ≡ (if is_ascii_hexdigit byte then digit_value byte else 16) }
 {
-    match byte {
-        b'0'..=b'9' => Some(byte - b'0'),
-        b'a'..=b'f' => Some(byte - b'a' + 10),
-        b'A'..=b'F' => Some(byte - b'A' + 10),
-        _ => None,
-    }
+    DIGITS[usize::from(byte)]
 }
 
 /// The digits of a number of so many bits, in lower case.
+#[inline(always)]
 pub fn bits_text<'a>(bits: u8, number: u64, room: &'a mut Vec<u8>) -> Result<&'a [u8], NoMemory>
     requires { bits ≤ 64 }
     ensures { IfOk result (λ text. text.now ≡ last_digits 16 (bits / 4) number) }
 {
-    room.resize(usize::from(bits / 4), 0)?;
-    write_bits(number, room.as_mut_slice());
+    sized(room, usize::from(bits / 4))?;
+    match bits {
+        64 => write_pairs(&number.to_be_bytes(), room.as_mut_slice()),
+        _ => write_bits(number, room.as_mut_slice()),
+    }
     Ok(room.as_slice())
 }
 
@@ -77,7 +139,7 @@ fn glyph(value: u64) -> u8
 pub fn read_bytes<'a>(text: &[u8], room: &'a mut Vec<u8>) -> Result<Option<&'a [u8]>, NoMemory>
     ensures { IfOk result (λ bytes. option_map (λ b. b.now) bytes ≡ hex_bytes text.now) }
 {
-    room.resize(text.len() / 2, 0)?;
+    sized(room, text.len() / 2)?;
     if !decode_hex(text, room.as_mut_slice()) {
         return Ok(None);
     }
@@ -85,18 +147,48 @@ pub fn read_bytes<'a>(text: &[u8], room: &'a mut Vec<u8>) -> Result<Option<&'a [
 }
 
 /// The pairs of digits of bytes, in lower case.
+#[inline(always)]
 pub fn bytes_text<'a>(bytes: &[u8], room: &'a mut Vec<u8>) -> Result<&'a [u8], NoMemory>
     ensures { IfOk result (λ text. text.now ≡ hex_text bytes.now) }
 {
-    room.resize(bytes.len() * 2, 0)?;
-    encode(bytes, room.as_mut_slice());
+    sized(room, bytes.len() * 2)?;
+    write_bytes(bytes, room.as_mut_slice());
     Ok(room.as_slice())
 }
 
-/// Writes the pairs of digits of bytes.
-fn encode(bytes: &[u8], text: &mut [u8])
+/// Writes the pairs of digits of bytes. Of eight bytes, which are copied, the count is a constant where its loop stands in line.
+#[inline(always)]
+fn write_bytes(bytes: &[u8], text: &mut [u8])
     requires { length text.old ≡ 2 * length bytes.now }
     ensures { text.new ≡ hex_text bytes.now }
 {
-    let _ = encode_to_slice(bytes, text);
+    if bytes.len() != 8 {
+        write_pairs(bytes, text);
+        return;
+    }
+    let mut eight = [0; 8];
+    eight.copy_from_slice(bytes);
+    write_pairs(&eight, text);
+}
+
+/// Writes the pairs of digits of bytes.
+#[inline(always)]
+fn write_pairs(bytes: &[u8], text: &mut [u8])
+    requires { length text.old ≡ 2 * length bytes.now }
+    ensures { text.new ≡ hex_text bytes.now }
+{
+    for place in 0..bytes.len() {
+        let (high, low) = pair(bytes[place]);
+        text[2 * place] = high;
+        text[2 * place + 1] = low;
+    }
+}
+
+/// The two digits of a byte, in lower case.
+#[inline(always)]
+fn pair(byte: u8) -> (u8, u8)
+    ensures { result.0 ∷ result.1 ∷ [] ≡ last_digits 16 2 byte }
+{
+    let place = 2 * usize::from(byte);
+    (PAIRS[place], PAIRS[place + 1])
 }

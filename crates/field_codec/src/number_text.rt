@@ -1,9 +1,10 @@
 //! Numbers as text.
-ghost use Rattle.std.specs.Prelude.{◌≡◌, ◌++◌, ◌∷◌, ◌<◌, ◌≤◌, ◌^◌, decimal, drop, length, replicate, if◌then◌else◌, IfOk};
+ghost use Rattle.std.specs.Prelude.{◌≡◌, ◌++◌, ◌-◌, ◌∷◌, ◌<◌, ◌≤◌, ◌^◌, decimal, drop, length, replicate, take, if◌then◌else◌, IfOk};
 ghost use Rattle.std.specs.Fmt.{signed_decimal};
 ghost use Rattle.fmt_string.specs.FieldText.{decimal_text, point_text};
 
 use crate::powers::power;
+use crate::room::sized;
 use itoa::{Buffer, write_digits};
 use unit_pass::NoMemory;
 
@@ -11,20 +12,31 @@ use unit_pass::NoMemory;
 const WIDTH: usize = 40;
 
 /// The text of a whole number.
+#[inline(always)]
 pub fn whole_text<'a>(number: i128, room: &'a mut Vec<u8>) -> Result<&'a [u8], NoMemory>
     ensures { IfOk result (λ text. text.now ≡ signed_decimal number) }
 {
-    let size = number.unsigned_abs();
-    if size > u128::from(u64::MAX) {
-        return long_whole_text(number, room);
-    }
-    room.resize(WIDTH, 0)?;
-    let minus = number < 0;
-    let start = write_whole(minus, size as u64, room.as_mut_slice(), WIDTH);
+    let Ok(short) = i64::try_from(number) else {
+        return rare_whole_text(number, room);
+    };
+    sized(room, WIDTH)?;
+    let start = write_whole(short < 0, short.unsigned_abs(), room.as_mut_slice(), WIDTH);
     Ok(&room.as_slice()[start..])
 }
 
-/// The same of a number of any size.
+/// The same of a number of any size. What the long way answers gets its place here, and so not for each number.
+#[inline(always)]
+fn rare_whole_text<'a>(number: i128, room: &'a mut Vec<u8>) -> Result<&'a [u8], NoMemory>
+    ensures { IfOk result (λ text. text.now ≡ signed_decimal number) }
+{
+    match long_whole_text(number, room) {
+        Ok(text) => Ok(text),
+        Err(NoMemory) => Err(NoMemory),
+    }
+}
+
+/// The same, out of line.
+#[inline(never)]
 fn long_whole_text<'a>(number: i128, room: &'a mut Vec<u8>) -> Result<&'a [u8], NoMemory>
     ensures { IfOk result (λ text. text.now ≡ signed_decimal number) }
 {
@@ -50,6 +62,7 @@ fn write_whole(minus: bool, number: u64, text: &mut [u8], end: usize) -> usize
 }
 
 /// The text of a decimal, by its number in units of 10^-places.
+#[inline(always)]
 pub fn decimal_text<'a>(
     places: u32,
     number: i128,
@@ -57,18 +70,60 @@ pub fn decimal_text<'a>(
 ) -> Result<&'a [u8], NoMemory>
     ensures { IfOk result (λ text. text.now ≡ decimal_text places number) }
 {
-    let size = number.unsigned_abs();
-    if places > 18 || size > u128::from(u64::MAX) {
-        return long_decimal_text(places, number, room);
-    }
-    room.resize(WIDTH, 0)?;
-    let minus = number < 0;
-    let start = write_decimal(minus, size as u64, places as usize, room.as_mut_slice());
+    let short = match i64::try_from(number) {
+        Ok(short) if places <= 18 => short,
+        _ => return rare_decimal_text(places, number, room),
+    };
+    sized(room, WIDTH)?;
+    let size = short.unsigned_abs();
+    let start = write_decimal(short < 0, size, places as usize, room.as_mut_slice());
     Ok(&room.as_slice()[start..])
 }
 
+/// The same of any number of places, and of a number of any size.
+#[inline(always)]
+fn rare_decimal_text<'a>(
+    places: u32,
+    number: i128,
+    room: &'a mut Vec<u8>,
+) -> Result<&'a [u8], NoMemory>
+    ensures { IfOk result (λ text. text.now ≡ decimal_text places number) }
+{
+    match long_decimal_text(places, number, room) {
+        Ok(text) => Ok(text),
+        Err(NoMemory) => Err(NoMemory),
+    }
+}
+
 /// Writes a number at the end of a text, with a point before so many of its digits, and says where it starts.
+#[inline(always)]
 fn write_decimal(minus: bool, number: u64, places: usize, text: &mut [u8]) -> usize
+    requires few { places ≤ 18 }
+    requires room { length text.old ≡ 40 }
+    ensures text { drop result text.new ≡ (if minus then 45 ∷ point_text places number else point_text places number) }
+    ensures start { result ≤ length text.new }
+{
+    if places == 0 {
+        return write_whole(minus, number, text, WIDTH);
+    }
+    let start = write_digits(number, text, WIDTH);
+    let point = WIDTH - places;
+    if start >= point || start + 8 < point {
+        return rare_decimal(minus, number, places, text);
+    }
+    // Up to eight digits make room for the point; what is moved in front of them is no part of the text.
+    move_ahead(text, point);
+    text[point - 1] = b'.';
+    if !minus {
+        return start - 1;
+    }
+    text[start - 2] = b'-';
+    start - 2
+}
+
+/// The same of a number with no digit before the point, or with more than eight there.
+#[inline(never)]
+fn rare_decimal(minus: bool, number: u64, places: usize, text: &mut [u8]) -> usize
     requires few { places ≤ 18 }
     requires room { length text.old ≡ 40 }
     ensures text { drop result text.new ≡ (if minus then 45 ∷ point_text places number else point_text places number) }
@@ -84,7 +139,20 @@ fn write_decimal(minus: bool, number: u64, places: usize, text: &mut [u8]) -> us
     write_whole(minus, number / unit, text, point)
 }
 
-/// The same of any number of places, and of a number of any size.
+/// Moves the eight bytes before a place ahead by one.
+#[inline(always)]
+fn move_ahead(text: &mut [u8], end: usize)
+    requires room { 9 ≤ end }
+    requires within { end ≤ length text.old }
+    ensures text { text.new ≡ take (end - 9) text.old ++ take 8 (drop (end - 8) text.old) ++ drop (end - 1) text.old }
+{
+    let mut eight = [0; 8];
+    eight.copy_from_slice(&text[end - 8..end]);
+    text[end - 9..end - 1].copy_from_slice(&eight);
+}
+
+/// The text of a decimal of any number of places and of any size, out of line.
+#[inline(never)]
 fn long_decimal_text<'a>(
     places: u32,
     number: i128,

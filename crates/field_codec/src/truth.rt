@@ -4,7 +4,20 @@ ghost use Rattle.fmt_string.specs.FieldText.{read_truth};
 ghost use Rattle.fmt_string.specs.Value.{Truth};
 
 /// The truth value that a text names: in lower case, in upper case, or with one capital letter in front.
+#[inline(always)]
 pub fn read_truth(text: &[u8]) -> Option<bool>
+    ensures { option_map Truth result ≡ read_truth text.now }
+{
+    match text {
+        b"true" => Some(true),
+        b"false" => Some(false),
+        _ => rare_truth(text),
+    }
+}
+
+/// The same, in any case.
+#[inline(never)]
+fn rare_truth(text: &[u8]) -> Option<bool>
     ensures { option_map Truth result ≡ read_truth text.now }
 {
     match text {

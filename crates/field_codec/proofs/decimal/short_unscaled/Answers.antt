@@ -3,11 +3,12 @@ use Rattle.std.specs.Char.{is_ascii_digit}
 use Rattle.std.proofs.lemmas.List.Sums.{prefix_len-le-length}
 use Rattle.field_codec.specs.Fractions.{fraction_text}
 use Rattle.field_codec.proofs.Unscaled.{fine_few, other_behind, parts_read, times_below}
+use Rattle.field_codec.proofs.PlacedPoint.{parts_small}
 use Rattle.field_codec.proofs.decimal.short_unscaled.Goals as goal
 use Rattle.field_codec.proofs.decimal.short_unscaled.Goals.{After-power, After-power-2}
 
-pub returns-then-fine-digits : goal.returns-then-fine-digits
-returns-then-fine-digits c =
+pub returns-then-fine-digits-clause-is : goal.returns-then-fine-digits-clause-is
+returns-then-fine-digits-clause-is c =
     let text = c.args.text.now in
     let whole = c.short_front-whole in
     let digits = c.in_ok-digits.digits.now in
@@ -52,8 +53,8 @@ overflow_add-result c =
     (omega (arith, c.requires, whole.ensures.count, prefix_len-le-length is_ascii_digit c.args.text.now)) c.power.ensures in
     omega (arith, fraction_small c, high)
 
-pub returns : goal.returns
-returns c =
+pub returns-clause-is : goal.returns-clause-is
+returns-clause-is c =
     let text = c.args.text.now in
     let whole = c.short_front-whole in
     let digits = c.in_ok-digits.digits.now in
@@ -65,3 +66,17 @@ returns c =
     (record { len = whole.ensures.count; found = found; fine_len = fraction.ensures.count }) c.if-count-eq0.false c.if-fine-digits.false
     whole.ensures.value fraction.ensures.value
     (ap (λ (x : ℕ). whole.result.0 * x) c.power.ensures) (ap (λ (x : ℕ). fraction.result.0 * x) c.power-2.ensures))
+
+pub returns-clause-small : goal.returns-clause-small
+returns-clause-small c =
+    let text = c.args.text.now in
+    let whole = c.short_front-whole in
+    let digits = c.in_ok-digits.digits.now in
+    let fraction = c.short_front-fraction in
+    let found : fraction_text c.args.places (drop whole.result.1 text) ≡ Some digits =
+    ap (fraction_text c.args.places) (sym c.split_at.ensures.back) ∙ sym c.in_ok-digits.ensures in
+    let few =
+    fine_few c.args.places whole.result.1 text digits fraction.result.1
+    (record { len = whole.ensures.count; found = found; fine_len = fraction.ensures.count }) in
+    parts_small whole.result.0 whole.result.1 fraction.result.0 fraction.result.1 c.args.places c.power.result c.power-2.result whole.ensures.small
+    fraction.ensures.small few (omega (arith, c.requires, whole.ensures.count, prefix_len-le-length is_ascii_digit text)) c.power.ensures c.power-2.ensures

@@ -1,7 +1,7 @@
 use Rattle.std.proofs.Common.{sym, arith}
 use Rattle.std.proofs.Math.Nat.{pow-le-pow_right}
 use Rattle.field_codec.proofs.Unscaled.{past_decimal}
-use Rattle.field_codec.proofs.decimal.read_decimal.Goals as goal
+use Rattle.field_codec.proofs.decimal.long_decimal.Goals as goal
 
 pub with_sign-requires : goal.with_sign-requires
 with_sign-requires c = omega (
