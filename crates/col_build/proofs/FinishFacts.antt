@@ -8,7 +8,8 @@ use Rattle.fmt_string.specs.declared.kind.DataType.{DataType}
 use Rattle.col_build.specs.Blocks.{AreSame, AreSameBut, IsBuilt, count_if}
 use Rattle.col_build.specs.Encoding.{HasForm, buffers_if, encoded, if_some, is_wide, offset_bytes, validity_of}
 use Rattle.col_build.specs.Finished.{AreMade, IsEncoded, blocks_of, present_count}
-use Rattle.col_build.specs.Holding.{HasBytes, HasOffsets, Holds}
+use Rattle.col_build.specs.Holding.{HasBytes, HasOffsets}
+use Rattle.col_build.specs.Settled.{HoldsWhole}
 use Rattle.col_build.specs.declared.builder.Builder.{Builder}
 use Rattle.col_build.specs.declared.built.Built.{Built}
 use Rattle.col_build.specs.declared.shape.Shape.{Shape}
@@ -60,10 +61,10 @@ between wide (Some HexBytes) values offsets bytes w t flat is begun are =
 between wide (Some (SizedHex size)) values offsets bytes w t flat is begun are = cc
 between wide (Some (Decimals precision places)) values offsets bytes w t flat is begun are = cc
 
-pub shaped : (builder : Builder) (kind : DataType) (values : List Value) → Holds builder kind values → builder.shape ≡ shape_if (is_wide kind) (form_of kind)
+pub shaped : (builder : Builder) (kind : DataType) (values : List Value) → HoldsWhole builder kind values → builder.shape ≡ shape_if (is_wide kind) (form_of kind)
 shaped builder kind values holds = holds.shape ∙ shape-same kind holds.fits.flat
 
-pub held-in-place : (builder : Builder) (kind : DataType) (values : List Value) → Holds builder kind values → (IsBetween builder.shape → ⊥)
+pub held-in-place : (builder : Builder) (kind : DataType) (values : List Value) → HoldsWhole builder kind values → (IsBetween builder.shape → ⊥)
     → (encoded kind values).buffers ≡ if_some builder.validity.items ∷ if_some builder.bytes.items ∷ []
 held-in-place builder kind values holds other =
     let Has : Shape → Type 0 = λ shape. HasBytes shape values builder.offsets.items builder.bytes.items in
@@ -84,13 +85,13 @@ pub count-three : (a b c : List ℕ) → present_count (if_some a ∷ if_some b 
 count-three [] b c = omega (arith, count-two b c)
 count-three (x ∷ a) b c = omega (arith, count-two b c)
 
-pub blocks-in-place : (builder : Builder) (kind : DataType) (values : List Value) → Holds builder kind values → (IsBetween builder.shape → ⊥)
+pub blocks-in-place : (builder : Builder) (kind : DataType) (values : List Value) → HoldsWhole builder kind values → (IsBetween builder.shape → ⊥)
     → count_if builder.validity.items + count_if builder.bytes.items ≡ blocks_of kind values
 blocks-in-place builder kind values holds other =
     sym (ap present_count (held-in-place builder kind values holds other) ∙ count-two builder.validity.items builder.bytes.items)
 
 -- ---- a builder of items between offsets, and its values
-module _ (builder : Builder) (kind : DataType) (values : List Value) (wide text : Bool) (holds : Holds builder kind values)
+module _ (builder : Builder) (kind : DataType) (values : List Value) (wide text : Bool) (holds : HoldsWhole builder kind values)
     (is : builder.shape ≡ shapes.Between wide text) where
   bytes-held : HasBytes (shapes.Between wide text) values builder.offsets.items builder.bytes.items
   bytes-held = let Has : Shape → Type 0 = λ shape. HasBytes shape values builder.offsets.items builder.bytes.items in subst Has is holds.bytes
@@ -116,7 +117,7 @@ module _ (builder : Builder) (kind : DataType) (values : List Value) (wide text 
 
 -- ---- what is built and what stays
 
-pub encoded-built : (builder : Builder) (kind : DataType) (values : List Value) (buffers : List (Option (List ℕ))) (built : Built) → Holds builder kind values
+pub encoded-built : (builder : Builder) (kind : DataType) (values : List Value) (buffers : List (Option (List ℕ))) (built : Built) → HoldsWhole builder kind values
     → (encoded kind values).buffers ≡ buffers
     → IsBuilt builder buffers built → IsEncoded built kind values
 encoded-built builder kind values buffers built holds are is =
@@ -128,7 +129,7 @@ encoded-built builder kind values buffers built holds are is =
       buffers = subst Made (sym are) is.made;
     }
 
-pub same-holds : (old new : Builder) (kind : DataType) (values : List Value) → AreSame old new → Holds old kind values → Holds new kind values
+pub same-holds : (old new : Builder) (kind : DataType) (values : List Value) → AreSame old new → HoldsWhole old kind values → HoldsWhole new kind values
 same-holds old new kind values same holds =
     let HasShape : Shape → Type 0 = λ shape. HasBytes shape values old.offsets.items old.bytes.items in
     let HasOffs : List ℕ → Type 0 = λ offsets. HasBytes new.shape values offsets old.bytes.items in
@@ -144,8 +145,8 @@ same-holds old new kind values same holds =
     }
 
 pub same-but-holds : (old new : Builder) (kind : DataType) (values : List Value) (wide text : Bool) → old.shape ≡ shapes.Between wide text
-    → AreSameBut wide (map bytes_of values) old new → Holds old kind values
-    → Holds new kind values
+    → AreSameBut wide (map bytes_of values) old new → HoldsWhole old kind values
+    → HoldsWhole new kind values
 same-but-holds old new kind values wide text is same holds =
     let HasShape : Shape → Type 0 = λ shape. HasBytes shape values old.offsets.items old.bytes.items in
     let HasNew : Shape → Type 0 = λ shape. HasBytes shape values new.offsets.items new.bytes.items in

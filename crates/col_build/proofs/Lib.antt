@@ -1,11 +1,14 @@
 pub mod BitBytes
+pub mod Halves
 pub mod OffsetBytes
 pub mod StoredFacts
 pub mod ShapeFacts
+pub mod MadeAhead
 pub mod FitsFacts
 pub mod ValidityFacts
 pub mod Laid
 pub mod Pushes
+pub mod OneMore
 pub mod FinishFacts
 pub mod Views
 pub mod TextBytes

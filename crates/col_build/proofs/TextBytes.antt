@@ -9,7 +9,8 @@ use Rattle.fmt_string.specs.FieldText.{Form, Truths, Wholes, FloatBits, Text, He
 use Rattle.fmt_string.specs.Value.{Value, Null, Truth, Whole, Bits, Bytes, Items, Fields, bytes_of}
 use Rattle.fmt_string.specs.declared.kind.DataType.{DataType}
 use Rattle.col_build.specs.Encoding.{fault_if, is_wide, is_within}
-use Rattle.col_build.specs.Holding.{HasBytes, Holds}
+use Rattle.col_build.specs.Holding.{HasBytes}
+use Rattle.col_build.specs.Settled.{HoldsWhole}
 use Rattle.col_build.specs.declared.builder.Builder.{Builder}
 use Rattle.col_build.specs.declared.item.PushFault.TheVariants.{OutOfRange, NotText}
 use Rattle.col_build.specs.declared.shape.Shape.{Shape}
@@ -50,7 +51,7 @@ text-form wide w (Some HexBytes) values is taken = cc
 text-form wide w (Some (SizedHex size)) values is taken = cc
 text-form wide w (Some (Decimals precision places)) values is taken = cc
 
-pub text-held : (builder : Builder) (kind : DataType) (values : List Value) (wide : Bool) → Holds builder kind values → builder.shape ≡ shapes.Between wide true
+pub text-held : (builder : Builder) (kind : DataType) (values : List Value) (wide : Bool) → HoldsWhole builder kind values → builder.shape ≡ shapes.Between wide true
     → IsUtf8 builder.bytes.items
 text-held builder kind values wide holds is =
     let Has : Shape → Type 0 = λ shape. HasBytes shape values builder.offsets.items builder.bytes.items in

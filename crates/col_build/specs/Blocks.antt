@@ -1,22 +1,14 @@
 -- The blocks that a builder's buffers are moved into.
-use Rattle.std.specs.Prelude.{◌≡◌, ℕ, Bool, ◌≤◌, pos, List, [], ◌∷◌, length, Option, vec_capacity}
-use Rattle.col_build.specs.Encoding.{if_some}
-use Rattle.col_build.specs.Finished.{AreMade, IsMade}
+use Rattle.std.specs.Prelude.{◌≡◌, ℕ, Bool, pos, List, [], ◌∷◌, Option}
+use Rattle.col_build.specs.Finished.{AreMade}
 use Rattle.col_build.specs.Holding.{HasOffsets}
 use Rattle.col_build.specs.declared.builder.Builder.{Builder}
 use Rattle.col_build.specs.declared.built.Built.{Built}
-use Rattle.col_build.specs.declared.finish.Kept.{Kept}
 
 -- whether a buffer of these bytes is there: 1 or 0
 abbrev pub count_if : List ℕ → ℕ
 count_if [] = 0
 count_if (byte ∷ bytes) = 1
-
--- a block of these bytes, and room to take them out again
-pub record Keeping (kept : Kept) (content : List ℕ) : Type 0 where
-  pub made : IsMade kept.view (if_some content)
-  pub none : kept.spare.items ≡ []
-  pub room : length content ≤ vec_capacity kept.spare
 
 -- the column was made of the builder, with these buffers
 pub record IsBuilt (builder : Builder) (buffers : List (Option (List ℕ))) (built : Built) : Type 0 where

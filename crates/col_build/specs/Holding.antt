@@ -1,8 +1,9 @@
 -- What a builder holds: the buffers of the encoding of its values, in the making.
-use Rattle.std.specs.Prelude.{◌≡◌, ◌≢◌, ◌⊎◌, ℕ, ◌^◌, ◌<◌, Bool, IsTrue, List, [], ◌∷◌, ◌++◌, length, map, Result}
+use Rattle.std.specs.Prelude.{◌≡◌, ◌≢◌, ◌⊎◌, ℕ, ◌+◌, ◌*◌, ◌^◌, ◌<◌, Bool, false, IsTrue, List, [], ◌∷◌, ◌++◌, length, map, take, None, Result}
 use Rattle.std.specs.List.{concat, flat_map}
 use Rattle.bit_pack.specs.Packed.{IsWidth}
 use Rattle.fmt_string.specs.Storage.{storage_of}
+use Rattle.fmt_string.specs.declared.storage.Storage.TheVariants as stored
 use Rattle.fmt_string.specs.Value.{Value, bytes_of}
 use Rattle.fmt_string.specs.declared.kind.DataType.{DataType}
 use Rattle.col_build.specs.Encoding.{Fits, bit_bytes, if_some, is_set, null_total, offset_bytes, push_fault, stored_item, validity_of}
@@ -42,14 +43,31 @@ pub record HasValidity (bits : List ℕ) (count nulls : ℕ) (values : List Valu
   pub nulls_counted : nulls ≡ null_total values
   pub shown : if_some bits ≡ validity_of values
 
--- the builder of a type holds these values
+-- the bytes of so many items: behind those of numbers there may be others, made ahead
+abbrev pub bytes_in : Shape → ℕ → List ℕ → List ℕ
+bytes_in (shapes.Wholes width signed) count bytes = take (count * width) bytes
+bytes_in (shapes.Floats width) count bytes = take (count * width) bytes
+bytes_in shape count bytes = bytes
+
+-- and their offsets, behind which there may be others where they are narrow
+abbrev pub offsets_in : Shape → ℕ → List ℕ → List ℕ
+offsets_in (shapes.Between false text) count offsets = take ((count + 1) * 4) offsets
+offsets_in shape count offsets = offsets
+
+abbrev pub kept_bytes : Builder → List ℕ
+kept_bytes builder = bytes_in builder.shape builder.count builder.bytes.items
+
+abbrev pub kept_offsets : Builder → List ℕ
+kept_offsets builder = offsets_in builder.shape builder.count builder.offsets.items
+
+-- the builder of a type holds these values; what is made ahead of further ones says nothing
 pub record Holds (builder : Builder) (kind : DataType) (values : List Value) : Type 0 where
   pub is_kind : builder.kind ≡ kind
   pub shape : builder.shape ≡ shape_in (storage_of kind)
   pub count : builder.count ≡ length values
   pub nulls : builder.nulls ≡ null_total values
   pub validity : if_some builder.validity.items ≡ validity_of values
-  pub bytes : HasBytes builder.shape values builder.offsets.items builder.bytes.items
+  pub bytes : HasBytes builder.shape values (kept_offsets builder) (kept_bytes builder)
   pub fits : Fits kind values
 
 -- the builder holds some values
@@ -71,3 +89,16 @@ Adds value old new = (kind : DataType) (values : List Value) → Holds old kind 
 -- the answer is that of a push of the value: it fails where the column doesn't take it, and for want of memory
 abbrev pub IsPushed : Value → Builder → Result (Unit {0}) PushFault → Type 0
 IsPushed value old result = (kind : DataType) (values : List Value) → Holds old kind values → IsAnswer result (push_fault kind values value)
+
+-- the column takes the value
+abbrev pub Takes : Builder → Value → Type 0
+Takes builder value = (kind : DataType) × (values : List Value) × Holds builder kind values × (length values < 2 ^ 40) × (push_fault kind values value ≡ None)
+
+-- the column is of whole numbers of so many bytes
+abbrev pub HoldsWholes : ℕ → Builder → Type 0
+HoldsWholes width builder =
+    (kind : DataType) (values : List Value) → Holds builder kind values → (signed : Bool) × (storage_of kind ≡ stored.Wholes (8 * width) signed)
+
+-- the column is of floats of so many bytes
+abbrev pub HoldsFloats : ℕ → Builder → Type 0
+HoldsFloats width builder = (kind : DataType) (values : List Value) → Holds builder kind values → storage_of kind ≡ stored.Floats (8 * width)

@@ -9,7 +9,8 @@ ghost use Rattle.fmt_string.specs.declared.kind.DataType.{DataType};
 ghost use Rattle.col_build.specs.Encoding.{Fits, HasForm, is_null};
 ghost use Rattle.col_build.specs.Items.{value_of};
 
-use crate::finish::{finish_in_place, finish_offsets};
+use crate::ahead::cut_ahead;
+use crate::finish::{Spares, finish_in_place, finish_offsets};
 use crate::shape::{Shape, shape_of};
 use crate::store::store;
 use crate::validity::{make_room, push_validity};
@@ -44,6 +45,7 @@ fn is_null(item: &Item<'_>) -> bool
 impl Builder {
     ghost use Rattle.col_build.specs.Finished.{IsEncoded, blocks_of};
     ghost use Rattle.col_build.specs.Holding.{Adds, Holds, HoldsFew, HoldsSome, IsLaidAs, IsPushed, Keeps};
+    ghost use Rattle.col_build.specs.Settled.{AddsWhole, HoldsFewWhole, HoldsSomeWhole, HoldsWhole, IsPushedWhole, KeepsWhole, Settles};
     ghost use Rattle.col_build.specs.Shapes.{shape_fault};
 
     /// A column of a flat type, without values. Takes no memory.
@@ -63,16 +65,27 @@ impl Builder {
         }
     }
 
-    /// Adds an item, by a shape that lays it out as the builder's own does and takes it where that does.
+    /// Cuts what is made ahead of further items.
     #[inline(always)]
-    fn push_as(&mut self, shape: Shape, item: Item<'_>) -> Result<(), PushFault>
-        requires holds { HoldsFew self.old }
+    pub(crate) fn settle(&mut self)
+        requires holds { HoldsSome self.old }
+        ensures { Settles self.old self.new }
+    {
+        cut_ahead(self.shape, self.count, &mut self.offsets, &mut self.bytes);
+    }
+
+    /// Adds an item where nothing is made ahead, by a shape that lays it out as the builder's own does and takes it where
+    /// that does.
+    #[inline(always)]
+    #[tactic(auto, using(crate::proofs::MadeAhead::whole_holds))]
+    pub(crate) fn push_as(&mut self, shape: Shape, item: Item<'_>) -> Result<(), PushFault>
+        requires holds { HoldsFewWhole self.old }
         requires laid { IsLaidAs shape self.old.shape }
         requires same { shape_fault shape (length self.old.bytes.items) (value_of item)
             ≡ shape_fault self.old.shape (length self.old.bytes.items) (value_of item) }
-        ensures added { OnOk result (Adds (value_of item.entry) self.old self.new) }
-        ensures kept { OnErr result (Keeps self.old self.new) }
-        ensures answer { IsPushed (value_of item.entry) self.old result }
+        ensures added { OnOk result (AddsWhole (value_of item.entry) self.old self.new) }
+        ensures kept { OnErr result (KeepsWhole self.old self.new) }
+        ensures answer { IsPushedWhole (value_of item.entry) self.old result }
     {
         let null = is_null(&item);
         make_room(&mut self.validity, self.count, self.nulls, null)?;
@@ -91,6 +104,7 @@ impl Builder {
         ensures kept { OnErr result (Keeps self.old self.new) }
         ensures answer { IsPushed (value_of item.entry) self.old result }
     {
+        self.settle();
         self.push_as(self.shape, item)
     }
 
@@ -116,6 +130,7 @@ impl Builder {
     {
         match self.shape {
             Shape::Between { wide, text: _ } => {
+                self.settle();
                 self.push_as(Shape::Between { wide, text: false }, Item::Bytes(text))
             }
             _ => self.push_bytes(text),
@@ -128,6 +143,30 @@ impl Builder {
         ensures { (kind : DataType) (values : List Value) → Holds self.now kind values → result ≡ pos (length values) }
     {
         self.count as i64
+    }
+
+    /// The column of the items of a builder with nothing ahead. As [`Builder::finish`].
+    #[inline(always)]
+    fn finish_whole(
+        self,
+        alloc: Global,
+        spares: &mut Spares,
+        pass: &mut Pass,
+    ) -> Result<Built, (Builder, NoMemory)>
+        requires holds { HoldsSomeWhole self }
+        requires units { 3 ≤ pass.old.units }
+        ensures encoded { IfOk result (λ built. (kind : DataType) (values : List Value) → HoldsWhole self kind values → IsEncoded built kind values) }
+        ensures back { IfErr result (λ e. KeepsWhole self e.0) }
+        ensures units { (kind : DataType) (values : List Value) → HoldsWhole self kind values
+            → pass.new.units + (if is_ok result then blocks_of kind values else 0) ≡ pass.old.units }
+        ensures blocks { OnOk result
+            ((kind : DataType) (values : List Value) → HoldsWhole self kind values → pass.new.blocks ≡ risen pass.old.blocks (blocks_of kind values)) }
+        ensures nodes { pass.new.nodes ≡ pass.old.nodes }
+    {
+        match self.shape {
+            Shape::Between { wide, text } => finish_offsets(self, wide, text, alloc, spares, pass),
+            _ => finish_in_place(self, alloc, spares, pass),
+        }
     }
 
     /// The column of the items, whose buffers are moved into blocks. Draws a unit and counts a block for
@@ -144,9 +183,31 @@ impl Builder {
             ((kind : DataType) (values : List Value) → Holds self kind values → pass.new.blocks ≡ risen pass.old.blocks (blocks_of kind values)) }
         ensures nodes { pass.new.nodes ≡ pass.old.nodes }
     {
-        match self.shape {
-            Shape::Between { wide, text } => finish_offsets(self, wide, text, alloc, pass),
-            _ => finish_in_place(self, alloc, pass),
-        }
+        let mut spares = Spares::new(alloc);
+        self.finish_beside(alloc, &mut spares, pass)
+    }
+
+    /// The same, with room that serves for many columns.
+    #[inline(always)]
+    pub fn finish_beside(
+        self,
+        alloc: Global,
+        spares: &mut Spares,
+        pass: &mut Pass,
+    ) -> Result<Built, (Builder, NoMemory)>
+        requires holds { HoldsSome self }
+        requires units { 3 ≤ pass.old.units }
+        ensures encoded { IfOk result (λ built. (kind : DataType) (values : List Value) → Holds self kind values → IsEncoded built kind values) }
+        ensures fits { (kind : DataType) (values : List Value) → Holds self kind values → Fits kind values }
+        ensures back { IfErr result (λ e. Keeps self e.0) }
+        ensures units { (kind : DataType) (values : List Value) → Holds self kind values
+            → pass.new.units + (if is_ok result then blocks_of kind values else 0) ≡ pass.old.units }
+        ensures blocks { OnOk result
+            ((kind : DataType) (values : List Value) → Holds self kind values → pass.new.blocks ≡ risen pass.old.blocks (blocks_of kind values)) }
+        ensures nodes { pass.new.nodes ≡ pass.old.nodes }
+    {
+        let mut builder = self;
+        builder.settle();
+        builder.finish_whole(alloc, spares, pass)
     }
 }

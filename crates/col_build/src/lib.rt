@@ -13,12 +13,17 @@
 //! - A contract says which values a builder holds by `Holds`, a relation over its buffers in the making. It holds of a new
 //!   builder and no values, each push adds its value or keeps them, and the finished column is the encoding of just these
 //!   values (`IsEncoded`).
+//! - An item that the caller knows to be taken is added by [`Builder::add_whole`] and its like, which fail for want of memory
+//!   alone. Numbers and narrow offsets have their places made ahead, as bytes that `Holds` doesn't see; a push and a finish
+//!   cut them first.
 //! - A push allocates only to let a buffer grow, by amortised growth. Validity bits are made with the first null, for all
 //!   items before it. The code copies no byte to finish, but where memory runs out;
 //!   no clause says so.
 //! - The holds of a finished column are the caller's to let go, and its way into an array is left to the crates above.
 #![tactic(auto)]
 
+mod adds;
+mod ahead;
 mod bits;
 mod builder;
 mod built;
@@ -33,10 +38,13 @@ mod validity;
 
 pub use builder::Builder;
 pub use built::Built;
+pub use finish::Spares;
 pub use item::{Item, PushFault};
 pub use laws::worked_encodings;
-pub use text::is_text;
+pub use text::{is_text, is_text_beyond};
 
+#[cfg(test)]
+mod add_tests;
 #[cfg(test)]
 mod tests;
 #[cfg(test)]

@@ -1,5 +1,5 @@
 //! Numbers of a width in bytes, appended ("Arrow Columnar Format", "Byte order" and "Fixed-size primitive layout").
-ghost use Rattle.std.specs.Prelude.{◌≡◌, ◌≢◌, ◌*◌, ◌^◌, ◌<◌, ℤ, pos, true, IsTrue, Option, None, nat_lt};
+ghost use Rattle.std.specs.Prelude.{◌≡◌, ◌≢◌, ◌+◌, ◌*◌, ◌^◌, ◌<◌, ◌≤◌, ◌++◌, ℤ, pos, true, IsTrue, Option, None, nat_lt, vec_capacity, vec_len};
 ghost use Rattle.bit_pack.specs.Packed.{IsWidth, le_bytes, stored};
 ghost use Rattle.fmt_string.specs.FieldText.{in_range};
 ghost use Rattle.col_build.specs.Shapes.{Stored, past, range_fault};
@@ -32,12 +32,33 @@ pub(crate) fn append_number(bytes: &mut Vec<u8>, width: usize, number: u64) -> R
     }
 }
 
-/// Appends the sixteen bytes of a number.
+/// Appends the eight bytes of a number, for which there is room.
+#[inline(always)]
+fn append_eight(bytes: &mut Vec<u8>, number: u64)
+    requires { vec_len bytes.old + 8 ≤ vec_capacity bytes.old }
+    ensures items { bytes.new.items ≡ bytes.old.items ++ le_bytes 8 number }
+    ensures len { vec_len bytes.new ≡ vec_len bytes.old + 8 }
+    ensures capacity { vec_capacity bytes.old ≤ vec_capacity bytes.new }
+{
+    match bytes.extend_from_slice(&number.to_le_bytes()) {
+        Ok(()) => {}
+        Err(_) => unreachable!(),
+    }
+}
+
+/// Appends the sixteen bytes of a number, by its halves.
 #[inline(always)]
 fn append_sixteen(bytes: &mut Vec<u8>, number: u128) -> Result<(), PushFault>
     ensures { Stored result bytes.old.items bytes.new.items None (le_bytes 16 number) }
 {
-    append(bytes, &number.to_le_bytes())
+    let low = (number % (1 << 64)) as u64;
+    let high = (number >> 64) as u64;
+    let Ok(()) = bytes.reserve(16) else {
+        return Err(PushFault::NoMemory);
+    };
+    append_eight(bytes, low);
+    append_eight(bytes, high);
+    Ok(())
 }
 
 /// Two to the power of the bits that a number of a width has beside its sign.

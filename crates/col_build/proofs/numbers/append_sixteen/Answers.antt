@@ -1,10 +1,15 @@
-use Rattle.std.proofs.Common.{◌∙◌, List, ℕ, subst}
-use Rattle.std.specs.Prelude.{None}
-use Rattle.bit_pack.proofs.Sixteen.{le_bytes_16}
-use Rattle.col_build.specs.Shapes.{Stored}
+use Rattle.std.proofs.Common.{◌∙◌, ◌++◌, ◌%◌, ◌/◌, ◌^◌, ℕ, List, refl, sym, ap, append_assoc}
+use Rattle.bit_pack.specs.Packed.{le_bytes}
+use Rattle.col_build.proofs.Halves.{halves}
 use Rattle.col_build.proofs.numbers.append_sixteen.Goals as goal
 
 pub returns : goal.returns
 returns c =
-    let Appends : List ℕ → Type 0 = λ bytes. Stored c.append.result c.args.bytes.now.items c.append.new.bytes.items None bytes in
-    subst Appends (c.to_le_bytes.ensures ∙ le_bytes_16 c.args.number) c.append.ensures
+    let n = c.args.number in
+    let low = le_bytes 8 (n % 2 ^ 64) in
+    let high = le_bytes 8 (n / 2 ^ 64) in
+    let old = c.reserve.new.self.items in (
+      refl,
+      c.append_eight-2.ensures.items ∙ ap (λ (bs : List ℕ). bs ++ high) c.append_eight.ensures.items ∙ append_assoc old low high
+          ∙ ap (λ (bs : List ℕ). old ++ bs) (sym (halves n)) ∙ ap (λ (bs : List ℕ). bs ++ le_bytes 16 n) c.reserve.ensures.items,
+    )

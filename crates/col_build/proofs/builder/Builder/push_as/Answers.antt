@@ -1,8 +1,8 @@
-use Rattle.std.proofs.Common.{◌≡◌, ◌∙◌, ◌∷◌, [], ◌++◌, ◌<◌, ◌^◌, ◌⊎◌, ℕ, List, length, subst, sym, arith, length-append}
+use Rattle.std.proofs.Common.{◌≡◌, ◌∙◌, ◌∷◌, [], ◌++◌, ◌<◌, ◌^◌, ◌⊎◌, ℕ, List, length, ap, subst, sym, arith, length-append}
 use Rattle.std.proofs.lemmas.Result.{err_from_is_err_and}
 use Rattle.std.specs.Prelude.{Option, None, Some}
 use Rattle.fmt_string.specs.FieldText.{form_of}
-use Rattle.col_build.specs.Encoding.{is_wide, push_fault}
+use Rattle.col_build.specs.Encoding.{if_some, is_wide, push_fault}
 use Rattle.col_build.specs.Holding.{HasBytes, HasValidity}
 use Rattle.col_build.specs.Items.{value_of}
 use Rattle.col_build.specs.declared.item.PushFault.{PushFault}
@@ -10,6 +10,7 @@ use Rattle.col_build.specs.declared.shape.Shape.{Shape}
 use Rattle.col_build.specs.declared.item.PushFault.TheVariants.{NoMemory}
 use Rattle.col_build.proofs.FitsFacts.{fits-more, total-bounded}
 use Rattle.col_build.proofs.Laid.{laid-back, laid-has}
+use Rattle.col_build.proofs.MadeAhead.{whole_holds}
 use Rattle.col_build.proofs.Pushes.{fault-held, validity-held}
 use Rattle.col_build.proofs.ShapeFacts.{shape-same}
 use Rattle.col_build.proofs.ValidityFacts.{null-counted, nulls-few, nulls-push}
@@ -21,6 +22,23 @@ returns-in_err-store-clause-answer c kind values holds =
     let p = err_from_is_err_and c.from_residual-in_err-store.result c.from_residual-in_err-store.ensures.1 in
     let P : Option PushFault → Type 0 = λ fault. (c.in_err-store.field-0.0 ≡ NoMemory) ⊎ (fault ≡ Some c.in_err-store.field-0.0) in
     rw (p.1, p.2) (subst P (c.requires.same ∙ fault-held c.args.self.now kind values value holds) c.in_err-store.ensures.answer)
+
+pub returns-in_err-store-clause-kept : goal.returns-in_err-store-clause-kept
+returns-in_err-store-clause-kept c =
+    let p = err_from_is_err_and c.from_residual-in_err-store.result c.from_residual-in_err-store.ensures.1 in
+    let shape = c.args.shape in
+    let own = c.args.self.now.shape in
+    rw p.1 (λ kind values holds.
+    let was = laid-has shape own values c.args.self.now.offsets.items c.args.self.now.bytes.items c.requires.laid holds.bytes in
+    whole_holds _ kind values (record {
+      is_kind = holds.is_kind;
+      shape = holds.shape;
+      count = holds.count;
+      nulls = holds.nulls;
+      validity = ap if_some c.make_room.ensures.items ∙ holds.validity;
+      bytes = laid-back shape own values c.store.new.offsets.items c.store.new.bytes.items c.requires.laid (c.in_err-store.ensures.kept values was);
+      fits = holds.fits;
+    }))
 
 pub overflow_add-self-2 : goal.overflow_add-self-2
 overflow_add-self-2 c =
@@ -59,7 +77,7 @@ returns-clause-added c kind values holds =
     let HasShape : Shape → Type 0 = λ s. HasBytes s (values ++ value ∷ []) c.store.new.offsets.items c.store.new.bytes.items in
     let shaped = subst HasShape (holds.shape ∙ shape-same kind holds.fits.flat) bytes in
     let bounded = total-bounded (is_wide kind) (form_of kind) (values ++ value ∷ []) c.store.new.offsets.items c.store.new.bytes.items shaped short in
-    record {
+    whole_holds _ kind (values ++ value ∷ []) (record {
       is_kind = holds.is_kind;
       shape = holds.shape;
       count = omega (arith, holds.count, length-append values (value ∷ []));
@@ -67,4 +85,4 @@ returns-clause-added c kind values holds =
       validity = c.push_validity.ensures values value validity (sym c.is_null-null.ensures);
       bytes = bytes;
       fits = fits-more kind values value holds.fits taken few bounded;
-    }
+    })

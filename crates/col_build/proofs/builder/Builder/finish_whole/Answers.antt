@@ -5,10 +5,11 @@ use Rattle.fmt_string.specs.Value.{bytes_of}
 use Rattle.col_build.specs.Encoding.{if_some, offset_bytes}
 use Rattle.col_build.proofs.FinishFacts.{IsBetween, blocks-between, blocks-in-place, encoded-built, held-between, held-in-place, offsets-held, same-but-holds}
 use Rattle.col_build.proofs.FinishFacts.{same-holds}
+use Rattle.col_build.proofs.MadeAhead.{whole_holds}
 use Rattle.col_build.proofs.TextBytes.{text-held}
 use Rattle.col_build.proofs.ValidityFacts.{nulls-few}
 use Rattle.col_build.specs.declared.shape.Shape.TheVariants as shapes
-use Rattle.col_build.proofs.builder.Builder.finish.Goals as goal
+use Rattle.col_build.proofs.builder.Builder.finish_whole.Goals as goal
 
 -- ---- what both ways of finishing ask
 pub finish_offsets-requires-clause-nulls : goal.finish_offsets-requires-clause-nulls
@@ -50,8 +51,9 @@ returns-in-Between-clause-back c =
     let self = c.args.self in
     MatchResult-weaker c.finish_offsets.result c.finish_offsets.ensures.same (λ built ok. ok)
     (λ e same kind values holds.
-    same-but-holds self e.0 kind values c.in-Between.wide c.in-Between.text c.in-Between.is
-    (same (map bytes_of values) (offsets-held self kind values c.in-Between.wide c.in-Between.text holds c.in-Between.is)) holds)
+    whole_holds e.0 kind values
+    (same-but-holds self e.0 kind values c.in-Between.wide c.in-Between.text c.in-Between.is
+    (same (map bytes_of values) (offsets-held self kind values c.in-Between.wide c.in-Between.text holds c.in-Between.is)) holds))
 
 pub returns-in-Between-clause-units : goal.returns-in-Between-clause-units
 returns-in-Between-clause-units c kind values holds =
@@ -82,8 +84,8 @@ returns-in_default c =
           encoded-built self kind values (if_some self.validity.items ∷ if_some self.bytes.items ∷ []) built holds
           (held-in-place self kind values holds other) made)
           c.finish_in_place.ensures.built;
-      fits = λ kind values holds. holds.fits;
-      back = MatchResult-weaker r c.finish_in_place.ensures.same (λ built ok. ok) (λ e same kind values holds. same-holds self e.0 kind values same holds);
+      back = MatchResult-weaker r c.finish_in_place.ensures.same (λ built ok. ok) (λ e same kind values holds.
+          whole_holds e.0 kind values (same-holds self e.0 kind values same holds));
       units = λ kind values holds. subst Left (blocks-in-place self kind values holds other) c.finish_in_place.ensures.units;
       blocks = on_ok_weaker r (λ rises kind values holds. omega (arith, rises, blocks-in-place self kind values holds other)) c.finish_in_place.ensures.blocks;
       nodes = c.finish_in_place.ensures.nodes;

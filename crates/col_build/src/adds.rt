@@ -1,0 +1,383 @@
+//! Values added to a column that takes them. Where no null stands before it, a number or a short text costs one test and the
+//! stores, since its place was made ahead.
+ghost use Rattle.std.specs.Prelude.{◌≡◌, ◌≢◌, ◌≤◌, ◌<◌, ◌^◌, ◌+◌, ◌*◌, ◌⊎◌, ◌∷◌, [], Bool, List, true, length, take, vec_len, IfOk, OnOk, OnErr};
+ghost use Rattle.fmt_string.specs.FieldText.{form_of};
+ghost use Rattle.fmt_string.specs.Kinds.{KindOk};
+ghost use Rattle.fmt_string.specs.Value.{Value, Null, Truth, Whole, Bits, Bytes, bytes_of};
+ghost use Rattle.fmt_string.specs.declared.kind.DataType.{DataType};
+ghost use Rattle.col_build.specs.Encoding.{HasForm, is_null};
+ghost use Rattle.col_build.specs.Holding.{HasBytes, bytes_in, offsets_in};
+ghost use Rattle.col_build.specs.Items.{value_of};
+
+use crate::ahead::{AHEAD, append_first, fill_ahead, put_number, put_whole};
+use crate::bits::push_bit;
+use crate::shape::{Shape, shape_of};
+use crate::validity::{make_room, push_validity};
+use crate::{Builder, Item, PushFault};
+use fmt_string::DataType;
+use std::alloc::Global;
+use unit_pass::NoMemory;
+
+/// Whether an offset of four bytes behind so many items has its place.
+#[inline(always)]
+fn is_offset_there(offsets: &Vec<u8>, count: usize) -> bool
+    requires { count ≤ 2 ^ 40 }
+    ensures { result ≡ true → count * 4 + 8 ≤ vec_len offsets.now }
+{
+    count * 4 + 8 <= offsets.len()
+}
+
+/// Makes so many zeros, the first narrow offset and what is ahead of it.
+fn fill_first(offsets: &mut Vec<u8>, end: usize) -> Result<(), NoMemory>
+    requires none { offsets.old.items ≡ [] }
+    requires some { 4 ≤ end }
+    ensures { OnOk result (take 4 offsets.new.items ≡ 0 ∷ 0 ∷ 0 ∷ 0 ∷ []) }
+{
+    match offsets.resize(end, 0) {
+        Ok(()) => Ok(()),
+        Err(_) => Err(NoMemory),
+    }
+}
+
+/// The first narrow offset, with zeros ahead and room for the offsets of so many items.
+fn begin_ahead(alloc: Global, items: usize) -> Result<Vec<u8>, NoMemory>
+    ensures { IfOk result (λ offsets. take 4 offsets.items ≡ 0 ∷ 0 ∷ 0 ∷ 0 ∷ []) }
+{
+    let all = items.saturating_add(1).saturating_mul(4);
+    let Ok(mut offsets) = Vec::with_capacity(alloc, all) else {
+        return Err(NoMemory);
+    };
+    fill_first(&mut offsets, all.min(AHEAD))?;
+    Ok(offsets)
+}
+
+/// The offsets of no items, with room for those of so many where they are narrow.
+fn first_offsets(alloc: Global, shape: Shape, items: usize) -> Result<Vec<u8>, NoMemory>
+    ensures { IfOk result (λ offsets. HasBytes shape [] (offsets_in shape 0 offsets.items) (bytes_in shape 0 [])) }
+{
+    match shape {
+        Shape::Between {
+            wide: false,
+            text: _,
+        } => begin_ahead(alloc, items),
+        _ => Ok(Vec::new(alloc)),
+    }
+}
+
+impl Builder {
+    ghost use Rattle.col_build.specs.Holding.{Adds, Holds, HoldsFew, HoldsFloats, HoldsSome, HoldsWholes, Keeps, Takes};
+    ghost use Rattle.col_build.specs.Settled.{IsNarrow, IsNumbers};
+    ghost use Rattle.col_build.specs.declared.shape.Shape.TheVariants.{Between, Floats, Wholes};
+
+    /// Adds any item that the column takes.
+    #[inline(never)]
+    pub fn add(&mut self, item: Item<'_>) -> Result<(), NoMemory>
+        requires takes { Takes self.old (value_of item) }
+        ensures added { OnOk result (Adds (value_of item.entry) self.old self.new) }
+        ensures kept { OnErr result (Keeps self.old self.new) }
+    {
+        match self.push(item) {
+            Ok(()) => Ok(()),
+            Err(PushFault::NoMemory) => Err(NoMemory),
+            Err(_) => unreachable!(),
+        }
+    }
+
+    /// Whether the next number of a width has its place, and no null stands before it.
+    #[inline(always)]
+    fn has_place(&self, width: usize) -> bool
+        requires few { self.now.count ≤ 2 ^ 40 }
+        requires width { width ≤ 16 }
+        ensures valid { result ≡ true → self.now.nulls ≡ 0 }
+        ensures place { result ≡ true → self.now.count * width + width ≤ vec_len self.now.bytes }
+    {
+        self.nulls == 0 && self.count * width + width <= self.bytes.len()
+    }
+
+    /// Makes places for the next numbers.
+    #[inline(never)]
+    fn make_places(&mut self, width: usize) -> Result<(), NoMemory>
+        requires holds { HoldsSome self.old }
+        requires numbers { IsNumbers width self.old.shape }
+        ensures kept { Keeps self.old self.new }
+        ensures place { OnOk result (self.new.count * width + width ≤ vec_len self.new.bytes) }
+        ensures shape { self.new.shape ≡ self.old.shape }
+        ensures nulls { self.new.nulls ≡ self.old.nulls }
+    {
+        fill_ahead(&mut self.bytes, self.count * width, width)
+    }
+
+    /// Stores a whole number in its place.
+    #[inline(always)]
+    fn put_whole(&mut self, width: usize, number: i128)
+        requires takes { Takes self.old (Whole number) }
+        requires width { (width ≡ 4) ⊎ (width ≡ 8) ⊎ (width ≡ 16) }
+        requires shape { (signed : Bool) × (self.old.shape ≡ Wholes width signed) }
+        requires valid { self.old.nulls ≡ 0 }
+        requires place { self.old.count * width + width ≤ vec_len self.old.bytes }
+        ensures { Adds (Whole number) self.old self.new }
+    {
+        put_whole(&mut self.bytes, self.count * width, width, number);
+        self.count += 1;
+    }
+
+    /// Adds a whole number that the column takes, of a width in bytes that is a constant where it is added.
+    #[tactic(auto, using(crate::proofs::OneMore::whole_adds))]
+    #[inline(always)]
+    pub fn add_whole(&mut self, width: usize, number: i128) -> Result<(), NoMemory>
+        requires takes { Takes self.old (Whole number) }
+        requires width { HoldsWholes width self.old }
+        ensures added { OnOk result (Adds (Whole number) self.old self.new) }
+        ensures kept { OnErr result (Keeps self.old self.new) }
+    {
+        if width < 4 || !self.has_place(width) {
+            return self.add_whole_rarely(width, number);
+        }
+        self.put_whole(width, number);
+        Ok(())
+    }
+
+    #[tactic(auto, using(crate::proofs::OneMore::whole_adds))]
+    #[inline(never)]
+    fn add_whole_rarely(&mut self, width: usize, number: i128) -> Result<(), NoMemory>
+        requires takes { Takes self.old (Whole number) }
+        requires shape { (signed : Bool) × (self.old.shape ≡ Wholes width signed) }
+        ensures added { OnOk result (Adds (Whole number) self.old self.new) }
+        ensures kept { OnErr result (Keeps self.old self.new) }
+    {
+        if width < 4 || self.nulls != 0 {
+            return self.add(Item::Whole(number));
+        }
+        self.make_places(width)?;
+        self.put_whole(width, number);
+        Ok(())
+    }
+
+    /// Adds the bits of a float that the column takes, of a width in bytes that is a constant where it is added.
+    #[tactic(auto, using(crate::proofs::OneMore::float_adds))]
+    #[inline(always)]
+    pub fn add_bits(&mut self, width: usize, number: u64) -> Result<(), NoMemory>
+        requires takes { Takes self.old (Bits number) }
+        requires width { HoldsFloats width self.old }
+        ensures added { OnOk result (Adds (Bits number) self.old self.new) }
+        ensures kept { OnErr result (Keeps self.old self.new) }
+    {
+        if width < 4 || !self.has_place(width) {
+            return self.add_bits_rarely(width, number);
+        }
+        self.put_bits(width, number);
+        Ok(())
+    }
+
+    #[tactic(auto, using(crate::proofs::OneMore::float_adds))]
+    #[inline(never)]
+    fn add_bits_rarely(&mut self, width: usize, number: u64) -> Result<(), NoMemory>
+        requires takes { Takes self.old (Bits number) }
+        requires shape { self.old.shape ≡ Floats width }
+        ensures added { OnOk result (Adds (Bits number) self.old self.new) }
+        ensures kept { OnErr result (Keeps self.old self.new) }
+    {
+        if width < 4 || self.nulls != 0 {
+            return self.add(Item::Bits(number));
+        }
+        self.make_places(width)?;
+        self.put_bits(width, number);
+        Ok(())
+    }
+
+    /// Stores the bits of a float in their place.
+    #[inline(always)]
+    fn put_bits(&mut self, width: usize, number: u64)
+        requires takes { Takes self.old (Bits number) }
+        requires width { (width ≡ 4) ⊎ (width ≡ 8) }
+        requires shape { self.old.shape ≡ Floats width }
+        requires valid { self.old.nulls ≡ 0 }
+        requires place { self.old.count * width + width ≤ vec_len self.old.bytes }
+        ensures { Adds (Bits number) self.old self.new }
+    {
+        put_number(&mut self.bytes, self.count * width, width, number);
+        self.count += 1;
+    }
+
+    /// Adds a truth value that the column takes.
+    #[inline(always)]
+    pub fn add_truth(&mut self, truth: bool) -> Result<(), NoMemory>
+        requires takes { Takes self.old (Truth truth) }
+        ensures added { OnOk result (Adds (Truth truth) self.old self.new) }
+        ensures kept { OnErr result (Keeps self.old self.new) }
+    {
+        if self.nulls != 0 {
+            return self.add(Item::Truth(truth));
+        }
+        push_bit(&mut self.bytes, self.count, truth)?;
+        self.count += 1;
+        Ok(())
+    }
+
+    /// Adds bytes that the column takes.
+    #[inline(always)]
+    pub fn add_bytes(&mut self, bytes: &[u8]) -> Result<(), NoMemory>
+        requires takes { Takes self.old (Bytes bytes.now) }
+        ensures added { OnOk result (Adds (Bytes bytes.now) self.old self.new) }
+        ensures kept { OnErr result (Keeps self.old self.new) }
+    {
+        self.add_bytes_in(bytes, bytes.len())
+    }
+
+    /// Adds the first bytes of a longer text, so many of them, which the column takes. So a short one is copied by eight
+    /// bytes.
+    #[inline(always)]
+    pub fn add_bytes_in(&mut self, from: &[u8], size: usize) -> Result<(), NoMemory>
+        requires within { size ≤ length from.now }
+        requires takes { Takes self.old (Bytes (take size from.now)) }
+        ensures added { OnOk result (Adds (Bytes (take size from.now)) self.old self.new) }
+        ensures kept { OnErr result (Keeps self.old self.new) }
+    {
+        match self.shape {
+            Shape::Between {
+                wide: false,
+                text: _,
+            } if self.nulls == 0 && is_offset_there(&self.offsets, self.count) => {
+                self.put_between(from, size, false)
+            }
+            _ => self.add_bytes_rarely(&from[..size]),
+        }
+    }
+
+    /// Adds bytes behind nulls, between wide offsets, or first of all.
+    #[inline(never)]
+    fn add_bytes_rarely(&mut self, bytes: &[u8]) -> Result<(), NoMemory>
+        requires takes { Takes self.old (Bytes bytes.now) }
+        ensures added { OnOk result (Adds (Bytes bytes.now) self.old self.new) }
+        ensures kept { OnErr result (Keeps self.old self.new) }
+    {
+        match self.shape {
+            Shape::Between {
+                wide: false,
+                text: _,
+            } if !self.offsets.is_empty() => {
+                self.make_offset()?;
+                self.put_between(bytes, bytes.len(), false)
+            }
+            Shape::Between { wide, text: _ } => self.push_untested(wide, bytes),
+            _ => self.add(Item::Bytes(bytes)),
+        }
+    }
+
+    /// Adds a null.
+    #[inline(never)]
+    pub fn add_null(&mut self) -> Result<(), NoMemory>
+        requires holds { HoldsFew self.old }
+        ensures added { OnOk result (Adds Null self.old self.new) }
+        ensures kept { OnErr result (Keeps self.old self.new) }
+    {
+        match self.shape {
+            Shape::Between {
+                wide: false,
+                text: _,
+            } if !self.offsets.is_empty() => {
+                self.make_offset()?;
+                self.put_between(&[], 0, true)
+            }
+            _ => self.add(Item::Null),
+        }
+    }
+
+    /// Makes the place of the next narrow offset, where it isn't there.
+    #[inline(always)]
+    fn make_offset(&mut self) -> Result<(), NoMemory>
+        requires holds { HoldsFew self.old }
+        requires narrow { IsNarrow self.old.shape }
+        requires begun { self.old.offsets.items ≢ [] }
+        ensures kept { Keeps self.old self.new }
+        ensures place { OnOk result (self.new.count * 4 + 8 ≤ vec_len self.new.offsets) }
+        ensures shape { self.new.shape ≡ self.old.shape }
+    {
+        if is_offset_there(&self.offsets, self.count) {
+            return Ok(());
+        }
+        fill_ahead(&mut self.offsets, self.count * 4 + 4, 4)
+    }
+
+    /// Stores the first bytes of a text, so many of them, and their narrow offset in its place, or a null without bytes.
+    #[inline(always)]
+    fn put_between(&mut self, from: &[u8], size: usize, null: bool) -> Result<(), NoMemory>
+        requires within { size ≤ length from.now }
+        requires holds { HoldsFew self.old }
+        requires narrow { IsNarrow self.old.shape }
+        requires place { self.old.count * 4 + 8 ≤ vec_len self.old.offsets }
+        ensures added { OnOk result ((value : Value) → is_null value ≡ null → bytes_of value ≡ take size from.now → Takes self.old value
+            → Adds value self.old self.new) }
+        ensures kept { OnErr result (Keeps self.old self.new) }
+    {
+        let nulls = self.nulls;
+        match make_room(&mut self.validity, self.count, nulls, null) {
+            Ok(()) => {}
+            Err(_) => return Err(NoMemory),
+        }
+        append_first(&mut self.bytes, from, size)?;
+        let end = self.bytes.len() as u64;
+        put_number(&mut self.offsets, self.count * 4 + 4, 4, end);
+        push_validity(&mut self.validity, self.count, nulls, null);
+        self.count += 1;
+        self.nulls += usize::from(null);
+        Ok(())
+    }
+
+    /// Adds bytes that the column takes, so that a text isn't tested again.
+    #[inline(always)]
+    fn push_untested(&mut self, wide: bool, bytes: &[u8]) -> Result<(), NoMemory>
+        requires takes { Takes self.old (Bytes bytes.now) }
+        requires between { (text : Bool) × (self.old.shape ≡ Between wide text) }
+        ensures added { OnOk result (Adds (Bytes bytes.now) self.old self.new) }
+        ensures kept { OnErr result (Keeps self.old self.new) }
+    {
+        self.settle();
+        match self.push_as(Shape::Between { wide, text: false }, Item::Bytes(bytes)) {
+            Ok(()) => Ok(()),
+            Err(PushFault::NoMemory) => Err(NoMemory),
+            Err(_) => unreachable!(),
+        }
+    }
+
+    /// How many items there are, and how many bytes they take beside their offsets, as a measure of the room that others
+    /// like them need.
+    pub fn used(&self) -> (usize, usize)
+        requires holds { HoldsSome self.now }
+        ensures { (kind : DataType) (values : List Value) → Holds self.now kind values → result.0 ≡ length values }
+    {
+        let bytes = match self.shape {
+            Shape::Wholes { width, signed: _ } => self.count * width,
+            Shape::Floats { width } => self.count * width,
+            _ => self.bytes.len(),
+        };
+        (self.count, bytes)
+    }
+
+    /// A column of a flat type, without values, with room for so many items, and for so many bytes of theirs.
+    pub fn with_room(
+        alloc: Global,
+        kind: DataType,
+        items: usize,
+        bytes: usize,
+    ) -> Result<Builder, NoMemory>
+        requires kind { KindOk kind }
+        requires flat { HasForm (form_of kind) }
+        ensures { IfOk result (λ builder. Holds builder kind []) }
+    {
+        let shape = shape_of(&kind);
+        let offsets = first_offsets(alloc, shape, items)?;
+        let Ok(bytes) = Vec::with_capacity(alloc, bytes) else {
+            return Err(NoMemory);
+        };
+        Ok(Builder {
+            kind,
+            shape,
+            count: 0,
+            nulls: 0,
+            validity: Vec::new(alloc),
+            offsets,
+            bytes,
+        })
+    }
+}

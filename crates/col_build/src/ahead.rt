@@ -1,0 +1,130 @@
+//! What is made ahead of further items: bytes behind those of numbers and of narrow offsets, which nothing reads. An item
+//! that finds its place there is stored without a look at the vector's room.
+ghost use Rattle.std.specs.Prelude.{◌≡◌, ◌≤◌, ◌^◌, ◌+◌, ◌*◌, ◌++◌, ◌⊎◌, Bool, true, OnOk, OnErr, length, take, vec_len};
+ghost use Rattle.bit_pack.specs.Packed.{le_bytes, stored};
+ghost use Rattle.fmt_string.specs.FieldText.{in_range};
+ghost use Rattle.col_build.specs.Holding.{ShapeOk, bytes_in, offsets_in};
+
+use crate::shape::Shape;
+use unit_pass::NoMemory;
+
+/// How many bytes are made ahead: so few that they are cleared by vectors, and not by a string instruction.
+pub(crate) const AHEAD: usize = 1024;
+
+/// Cuts what is made ahead of so many items.
+#[inline(always)]
+pub(crate) fn cut_ahead(shape: Shape, count: usize, offsets: &mut Vec<u8>, bytes: &mut Vec<u8>)
+    requires ok { ShapeOk shape }
+    requires few { count ≤ 2 ^ 40 }
+    ensures bytes { bytes.new.items ≡ bytes_in shape count bytes.old.items }
+    ensures offsets { offsets.new.items ≡ offsets_in shape count offsets.old.items }
+{
+    match shape {
+        Shape::Wholes { width, signed: _ } => bytes.truncate(count * width),
+        Shape::Floats { width } => bytes.truncate(count * width),
+        Shape::Between {
+            wide: false,
+            text: _,
+        } => offsets.truncate((count + 1) * 4),
+        _ => {}
+    }
+}
+
+/// Makes zeros behind so many bytes, where the next numbers will stand.
+pub(crate) fn fill_ahead(bytes: &mut Vec<u8>, start: usize, width: usize) -> Result<(), NoMemory>
+    requires start { start ≤ vec_len bytes.old }
+    requires width { width ≤ 16 }
+    ensures kept { take start bytes.new.items ≡ take start bytes.old.items }
+    ensures place { OnOk result (start + width ≤ vec_len bytes.new) }
+{
+    let Ok(()) = bytes.reserve(width) else {
+        return Err(NoMemory);
+    };
+    let room = bytes.capacity();
+    let end = if room - start < AHEAD {
+        room
+    } else {
+        start + AHEAD
+    };
+    match bytes.resize(end, 0) {
+        Ok(()) => Ok(()),
+        Err(_) => Err(NoMemory),
+    }
+}
+
+/// Stores bytes in their place, which is there.
+#[inline(always)]
+fn put_at(bytes: &mut Vec<u8>, at: usize, more: &[u8])
+    requires { at + length more.now ≤ vec_len bytes.old }
+    ensures put { take (at + length more.now) bytes.new.items ≡ take at bytes.old.items ++ more.now }
+    ensures len { vec_len bytes.new ≡ vec_len bytes.old }
+{
+    bytes[at..at + more.len()].copy_from_slice(more);
+}
+
+/// Stores the lowest four or eight bytes of a number in their place.
+#[inline(always)]
+pub(crate) fn put_number(bytes: &mut Vec<u8>, at: usize, width: usize, number: u64)
+    requires width { (width ≡ 4) ⊎ (width ≡ 8) }
+    requires place { at + width ≤ vec_len bytes.old }
+    ensures put { take (at + width) bytes.new.items ≡ take at bytes.old.items ++ le_bytes width number }
+    ensures len { vec_len bytes.new ≡ vec_len bytes.old }
+{
+    match width {
+        4 => put_at(bytes, at, &((number % 0x1_0000_0000) as u32).to_le_bytes()),
+        _ => put_at(bytes, at, &number.to_le_bytes()),
+    }
+}
+
+/// Stores the sixteen bytes of a number, by its halves.
+#[inline(always)]
+fn put_sixteen(bytes: &mut Vec<u8>, at: usize, number: u128)
+    requires { at + 16 ≤ vec_len bytes.old }
+    ensures { take (at + 16) bytes.new.items ≡ take at bytes.old.items ++ le_bytes 16 number }
+{
+    let low = (number % (1 << 64)) as u64;
+    let high = (number >> 64) as u64;
+    put_number(bytes, at, 8, low);
+    put_number(bytes, at + 8, 8, high);
+}
+
+/// Stores a whole number that is in the range of its width, which is four bytes or more.
+#[inline(always)]
+pub(crate) fn put_whole(bytes: &mut Vec<u8>, at: usize, width: usize, number: i128)
+    requires width { (width ≡ 4) ⊎ (width ≡ 8) ⊎ (width ≡ 16) }
+    requires place { at + width ≤ vec_len bytes.old }
+    requires range { (signed : Bool) × (in_range (8 * width) signed number ≡ true) }
+    ensures { take (at + width) bytes.new.items ≡ take at bytes.old.items ++ le_bytes width (stored width number) }
+{
+    match width {
+        16 => put_sixteen(bytes, at, number.cast_unsigned()),
+        _ => put_number(
+            bytes,
+            at,
+            width,
+            (number.cast_unsigned() % (1 << 64)) as u64,
+        ),
+    }
+}
+
+/// Appends the first bytes of a text, so many of them. A short text is copied by eight bytes and cut.
+#[inline(always)]
+pub(crate) fn append_first(bytes: &mut Vec<u8>, from: &[u8], size: usize) -> Result<(), NoMemory>
+    requires { size ≤ length from.now }
+    ensures added { OnOk result (bytes.new.items ≡ bytes.old.items ++ take size from.now) }
+    ensures kept { OnErr result (bytes.new.items ≡ bytes.old.items) }
+{
+    if size <= 8 && from.len() >= 8 {
+        let start = bytes.len();
+        match bytes.extend_from_slice(&from[..8]) {
+            Ok(()) => {}
+            Err(_) => return Err(NoMemory),
+        }
+        bytes.truncate(start + size);
+        return Ok(());
+    }
+    match bytes.extend_from_slice(&from[..size]) {
+        Ok(()) => Ok(()),
+        Err(_) => Err(NoMemory),
+    }
+}
