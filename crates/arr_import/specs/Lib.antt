@@ -2,7 +2,10 @@ pub mod Lent
 pub mod StoredItems
 pub mod Accesses
 pub mod Window
+pub mod Dictionaries
 pub mod Cols
+pub mod Plain
+pub mod Indexing
 pub mod Shown
 pub mod Imports
 pub mod ImportFaults

@@ -1,8 +1,8 @@
 //! A column: a window over the items of an array, with what it looks up once.
 ghost use Rattle.std.specs.Prelude.{◌≡◌, IsTrue, is_none, is_some, ◌+◌, ◌<◌, ◌≤◌, ◌^◌};
-ghost use Rattle.tree_model.specs.Tree.{IsLive};
+ghost use Rattle.tree_model.specs.Tree.{IsLive, dictionary_of};
 ghost use Rattle.raw_array.specs.Members.{members_of};
-ghost use Rattle.layout_check.specs.Kinds.{NodesOk};
+ghost use Rattle.layout_check.specs.Kinds.{NodesOk, kind_in};
 ghost use Rattle.layout_check.specs.TypedView.{typed_of, kind_of, dict_in};
 ghost use Rattle.layout_check.specs.declared.typed.Typed.{out-Typed};
 ghost use Rattle.arr_import.specs.Accesses.{access_of};
@@ -15,7 +15,7 @@ ghost use Rattle.std.proofs.Props.{props};
 
 use crate::access::{Access, access_of};
 use fmt_string::{Storage, storage_of};
-use layout_check::{Typed, lawful_has_no_fault, lawful_root};
+use layout_check::{Typed, kinds_of_typed, lawful_has_no_fault, lawful_root};
 use raw_array::RawArray;
 
 /// A column: a window over the items of a lawful array, read in place. Its buffers are looked up once.
@@ -123,5 +123,14 @@ impl<'a> Col<'a> {
         lawful_has_no_fault(self.typed, self.array);
         lawful_root(self.typed, self.array);
         self.count as i64
+    }
+
+    /// What the column keeps, said of its window.
+    pub(crate) fn window_is(&self)
+        ensures kind { kind_in (window_of self.now).typed ≡ kind_of self.now.typed.now }
+        ensures storage { storage_is (kind_in (window_of self.now).typed) ≡ self.now.storage }
+        ensures dictionary { dictionary_of (window_of self.now).typed ≡ dict_in (out-Typed self.now.typed.now).dict }
+    {
+        kinds_of_typed(self.typed);
     }
 }

@@ -2,6 +2,7 @@
 ghost use Rattle.std.specs.Prelude.{◌≡◌, true, None, MatchOption, ◌+◌, ◌<◌, ◌≤ℤ◌, pos};
 ghost use Rattle.tree_model.specs.Tree.{dictionary_of};
 ghost use Rattle.raw_array.specs.Members.{members_of};
+ghost use Rattle.fmt_string.specs.declared.storage.Storage.TheVariants as storages;
 ghost use Rattle.layout_check.specs.declared.typed.Typed.{out-Typed};
 ghost use Rattle.layout_check.specs.TypedView.{kind_of, dict_in};
 ghost use Rattle.layout_check.specs.Layout.{is_valid as is_valid_at, natural};
@@ -55,7 +56,7 @@ impl<'a> Col<'a> {
     }
 
     /// The index that stands for an item that isn't null.
-    fn entry(&self, i: u64, dictionary: &Col<'a>) -> u64
+    pub(crate) fn entry(&self, i: u64, dictionary: &Col<'a>) -> u64
         requires inside { i < self.now.count }
         requires valid { is_valid_at (members_of self.now.array.now) (self.now.start + i) ≡ true }
         requires dictionary { IsDictionary (window_of dictionary.now) (dict_in (out-Typed self.now.typed.now).dict) (dictionary_of self.now.array.now) }
@@ -64,14 +65,27 @@ impl<'a> Col<'a> {
         ensures value { item_at (window_of dictionary.now) result ≡ item_at (window_of self.now) i }
     {
         self.index_is_there(i, dictionary);
-        self.item_is_there(i);
         match self.storage {
-            Storage::Wholes { bits, signed } => {
-                let index = whole_at(self.stored, self.place(i), bits / 8, signed);
-                number_of(index, dictionary.count)
-            }
+            Storage::Wholes { bits, signed } => self.entry_in(i, bits, signed, dictionary),
             _ => 0,
         }
+    }
+
+    /// The same, where the indices are stored in so many bits.
+    #[inline(always)]
+    pub(crate) fn entry_in(&self, i: u64, bits: u8, signed: bool, dictionary: &Col<'a>) -> u64
+        requires inside { i < self.now.count }
+        requires valid { is_valid_at (members_of self.now.array.now) (self.now.start + i) ≡ true }
+        requires storage { self.now.storage ≡ storages.Wholes bits signed }
+        requires dictionary { IsDictionary (window_of dictionary.now) (dict_in (out-Typed self.now.typed.now).dict) (dictionary_of self.now.array.now) }
+        ensures index { result ≡ index_at (kind_of self.now.typed.now) (members_of self.now.array.now) (self.now.start + i) }
+        ensures inside { result < dictionary.now.count }
+        ensures value { item_at (window_of dictionary.now) result ≡ item_at (window_of self.now) i }
+    {
+        self.index_is_there(i, dictionary);
+        self.item_is_there(i);
+        let index = whole_at(self.stored, self.place(i), bits / 8, signed);
+        number_of(index, dictionary.count)
     }
 
     /// An item of a column without a dictionary, or a null one.

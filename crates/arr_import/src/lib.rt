@@ -6,22 +6,30 @@
 //!   are lent from the block, a list as the column of its items, or that it is a struct. [`Col::truth`], [`Col::whole`],
 //!   [`Col::bits`] and [`Col::bytes`] show the items of one kind alone, at less cost. [`Col::child`] is a struct's
 //!   child over the struct's window. [`Col::home`] follows an item through its dictionaries.
+//! - [`Col::texts`], [`Col::wholes`], [`Col::truths`] and [`Col::doubles`] settle once how a column is stored, where that is
+//!   in this common way and without a validity bitmap, so that an item costs the read alone. [`Col::indexed`] finds the
+//!   dictionary of indices once.
 //!
 //! Contracts see a column as a window (`specs/Window.antt`): the kinds, the array's tree, and which items of it. What an
-//! item is stands in `layout_check`'s `specs/Values.antt`; what a reference shows, in `specs/Shown.antt`.
+//! item is stands in `layout_check`'s `specs/Values.antt`; what a reference shows, in `specs/Shown.antt`. A column in a
+//! common way is seen as so many items, each by its number (`specs/Plain.antt`).
 //!
 //! Nothing here but [`import`] takes memory, and nothing writes or copies bytes. A column looks its buffers up once, so
-//! that a text costs a bit, two offsets and a slice, whatever the length of the column; a list's items and a dictionary
-//! are columns that are made anew for each item that is read. Left to others: the units of the structures, which
-//! [`Imported::into_raw`] gives back, and whether the root is a table (`layout_check::check_chunk`).
+//! that a text costs a bit, two offsets and a slice, whatever the length of the column; a list's items, and a dictionary
+//! but for [`Indexed`], are columns that are made anew for each item that is read. Left to others: the units of the
+//! structures, which [`Imported::into_raw`] gives back, and whether the root is a table (`layout_check::check_chunk`).
 #![tactic(auto)]
 
 mod access;
 mod col;
 mod home;
 mod imported;
+mod indexed;
 mod item;
 mod one_kind;
+mod plain;
+#[cfg(test)]
+mod plain_tests;
 mod rows;
 mod stored;
 #[cfg(test)]
@@ -36,4 +44,6 @@ mod view_tests;
 
 pub use col::Col;
 pub use imported::{ImportFault, Imported, import};
+pub use indexed::Indexed;
+pub use plain::{Doubles, Texts, Truths, Wholes};
 pub use value_ref::ValueRef;

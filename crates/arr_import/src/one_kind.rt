@@ -92,7 +92,7 @@ impl<'a> Col<'a> {
 
 impl<'a> Col<'a> {
     /// What an item is where no dictionary stands behind it, or where it is null.
-    fn own_item_is(&self, i: u64)
+    pub(crate) fn own_item_is(&self, i: u64)
         requires inside { i < self.now.count }
         requires own { is_valid_at (members_of self.now.array.now) (self.now.start + i) ≡ true → dict_in (out-Typed self.now.typed.now).dict ≡ None }
         ensures { item_at (window_of self.now) i ≡ (if is_valid_at (members_of self.now.array.now) (self.now.start + i)
@@ -116,7 +116,7 @@ impl<'a> Col<'a> {
     {}
 
     /// A dictionary stands behind whole numbers alone.
-    fn has_no_dictionary(&self)
+    pub(crate) fn has_no_dictionary(&self)
         requires { IsOwn self.now.storage }
         ensures { dict_in (out-Typed self.now.typed.now).dict ≡ None }
     {
