@@ -14,7 +14,7 @@ use Rattle.fmt_string.specs.Value.{Value, Null, Truth, Whole, Bits, Bytes, Items
 use Rattle.fmt_string.specs.declared.kind.DataType.{DataType}
 use Rattle.fmt_string.specs.declared.kind.DataType.TheVariants as kinds
 use Rattle.fmt_string.specs.declared.storage.Storage.{Storage}
-use Rattle.col_build.specs.Holding.{Adds, Holds}
+use Rattle.col_build.specs.Holding.{Adds, Holds, Takes as IsTaken}
 use Rattle.col_build.specs.declared.builder.Builder.{Builder}
 use Rattle.layout_check.specs.Values.{each, value_at}
 use Rattle.arr_import.specs.Window.{Window, item_at, items_of}
@@ -121,26 +121,23 @@ few-first : (type : DataType) (w : Window) (i : ℕ) → HasTexts type w → i <
 few-first type w i has small = omega (arith, length-take i (items_of w))
 
 -- the dictionary takes the next text
-pub takes-entry : (type : DataType) (w : Window) (i : ℕ) (builder : Builder) (storage : Storage) → HasTexts type w → i < w.count
-    → Holds builder type (map Bytes (texts_after [] (take i (items_of w)))) → storage ≡ storage_of type
-    → Takes builder storage (item_at w i)
-takes-entry type w i builder storage has small holds stored =
+pub takes-entry : (type : DataType) (w : Window) (i : ℕ) (builder : Builder) → HasTexts type w → i < w.count
+    → Holds builder type (map Bytes (texts_after [] (take i (items_of w))))
+    → IsTaken builder (item_at w i)
+takes-entry type w i builder has small holds =
     let items = items_of w in
     let within : i < length items = omega (arith, count-of w, small) in
     let of = own-value type w i has small in
     let texts = texts_after [] (take i items) in
     let own = ap (λ (v : Value). length (bytes_of v)) (item-of w i Null small) in
-    let long = length-map texts Bytes in
-    record {
-      kind = type;
-      values = map Bytes texts;
-      holds = holds;
-      few = omega (arith, long, fewer [] (take i items), few-first type w i has small, has.few, small);
-      stored = stored;
-      of = of;
-      taken = value-taken type (map Bytes texts) (item_at w i) has.is of
-          (omega (arith, shorter [] (take i items), before-small items i Null within, own, has.items.1));
-    }
+    let long = length-map texts Bytes in (
+      type,
+      map Bytes texts,
+      holds,
+      omega (arith, long, fewer [] (take i items), few-first type w i has small, has.few, small),
+      value-taken type (map Bytes texts) (item_at w i) has.is of
+          (omega (arith, shorter [] (take i items), before-small items i Null within, own, has.items.1)),
+    )
 
 -- the plain column takes the next item
 pub takes-item : (type : DataType) (w : Window) (i : ℕ) (builder : Builder) (storage : Storage) → HasTexts type w → i < w.count
@@ -245,28 +242,24 @@ index-bytes texts (Bits n) = refl
 index-bytes texts (Items xs) = refl
 index-bytes texts (Fields xs) = refl
 
--- the indices take the next one
-pub takes-index : (type : DataType) (w : Window) (i : ℕ) (builder : Builder) (storage : Storage) (index : Value) → HasTexts type w → i < w.count
-    → Holds builder index_type (map (index_by (texts_after [] (take i (items_of w)))) (take i (items_of w))) → storage ≡ storage_of index_type
-    → index ≡ index_by (texts_after [] (take i (items_of w))) (item_at w i)
-    → Takes builder storage index
-takes-index type w i builder storage index has small holds stored is =
+-- the indices take that of the next one
+pub takes-index : (type : DataType) (w : Window) (i : ℕ) (builder : Builder) (v : Value) → HasTexts type w → i < w.count
+    → Holds builder index_type (map (index_by (texts_after [] (take i (items_of w)))) (take i (items_of w))) → v ≡ item_at w i
+    → IsTaken builder (index_by (texts_after [] (take i (items_of w))) v)
+takes-index type w i builder v has small holds is =
     let vs = take i (items_of w) in
     let texts = texts_after [] vs in
     let many = length-map vs (index_by texts) in
     let few : length texts < 2 ^ 31 = omega (arith, fewer [] vs, few-first type w i has small, has.few, small) in
     let of = index-of texts (item_at w i) few in
     let none = ap (length {A = ℕ}) (index-bytes texts (item_at w i)) in
-    subst (Takes builder storage) (sym is)
-    (record {
-      kind = index_type;
-      values = map (index_by texts) vs;
-      holds = holds;
-      few = omega (arith, many, few-first type w i has small, has.few, small);
-      stored = stored;
-      of = of;
-      taken = value-taken index_type (map (index_by texts) vs) (index_by texts (item_at w i)) index-kind of (omega (arith, no-bytes texts vs, none));
-    })
+    subst (λ (x : Value). IsTaken builder (index_by texts x)) (sym is) (
+      index_type,
+      map (index_by texts) vs,
+      holds,
+      omega (arith, many, few-first type w i has small, has.few, small),
+      value-taken index_type (map (index_by texts) vs) (index_by texts (item_at w i)) index-kind of (omega (arith, no-bytes texts vs, none)),
+    )
 
 -- ---- one item more
 

@@ -75,6 +75,11 @@ as-many t column place inside =
     let f = length-replaced place column (cut_children t) (omega (arith, inside, cut-length t)) in
     omega (arith, e, f, cut-length t)
 
+pub placed : (t column : ArrayTree) (place : ℕ) → place < length (children_of t) → child_at (Replaced t place column) place ≡ column
+placed t column place inside =
+    ap (λ (cs : List ArrayTree). get_or cs place Released) (children-are t column place)
+    ∙ replaced-at place column (cut_children t) (omega (arith, inside, cut-length t)) Released
+
 cut-is : (t : ArrayTree) (k : ℕ) (none : ArrayTree) → k < length (children_of t)
     → get_or (cut_children t) k none ≡ Window (child_at t k) (members_of t).offset (members_of t).length
 cut-is t k none small = get_or-map (cut_to (members_of t).offset (members_of t).length) (children_of t) k Released none small

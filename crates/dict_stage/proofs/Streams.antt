@@ -1,5 +1,5 @@
 -- What the works make of the columns, the tables and the answers of the stream below them.
-use Rattle.std.proofs.Common.{arith, ◌≡◌, ◌∙◌, ◌≤◌, ◌<◌, ◌+◌, ◌^◌, ℕ, ℤ, pos, Bool, true, false, List, [], ◌∷◌, length, map, All}
+use Rattle.std.proofs.Common.{arith, ◌≡◌, ◌∙◌, ◌≤◌, ◌<◌, ◌+◌, ◌^◌, ℕ, ℤ, pos, Bool, true, false, List, [], ◌∷◌, length, map, get_or, All}
 use Rattle.std.proofs.Common.{refl, sym, ap, subst, inl, true≢false}
 use Rattle.std.specs.Coded.{Coded-set}
 use Rattle.std.specs.List.{sum_by}
@@ -14,7 +14,7 @@ use Rattle.fmt_string.specs.Value.{Value}
 use Rattle.fmt_string.specs.declared.kind.ColumnType.{ColumnType}
 use Rattle.fmt_string.specs.declared.kind.DataType.{DataType}
 use Rattle.fmt_string.specs.declared.kind.DataType.TheVariants as kinds
-use Rattle.tree_model.specs.Tree.{Depth, Released, IsLive}
+use Rattle.tree_model.specs.Tree.{Depth, Released, IsLive, child_at}
 use Rattle.unit_pass.specs.Tally.{Tally, risen}
 use Rattle.unit_pass.specs.declared.pass.TheConstants.{CHUNK}
 use Rattle.raw_array.specs.Members.{ArrayTree}
@@ -32,7 +32,7 @@ use Rattle.stream_face.specs.Lawful.{DictsHaveBytes, HasBytes, IsChunkOf, IsTabl
 use Rattle.stream_face.specs.Streams.{Stream, Traffic}
 use Rattle.stage_kernels.proofs.CodedColumns.{coded_columns, coded_kind}
 use Rattle.dict_stage.specs.Fits.{DictFits, PlainFits}
-use Rattle.dict_stage.specs.Indices.{recoded_tree}
+use Rattle.dict_stage.specs.Indices.{HasColumn, recoded_tree}
 use Rattle.dict_stage.specs.Recoded.{CanRecodeChunk, HoldsTexts, Recodes, TextsOf, recoded_columns, text_kind}
 use Rattle.dict_stage.proofs.Remade.{lawful-after, new_column, tables-after, texts-are}
 use Rattle.dict_stage.proofs.ReplacedChildren.{length-replaced, replaced-at}
@@ -209,6 +209,16 @@ recode-answers s n columns code before column out place live answers made is =
       wants = λ e. absurd (cc);
       codes = inl refl;
     }
+
+-- ---- the column
+
+pub recode-gives : (s n : Stream) (columns : List Column) (place : ℕ) (kind : Kind) (typed : KindTree) (code : ℤ) (before out : ArrayTree)
+    (live : IsLive before) (answers : Answers s n code before) → child_at out place ≡ recoded_tree kind (column_values place (rows_of typed before))
+    → kind ≡ (column_at columns place).kind → rows_of typed before ≡ (answers.chunk live).0 → HasColumn place columns s.ahead out
+recode-gives s n columns place kind typed code before out live answers column same read =
+    let chunk = answers.chunk live in
+    let first : rows_of typed before ≡ get_or s.ahead 0 [] = read ∙ ap (λ (ahead : List (List Row)). get_or ahead 0 []) (sym chunk.1) in
+    column ∙ (λ i. recoded_tree (same i) (column_values place (first i)))
 
 -- ---- counts
 

@@ -1,15 +1,17 @@
 -- The indices of values into their dictionary, and the array of both ("Arrow Columnar Format", "Dictionary-encoded Layout").
-use Rattle.std.specs.Prelude.{ℕ, pos, Bool, true, false, List, map, None, Some}
+use Rattle.std.specs.Prelude.{◌≡◌, ℕ, pos, Bool, true, false, List, [], map, get_or, None, Some}
 use Rattle.std.specs.List.{position_or_len}
 use Rattle.std.specs.Str.{bytes_eq}
-use Rattle.fmt_string.specs.Table.{Kind, Flat, Dict, Columns}
+use Rattle.fmt_string.specs.Parts.{column_values}
+use Rattle.fmt_string.specs.Table.{Column, Row, Kind, Flat, Dict, Columns}
 use Rattle.fmt_string.specs.Value.{Value, Null, Whole, Bytes}
 use Rattle.fmt_string.specs.declared.kind.DataType.{DataType}
 use Rattle.fmt_string.specs.declared.kind.DataType.TheVariants as kinds
-use Rattle.tree_model.specs.Tree.{Released}
+use Rattle.tree_model.specs.Tree.{Released, child_at}
 use Rattle.raw_array.specs.Members.{ArrayTree}
 use Rattle.arr_export.specs.ArrayTrees.{column_tree}
 use Rattle.stage_model.specs.Dictionary.{Dictionary}
+use Rattle.stage_model.specs.Typing.{column_at}
 
 -- the value is this text
 abbrev pub is_text : List ℕ → Value → Bool
@@ -34,3 +36,8 @@ abbrev pub recoded_tree : Kind → List Value → ArrayTree
 recoded_tree (Flat type) values = column_tree type values None
 recoded_tree (Dict type) values = column_tree index_type (Indices values) (Some (column_tree type (Dictionary values) None))
 recoded_tree (Columns _) values = Released
+
+-- the chunk of the first table has this column made anew of the table's values: with a dictionary it is exactly their own
+abbrev pub HasColumn : ℕ → List Column → List (List Row) → ArrayTree → Type 0
+HasColumn place columns ahead chunk =
+    child_at chunk place ≡ recoded_tree (column_at columns place).kind (column_values place (get_or ahead 0 []))

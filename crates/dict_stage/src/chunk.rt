@@ -4,6 +4,7 @@ ghost use Rattle.fmt_string.specs.ColumnView.{column_of, kind_of};
 ghost use Rattle.fmt_string.specs.Parts.{column_values};
 ghost use Rattle.unit_pass.specs.Tally.{risen};
 ghost use Rattle.unit_pass.specs.declared.pass.TheConstants.{SUPPLY};
+ghost use Rattle.tree_model.specs.Tree.{child_at};
 ghost use Rattle.raw_array.specs.Members.{Cost};
 ghost use Rattle.layout_check.specs.Kinds.{TypedOk};
 ghost use Rattle.layout_check.specs.TypedView.{typed_of};
@@ -70,6 +71,8 @@ pub fn recoded_chunk(
     requires room { pass.old.units + Cost chunk ≤ SUPPLY }
     ensures tree { IfOk result
         (λ made. made ≡ Replaced chunk place (recoded_tree (kind_of kind.now) (column_values place (rows_of (typed_of typed.now) chunk)))) }
+    ensures column { IfOk result
+        (λ made. child_at made place ≡ recoded_tree (kind_of kind.now) (column_values place (rows_of (typed_of typed.now) chunk))) }
     ensures units { MatchResult result
         (λ made. pass.new.units + Cost made ≡ pass.old.units + Cost chunk)
         (λ _. pass.new.units ≡ pass.old.units + Cost chunk) }

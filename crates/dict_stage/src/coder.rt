@@ -1,11 +1,11 @@
 //! A dictionary in the making, and the indices of values into it.
 ghost use Rattle.std.specs.Prelude.{◌≡◌, ℕ, List, [], ◌∷◌, not, IfOk, OnOk};
+ghost use Rattle.fmt_string.specs.Value.{Bytes};
 ghost use Rattle.fmt_string.specs.declared.kind.DataType.{DataType as AType};
-ghost use Rattle.col_build.specs.Holding.{Holds};
+ghost use Rattle.col_build.specs.Holding.{Adds, Holds, HoldsWholes, Takes};
 ghost use Rattle.col_build.specs.Items.{value_of};
 ghost use Rattle.arr_import.specs.Cols.{window_of};
 ghost use Rattle.arr_import.specs.Window.{items_of};
-ghost use Rattle.stage_filter.specs.Moving.{Takes};
 ghost use Rattle.stage_model.specs.Dictionary.{Dictionary, has_bytes};
 ghost use Rattle.dict_stage.specs.Indices.{Indices, index_type};
 ghost use Rattle.dict_stage.specs.Texts.{Codes, HasTexts, IsText, index_by, number_of, texts_after, texts_in, texts_with};
@@ -13,9 +13,8 @@ ghost use Rattle.dict_stage.specs.Texts.{Codes, HasTexts, IsText, index_by, numb
 use crate::item::{count, item_of};
 use arr_import::Col;
 use col_build::{Builder, Item};
-use fmt_string::{DataType, Storage, clone_kind, storage_of};
+use fmt_string::{DataType, clone_kind};
 use indexmap::IndexSet;
-use stage_filter::push;
 use std::alloc::Global;
 use unit_pass::NoMemory;
 
@@ -39,17 +38,28 @@ fn numbered<'a>(texts: &mut IndexSet<&'a [u8]>, text: &'a [u8]) -> Result<(usize
     }
 }
 
-/// The index of an item. A text that is new goes behind those before it.
+/// Adds a text that is new to the dictionary.
+#[inline(never)]
+fn new_entry(entries: &mut Builder, text: &[u8]) -> Result<(), NoMemory>
+    requires { Takes entries.old (Bytes text.now) }
+    ensures { OnOk result (Adds (Bytes text.now) entries.old entries.new) }
+{
+    entries.add_bytes(text)
+}
+
+/// Adds the index of an item. A text that is new goes behind those before it.
 #[inline(always)]
-fn index_of<'a>(
+fn add_index<'a>(
     coder: &mut Coder<'a>,
-    storage: Storage,
+    indices: &mut Builder,
     item: Item<'a>,
-) -> Result<Item<'a>, NoMemory>
+) -> Result<(), NoMemory>
     requires text { IsText (value_of item) }
-    requires takes { Takes coder.old.entries storage (value_of item) }
-    ensures index { IfOk result (λ index. (type : AType) (texts : List (List ℕ)) → Codes coder.old type texts
-        → value_of index ≡ index_by texts (value_of item.entry)) }
+    requires takes { Takes coder.old.entries (value_of item) }
+    requires codes { (type : AType) × (texts : List (List ℕ)) × Codes coder.old type texts × Takes indices.old (index_by texts (value_of item)) }
+    requires width { HoldsWholes 4 indices.old }
+    ensures added { OnOk result ((type : AType) (texts : List (List ℕ)) → Codes coder.old type texts
+        → Adds (index_by texts (value_of item.entry)) indices.old indices.new) }
     ensures coded { OnOk result ((type : AType) (texts : List (List ℕ)) → Codes coder.old type texts
         → Codes coder.new type (texts_after texts (value_of item.entry ∷ []))) }
 {
@@ -57,11 +67,11 @@ fn index_of<'a>(
         Item::Bytes(text) => {
             let (number, new) = numbered(&mut coder.texts, text)?;
             if new {
-                push(&mut coder.entries, storage, Item::Bytes(text))?;
+                new_entry(&mut coder.entries, text)?;
             }
-            Ok(Item::Whole(number as i128))
+            indices.add_whole(4, number as i128)
         }
-        Item::Null => Ok(Item::Null),
+        Item::Null => indices.add_null(),
         _ => unreachable!(),
     }
 }
@@ -73,19 +83,12 @@ pub(crate) struct Builders {
     pub(crate) indices: Builder,
 }
 
-/// How the indices are stored.
-const INDICES: Storage = Storage::Wholes {
-    bits: 32,
-    signed: true,
-};
-
 /// The dictionary of a column's items, and their indices into it.
 pub(crate) fn coded(alloc: Global, kind: &DataType, items: &Col<'_>) -> Result<Builders, NoMemory>
     requires { HasTexts kind.now (window_of items.now) }
     ensures entries { IfOk result (λ coded. Holds coded.entries kind.now (Dictionary (items_of (window_of items.now)))) }
     ensures indices { IfOk result (λ coded. Holds coded.indices index_type (Indices (items_of (window_of items.now)))) }
 {
-    let storage = storage_of(kind);
     let mut coder = Coder {
         texts: IndexSet::new(alloc),
         entries: Builder::new(alloc, clone_kind(alloc, kind)?),
@@ -98,8 +101,7 @@ pub(crate) fn coded(alloc: Global, kind: &DataType, items: &Col<'_>) -> Result<B
         },
     );
     for i in 0..count(items) {
-        let index = index_of(&mut coder, storage, item_of(items, i))?;
-        push(&mut indices, INDICES, index)?;
+        add_index(&mut coder, &mut indices, item_of(items, i))?;
     }
     let Coder { texts: _, entries } = coder;
     Ok(Builders { entries, indices })

@@ -4,6 +4,7 @@ ghost use Rattle.fmt_string.specs.ColumnView.{column_of};
 ghost use Rattle.stage_kernels.specs.Dues.{due_with};
 ghost use Rattle.stage_model.specs.Stages.{chunks_after};
 ghost use Rattle.stage_model.specs.declared.stage.Step.TheVariants as steps;
+ghost use Rattle.dict_stage.specs.Indices.{HasColumn};
 ghost use Rattle.dict_stage.specs.Fits.{PlainFits};
 
 use crate::chunk::{kind_at, recoded_chunk};
@@ -43,6 +44,8 @@ impl Work for PlainWork {
     ghost ahead = { λ w up. chunks_after (steps.Plain w.column) up.ending up.ahead };
 
     ghost due = { λ w up. due_with (steps.Plain w.column) (map column_of w.out) (chunks_after (steps.Plain w.column) up.ending up.ahead) up.due };
+
+    ghost gives = { λ w up chunk. HasColumn w.column (map column_of w.out) up.ahead chunk };
 
     fn schema(&self, alloc: Global, pass: &mut Pass) -> Result<RawSchema, NoMemory> {
         self.out.schema(alloc, pass)

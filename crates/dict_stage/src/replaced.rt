@@ -1,6 +1,6 @@
 //! A chunk with another column in the place of one, by moves.
 ghost use Rattle.std.specs.Prelude.{◌≡◌, ◌≤◌, ◌<◌, ◌+◌, ◌^◌, ◌≤ℤ◌, ◌-◌, ℕ, [], All, pos, length, vec_capacity, IfOk, MatchResult};
-ghost use Rattle.tree_model.specs.Tree.{Depth, children_of, trees};
+ghost use Rattle.tree_model.specs.Tree.{Depth, child_at, children_of, trees};
 ghost use Rattle.raw_array.specs.Members.{ArrayTree, Cost, cost_of_all, members_of};
 ghost use Rattle.unit_pass.specs.Tally.{risen};
 ghost use Rattle.unit_pass.specs.declared.pass.TheConstants.{SUPPLY};
@@ -28,6 +28,7 @@ fn columns_can_be_replaced()
         → All (IsColumn (natural (members_of chunk).length)) (children_of (Replaced chunk place column)) }
     ensures as_many { (place : ℕ) (chunk column : ArrayTree) → HasPlace place chunk
         → length (children_of (Replaced chunk place column)) ≡ length (children_of chunk) }
+    ensures placed { (place : ℕ) (chunk column : ArrayTree) → HasPlace place chunk → child_at (Replaced chunk place column) place ≡ column }
     ensures few_rows { (place : ℕ) (chunk : ArrayTree) → HasPlace place chunk → (members_of chunk).length ≤ℤ pos (2 ^ 40) }
 {
     lawful_structs_have_columns();
@@ -113,6 +114,7 @@ pub(crate) fn replaced(
     requires unit { 1 ≤ pass.old.units }
     requires room { pass.old.units + (Cost chunk + Cost column) ≤ SUPPLY }
     ensures tree { IfOk result (λ made. made ≡ Replaced chunk place column) }
+    ensures column { IfOk result (λ made. child_at made place ≡ column) }
     ensures units { MatchResult result
         (λ made. pass.new.units + Cost made ≡ pass.old.units + (Cost chunk + Cost column))
         (λ _. pass.new.units ≡ pass.old.units + (Cost chunk + Cost column)) }

@@ -2,7 +2,9 @@
 use Rattle.std.specs.Prelude.{List, length, map}
 use Rattle.fmt_string.specs.ColumnView.{column_of}
 use Rattle.fmt_string.specs.Table.{Column, Row}
+use Rattle.raw_array.specs.Members.{ArrayTree}
 use Rattle.dict_stage.specs.Fits.{DictFits, PlainFits}
+use Rattle.dict_stage.specs.Indices.{HasColumn}
 use Rattle.stage_filter.specs.Filters.{FilterFits}
 use Rattle.stage_kernels.specs.Dues.{due_with}
 use Rattle.stage_kernels.specs.Packs.{PackFits}
@@ -13,6 +15,7 @@ use Rattle.stage_model.specs.Stages.{chunks_after}
 use Rattle.stage_model.specs.declared.stage.Step.TheVariants as steps
 use Rattle.stream_face.specs.Streams.{Stream, Traffic}
 use Rattle.total_stage.specs.Works.{TotalsFits, totals_ahead}
+use Rattle.stages.specs.Works.{rows_alone}
 use Rattle.stage_chain.specs.declared.step_work.StepWork.{StepWork}
 use Rattle.stage_chain.specs.declared.step_work.StepWork.TheVariants as works
 
@@ -70,3 +73,9 @@ work_due (works.Plain w) up =
     due_with step (map column_of w.out) (chunks_after step up.ending up.ahead) up.due
 work_due (works.Totals w) up =
     due_with (steps.Totals w.picks.items) (map column_of w.out) (totals_ahead w.picks.items w.given up.ending up.ahead) up.due
+
+-- what a chunk that it gives has besides its rows
+abbrev pub work_gives : StepWork → Stream → ArrayTree → Type 0
+work_gives (works.Dict w) up chunk = HasColumn w.column (map column_of w.out) up.ahead chunk
+work_gives (works.Plain w) up chunk = HasColumn w.column (map column_of w.out) up.ahead chunk
+work_gives w up chunk = rows_alone w up chunk

@@ -7,7 +7,7 @@ ghost use Rattle.stage_kernels.specs.Structs.{column_structs, most_structs};
 ghost use Rattle.stage_model.specs.Stages.{chunks_after};
 ghost use Rattle.stage_model.specs.Typing.{IsStageOver};
 ghost use Rattle.stream_face.specs.Streams.{Stream};
-ghost use Rattle.stage_chain.specs.StepWorks.{work_ahead, work_columns, work_due, work_fits};
+ghost use Rattle.stage_chain.specs.StepWorks.{work_ahead, work_columns, work_due, work_fits, work_gives};
 
 use dict_stage::{DictWork, PlainWork};
 use edge_io::Gate;
@@ -77,6 +77,8 @@ impl Work for StepWork {
     ghost ahead = { work_ahead };
 
     ghost due = { work_due };
+
+    ghost gives = { work_gives };
 
     fn schema(&self, alloc: Global, pass: &mut Pass) -> Result<RawSchema, NoMemory> {
         match self {

@@ -1,14 +1,16 @@
 -- The items of some numbers, one after the other.
-use Rattle.std.proofs.Common.{◌≡◌, ◌∙◌, ◌≤◌, ◌<◌, ◌+◌, ◌^◌, ◌++◌, ℕ, List, [], ◌∷◌, length, map, take, get_or, ap, subst, arith}
+use Rattle.std.proofs.Common.{◌≡◌, ◌≢◌, ◌∙◌, ◌≤◌, ◌<◌, ◌+◌, ◌*◌, ◌^◌, ◌++◌, ℕ, ℤ, Bool, List, [], ◌∷◌, length, map, take, get_or}
+use Rattle.std.proofs.Common.{refl, sym, ap, subst, arith}
 use Rattle.std.proofs.lemmas.List.{get_or-map, length-map, length-take, map_more, take-map}
 use Rattle.fmt_string.specs.ColumnForms.{IsColumnKind}
 use Rattle.fmt_string.specs.FieldText.{IsValueOf}
 use Rattle.fmt_string.specs.Storage.{storage_of}
 use Rattle.fmt_string.specs.Table.{Kind}
-use Rattle.fmt_string.specs.Value.{Value, Null, byte_total, bytes_of}
+use Rattle.fmt_string.specs.Value.{Value, Null, Truth, Whole, byte_total, bytes_of}
 use Rattle.fmt_string.specs.declared.kind.DataType.{DataType}
 use Rattle.fmt_string.specs.declared.storage.Storage.{Storage}
-use Rattle.col_build.specs.Holding.{Holds}
+use Rattle.fmt_string.specs.declared.storage.Storage.TheVariants as stored
+use Rattle.col_build.specs.Holding.{Holds, HoldsWholes, Takes as IsTaken}
 use Rattle.col_build.specs.declared.builder.Builder.{Builder}
 use Rattle.raw_array.specs.Members.{ArrayTree}
 use Rattle.layout_check.specs.ColumnKinds.{type_of_kind}
@@ -16,8 +18,8 @@ use Rattle.layout_check.specs.Kinds.{KindTree}
 use Rattle.layout_check.specs.Values.{value_at}
 use Rattle.arr_import.specs.Window.{Window, item_at, whole}
 use Rattle.stream_face.specs.Lawful.{AreValues}
-use Rattle.stage_filter.specs.Moving.{Takes}
-use Rattle.stage_filter.proofs.ValuesTaken.{before-small, value-taken}
+use Rattle.stage_filter.specs.Moving.{IsStored, Takes}
+use Rattle.stage_filter.proofs.ValuesTaken.{before-small, value-stored, value-taken}
 
 -- an item of all items of an array of the kind
 pub item-of : (kind : Kind) (typed : KindTree) (array : ArrayTree) (w : Window) (j : ℕ) → w ≡ whole typed array → typed ≡ type_of_kind kind
@@ -55,3 +57,35 @@ takes-next kind f kept k builder storage is are few small holds stored =
       of = of;
       taken = value-taken kind (map f (take k kept)) (f (get_or kept k 0)) is of (omega (arith, before-small items k Null within, total, own, are.1));
     }
+
+-- ---- what a builder takes by the adds
+
+pub taken : (builder : Builder) (storage : Storage) (value : Value) → Takes builder storage value → IsTaken builder value
+taken builder storage value takes = (takes.kind, takes.values, takes.holds, takes.few, takes.taken)
+
+-- the column of a type whose values are whole numbers of so many bytes
+pub holds-wholes : (builder : Builder) (kind : DataType) (values : List Value) (width : ℕ) (signed : Bool) → Holds builder kind values
+    → storage_of kind ≡ stored.Wholes (8 * width) signed → HoldsWholes width builder
+holds-wholes builder kind values width signed holds is = λ type vs own. (signed, ap storage_of (sym own.is_kind ∙ holds.is_kind) ∙ is)
+
+-- ---- what isn't a value of its storage is null
+
+is-stored : (builder : Builder) (storage : Storage) (value : Value) → Takes builder storage value → IsStored storage value
+is-stored builder storage value takes = subst (λ (s : Storage). IsStored s value) (sym takes.stored) (value-stored takes.kind value takes.of)
+
+null-or-truth : (v : Value) → IsStored stored.Truths v → ((truth : Bool) → v ≢ Truth truth) → v ≡ Null
+null-or-truth Null is none = refl
+null-or-truth (Truth t) is none = absurd (none t refl)
+null-or-truth _ is none = absurd is
+
+null-or-whole : (bits : ℕ) (signed : Bool) (v : Value) → IsStored (stored.Wholes bits signed) v → ((number : ℤ) → v ≢ Whole number) → v ≡ Null
+null-or-whole bits signed Null is none = refl
+null-or-whole bits signed (Whole n) is none = absurd (none n refl)
+null-or-whole bits signed _ is none = absurd is
+
+pub no-truth : (builder : Builder) (v : Value) → Takes builder stored.Truths v → ((truth : Bool) → v ≢ Truth truth) → v ≡ Null
+no-truth builder v takes none = null-or-truth v (is-stored builder stored.Truths v takes) none
+
+pub no-whole : (builder : Builder) (bits : ℕ) (signed : Bool) (v : Value) → Takes builder (stored.Wholes bits signed) v
+    → ((number : ℤ) → v ≢ Whole number) → v ≡ Null
+no-whole builder bits signed v takes none = null-or-whole bits signed v (is-stored builder (stored.Wholes bits signed) v takes) none

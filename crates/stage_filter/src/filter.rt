@@ -4,6 +4,7 @@ ghost use Rattle.fmt_string.specs.ColumnView.{column_of};
 ghost use Rattle.stage_kernels.specs.Dues.{due_with};
 ghost use Rattle.stage_model.specs.Stages.{chunks_after};
 ghost use Rattle.stage_model.specs.declared.stage.Step.TheVariants as steps;
+ghost use Rattle.stages.specs.Works.{rows_alone};
 ghost use Rattle.stage_filter.specs.Filters.{FilterFits};
 
 use crate::chunk::{Asked, filtered};
@@ -68,6 +69,8 @@ impl Work for FilterWork {
 
     ghost due = { λ w up. due_with (steps.Filter w.column w.test w.constant) (map column_of w.out)
         (chunks_after (steps.Filter w.column w.test w.constant) up.ending up.ahead) up.due };
+
+    ghost gives = { rows_alone };
 
     fn schema(&self, alloc: Global, pass: &mut Pass) -> Result<RawSchema, NoMemory> {
         self.out.schema(alloc, pass)

@@ -1,10 +1,9 @@
 //! The indices of some items of a column with a dictionary.
-ghost use Rattle.std.specs.Prelude.{◌≡◌, ◌==◌, ◌+◌, ◌*◌, ◌^◌, ◌<◌, ◌≤◌, ◌≤ℤ◌, pos, length, IfOk};
+ghost use Rattle.std.specs.Prelude.{◌≡◌, ◌==◌, ◌+◌, ◌*◌, ◌^◌, ◌<◌, ◌≤◌, ◌≤ℤ◌, pos, length, IfOk, OnOk};
 ghost use Rattle.fmt_string.specs.Table.{Dict};
 ghost use Rattle.fmt_string.specs.declared.kind.DataType.{DataType as AType};
 ghost use Rattle.bit_pack.specs.Packed.{bit};
-ghost use Rattle.col_build.specs.Holding.{Holds};
-ghost use Rattle.col_build.specs.Items.{value_of};
+ghost use Rattle.col_build.specs.Holding.{Adds, Holds, HoldsWholes, Takes};
 ghost use Rattle.tree_model.specs.Tree.{IsLive};
 ghost use Rattle.raw_array.specs.Members.{members_of};
 ghost use Rattle.layout_check.specs.Layout.{IsLong, buffer, bytes, first, is_valid_by};
@@ -13,20 +12,13 @@ ghost use Rattle.stage_filter.specs.Kept.{index_in};
 ghost use Rattle.stage_filter.specs.KeptTrees.{index_type, indices_at};
 ghost use Rattle.stage_filter.specs.Moving.{CanMove};
 
-use crate::item::push;
 use bit_pack::{bit_at, int_at};
-use col_build::{Builder, Item};
-use fmt_string::{DataType, Storage};
+use col_build::Builder;
+use fmt_string::DataType;
 use layout_check::lawful_trees;
 use raw_array::RawArray;
 use std::alloc::Global;
 use unit_pass::NoMemory;
-
-/// How the indices are stored.
-const INDICES: Storage = Storage::Wholes {
-    bits: 32,
-    signed: true,
-};
 
 /// A validity bit.
 #[inline(always)]
@@ -49,18 +41,25 @@ fn is_valid(validity: Option<&[u8]>, place: u64) -> bool
     }
 }
 
-/// The index at a place of the buffers, or a null.
+/// Adds the index at a place of the buffers, or a null.
 #[inline(always)]
-fn index_at<'a>(validity: Option<&'a [u8]>, stored: &'a [u8], place: u64) -> Item<'a>
+fn add_index(
+    builder: &mut Builder,
+    validity: Option<&[u8]>,
+    stored: &[u8],
+    place: u64,
+) -> Result<(), NoMemory>
     requires near { place < 2 ^ 41 }
     requires long { IsLong (place + 1) (lent_bytes validity) }
     requires there { (place + 1) * 4 ≤ length stored.now }
-    ensures { value_of result ≡ index_in (lent_bytes validity.entry) stored.now place }
+    requires takes { Takes builder.old (index_in (lent_bytes validity) stored.now place) }
+    requires width { HoldsWholes 4 builder.old }
+    ensures { OnOk result (Adds (index_in (lent_bytes validity.entry) stored.now place) builder.old builder.new) }
 {
     if is_valid(validity, place) {
-        Item::Whole(int_at(stored, place as usize * 4, 4, true))
+        builder.add_whole(4, int_at(stored, place as usize * 4, 4, true))
     } else {
-        Item::Null
+        builder.add_null()
     }
 }
 
@@ -114,11 +113,7 @@ pub(crate) fn moved_indices(
         },
     );
     for i in kept {
-        push(
-            &mut builder,
-            INDICES,
-            index_at(validity, stored, first + u64::from(*i)),
-        )?;
+        add_index(&mut builder, validity, stored, first + u64::from(*i))?;
     }
     Ok(builder)
 }

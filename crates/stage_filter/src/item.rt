@@ -1,7 +1,8 @@
 //! Items that are moved into a column in the making.
-ghost use Rattle.std.specs.Prelude.{◌≡◌, ◌<◌, ◌^◌, true, OnOk};
+ghost use Rattle.std.specs.Prelude.{◌≡◌, ◌<◌, ◌^◌, ◌*◌, Bool, true, OnErr, OnOk};
 ghost use Rattle.fmt_string.specs.declared.storage.Storage.{Storage as AStorage};
-ghost use Rattle.col_build.specs.Holding.{Adds};
+ghost use Rattle.fmt_string.specs.declared.storage.Storage.TheVariants.{Between, Truths, Wholes};
+ghost use Rattle.col_build.specs.Holding.{Adds, Keeps};
 ghost use Rattle.col_build.specs.Items.{value_of};
 ghost use Rattle.arr_import.specs.Cols.{window_of};
 ghost use Rattle.arr_import.specs.Window.{item_at};
@@ -43,11 +44,12 @@ fn item_of<'a>(items: &Col<'a>, storage: Storage, i: u64) -> Item<'a>
 }
 
 /// Adds an item to a column in the making that takes it, of a text without testing it again. `storage` is how the column's values
-/// are stored. An `Err` comes for want of memory alone.
+/// are stored. An `Err` comes for want of memory alone; the column is as before then.
 #[inline(always)]
 pub fn push(builder: &mut Builder, storage: Storage, item: Item<'_>) -> Result<(), NoMemory>
     requires { Takes builder.old storage (value_of item) }
-    ensures { OnOk result (Adds (value_of item.entry) builder.old builder.new) }
+    ensures added { OnOk result (Adds (value_of item.entry) builder.old builder.new) }
+    ensures kept { OnErr result (Keeps builder.old builder.new) }
 {
     let pushed = match (storage, item) {
         (Storage::Between { text: true, .. }, Item::Bytes(text)) => builder.push_text(text),
@@ -60,8 +62,65 @@ pub fn push(builder: &mut Builder, storage: Storage, item: Item<'_>) -> Result<(
     }
 }
 
-/// Adds an item of a column. It is [`push`] of the item, whose text stands here again so that the one loop over a column's items has
-/// no call in it.
+/// Adds bytes of a column, or a null.
+#[inline(always)]
+fn push_bytes(builder: &mut Builder, items: &Col<'_>, i: u64) -> Result<(), NoMemory>
+    requires inside { i < (window_of items.now).count }
+    requires near { i < 2 ^ 40 }
+    requires takes { (wide : Bool) × (text : Bool) × Takes builder.old (Between wide text) (item_at (window_of items.now) i) }
+    ensures { OnOk result (Adds (item_at (window_of items.now) i) builder.old builder.new) }
+{
+    match items.bytes(i as i64) {
+        Some(bytes) => builder.add_bytes(bytes),
+        None => builder.add_null(),
+    }
+}
+
+/// Adds a whole number of a column, of so many bytes, or a null.
+#[inline(always)]
+fn push_whole(builder: &mut Builder, width: usize, items: &Col<'_>, i: u64) -> Result<(), NoMemory>
+    requires inside { i < (window_of items.now).count }
+    requires near { i < 2 ^ 40 }
+    requires takes { (signed : Bool) × Takes builder.old (Wholes (8 * width) signed) (item_at (window_of items.now) i) }
+    ensures { OnOk result (Adds (item_at (window_of items.now) i) builder.old builder.new) }
+{
+    match items.whole(i as i64) {
+        Some(number) => builder.add_whole(width, number),
+        None => builder.add_null(),
+    }
+}
+
+/// Adds a truth value of a column, or a null.
+#[inline(always)]
+fn push_truth(builder: &mut Builder, items: &Col<'_>, i: u64) -> Result<(), NoMemory>
+    requires inside { i < (window_of items.now).count }
+    requires near { i < 2 ^ 40 }
+    requires takes { Takes builder.old Truths (item_at (window_of items.now) i) }
+    ensures { OnOk result (Adds (item_at (window_of items.now) i) builder.old builder.new) }
+{
+    match items.truth(i as i64) {
+        Some(truth) => builder.add_truth(truth),
+        None => builder.add_null(),
+    }
+}
+
+/// Adds an item of a column that is stored in any other way.
+#[inline(never)]
+fn push_rare(
+    builder: &mut Builder,
+    storage: Storage,
+    items: &Col<'_>,
+    i: u64,
+) -> Result<(), NoMemory>
+    requires inside { i < (window_of items.now).count }
+    requires near { i < 2 ^ 40 }
+    requires takes { Takes builder.old storage (item_at (window_of items.now) i) }
+    ensures { OnOk result (Adds (item_at (window_of items.now) i) builder.old builder.new) }
+{
+    push(builder, storage, item_of(items, storage, i))
+}
+
+/// Adds an item of a column, of the common ways to store it where it stands.
 #[inline(always)]
 pub(crate) fn push_item(
     builder: &mut Builder,
@@ -74,14 +133,12 @@ pub(crate) fn push_item(
     requires takes { Takes builder.old storage (item_at (window_of items.now) i) }
     ensures { OnOk result (Adds (item_at (window_of items.now) i) builder.old builder.new) }
 {
-    let item = item_of(items, storage, i);
-    let pushed = match (storage, item) {
-        (Storage::Between { text: true, .. }, Item::Bytes(text)) => builder.push_text(text),
-        _ => builder.push(item),
-    };
-    match pushed {
-        Ok(()) => Ok(()),
-        Err(PushFault::NoMemory) => Err(NoMemory),
-        Err(_) => unreachable!(),
+    match storage {
+        Storage::Between { .. } => push_bytes(builder, items, i),
+        Storage::Wholes { bits: 32, .. } => push_whole(builder, 4, items, i),
+        Storage::Wholes { bits: 64, .. } => push_whole(builder, 8, items, i),
+        Storage::Wholes { bits: 128, .. } => push_whole(builder, 16, items, i),
+        Storage::Truths => push_truth(builder, items, i),
+        _ => push_rare(builder, storage, items, i),
     }
 }

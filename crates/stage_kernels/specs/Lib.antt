@@ -1,7 +1,6 @@
 pub mod Picks
 pub mod Dues
 pub mod Structs
-pub mod Plain
 pub mod Slices
 pub mod Packs
 pub mod Unpacks

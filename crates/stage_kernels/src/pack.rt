@@ -3,6 +3,7 @@ ghost use Rattle.std.specs.Prelude.{◌≡◌, map};
 ghost use Rattle.fmt_string.specs.ColumnView.{column_of};
 ghost use Rattle.stage_model.specs.Stages.{chunks_after};
 ghost use Rattle.stage_model.specs.declared.stage.Step.TheVariants as steps;
+ghost use Rattle.stages.specs.Works.{rows_alone};
 ghost use Rattle.stage_kernels.specs.Dues.{due_with};
 ghost use Rattle.stage_kernels.specs.Packs.{PackFits};
 
@@ -48,6 +49,8 @@ impl Work for PackWork {
 
     ghost due = { λ w up. due_with (steps.Pack w.rest.items w.picks.items) (map column_of w.out)
         (chunks_after (steps.Pack w.rest.items w.picks.items) up.ending up.ahead) up.due };
+
+    ghost gives = { rows_alone };
 
     fn schema(&self, alloc: Global, pass: &mut Pass) -> Result<RawSchema, NoMemory> {
         self.out.schema(alloc, pass)

@@ -10,6 +10,7 @@ ghost use Rattle.layout_check.specs.Walk.{ChunkOk};
 ghost use Rattle.arr_move.specs.TreeActs.{Columns, Distinct};
 ghost use Rattle.stage_model.specs.Stages.{chunks_after};
 ghost use Rattle.stage_model.specs.declared.stage.Step.TheVariants as steps;
+ghost use Rattle.stages.specs.Works.{rows_alone};
 ghost use Rattle.stage_kernels.specs.Picks.{PickFits, picked_columns, picked_rows, with_nodes};
 
 use arr_move::take_columns;
@@ -79,6 +80,8 @@ impl Work for SelectWork {
     ghost ahead = { λ w up. chunks_after (steps.Select w.picks.items) up.ending up.ahead };
 
     ghost due = { λ w up. with_nodes (length up.ahead) up.due };
+
+    ghost gives = { rows_alone };
 
     fn schema(&self, alloc: Global, pass: &mut Pass) -> Result<RawSchema, NoMemory> {
         self.out.schema(alloc, pass)

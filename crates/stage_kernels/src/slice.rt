@@ -10,6 +10,7 @@ ghost use Rattle.layout_check.specs.Values.{tree_items};
 ghost use Rattle.layout_check.specs.Walk.{ChunkOk};
 ghost use Rattle.stage_model.specs.Stages.{chunks_after};
 ghost use Rattle.stage_model.specs.declared.stage.Step.TheVariants as steps;
+ghost use Rattle.stages.specs.Works.{rows_alone};
 ghost use Rattle.stage_kernels.specs.Slices.{SliceFits, kept_part};
 
 use arr_move::slice;
@@ -113,6 +114,8 @@ impl Work for SliceWork {
     ghost ahead = { λ w up. chunks_after (steps.Slice w.skip w.keep) up.ending up.ahead };
 
     ghost due = { λ w up. up.due };
+
+    ghost gives = { rows_alone };
 
     fn schema(&self, alloc: Global, pass: &mut Pass) -> Result<RawSchema, NoMemory> {
         self.out.schema(alloc, pass)

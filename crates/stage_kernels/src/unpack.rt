@@ -3,6 +3,7 @@ ghost use Rattle.std.specs.Prelude.{◌≡◌, map};
 ghost use Rattle.fmt_string.specs.ColumnView.{column_of};
 ghost use Rattle.stage_model.specs.Stages.{chunks_after};
 ghost use Rattle.stage_model.specs.declared.stage.Step.TheVariants as steps;
+ghost use Rattle.stages.specs.Works.{rows_alone};
 ghost use Rattle.stage_kernels.specs.Dues.{due_with};
 ghost use Rattle.stage_kernels.specs.Unpacks.{UnpackFits};
 
@@ -44,6 +45,8 @@ impl Work for UnpackWork {
     ghost ahead = { λ w up. chunks_after (steps.Unpack w.place) up.ending up.ahead };
 
     ghost due = { λ w up. due_with (steps.Unpack w.place) (map column_of w.out) (chunks_after (steps.Unpack w.place) up.ending up.ahead) up.due };
+
+    ghost gives = { rows_alone };
 
     fn schema(&self, alloc: Global, pass: &mut Pass) -> Result<RawSchema, NoMemory> {
         self.out.schema(alloc, pass)

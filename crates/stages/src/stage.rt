@@ -2,8 +2,8 @@
 ghost use Rattle.std.specs.Prelude.{◌≡◌, ◌≢◌, ◌≤◌, ◌+◌, List, None, true, pos, IsTrue, IfOk, OnErr, OnOk, MatchResult};
 ghost use Rattle.std.specs.Thread.{IsSync};
 ghost use Rattle.fmt_string.specs.Table.{Column, Row};
-ghost use Rattle.tree_model.specs.Tree.{Released};
-ghost use Rattle.raw_array.specs.Members.{Cost};
+ghost use Rattle.tree_model.specs.Tree.{IsLive, Released};
+ghost use Rattle.raw_array.specs.Members.{ArrayTree, Cost};
 ghost use Rattle.raw_schema.specs.Members.{Nodes};
 ghost use Rattle.unit_pass.specs.Tally.{risen};
 ghost use Rattle.unit_pass.specs.declared.pass.TheConstants.{CHUNK, ROOM};
@@ -35,6 +35,9 @@ pub trait Work: Drop {
 
     /// The blocks and nodes that its calls still count.
     ghost due: { Self → Stream → Traffic };
+
+    /// What a chunk that it gives has besides its rows, from what the stream below it means.
+    ghost gives: { Self → Stream → ArrayTree → Type 0 };
 
     /// The schema of the columns after it.
     fn schema(&self, alloc: Global, pass: &mut Pass) -> Result<RawSchema, NoMemory>
@@ -76,6 +79,8 @@ pub trait Work: Drop {
             (λ code. Repeats (meaning U.state up.old) (meaning U.state up.new) code pass.old pass.new (T.seen tap.old) (T.seen tap.new)) }
         ensures answers { IsFresh (meaning U.state up.old) → IfOk result
             (λ code. Answers (worked columns ahead self.old (meaning U.state up.old)) (worked columns ahead self.new (meaning U.state up.new)) code out.new) }
+        ensures gives { IsFresh (meaning U.state up.old) → IfOk result
+            (λ code. code ≡ pos 0 → IsLive out.new → gives self.old (meaning U.state up.old) out.new) }
         ensures counts { IsFresh (meaning U.state up.old) → IfOk result
             (λ code. code ≡ pos 0 → Counts (due self.old (meaning U.state up.old)) (due self.new (meaning U.state up.new)) pass.old pass.new out.new) }
         ensures shows { IsFresh (meaning U.state up.old) → MatchResult result

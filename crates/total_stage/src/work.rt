@@ -3,6 +3,7 @@ ghost use Rattle.std.specs.Prelude.{◌≡◌, ◌≤◌, map, false};
 ghost use Rattle.fmt_string.specs.ColumnView.{column_of};
 ghost use Rattle.stage_kernels.specs.Dues.{due_with};
 ghost use Rattle.stage_model.specs.declared.stage.Step.TheVariants as steps;
+ghost use Rattle.stages.specs.Works.{rows_alone};
 ghost use Rattle.total_stage.specs.Works.{TotalsFits, totals_ahead};
 
 use crate::chunk::totals_chunk;
@@ -56,6 +57,8 @@ impl Work for TotalsWork {
     ghost ahead = { λ w up. totals_ahead w.picks.items w.given up.ending up.ahead };
 
     ghost due = { λ w up. due_with (steps.Totals w.picks.items) (map column_of w.out) (totals_ahead w.picks.items w.given up.ending up.ahead) up.due };
+
+    ghost gives = { rows_alone };
 
     fn schema(&self, alloc: Global, pass: &mut Pass) -> Result<RawSchema, NoMemory> {
         self.out.schema(alloc, pass)

@@ -25,7 +25,7 @@ loop-i-preserved c =
     let w = window_of c.args.items.now in
     subst (Holds c.push.new.builder c.args.kind.now)
     (ap (λ (v : Value). take c.loop-i.i (items_of w) ++ v ∷ []) c.item_of.ensures ∙ sym (one-more w c.loop-i.i (omega arith)))
-    (c.in_ok-push.ensures c.args.kind.now _ c.loop-i.invariant)
+    (c.in_ok-push.ensures.added c.args.kind.now _ c.loop-i.invariant)
 
 pub returns : goal.returns
 returns c =

@@ -6,7 +6,7 @@ use Rattle.layout_check.specs.ColumnKinds.{type_of_column, types_of_columns}
 use Rattle.stage_kernels.specs.Unpacks.{ShowsChildren}
 use Rattle.stage_kernels.proofs.StructChildren.{StructLaws, shown}
 use Rattle.dict_stage.specs.Recoded.{HasPlace}
-use Rattle.dict_stage.proofs.ReplacedChildren.{as-many, columns-replaced, few-rows}
+use Rattle.dict_stage.proofs.ReplacedChildren.{as-many, columns-replaced, few-rows, placed}
 use Rattle.dict_stage.proofs.replaced.columns_can_be_replaced.Goals as goal
 
 pub returns : goal.returns
@@ -38,6 +38,7 @@ returns c =
       columns = λ place chunk column has deep own.
           columns-replaced c.windows_are_parts.ensures.items chunk column place (shows place chunk has) deep (within place chunk has) own;
       as_many = λ place chunk column has. as-many chunk column place (within place chunk has);
+      placed = λ place chunk column has. placed chunk column place (within place chunk has);
       few_rows = λ place chunk has.
           few-rows chunk (structs.length (types_of_columns has.columns) chunk has.ok.0) (structs.end (types_of_columns has.columns) chunk has.ok.0);
     }

@@ -1,17 +1,15 @@
-use Rattle.std.proofs.Common.{◌≡◌, ◌∙◌, ◌+◌, ◌++◌, ℕ, [], ◌∷◌, None, refl, sym, ap, subst, take, get_or, arith}
+use Rattle.std.proofs.Common.{◌∙◌, ◌+◌, ◌++◌, ℕ, [], ◌∷◌, None, refl, true, sym, ap, subst, take, get_or, arith}
 use Rattle.std.proofs.lemmas.Int.{ints}
 use Rattle.arr_export.specs.ArrayTrees.{flat_type}
 use Rattle.arr_import.specs.Lent.{lent_bytes}
-use Rattle.col_build.specs.Holding.{Holds}
-use Rattle.col_build.specs.Items.{value_of}
+use Rattle.col_build.specs.Holding.{Holds, Takes}
 use Rattle.fmt_string.specs.Table.{Dict}
 use Rattle.fmt_string.specs.Value.{Value}
 use Rattle.layout_check.specs.ColumnKinds.{type_of_kind}
 use Rattle.layout_check.specs.Values.{value_at}
 use Rattle.stage_filter.specs.KeptTrees.{index_type, indices_at}
-use Rattle.stage_filter.specs.Moving.{Takes}
 use Rattle.stage_filter.proofs.IndexedItems.{has-dictionary, index-kind, index-values, next-place}
-use Rattle.stage_filter.proofs.ItemsMoved.{one-more, takes-next}
+use Rattle.stage_filter.proofs.ItemsMoved.{holds-wholes, one-more, taken, takes-next}
 use Rattle.stage_filter.proofs.indices.moved_indices.Goals as goal
 
 -- ---- the array
@@ -44,8 +42,8 @@ overflow_add-first-in-loop-i c =
     c.validity_of-validity.ensures c.stored_bytes-stored.ensures in
     omega (arith, ints, place.near)
 
-pub index_at-requires-clause-near : goal.index_at-requires-clause-near
-index_at-requires-clause-near c =
+pub add_index-requires-clause-near : goal.add_index-requires-clause-near
+add_index-requires-clause-near c =
     let law = c.lawful_trees.ensures in
     let place =
     next-place law.root law.items c.requires.0 c.args.array.now c.args.start c.args.kept.now c.requires.1 c.loop-i.i-index c.from.result c.first_of.result
@@ -53,8 +51,8 @@ index_at-requires-clause-near c =
     c.validity_of-validity.ensures c.stored_bytes-stored.ensures in
     place.near
 
-pub index_at-requires-clause-long : goal.index_at-requires-clause-long
-index_at-requires-clause-long c =
+pub add_index-requires-clause-long : goal.add_index-requires-clause-long
+add_index-requires-clause-long c =
     let law = c.lawful_trees.ensures in
     let place =
     next-place law.root law.items c.requires.0 c.args.array.now c.args.start c.args.kept.now c.requires.1 c.loop-i.i-index c.from.result c.first_of.result
@@ -62,8 +60,8 @@ index_at-requires-clause-long c =
     c.validity_of-validity.ensures c.stored_bytes-stored.ensures in
     place.long
 
-pub index_at-requires-clause-there : goal.index_at-requires-clause-there
-index_at-requires-clause-there c =
+pub add_index-requires-clause-there : goal.add_index-requires-clause-there
+add_index-requires-clause-there c =
     let law = c.lawful_trees.ensures in
     let place =
     next-place law.root law.items c.requires.0 c.args.array.now c.args.start c.args.kept.now c.requires.1 c.loop-i.i-index c.from.result c.first_of.result
@@ -72,8 +70,8 @@ index_at-requires-clause-there c =
     place.there
 
 -- ---- the builder
-pub push-requires : goal.push-requires
-push-requires c =
+pub add_index-requires-clause-takes : goal.add_index-requires-clause-takes
+add_index-requires-clause-takes c =
     let can = c.requires.1 in
     let array = c.args.array.now in
     let kept = c.args.kept.now in
@@ -84,11 +82,14 @@ push-requires c =
     next-place law.root law.items c.requires.0 array c.args.start kept can k c.from.result c.first_of.result
     (lent_bytes c.validity_of-validity.result) c.stored_bytes-stored.result.now c.loop-i-test.true c.from.ensures c.first_of.ensures
     c.validity_of-validity.ensures c.stored_bytes-stored.ensures in
-    let here : value_of c.index_at.result ≡ f (get_or kept k 0) = c.index_at.ensures ∙ place.is ∙ ap f c.from.ensures in
     let has = has-dictionary law.root law.parts law.items c.requires.0 array can.ok in
-    subst (Takes c.loop-i.builder _) (sym here)
+    subst (Takes c.loop-i.builder) (sym (place.is ∙ ap f c.from.ensures))
+    (taken c.loop-i.builder _ (f (get_or kept k 0))
     (takes-next index_type f kept k c.loop-i.builder _ index-kind (index-values c.requires.0 array c.args.start kept has can.inside) can.few c.loop-i-test.true
-    c.loop-i.invariant refl)
+    c.loop-i.invariant refl))
+
+pub add_index-requires-clause-width : goal.add_index-requires-clause-width
+add_index-requires-clause-width c = holds-wholes c.loop-i.builder index_type _ 4 true c.loop-i.invariant refl
 
 pub loop-i-preserved : goal.loop-i-preserved
 loop-i-preserved c =
@@ -101,8 +102,7 @@ loop-i-preserved c =
     next-place law.root law.items c.requires.0 array c.args.start kept c.requires.1 k c.from.result c.first_of.result
     (lent_bytes c.validity_of-validity.result) c.stored_bytes-stored.result.now c.loop-i-test.true c.from.ensures c.first_of.ensures
     c.validity_of-validity.ensures c.stored_bytes-stored.ensures in
-    let here : value_of c.index_at.result ≡ f (get_or kept k 0) = c.index_at.ensures ∙ place.is ∙ ap f c.from.ensures in
     let before = indices_at array c.args.start (take k kept) in
-    subst (Holds c.push.new.builder index_type)
-    (ap (λ (v : Value). before ++ v ∷ []) here ∙ sym (one-more f kept k c.loop-i-test.true))
-    (c.in_ok-push.ensures index_type before c.loop-i.invariant)
+    subst (Holds c.add_index.new.builder index_type)
+    (ap (λ (v : Value). before ++ v ∷ []) (place.is ∙ ap f c.from.ensures) ∙ sym (one-more f kept k c.loop-i-test.true))
+    (c.in_ok-add_index.ensures index_type before c.loop-i.invariant)

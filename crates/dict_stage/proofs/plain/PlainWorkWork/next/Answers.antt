@@ -4,7 +4,7 @@ use Rattle.fmt_string.specs.ColumnView.{column_of, kind_of}
 use Rattle.fmt_string.specs.Parts.{column_values}
 use Rattle.fmt_string.specs.Table.{Kind}
 use Rattle.fmt_string.specs.declared.kind.ColumnType.{ColumnType}
-use Rattle.tree_model.specs.Tree.{IsLive}
+use Rattle.tree_model.specs.Tree.{IsLive, child_at}
 use Rattle.raw_array.specs.Members.{ArrayTree}
 use Rattle.unit_pass.specs.Tally.{risen}
 use Rattle.layout_check.specs.ColumnKinds.{type_of_columns}
@@ -19,7 +19,7 @@ use Rattle.stream_face.proofs.Joints.{live_unless}
 use Rattle.stage_filter.proofs.Filtered.{fresh}
 use Rattle.dict_stage.specs.Indices.{recoded_tree}
 use Rattle.dict_stage.specs.Recoded.{CanRecodeChunk}
-use Rattle.dict_stage.proofs.Streams.{can, columns-after, kind-is, made-chunk, many, ready, recode-answers, recode-counts, told-plain}
+use Rattle.dict_stage.proofs.Streams.{can, columns-after, kind-is, made-chunk, many, ready, recode-answers, recode-counts, recode-gives, told-plain}
 use Rattle.dict_stage.proofs.plain.PlainWorkWork.next.Goals as goal
 
 pub kind_at-kind-requires : goal.kind_at-kind-requires
@@ -78,6 +78,27 @@ returns-in-Ok-clause-answers g c = λ fresh_is.
     (made-chunk c.recoded_chunks_have_their_rows.ensures false w.column w.out up (answers.chunk live).0 out c.put.new.self (kind_of c.kind_at-kind.result.now)
     (typed_of c.typed.result.now) is after kind types tree)
     tree
+
+pub returns-in-Ok-clause-gives : goal.returns-in-Ok-clause-gives
+returns-in-Ok-clause-gives g c = λ fresh_is _ _.
+    let up = meaning g.U.ArrayStream.state c.args.up.now in
+    let n = meaning g.U.ArrayStream.state c.next-code.new.self in
+    let call = c.next-code.ensures in
+    let w = c.args.self.now in
+    let out = c.next-code.new.out in
+    let live : IsLive out = search (rules, live_unless) in
+    let lawful = c.typed.ensures.lawful (subst IsTrue (sym call.keeps.lawful) c.requires.lawful) in
+    let types : typed_of c.typed.result.now ≡ type_of_columns up.columns = c.typed.ensures.kinds ∙ lawful ∙ ap type_of_columns call.keeps.columns in
+    let answers = call.answers fresh_is in
+    let kind : kind_of c.kind_at-kind.result.now ≡ (column_at (map column_of w.out) w.column).kind =
+    c.kind_at-kind.ensures ∙ ap (λ (cs : List ColumnType). (column_at (map column_of cs) w.column).kind) c.as_slice.ensures in
+    let column : child_at c.put.new.self w.column
+    ≡ recoded_tree (kind_of c.kind_at-kind.result.now) (column_values w.column (rows_of (typed_of c.typed.result.now) out)) =
+    ap (λ (t : ArrayTree). child_at t w.column) c.put.ensures ∙ c.in-Ok.ensures.column
+    ∙ ap (λ (t : ArrayTree). recoded_tree (kind_of c.kind_at-kind.result.now) (column_values w.column (rows_of (typed_of c.typed.result.now) t)))
+    c.move_out.ensures.moved in
+    recode-gives up n (map column_of w.out) w.column (kind_of c.kind_at-kind.result.now) (typed_of c.typed.result.now) c.next-code.result out c.put.new.self live
+    answers column kind (ap (λ t. rows_of t out) types ∙ (answers.chunk live).2.rows_are)
 
 pub returns-in-Ok-clause-counts : goal.returns-in-Ok-clause-counts
 returns-in-Ok-clause-counts g c = λ fresh_is _.
