@@ -12,9 +12,12 @@ use Rattle.csv_read.proofs.Widths.{widths-from}
 abbrev Reads : BatchesLeft → ℕ → RecordsLeft → BodyColumns → RecordsLeft → Type 0
 Reads s batch from made to = HasBatch s.mark (s.read + 1) batch (columns_in s) from made to
 
--- behind a batch
+-- behind a batch, under a mark, which stays
+abbrev pub under : BatchesLeft → List ℕ → ℕ → RecordsLeft → BatchesLeft
+under s mark rows to = record { columns = s.columns; mark = mark; read = s.read + rows; records = to.records }
+
 abbrev pub after : BatchesLeft → ℕ → RecordsLeft → BatchesLeft
-after s rows to = record { columns = s.columns; mark = s.mark; read = s.read + rows; records = to.records }
+after s rows to = under s s.mark rows to
 
 none-dropped : (batch : ℕ) (records : List Record) → records ≡ [] → drop batch records ≡ []
 none-dropped zero records is = is

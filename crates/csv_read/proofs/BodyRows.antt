@@ -7,64 +7,85 @@ use Rattle.std.proofs.lemmas.Bool.Decides.{nat_tests}
 use Rattle.std.proofs.lemmas.List.{drop_all, get_or-map, get_or-set_other, get_or-set_same, get_or_append_left, length-map, map-append}
 use Rattle.std.proofs.lemmas.List.Elements.{All-get_or}
 use Rattle.std.specs.Prelude.{◌==◌, All}
-use Rattle.col_build.specs.Holding.{Holds}
+use Rattle.col_build.specs.Holding.{Holds, HoldsSome}
 use Rattle.col_build.specs.declared.builder.Builder.{Builder}
 use Rattle.fmt_string.specs.declared.kind.DataType.{DataType}
 use Rattle.fmt_string.specs.declared.kind.ColumnType.{ColumnType}
 use Rattle.fmt_string.specs.ColumnView.{column_of}
-use Rattle.fmt_string.specs.FieldText.{form_of, read_field}
+use Rattle.fmt_string.specs.FieldText.{read_field}
 use Rattle.fmt_string.specs.Table.{Column, Columns, Flat, Kind, Row, no_members}
 use Rattle.fmt_string.specs.Value.{Value, Null, bytes_of}
 use Rattle.csv_model.specs.Reading.{Record, field_in, row_of, values_from, values_step, with_value}
 use Rattle.fmt_string.specs.declared.row_fault.RowFault.{RowFault}
 use Rattle.fmt_string.specs.declared.row_fault.RowFault.TheVariants as row
 use Rattle.csv_read.specs.Body.{column_values}
-use Rattle.csv_read.specs.BodyRows.{AddsField, AddsFields, AddsRow, HasField, HasFields, HasRoom, HasRoomFor, HasRows, HoldNone, HoldRows, IsColumnOf}
+use Rattle.csv_read.specs.BodyRows.{AddsField, AddsFields, AddsRow, HasField, HasFields, HasRoom, HasRoomFor, HasRows, HoldRows, IsColumnOf}
+use Rattle.csv_read.specs.ColumnForms.{AreBegun, AreForms, EachOf}
 use Rattle.csv_read.specs.BodyRows.{IsRowFault, RefusesFields, RefusesRow, SpellsNone, with_values}
-use Rattle.field_codec.specs.FieldForms.{IsProper, form_in}
+use Rattle.field_codec.specs.FieldForms.{IsProper}
 use Rattle.field_codec.specs.TextColumns.{IsFlatOf}
 use Rattle.csv_read.specs.declared.body.BodyFault.{BodyFault}
 use Rattle.csv_read.specs.declared.body_columns.BodyColumns.{BodyColumns}
 use Rattle.field_codec.specs.declared.form.FieldForm.{FieldForm}
+use Rattle.field_codec.specs.declared.form.FieldForm.TheVariants.{Truths}
+
+-- a column, where one has to be named
+abbrev no_column : Column
+no_column = record { name = []; kind = Columns no_members }
 
 -- ---- no rows
 
--- one more column
-pub one-column : (forms : List FieldForm) (builders : List Builder) (columns : List ColumnType) (count : ℕ) (form : FieldForm) (builder : Builder)
-    (item : ColumnType) (kind : DataType)
-    → HoldNone forms builders (map column_of columns) count → count < length columns → item ≡ get_or columns count item → (column_of item).kind ≡ Flat kind
-    → form_of kind ≡ Some (form_in form) → IsProper form
-    → Holds builder kind [] → HoldNone (forms ++ form ∷ []) (builders ++ builder ∷ []) (map column_of columns) (count + 1)
-one-column forms builders columns count form builder item kind before within is flat in_form proper holds = record {
-  forms_count = omega (arith, before.forms_count, length-append forms (form ∷ []));
-  builders_count = omega (arith, before.builders_count, length-append builders (builder ∷ []));
-  each = λ j f b c below.
+-- one column more
+pub one-more : {X : Type 0} (IsOf : X → Column → Type 0) (xs : List X) (columns : List ColumnType) (count : ℕ) (x : X) (item : ColumnType)
+    → EachOf IsOf xs (map column_of columns) count → count < length columns → item ≡ get_or columns count item → IsOf x (column_of item)
+    → EachOf IsOf (xs ++ x ∷ []) (map column_of columns) (count + 1)
+one-more IsOf xs columns count x item before within is own = record {
+  long = omega (arith, before.long, length-append xs (x ∷ []));
+  each = λ j y c below.
       elim (cases_eq j count) [
         | inl here ↦
-            let form_at : get_or (forms ++ form ∷ []) j f ≡ form =
-            subst (λ (n : ℕ). get_or (forms ++ form ∷ []) n f ≡ form) (before.forms_count ∙ sym here) (get_or-append_seam forms form [] f) in
-            let builder_at : get_or (builders ++ builder ∷ []) j b ≡ builder =
-            subst (λ (n : ℕ). get_or (builders ++ builder ∷ []) n b ≡ builder) (before.builders_count ∙ sym here) (get_or-append_seam builders builder [] b) in
+            let x_at : get_or (xs ++ x ∷ []) j y ≡ x =
+            subst (λ (n : ℕ). get_or (xs ++ x ∷ []) n y ≡ x) (before.long ∙ sym here) (get_or-append_seam xs x [] y) in
             let column_at : get_or (map column_of columns) j c ≡ column_of item =
             ap (λ (n : ℕ). get_or (map column_of columns) n c) here ∙ get_or-map column_of columns count item c within ∙ ap column_of (sym is) in
-            rw (form_at, builder_at, column_at) (record { kind = kind; flat = flat; in_form = in_form; proper = proper; holds = holds })
+            rw (x_at, column_at) own
         | inr other ↦
-            let form_at : get_or (forms ++ form ∷ []) j f ≡ get_or forms j f =
-            get_or_append_left forms (form ∷ []) f j (omega (arith, below, other, before.forms_count)) in
-            let builder_at : get_or (builders ++ builder ∷ []) j b ≡ get_or builders j b =
-            get_or_append_left builders (builder ∷ []) b j (omega (arith, below, other, before.builders_count)) in
-            rw (form_at, builder_at) (before.each j f b c (omega (arith, below, other)))
+            let x_at : get_or (xs ++ x ∷ []) j y ≡ get_or xs j y = get_or_append_left xs (x ∷ []) y j (omega (arith, below, other, before.long)) in
+            rw x_at (before.each j y c (omega (arith, below, other)))
       ];
 }
 
 -- all columns
-pub all-columns : (made : BodyColumns) (columns : List ColumnType) → HoldNone made.forms.items made.builders.items (map column_of columns) (length columns)
-    → made.rows ≡ 0 → HasRows made (map column_of columns) []
-all-columns made columns all none = record {
+pub each-of-all : {X : Type 0} (IsOf : X → Column → Type 0) (xs : List X) (columns : List ColumnType) (count : ℕ)
+    → EachOf IsOf xs (map column_of columns) count → count ≡ length columns → EachOf IsOf xs (map column_of columns) (length (map column_of columns))
+each-of-all IsOf xs columns count all end =
+    subst (EachOf IsOf xs (map column_of columns)) (end ∙ sym (length-map columns column_of)) all
+
+-- no column yet
+pub each-of-none : {X : Type 0} (IsOf : X → Column → Type 0) (columns : List Column) → EachOf IsOf [] columns 0
+each-of-none IsOf columns = record { long = refl; each = λ j x c below. absurd (omega arith) }
+
+same-flat : (a b : DataType) → Flat a ≡ Flat b → a ≡ b
+same-flat a b e = cc
+
+-- a form and an empty builder a column are columns without rows
+pub no-rows : (made : BodyColumns) (columns : List Column) → AreForms made.forms.items columns → AreBegun made.builders.items columns → made.rows ≡ 0
+    → HasRows made columns []
+no-rows made columns forms begun none = record {
   held = record {
-    forms_count = omega (arith, all.forms_count, length-map columns column_of);
-    builders_count = omega (arith, all.builders_count, length-map columns column_of);
-    each = λ j f b c within. all.each j f b c (omega (arith, within, length-map columns column_of));
+    forms_count = forms.long;
+    builders_count = begun.long;
+    each = λ j f b c within.
+        let form = forms.each j f c within in
+        let builder = begun.each j b c within in
+        let same : builder.kind ≡ form.kind = same-flat builder.kind form.kind (sym builder.flat ∙ form.flat) in
+        record {
+          kind = form.kind;
+          flat = form.flat;
+          in_form = form.in_form;
+          proper = form.proper;
+          holds = subst (λ (k : DataType). Holds (get_or made.builders.items j b) k []) same builder.holds;
+        };
   };
   height = none;
 }
@@ -77,11 +98,14 @@ column-kind P columns j item all within is =
     subst (IsFlatOf P) (get_or-map column_of columns j item (column_of item) within ∙ ap column_of (sym is))
     (All-get_or (IsFlatOf P) (map column_of columns) j (column_of item) inside all)
 
--- ---- one field
+-- each builder of a column holds some values
+pub all-held : (forms : List FieldForm) (builders : List Builder) (columns : List Column) (rows : List Row) → HoldRows forms builders columns rows
+    → (j : ℕ) (b : Builder) → j < length builders → HoldsSome (get_or builders j b)
+all-held forms builders columns rows held j b within =
+    let column = held.each j Truths b no_column (omega (arith, within, held.builders_count)) in
+    (column.kind, column_values j rows, column.holds)
 
--- a column, where one has to be named
-abbrev no_column : Column
-no_column = record { name = []; kind = Columns no_members }
+-- ---- one field
 
 any-default : {X : Type 0} (xs : List X) (j : ℕ) (d e : X) → j < length xs → get_or xs j d ≡ get_or xs j e
 any-default [] j d e within = absurd (omega arith)

@@ -1,12 +1,7 @@
 -- The value of a field for its column: one that equals the mark is null, and any other is read by the column's form.
-use Rattle.std.proofs.Common.{◌≡◌, ◌∙◌, ℕ, zero, suc, Bool, true, false, List, [], ◌∷◌, length, get_or, drop, Option, None, Some, refl, sym, ap, subst, arith}
-use Rattle.std.specs.Prelude.{◌-◌}
-use Rattle.std.specs.Bool.{MatchBool}
+use Rattle.std.proofs.Common.{◌≡◌, ◌∙◌, ℕ, true, false, List, [], length, Option, None, Some, refl, ap, arith}
 use Rattle.std.specs.Option.{option_and_then}
-use Rattle.std.specs.Str.{IsAscii, bytes_eq, is_utf8}
-use Rattle.std.proofs.lemmas.Str.{IsAscii-drop, IsAscii-take}
-use Rattle.std.proofs.lemmas.Str.Ascii.{IsAscii-nil}
-use Rattle.csv.specs.Records.{Row, cut_from, fields_of}
+use Rattle.std.specs.Str.{bytes_eq, is_utf8}
 use Rattle.col_build.specs.Holding.{Adds}
 use Rattle.col_build.specs.declared.builder.Builder.{Builder}
 use Rattle.fmt_string.specs.FieldText.{Form, Text, form_of, read_field, read_form}
@@ -16,21 +11,6 @@ use Rattle.csv_read.specs.BodyRows.{AddsField, AddsSome, HasRoom, SpellsNone, Ta
 use Rattle.field_codec.specs.FieldForms.{IsProper, form_in}
 use Rattle.field_codec.specs.declared.form.FieldForm.{FieldForm}
 use Rattle.csv_read.proofs.Taken.{field-taken}
-
--- ---- ASCII
-
-cut-ascii : (start : ℕ) (ends bytes : List ℕ) (j : ℕ) → IsAscii bytes → IsAscii (get_or (cut_from start ends bytes) j [])
-unfolding cut_from
-cut-ascii start [] bytes zero h = IsAscii-nil
-cut-ascii start [] bytes (suc j) h = IsAscii-nil
-cut-ascii start (end ∷ ends) bytes zero h = IsAscii-take (drop start bytes) (end - start) (IsAscii-drop bytes start h)
-cut-ascii start (end ∷ ends) bytes (suc j) h = cut-ascii end ends bytes j h
-
--- where all bytes of a record are ASCII, each field's are
-pub field-ascii : (ascii : Bool) (other : Type 0) (r : Row) (all text : List ℕ) (j : ℕ) → MatchBool ascii (IsAscii all) other → all ≡ r.bytes
-    → text ≡ get_or (fields_of r) j [] → ascii ≡ true → IsAscii text
-field-ascii true other r all text j h whole field is = subst IsAscii (sym field) (cut-ascii 0 r.ends r.bytes j (subst IsAscii whole h))
-field-ascii false other r all text j h whole field is = absurd cc
 
 -- ---- a text
 

@@ -9,8 +9,11 @@ pub mod ChunkLaw
 pub mod ChunkCosts
 pub mod HeldRows
 pub mod Taken
+pub mod TextRecords
 pub mod FieldPush
+pub mod StoredForms
 pub mod BodyRows
+pub mod FieldsSoFar
 pub mod Widths
 pub mod Bodies
 pub mod BodyRead

@@ -1,7 +1,7 @@
 -- The columns of a body in the making, and one more row for them, under a mark for null.
 use Rattle.std.specs.Prelude.{◌≡◌, ◌≤◌, ◌<◌, ◌+◌, ◌^◌, ◌++◌, ℕ, List, [], ◌∷◌, length, get_or, take, drop, Option, None, Some, Result, Ok, Err}
-use Rattle.col_build.specs.Encoding.{push_fault}
 use Rattle.col_build.specs.Holding.{Adds, Holds}
+pub use Rattle.col_build.specs.Holding.{Takes}
 use Rattle.col_build.specs.declared.builder.Builder.{Builder}
 use Rattle.fmt_string.specs.declared.kind.DataType.{DataType}
 use Rattle.fmt_string.specs.FieldText.{form_of, read_field}
@@ -19,9 +19,9 @@ use Rattle.field_codec.specs.declared.form.FieldForm.{FieldForm}
 
 -- ---- one field
 
--- the column of this type takes the value
-abbrev pub Takes : Builder → Value → Type 0
-Takes builder value = (kind : DataType) × (values : List Value) × Holds builder kind values × (length values < 2 ^ 40) × (push_fault kind values value ≡ None)
+-- the column is of this form
+abbrev pub IsOfForm : FieldForm → Builder → Type 0
+IsOfForm form builder = (kind : DataType) (values : List Value) → Holds builder kind values → form_of kind ≡ Some (form_in form)
 
 -- the column takes the value if there is one
 abbrev pub TakesSome : Builder → Option Value → Type 0
@@ -70,12 +70,6 @@ pub record HoldRows (forms : List FieldForm) (builders : List Builder) (columns 
   pub builders_count : length builders ≡ length columns
   pub each : (j : ℕ) (f : FieldForm) (b : Builder) (c : Column) → j < length columns
       → IsColumnOf (get_or forms j f) (get_or builders j b) (get_or columns j c) (column_values j rows)
-
--- so many columns have a form and a builder, which holds no values
-pub record HoldNone (forms : List FieldForm) (builders : List Builder) (columns : List Column) (count : ℕ) : Type 0 where
-  pub forms_count : length forms ≡ count
-  pub builders_count : length builders ≡ count
-  pub each : (j : ℕ) (f : FieldForm) (b : Builder) (c : Column) → j < count → IsColumnOf (get_or forms j f) (get_or builders j b) (get_or columns j c) []
 
 -- there is room for the fields of a record
 pub record HasRoomFor (forms : List FieldForm) (builders : List Builder) (fields : Record) : Type 0 where

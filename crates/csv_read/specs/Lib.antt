@@ -1,7 +1,9 @@
 pub mod Body
+pub mod ColumnForms
 pub mod BodyRows
 pub mod Entries
 pub mod RecordReader
 pub mod Chunks
 pub mod BatchesLeft
 pub mod FaultTexts
+pub mod Texts

@@ -10,7 +10,7 @@ use col_build::Builder;
 use fmt_string::ColumnType;
 use std::alloc::Global;
 use std::marker::Model;
-use unit_pass::{Name, NoMemory};
+use unit_pass::NoMemory;
 
 /// The records behind the header of a text, whose rows are read in batches.
 ///
@@ -19,8 +19,8 @@ use unit_pass::{Name, NoMemory};
 pub struct BatchReader<'a> {
     records: Records<'a>,
     columns: Vec<ColumnType>,
-    // The text that stands for a null.
-    mark: Name,
+    // How they are read, under the text that stands for a null.
+    body: BodyColumns,
     // How many records behind the header were read.
     read: u64,
 }
@@ -32,14 +32,16 @@ impl<'a> Model for BatchReader<'a> {
     ghost use Rattle.fmt_string.specs.contracts.kind.ColumnType as kinds;
     ghost use Rattle.field_codec.specs.TextColumns.{AreAllowed, AreProper};
     ghost use Rattle.csv_read.specs.BatchesLeft.{BatchesLeft};
+    ghost use Rattle.csv_read.specs.ColumnForms.{AreForms};
 
     ghost Value = { BatchesLeft };
 
     ghost coded = { Prim.hlevel (codes, kinds.the_row.coded) };
 
-    ghost view = { λ s. record { columns = s.columns.items; mark = s.mark; read = s.read; records = s.records.records } };
+    ghost view = { λ s. record { columns = s.columns.items; mark = s.body.mark; read = s.read; records = s.records.records } };
 
-    ghost invariant = { λ s. AreProper (map column_of s.columns.items) × AreAllowed (map column_of s.columns.items) × (s.read + s.records.size ≤ 2 ^ 30) };
+    ghost invariant = { λ s. AreProper (map column_of s.columns.items) × AreAllowed (map column_of s.columns.items)
+        × AreForms s.body.forms.items (map column_of s.columns.items) × (s.read + s.records.size ≤ 2 ^ 30) };
 }
 
 impl<'a> BatchReader<'a> {
@@ -59,11 +61,11 @@ impl<'a> BatchReader<'a> {
         requires allowed { AreAllowed (map column_of columns.items) }
         ensures left { IfOk result (λ batches. batches ≡ all_left records.entry.records columns.items mark.now) }
     {
-        let mark = Name::from_slice(alloc, mark)?;
+        let body = BodyColumns::empty(alloc, columns.as_slice(), mark)?;
         Ok(BatchReader {
             records,
             columns,
-            mark,
+            body,
             read: 0,
         })
     }
@@ -99,24 +101,20 @@ impl<'a> BatchReader<'a> {
         if self.records.has_ended() {
             return Ok(None);
         }
-        let mut made = match BodyColumns::new(
-            alloc,
-            self.columns.as_slice(),
-            self.mark.as_slice(),
-        ) {
-            Ok(made) => made,
+        match self.body.begin(alloc, self.columns.as_slice()) {
+            Ok(()) => {}
             Err(NoMemory) => {
                 self.records.end();
                 return Err(BodyFault::NoMemory);
             }
-        };
-        match read_rows(&mut self.records, &mut made, batch, self.read) {
+        }
+        match read_rows(&mut self.records, &mut self.body, batch, self.read) {
             Ok(()) => {
-                self.read += made.rows;
-                if made.rows == 0 {
+                self.read += self.body.rows;
+                if self.body.rows == 0 {
                     return Ok(None);
                 }
-                Ok(Some(made.builders))
+                Ok(Some(self.body.take(alloc)))
             }
             Err(fault) => {
                 self.records.end();

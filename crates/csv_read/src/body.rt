@@ -87,12 +87,14 @@ pub(crate) fn read_rows(
     requires few { read ≤ 2 ^ 30 }
     ensures rows { OnOk result (ReadsBatch (read + 1) batch records.old made.old made.new records.new) }
     ensures fault { IfErr result (λ fault. RefusesBatch fault (read + 1) batch records.old.records made.old) }
+    ensures forms { made.new.forms ≡ made.old.forms }
+    ensures mark { made.new.mark ≡ made.old.mark }
 {
     while made.rows < batch {
         if !records.next()? {
             return Ok(());
         }
-        made.push(records.row(), read + made.rows + 1)?;
+        made.push(records.row(), records.are_texts(), read + made.rows + 1)?;
     }
     Ok(())
 }

@@ -20,6 +20,7 @@ mod body_columns;
 mod body_tests;
 mod chunk;
 mod columns;
+mod field_push;
 mod header;
 mod items;
 mod names;

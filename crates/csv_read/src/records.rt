@@ -1,10 +1,12 @@
 //! The records of a text, read one after the other by one reader into one record.
-ghost use Rattle.std.specs.Prelude.{◌≡◌, ◌≢◌, ◌≤◌, ◌∷◌, length, IfOk, OnErr, Ok, true, false, []};
+ghost use Rattle.std.specs.Prelude.{◌≡◌, ◌≢◌, ◌≤◌, ◌∷◌, length, All, IfOk, OnErr, Ok, true, false, []};
 ghost use Rattle.csv.specs.Reading.{error_kind, stops_reader};
 ghost use Rattle.csv.specs.Records.{fields_of};
 ghost use Rattle.csv_model.specs.Reading.{behind_header, records_of};
 ghost use Rattle.csv_read.specs.RecordReader.{IsReading, Takes, field_bytes, records_left, text_left};
+ghost use Rattle.csv_read.specs.Texts.{AreTexts};
 
+use col_build::is_text;
 use csv::{ByteRecord, Error, Reader, ReaderBuilder};
 use csv_model::records_are_read_in_turn;
 use std::alloc::Global;
@@ -23,6 +25,9 @@ pub struct Records<'a> {
     row: ByteRecord,
     // No record is left.
     ended: bool,
+    // The text is UTF-8, and so is each field of its records.
+    texts: bool,
+    ghost all_texts: { texts ≡ true → ended ≡ false → AreTexts (fields_of row) × All AreTexts (records_left reader.value) },
 }
 
 impl<'a> Model for Records<'a> {
@@ -48,6 +53,7 @@ impl<'a> Records<'a> {
             reader,
             row: ByteRecord::new(alloc),
             ended: false,
+            texts: is_text(bytes),
         })
     }
 
@@ -84,6 +90,14 @@ impl<'a> Records<'a> {
         ensures { fields_of result.now ≡ self.now.row }
     {
         &self.row
+    }
+
+    /// Whether all fields of the record that was read last are known to be UTF-8.
+    #[inline(always)]
+    pub(crate) fn are_texts(&self) -> bool
+        ensures { result ≡ true → AreTexts self.now.row }
+    {
+        self.texts && !self.ended
     }
 
     /// Whether no record is left, as far as one can tell without reading.

@@ -1,4 +1,4 @@
-use Rattle.std.proofs.Common.{rules, arith, ◌≡◌, ◌≢◌, ◌<◌, ◌+◌, ◌∷◌, ◌∙◌, Bool, Result, Ok, true, false, ap, subst, sym}
+use Rattle.std.proofs.Common.{rules, arith, ◌≡◌, ◌≢◌, ◌<◌, ◌+◌, ◌∷◌, ◌∙◌, Bool, Result, Ok, true, false, ap, refl, subst, sym}
 use Rattle.csv.specs.Records.{fields_of}
 use Rattle.csv_model.specs.Reading.{Record}
 use Rattle.unit_pass.specs.declared.no_memory.NoMemory.{NoMemory}
@@ -15,7 +15,11 @@ ended true e = λ _. absurd (cc)
 ended false e = λ h. absurd (cc)
 
 pub loop-made-init : goal.loop-made-init
-loop-made-init c = record { so_far = λ columns has. none-read (c.args.read + 1) c.args.batch columns c.args.made.now c.args.records.now has }
+loop-made-init c = record {
+  forms = refl;
+  mark = refl;
+  so_far = λ columns has. none-read (c.args.read + 1) c.args.batch columns c.args.made.now c.args.records.now has;
+}
 
 pub returns-then-not-branch-clause-rows : goal.returns-then-not-branch-clause-rows
 returns-then-not-branch-clause-rows c = λ columns has.
@@ -38,6 +42,8 @@ loop-made-preserved c =
     let next = c.in_ok-next.ensures in
     let below : c.loop-made.made.rows < c.args.batch = search rules in
     record {
+      forms = c.push.ensures.forms ∙ c.loop-made.invariant.forms;
+      mark = c.push.ensures.mark ∙ c.loop-made.invariant.mark;
       so_far = λ columns has.
           one-read c.args.made.now.mark (c.args.read + 1) c.args.batch columns c.args.records.now c.loop-made.records c.next.new.self
           c.loop-made.made c.push.new.self

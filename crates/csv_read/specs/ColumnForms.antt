@@ -1,0 +1,38 @@
+-- The form that the fields of each column are read in, and a builder for each column, which holds nothing yet.
+use Rattle.std.specs.Prelude.{◌≡◌, ◌<◌, ℕ, Bool, true, false, List, [], length, get_or, Some}
+use Rattle.col_build.specs.Holding.{Holds}
+use Rattle.col_build.specs.declared.builder.Builder.{Builder}
+use Rattle.fmt_string.specs.declared.kind.DataType.{DataType}
+use Rattle.fmt_string.specs.FieldText.{form_of}
+use Rattle.fmt_string.specs.Table.{Column, Flat}
+use Rattle.field_codec.specs.FieldForms.{IsProper, form_in}
+use Rattle.field_codec.specs.declared.form.FieldForm.{FieldForm}
+use Rattle.field_codec.specs.declared.form.FieldForm.TheVariants as forms
+
+abbrev pub is_text_form : FieldForm → Bool
+is_text_form forms.Text = true
+is_text_form _ = false
+
+-- so many columns have one of their own each
+pub record EachOf {X : Type 0} (IsOf : X → Column → Type 0) (xs : List X) (columns : List Column) (count : ℕ) : Type 0 where
+  pub long : length xs ≡ count
+  pub each : (j : ℕ) (x : X) (c : Column) → j < count → IsOf (get_or xs j x) (get_or columns j c)
+
+-- the form is that of a column of plain values
+pub record IsFormOf (form : FieldForm) (column : Column) : Type 0 where
+  pub kind : DataType
+  pub flat : column.kind ≡ Flat kind
+  pub in_form : form_of kind ≡ Some (form_in form)
+  pub proper : IsProper form
+
+abbrev pub AreForms : List FieldForm → List Column → Type 0
+AreForms forms columns = EachOf IsFormOf forms columns (length columns)
+
+-- the builder is a column's, and holds no values
+pub record IsBegun (builder : Builder) (column : Column) : Type 0 where
+  pub kind : DataType
+  pub flat : column.kind ≡ Flat kind
+  pub holds : Holds builder kind []
+
+abbrev pub AreBegun : List Builder → List Column → Type 0
+AreBegun builders columns = EachOf IsBegun builders columns (length columns)
