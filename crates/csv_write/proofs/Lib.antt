@@ -1,2 +1,3 @@
 pub mod Lines
 pub mod ChunkTexts
+pub mod Readings

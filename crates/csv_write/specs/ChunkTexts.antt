@@ -1,8 +1,10 @@
 -- The texts of the items of a chunk's columns, under a mark for null.
-use Rattle.std.specs.Prelude.{◌≡◌, ◌<◌, ◌+◌, ◌^◌, ℕ, List, map, length, get_or}
+use Rattle.std.specs.Prelude.{◌≡◌, ◌<◌, ◌+◌, ◌^◌, ℕ, List, map, length, get_or, IfSome}
+use Rattle.fmt_string.specs.FieldText.{Text}
 use Rattle.fmt_string.specs.Value.{Null}
 use Rattle.layout_check.specs.Values.{each, row_items}
 use Rattle.arr_import.specs.Cols.{window_of}
+use Rattle.arr_import.specs.Indexing.{shown_by}
 use Rattle.arr_import.specs.Window.{Window, item_at}
 use Rattle.csv_model.specs.Reading.{Record}
 use Rattle.field_codec.specs.FieldForms.{IsProper, form_in, written_in}
@@ -28,6 +30,10 @@ pub record HasItem (column : ChunkColumn) (i : ℕ) : Type 0 where
 
 abbrev pub HasRow : List ChunkColumn → ℕ → Type 0
 HasRow columns i = (j : ℕ) (d : ChunkColumn) → j < length columns → HasItem (get_or columns j d) i
+
+-- where a column has indices and entries that were found once, it is of texts, and they show its items
+abbrev pub HasEntries : ChunkColumn → Type 0
+HasEntries column = IfSome column.entries (λ indexed. (form_in column.form ≡ Text) × (shown_by indexed ≡ window_of column.items))
 
 -- the column has the items of a struct's child, and is written in this form
 pub record IsChild (column : ChunkColumn) (form : FieldForm) (w : Window) (j : ℕ) : Type 0 where

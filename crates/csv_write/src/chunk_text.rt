@@ -1,18 +1,15 @@
-//! The lines of the rows of a chunk, read in place.
-ghost use Rattle.std.specs.Prelude.{◌≡◌, ◌<◌, ◌≤ℤ◌, ◌<ℤ◌, pos, ◌-◌, ◌^◌, ◌++◌, ◌∷◌, [], ℕ, List, map, length, IfOk, OnOk};
-ghost use Rattle.std.specs.List.{concat};
-ghost use Rattle.csv.specs.Writing.{default_writer, row_text};
+//! The columns of a chunk, and the texts of their items.
+ghost use Rattle.std.specs.Prelude.{◌≡◌, ◌<◌, ◌≤ℤ◌, ◌<ℤ◌, pos, ◌^◌, All, length, IfOk, IfSome};
+ghost use Rattle.fmt_string.specs.FieldText.Form.{Text};
 ghost use Rattle.tree_model.specs.Tree.{children_of};
 ghost use Rattle.arr_import.specs.Cols.{window_of};
 ghost use Rattle.arr_import.specs.Window.{IsStruct, item_at};
+ghost use Rattle.arr_import.specs.Indexing.{shown_by};
 ghost use Rattle.layout_check.specs.Layout.{natural};
-ghost use Rattle.field_codec.specs.FieldForms.{null_text};
-ghost use Rattle.csv_write.specs.ChunkTexts.{AreChildren, HasItem, HasRow, row_at, rows_at, text_in};
-ghost use Rattle.csv_write.specs.Lines.{HasFields, HasLines};
+ghost use Rattle.field_codec.specs.FieldForms.{form_in, null_text, written_in};
+ghost use Rattle.csv_write.specs.ChunkTexts.{AreChildren, HasItem, HasEntries, text_in};
 
-use crate::writer::{end_line, write_text};
-use arr_import::{Col, ValueRef};
-use csv::Writer;
+use arr_import::{Col, Indexed, ValueRef};
 use field_codec::{FieldForm, bits_text, bytes_text, decimal_text, truth_text, whole_text};
 use std::alloc::Global;
 use unit_pass::NoMemory;
@@ -20,8 +17,20 @@ use unit_pass::NoMemory;
 /// A column of a chunk, and how its fields are written.
 #[derive(Clone, Copy)]
 pub(crate) struct ChunkColumn<'a> {
-    form: FieldForm,
-    items: Col<'a>,
+    pub(crate) form: FieldForm,
+    pub(crate) items: Col<'a>,
+    /// Of a column of texts with a dictionary: its indices and entries, found once.
+    pub(crate) entries: Option<Indexed<'a>>,
+}
+
+/// The indices and entries of a column of texts with a dictionary; any other column has none.
+fn text_entries<'a>(form: FieldForm, items: &Col<'a>) -> Option<Indexed<'a>>
+    ensures { IfSome result (λ indexed. (form_in form ≡ Text) × (shown_by indexed ≡ window_of items.now)) }
+{
+    match form {
+        FieldForm::Text => items.indexed(),
+        _ => None,
+    }
 }
 
 /// The columns of a chunk. They are found once for all its rows.
@@ -32,17 +41,35 @@ pub(crate) fn chunk_columns<'a>(
 ) -> Result<Vec<ChunkColumn<'a>>, NoMemory>
     requires kind { IsStruct (window_of chunk.now).typed }
     requires count { length forms.now ≡ length (children_of (window_of chunk.now).typed) }
-    ensures { IfOk result (λ columns. AreChildren columns.items forms.now (window_of chunk.now)) }
+    ensures children { IfOk result (λ columns. AreChildren columns.items forms.now (window_of chunk.now)) }
+    ensures entries { IfOk result (λ columns. All HasEntries columns.items) }
 {
     chunk.rows_are_whole();
     let mut columns = Vec::with_capacity(alloc, forms.len())?;
     for (k, form) in forms.iter().enumerate() {
+        let items = chunk.child(k);
         columns.push(ChunkColumn {
             form: *form,
-            items: chunk.child(k),
+            items,
+            entries: text_entries(*form, &items),
         })?;
     }
     Ok(columns)
+}
+
+/// The number of a chunk's rows.
+pub(crate) fn count_rows(chunk: &Col<'_>) -> u64
+    ensures count { result ≡ (window_of chunk.now).count }
+    ensures small { result < 2 ^ 63 }
+{
+    chunk.len() as u64
+}
+
+/// A column has fewer items than an `i64` can count.
+fn count_is_small(items: &Col<'_>)
+    ensures { (window_of items.now).count < 2 ^ 63 }
+{
+    let _count = items.len();
 }
 
 /// The text of an item that isn't of its column's form: the mark for a null, and nothing for an item of another form. Under the
@@ -62,10 +89,41 @@ fn null_or_nothing<'b>(items: &Col<'_>, i: i64, mark: &'b [u8]) -> &'b [u8]
     }
 }
 
-/// The text of an item, read as its column's form has it. A null is the mark.
+/// The text of an item of a column of texts, some of them null.
 #[inline(always)]
 #[tactic(auto, using(crate::proofs::ChunkTexts::other_texts))]
-fn item_text<'a: 'b, 'b>(
+pub(crate) fn some_text<'a: 'b, 'b>(items: &Col<'a>, i: u64, mark: &'b [u8]) -> &'b [u8]
+    requires inside { i < (window_of items.now).count }
+    requires small { i < 2 ^ 63 }
+    ensures { result.now ≡ written_in mark.now Text (item_at (window_of items.now) i) }
+{
+    let i = i as i64;
+    match items.bytes(i) {
+        Some(text) => text,
+        None => null_or_nothing(items, i, mark),
+    }
+}
+
+/// The text of an item of a column of texts with a dictionary. No index is the mark, and so is an entry that is null.
+#[inline(always)]
+pub(crate) fn entry_text<'a: 'b, 'b>(indexed: &Indexed<'a>, i: u64, mark: &'b [u8]) -> &'b [u8]
+    requires inside { i < (shown_by indexed.now).count }
+    requires small { i < 2 ^ 63 }
+    ensures { result.now ≡ written_in mark.now Text (item_at (shown_by indexed.now) i) }
+{
+    match indexed.index(i as i64) {
+        Some(index) => {
+            count_is_small(indexed.entries());
+            some_text(indexed.entries(), index, mark)
+        }
+        None => mark,
+    }
+}
+
+/// The text of an item, read as its column's form has it. A null is the mark.
+#[inline(never)]
+#[tactic(auto, using(crate::proofs::ChunkTexts::other_texts))]
+fn any_text<'a: 'b, 'b>(
     column: &ChunkColumn<'a>,
     i: u64,
     mark: &'b [u8],
@@ -75,92 +133,45 @@ fn item_text<'a: 'b, 'b>(
     ensures { IfOk result (λ text. text.now ≡ text_in mark.now i column.now) }
 {
     let items = &column.items;
-    let i = i as i64;
+    let at = i as i64;
     match column.form {
-        FieldForm::Text => match items.bytes(i) {
-            Some(text) => Ok(text),
-            None => Ok(null_or_nothing(items, i, mark)),
-        },
-        FieldForm::Wholes { .. } => match items.whole(i) {
+        FieldForm::Text => Ok(some_text(items, i, mark)),
+        FieldForm::Wholes { .. } => match items.whole(at) {
             Some(number) => whole_text(number, room),
-            None => Ok(null_or_nothing(items, i, mark)),
+            None => Ok(null_or_nothing(items, at, mark)),
         },
-        FieldForm::Decimals { places, .. } => match items.whole(i) {
+        FieldForm::Decimals { places, .. } => match items.whole(at) {
             Some(number) => decimal_text(places, number, room),
-            None => Ok(null_or_nothing(items, i, mark)),
+            None => Ok(null_or_nothing(items, at, mark)),
         },
-        FieldForm::Truths => match items.truth(i) {
+        FieldForm::Truths => match items.truth(at) {
             Some(truth) => Ok(truth_text(truth)),
-            None => Ok(null_or_nothing(items, i, mark)),
+            None => Ok(null_or_nothing(items, at, mark)),
         },
-        FieldForm::FloatBits { bits } => match items.bits(i) {
+        FieldForm::FloatBits { bits } => match items.bits(at) {
             Some(number) => bits_text(bits, number, room),
-            None => Ok(null_or_nothing(items, i, mark)),
+            None => Ok(null_or_nothing(items, at, mark)),
         },
-        FieldForm::HexBytes | FieldForm::SizedHex { .. } => match items.bytes(i) {
+        FieldForm::HexBytes | FieldForm::SizedHex { .. } => match items.bytes(at) {
             Some(bytes) => bytes_text(bytes, room),
-            None => Ok(null_or_nothing(items, i, mark)),
+            None => Ok(null_or_nothing(items, at, mark)),
         },
     }
 }
 
-/// Writes the field of an item.
-fn write_item(
-    writer: &mut Writer<Vec<u8>>,
-    column: &ChunkColumn<'_>,
+/// The same as [`any_text`], whose result gets its room here, and so only where it is called.
+#[inline(always)]
+pub(crate) fn rare_text<'a: 'b, 'b>(
+    column: &ChunkColumn<'a>,
     i: u64,
-    mark: &[u8],
-    room: &mut Vec<u8>,
-) -> Result<(), NoMemory>
+    mark: &'b [u8],
+    room: &'b mut Vec<u8>,
+) -> Result<&'b [u8], NoMemory>
     requires { HasItem column.now i }
-    ensures { OnOk result ((text : List ℕ) (fields : List (List ℕ)) → length fields < 2 ^ 64 - 1
-        → HasFields writer.old text fields → HasFields writer.new text (fields ++ text_in mark.now i column.now ∷ [])) }
+    ensures { IfOk result (λ text. text.now ≡ text_in mark.now i column.now) }
 {
-    let text = item_text(column, i, mark, room)?;
-    write_text(writer, text)?;
-    Ok(())
-}
-
-/// Writes one row.
-fn write_row(
-    writer: &mut Writer<Vec<u8>>,
-    columns: &[ChunkColumn<'_>],
-    i: u64,
-    mark: &[u8],
-    room: &mut Vec<u8>,
-) -> Result<(), NoMemory>
-    requires { HasRow columns.now i }
-    ensures { OnOk result ((text : List ℕ) → HasLines writer.old text → HasLines writer.new (text ++ row_text default_writer (row_at mark.now columns.now i))) }
-{
-    for column in columns {
-        write_item(writer, column, i, mark, room)?;
+    match any_text(column, i, mark, room) {
+        Ok(text) => Ok(text),
+        Err(NoMemory) => Err(NoMemory),
     }
-    end_line(writer)?;
-    Ok(())
-}
-
-/// The number of a chunk's rows.
-pub(crate) fn count_rows(chunk: &Col<'_>) -> u64
-    ensures count { result ≡ (window_of chunk.now).count }
-    ensures small { result < 2 ^ 63 }
-{
-    chunk.len() as u64
-}
-
-/// Writes the first rows of columns.
-pub(crate) fn write_rows(
-    writer: &mut Writer<Vec<u8>>,
-    columns: &[ChunkColumn<'_>],
-    rows: u64,
-    mark: &[u8],
-    room: &mut Vec<u8>,
-) -> Result<(), NoMemory>
-    requires { (i : ℕ) → i < rows → HasRow columns.now i }
-    ensures { OnOk result ((text : List ℕ) → HasLines writer.old text
-        → HasLines writer.new (text ++ concat (map (row_text default_writer) (rows_at mark.now columns.now rows)))) }
-{
-    for i in 0..rows {
-        write_row(writer, columns, i, mark, room)?;
-    }
-    Ok(())
 }

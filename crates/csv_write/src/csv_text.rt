@@ -1,8 +1,9 @@
 //! The text of a table in the making: its header, and the rows of chunks, read in place.
 //!
 //! A field is written from the item of its column, which is read as the form of the column has it ([`Col::whole`] and its
-//! like). The form is found once for a table, and a chunk's columns once for a chunk. A row or a field takes no memory but
-//! that of the text. Whether a chunk is lawful is for `layout_check` to find before. A row is written of each item of the
+//! like). The form is found once for a table, and a chunk's columns once for a chunk, with how their items are read: those of
+//! a common kind without nulls by their place alone ([`Col::texts`] and its like). A row or a field takes no memory but that
+//! of the text. Whether a chunk is lawful is for `layout_check` to find before. A row is written of each item of the
 //! chunk's window, whether or not the struct's item is null.
 ghost use Rattle.std.specs.Prelude.{◌≡◌, ◌++◌, ℕ, List, map, IfOk, OnOk};
 ghost use Rattle.fmt_string.specs.ColumnView.{column_of};
@@ -13,8 +14,10 @@ ghost use Rattle.arr_import.specs.Cols.{window_of};
 ghost use Rattle.csv_write.specs.CsvTexts.{HasText, rows_in};
 ghost use Rattle.field_codec.specs.TextColumns.{HaveTexts};
 
-use crate::chunk_text::{chunk_columns, count_rows, write_rows};
+use crate::chunk_text::{chunk_columns, count_rows};
 use crate::column_form::{column_forms, write_names};
+use crate::reading::readings;
+use crate::rows::write_rows;
 use crate::writer::{finish_lines, new_writer};
 use arr_import::Col;
 use csv::Writer;
@@ -66,10 +69,11 @@ impl CsvText {
             → HasText self.new mark columns (written ++ rows_text mark columns (rows_in (window_of chunk.entry)))) }
     {
         let columns = chunk_columns(alloc, &self.forms, &chunk)?;
+        let readings = readings(alloc, &columns)?;
         let rows = count_rows(&chunk);
         write_rows(
             &mut *self.writer,
-            &columns,
+            &readings,
             rows,
             self.mark.as_slice(),
             &mut self.room,

@@ -194,19 +194,20 @@ fn typed_columns(rt: &impl Abort, alloc: Global, columns: &[ColumnType], pass: &
     typed
 }
 
-/// The text of chunks.
+/// The text of chunks under a mark for null.
 fn written(
     rt: &impl Abort,
     alloc: Global,
     columns: &[ColumnType],
     typed: &Typed,
     chunks: &[RawArray],
+    mark: &[u8],
 ) -> Vec<u8>
     requires texts { HaveTexts (map column_of columns.now) }
     requires typed { typed_of typed.now ≡ type_of_columns (map column_of columns.now) }
     requires ok { TypedOk (typed_of typed.now) }
 {
-    let mut text = match CsvText::new(alloc, columns, b"") {
+    let mut text = match CsvText::new(alloc, columns, mark) {
         Ok(text) => text,
         Err(_no_memory) => panic!(rt; "no memory"),
     };
@@ -223,13 +224,14 @@ fn written(
     }
 }
 
-/// The chunks of columns have this text.
+/// The chunks of columns have this text under the empty mark, and that text under the mark `NULL`.
 fn shows(
     rt: &impl Abort,
     alloc: Global,
     columns: &[ColumnType],
     chunks: Vec<RawArray>,
     want: &[u8],
+    marked: &[u8],
     pass: &mut Pass,
 )
     requires small { Nodes (SchemaOf (map column_of columns.now)) ≤ CHUNK }
@@ -239,8 +241,10 @@ fn shows(
     requires texts { HaveTexts (map column_of columns.now) }
 {
     let typed = typed_columns(rt, alloc, columns, pass);
-    let text = written(rt, alloc, columns, &typed, &chunks);
+    let text = written(rt, alloc, columns, &typed, &chunks, b"");
     assert_eq!(rt; text.as_slice(), want);
+    let text = written(rt, alloc, columns, &typed, &chunks, b"NULL");
+    assert_eq!(rt; text.as_slice(), marked);
     all_ended(rt, chunks, pass);
 }
 
@@ -303,7 +307,10 @@ fn rows_of_chunks_are_written_behind_the_header(rt: HostRuntime) {
     listed(&rt, &mut chunks, third);
     let want =
         b"l,C,g,d\n1,0,3ff8000000000000,-0.05\n,255,,123.45\n-9223372036854775808,,8000000000000000,0.00\n-9223372036854775808,,8000000000000000,0.00\n";
-    shows(&rt, alloc, &columns, chunks, want, &mut pass);
+    let marked =
+        b"l,C,g,d\n1,0,3ff8000000000000,-0.05\nNULL,255,NULL,123.45\n-9223372036854775808,NULL,8000000000000000,0.00\n\
+        -9223372036854775808,NULL,8000000000000000,0.00\n";
+    shows(&rt, alloc, &columns, chunks, want, marked, &mut pass);
     assert_eq!(rt; pass.units(), SUPPLY);
     desk.close(pass);
 }
@@ -355,7 +362,9 @@ fn texts_are_quoted_and_bytes_are_written_by_their_digits(rt: HostRuntime) {
     listed(&rt, &mut chunks, first);
     let want =
         b"u,\"z,\",w,b\n,0ff0,01ab,true\n\"a\"\"b,\",,,false\n\"x\nyz\",,ff00,\n,00,0010,true\n";
-    shows(&rt, alloc, &columns, chunks, want, &mut pass);
+    let marked =
+        b"u,\"z,\",w,b\n,0ff0,01ab,true\n\"a\"\"b,\",,NULL,false\n\"x\nyz\",,ff00,NULL\nNULL,00,0010,true\n";
+    shows(&rt, alloc, &columns, chunks, want, marked, &mut pass);
     assert_eq!(rt; pass.units(), SUPPLY);
     desk.close(pass);
 }
@@ -399,7 +408,8 @@ fn dictionary_is_written_by_its_values(rt: HostRuntime) {
     let first = chunk(&rt, alloc, (3, 0), indexed, &mut pass);
     listed(&rt, &mut chunks, first);
     let want = b"t\n\"\"\nhi\n\"\"\n";
-    shows(&rt, alloc, &columns, chunks, want, &mut pass);
+    let marked = b"t\nNULL\nhi\nNULL\n";
+    shows(&rt, alloc, &columns, chunks, want, marked, &mut pass);
     assert_eq!(rt; pass.units(), SUPPLY);
     desk.close(pass);
 }
@@ -437,7 +447,125 @@ fn dates_and_times_are_written_as_numbers(rt: HostRuntime) {
     let first = chunk(&rt, alloc, (1, 0), all, &mut pass);
     listed(&rt, &mut chunks, first);
     let want = b"day,milli,s,us\n-1,86400000,86399,86399999999\n";
-    shows(&rt, alloc, &columns, chunks, want, &mut pass);
+    shows(&rt, alloc, &columns, chunks, want, want, &mut pass);
+    assert_eq!(rt; pass.units(), SUPPLY);
+    desk.close(pass);
+}
+
+/// Three items of each kind that is common.
+const INTS: &[u8] = b"\x07\0\0\0\xff\xff\xff\xff\0\0\0\x80";
+
+const LONGS: &[u8] = b"\x01\0\0\0\0\0\0\0\0\0\0\0\0\0\0\x80\0\xf2\x05\x2a\x01\0\0\0";
+
+const DECIMALS: &[u8] =
+    b"\xfb\xff\xff\xff\xff\xff\xff\xff\xff\xff\xff\xff\xff\xff\xff\xff\x39\x30\0\0\0\0\0\0\0\0\0\0\0\0\0\0\0\0\0\0\0\0\0\0\0\0\0\0\0\0\0\0";
+
+const TRUTHS: &[u8] = b"\x05";
+
+const DOUBLES: &[u8] = b"\0\0\0\0\0\0\xf8\x3f\0\0\0\0\0\0\0\0\0\0\0\0\0\0\0\x80";
+
+const TEXT_OFFSETS: &[u8] = b"\0\0\0\0\x02\0\0\0\x02\0\0\0\x05\0\0\0";
+
+const BYTE_OFFSETS: &[u8] = b"\0\0\0\0\x02\0\0\0\x03\0\0\0\x03\0\0\0";
+
+static WITHOUT_NULLS: [&[Option<&[u8]>]; 7] = [
+    &[None, Some(INTS)],
+    &[None, Some(LONGS)],
+    &[None, Some(DECIMALS)],
+    &[None, Some(TRUTHS)],
+    &[None, Some(DOUBLES)],
+    &[None, Some(TEXT_OFFSETS), Some(b"a,xyz")],
+    &[None, Some(BYTE_OFFSETS), Some(b"\x0f\xf0\0")],
+];
+
+/// The second item of each is null.
+static WITH_NULLS: [&[Option<&[u8]>]; 7] = [
+    &[Some(b"\x05"), Some(INTS)],
+    &[Some(b"\x05"), Some(LONGS)],
+    &[Some(b"\x05"), Some(DECIMALS)],
+    &[Some(b"\x05"), Some(TRUTHS)],
+    &[Some(b"\x05"), Some(DOUBLES)],
+    &[Some(b"\x05"), Some(TEXT_OFFSETS), Some(b"a,xyz")],
+    &[Some(b"\x05"), Some(BYTE_OFFSETS), Some(b"\x0f\xf0\0")],
+];
+
+#[test]
+fn common_kinds_are_written_with_nulls_and_without(rt: HostRuntime) {
+    let alloc = rt.alloc();
+    let columns = [
+        column(
+            &rt,
+            alloc,
+            b"i",
+            ColKind::Flat(DataType::Int {
+                bits: 32,
+                signed: true,
+            }),
+        ),
+        column(
+            &rt,
+            alloc,
+            b"l",
+            ColKind::Flat(DataType::Int {
+                bits: 64,
+                signed: true,
+            }),
+        ),
+        column(
+            &rt,
+            alloc,
+            b"d",
+            ColKind::Flat(DataType::Decimal {
+                precision: 9,
+                scale: 2,
+                wide: false,
+            }),
+        ),
+        column(&rt, alloc, b"b", ColKind::Flat(DataType::Bool)),
+        column(
+            &rt,
+            alloc,
+            b"g",
+            ColKind::Flat(DataType::Float { bits: 64 }),
+        ),
+        column(
+            &rt,
+            alloc,
+            b"u",
+            ColKind::Flat(DataType::Utf8 { wide: false }),
+        ),
+        column(
+            &rt,
+            alloc,
+            b"z",
+            ColKind::Flat(DataType::Binary { wide: false }),
+        ),
+    ];
+    let (desk, mut pass) = open_desk();
+    let mut chunks = Vec::new(alloc);
+    let all = columns_of(&rt, alloc, (3, 0), &WITHOUT_NULLS, &mut pass);
+    let first = chunk(&rt, alloc, (3, 0), all, &mut pass);
+    listed(&rt, &mut chunks, first);
+    let part = columns_of(&rt, alloc, (2, 1), &WITHOUT_NULLS, &mut pass);
+    let second = chunk(&rt, alloc, (1, 1), part, &mut pass);
+    listed(&rt, &mut chunks, second);
+    let all = columns_of(&rt, alloc, (3, 0), &WITH_NULLS, &mut pass);
+    let third = chunk(&rt, alloc, (3, 0), all, &mut pass);
+    listed(&rt, &mut chunks, third);
+    let part = columns_of(&rt, alloc, (2, 1), &WITH_NULLS, &mut pass);
+    let fourth = chunk(&rt, alloc, (2, 0), part, &mut pass);
+    listed(&rt, &mut chunks, fourth);
+    let want =
+        b"i,l,d,b,g,u,z\n7,1,-0.05,true,3ff8000000000000,\"a,\",0ff0\n-1,-9223372036854775808,123.45,false,0000000000000000,,00\n\
+        -2147483648,5000000000,0.00,true,8000000000000000,xyz,\n-2147483648,5000000000,0.00,true,8000000000000000,xyz,\n\
+        7,1,-0.05,true,3ff8000000000000,\"a,\",0ff0\n,,,,,,\n-2147483648,5000000000,0.00,true,8000000000000000,xyz,\n,,,,,,\n\
+        -2147483648,5000000000,0.00,true,8000000000000000,xyz,\n";
+    let marked =
+        b"i,l,d,b,g,u,z\n7,1,-0.05,true,3ff8000000000000,\"a,\",0ff0\n-1,-9223372036854775808,123.45,false,0000000000000000,,00\n\
+        -2147483648,5000000000,0.00,true,8000000000000000,xyz,\n-2147483648,5000000000,0.00,true,8000000000000000,xyz,\n\
+        7,1,-0.05,true,3ff8000000000000,\"a,\",0ff0\nNULL,NULL,NULL,NULL,NULL,NULL,NULL\n-2147483648,5000000000,0.00,true,8000000000000000,xyz,\n\
+        NULL,NULL,NULL,NULL,NULL,NULL,NULL\n-2147483648,5000000000,0.00,true,8000000000000000,xyz,\n";
+    shows(&rt, alloc, &columns, chunks, want, marked, &mut pass);
     assert_eq!(rt; pass.units(), SUPPLY);
     desk.close(pass);
 }

@@ -10,6 +10,8 @@ mod column_form;
 mod csv_text;
 #[cfg(test)]
 mod csv_text_tests;
+mod reading;
+mod rows;
 mod writer;
 
 pub use csv_text::CsvText;
