@@ -35,7 +35,19 @@ pub fn read_decimal(precision: u8, places: u32, text: &[u8]) -> Option<i128>
     if text.len() <= 18 && places as usize <= 18 - text.len() {
         return Some(i128::from(short_decimal(precision, places, text)?));
     }
-    long_decimal(precision, places, text)
+    rare_decimal(precision, places, text)
+}
+
+/// The same of a text of any length. What the long way answers gets its place here, and so not for each text.
+#[inline(always)]
+fn rare_decimal(precision: u8, places: u32, text: &[u8]) -> Option<i128>
+    requires { precision ≤ 38 }
+    ensures { option_map Whole result ≡ read_decimal precision places text.now }
+{
+    match long_decimal(precision, places, text) {
+        Some(number) => Some(number),
+        None => None,
+    }
 }
 
 /// The same of a short text.
@@ -114,7 +126,7 @@ fn quick_unscaled(places: usize, text: &[u8]) -> Option<u64>
     with_digits(whole, &text[point + 1..])
 }
 
-/// A number with the digits of a text behind it.
+/// A number with the digits of a text behind it. Two, as of hundredths, go without a loop.
 #[inline(always)]
 fn with_digits(number: u64, text: &[u8]) -> Option<u64>
     requires { (number + 1) * 10 ^ length text.now ≤ 10 ^ 18 }
@@ -123,7 +135,10 @@ fn with_digits(number: u64, text: &[u8]) -> Option<u64>
     ensures small { IfSome result (λ n. n < (number + 1) * 10 ^ length text.now) }
     ensures other { IfNone result (prefix_len is_ascii_digit text.now < length text.now) }
 {
-    with_so_many(number, text.len(), text)
+    match text.len() {
+        2 => with_so_many(number, 2, text),
+        count => with_so_many(number, count, text),
+    }
 }
 
 /// The same of a text that is mostly of few digits: each such count is a constant where its loop stands in line.

@@ -70,17 +70,16 @@ pub fn decimal_text<'a>(
 ) -> Result<&'a [u8], NoMemory>
     ensures { IfOk result (λ text. text.now ≡ decimal_text places number) }
 {
-    let short = match i64::try_from(number) {
-        Ok(short) if places <= 18 => short,
+    let size = match u64::try_from(number) {
+        Ok(size) if places <= 18 => size,
         _ => return rare_decimal_text(places, number, room),
     };
     sized(room, WIDTH)?;
-    let size = short.unsigned_abs();
-    let start = write_decimal(short < 0, size, places as usize, room.as_mut_slice());
+    let start = write_decimal(false, size, places as usize, room.as_mut_slice());
     Ok(&room.as_slice()[start..])
 }
 
-/// The same of any number of places, and of a number of any size.
+/// The same of any number of places, and of a number of any sign and size.
 #[inline(always)]
 fn rare_decimal_text<'a>(
     places: u32,
@@ -89,10 +88,29 @@ fn rare_decimal_text<'a>(
 ) -> Result<&'a [u8], NoMemory>
     ensures { IfOk result (λ text. text.now ≡ decimal_text places number) }
 {
-    match long_decimal_text(places, number, room) {
+    match signed_decimal_text(places, number, room) {
         Ok(text) => Ok(text),
         Err(NoMemory) => Err(NoMemory),
     }
+}
+
+/// The same, out of line: most are negative numbers of 64 bits.
+#[inline(never)]
+fn signed_decimal_text<'a>(
+    places: u32,
+    number: i128,
+    room: &'a mut Vec<u8>,
+) -> Result<&'a [u8], NoMemory>
+    ensures { IfOk result (λ text. text.now ≡ decimal_text places number) }
+{
+    let short = match i64::try_from(number) {
+        Ok(short) if places <= 18 => short,
+        _ => return long_decimal_text(places, number, room),
+    };
+    sized(room, WIDTH)?;
+    let size = short.unsigned_abs();
+    let start = write_decimal(short < 0, size, places as usize, room.as_mut_slice());
+    Ok(&room.as_slice()[start..])
 }
 
 /// Writes a number at the end of a text, with a point before so many of its digits, and says where it starts.
@@ -108,10 +126,10 @@ fn write_decimal(minus: bool, number: u64, places: usize, text: &mut [u8]) -> us
     }
     let start = write_digits(number, text, WIDTH);
     let point = WIDTH - places;
-    if start >= point || start + 8 < point {
+    if start >= point || start + 16 < point {
         return rare_decimal(minus, number, places, text);
     }
-    // Up to eight digits make room for the point; what is moved in front of them is no part of the text.
+    // Up to sixteen digits make room for the point; what is moved in front of them is no part of the text.
     move_ahead(text, point);
     text[point - 1] = b'.';
     if !minus {
@@ -121,7 +139,7 @@ fn write_decimal(minus: bool, number: u64, places: usize, text: &mut [u8]) -> us
     start - 2
 }
 
-/// The same of a number with no digit before the point, or with more than eight there.
+/// The same of a number with no digit before the point, or with more than sixteen there.
 #[inline(never)]
 fn rare_decimal(minus: bool, number: u64, places: usize, text: &mut [u8]) -> usize
     requires few { places ≤ 18 }
@@ -139,16 +157,16 @@ fn rare_decimal(minus: bool, number: u64, places: usize, text: &mut [u8]) -> usi
     write_whole(minus, number / unit, text, point)
 }
 
-/// Moves the eight bytes before a place ahead by one.
+/// Moves the 16 bytes before a place ahead by one.
 #[inline(always)]
 fn move_ahead(text: &mut [u8], end: usize)
-    requires room { 9 ≤ end }
+    requires room { 17 ≤ end }
     requires within { end ≤ length text.old }
-    ensures text { text.new ≡ take (end - 9) text.old ++ take 8 (drop (end - 8) text.old) ++ drop (end - 1) text.old }
+    ensures text { text.new ≡ take (end - 17) text.old ++ take 16 (drop (end - 16) text.old) ++ drop (end - 1) text.old }
 {
-    let mut eight = [0; 8];
-    eight.copy_from_slice(&text[end - 8..end]);
-    text[end - 9..end - 1].copy_from_slice(&eight);
+    let mut bytes = [0; 16];
+    bytes.copy_from_slice(&text[end - 16..end]);
+    text[end - 17..end - 1].copy_from_slice(&bytes);
 }
 
 /// The text of a decimal of any number of places and of any size, out of line.
