@@ -1,19 +1,29 @@
 -- The answers that workers left, collected.
-use Rattle.std.proofs.Common.{◌≡◌, ◌≢◌, ◌∙◌, ap, arith, subst, sym, ℕ, ℤ, ◌+◌, ◌<◌, Ok, Option, Some}
+use Rattle.std.proofs.Common.{◌≡◌, ◌≢◌, ◌∙◌, ap, arith, subst, sym, ℕ, ℤ, ◌+◌, ◌-◌, ◌<◌, ◌≤◌, ◌==◌, Bool, true, false, Ok, Option, Some}
 use Rattle.std.proofs.Common.{All, List, [], ◌∷◌, ◌++◌, length, get_or, set, length-set, length-append, get_or-set_same}
 use Rattle.std.proofs.lemmas.List.{get_or-set_other, get_or_append_left, get_or_default}
 use Rattle.std.proofs.Math.Seq.{get_or-append_seam}
-use Rattle.std.specs.Prelude.{IfSome, IfOk, Result}
+use Rattle.std.proofs.lemmas.Bool.{eq-eqb, ne_eqb}
+use Rattle.std.specs.List.{AllWithin}
+use Rattle.std.specs.Prelude.{if◌then◌else◌, IfSome, IfOk, Result}
 use mathlib.Core.Logic.{dite}
 use native.Mathlib.Decide.{ℕ_discrete}
 use Rattle.unit_pass.specs.declared.NoMemory.{NoMemory}
 use Rattle.fmt_string.specs.Table.{Row}
+use Rattle.tree_model.specs.Tree.{Released}
+use Rattle.raw_array.specs.Members.{Cost}
 use Rattle.layout_check.specs.Kinds.{KindTree}
 use Rattle.layout_check.specs.Values.{rows_of}
 use Rattle.fan_out.specs.declared.piece.Piece.{Piece}
 use Rattle.fan_out.specs.Pieces.{GivesPiece, GivesPieces}
-use Rattle.fan_out.specs.Workers.{IsReady, IsDone, SameTrees, Collected}
+use Rattle.fan_out.specs.Workers.{IsReady, IsUnspent, IsDone, IsReleased, SameTrees, Collected}
 use Rattle.fan_out.proofs.Ready.{an_item}
+
+not_last : (w n : ℕ) → w < n - 1 → (w + 1 == n) ≡ false
+not_last w n h = ne_eqb (w + 1) n (λ e. omega arith)
+
+is_last : (n : ℕ) → 1 ≤ n → (n - 1 + 1 == n) ≡ true
+is_last n some = eq-eqb (n - 1 + 1) n (omega arith)
 
 module _ {O : Type 0} where
   -- an answer is taken out of piece i
@@ -48,6 +58,21 @@ module _ {O : Type 0} where
           (λ (ne : w ≢ n). let less : w < n = omega arith in let inside : w < length outs = let l = c.0 in omega arith in
           c.1 w d e less ∙ ap (λ (o : O). Some (Ok o)) (sym (get_or_append_left outs (out ∷ []) e w inside)))
 
+  -- the answer on piece n is added
+  pub given_more : (P : ℕ → O → Type 0) (n : ℕ) (outs more : List O) (out : O)
+      → (length outs ≡ n) × ((w : ℕ) (e : O) → w < n → P w (get_or outs w e)) → more ≡ outs ++ out ∷ [] → P n out
+      → (length more ≡ n + 1) × ((w : ℕ) (e : O) → w < n + 1 → P w (get_or more w e))
+  given_more P n outs more out before is new =
+      subst (λ (os : List O). (length os ≡ n + 1) × ((w : ℕ) (e : O) → w < n + 1 → P w (get_or os w e))) (sym is)
+      (length-append outs (out ∷ []) ∙ ap (λ (k : ℕ). k + 1) before.0, each)
+    where
+      each : (w : ℕ) (e : O) → w < n + 1 → P w (get_or (outs ++ out ∷ []) w e)
+      each w e h = dite (ℕ_discrete w n)
+          (λ (same : w ≡ n). let at = ap (λ (k : ℕ). get_or (outs ++ out ∷ []) k e) (same ∙ sym before.0) ∙ get_or-append_seam outs out [] e in
+          subst (λ (k : ℕ). P k (get_or (outs ++ out ∷ []) w e)) (sym same) (subst (λ (o : O). P n o) (sym at) new))
+          (λ (ne : w ≢ n). let less : w < n = omega arith in let inside : w < length outs = let l = before.0 in omega arith in
+          subst (λ (o : O). P w o) (sym (get_or_append_left outs (out ∷ []) e w inside)) (before.1 w e less))
+
   answered : (P : O → Type 0) (a : Option (Result O NoMemory)) (out : O) → IfSome a (λ r. IfOk r P) → a ≡ Some (Ok out) → P out
   answered P a out p e = subst (λ (x : Option (Result O NoMemory)). IfSome x (λ (r : Result O NoMemory). IfOk r P)) e p
 
@@ -66,3 +91,38 @@ module _ {O : Type 0} where
             let P : O → Type 0 = GivesPiece (gives rs) (length rs) (length ps) w in
             let told = answered P (get_or qs w d).answer (get_or outs w e) r.answer (c.1 w d e (omega (arith, is))) in
             subst (λ (rs : List Row). GivesPiece (gives rs) (length rs) (length ps) w (get_or outs w e)) (ready w d h).chunk.rows told
+
+    module _ (rs : List (Piece O)) (cost : ℕ) (len : length qs ≡ length ps) (kept : SameTrees qs rs) (unspent : All (λ p. IsUnspent cost p) ps) where
+      -- all but the last have released their shares
+      pub others_done : AllWithin (IsReleased cost) rs 0 (length ps - 1)
+      others_done w d _ h =
+          let inside : w < length ps = omega arith in
+          let before = unspent w d inside in
+          let r = done w d inside in
+          let same = kept.1 w d (omega (arith, len, inside)) in
+          let other = not_last w (length ps) h in
+          record {
+            tree = same.0 ∙ r.tree ∙ ap (λ (b : Bool). if b then (get_or ps w d).tree else Released) other;
+            units = ap (λ p. p.units) same.1 ∙ r.units ∙ ap (λ (b : Bool). if b then 0 else Cost (get_or ps w d).tree) other ∙ before.0;
+            blocks = ap (λ p. p.blocks) same.1 ∙ r.blocks ∙ before.1.1.0;
+            nodes = ap (λ p. p.nodes) same.1 ∙ r.nodes ∙ before.1.1.1;
+          }
+
+      -- and the last has the chunk
+      pub last_done : 1 ≤ length ps → (d : Piece O)
+          → ((get_or rs (length ps - 1) d).tree ≡ (get_or ps (length ps - 1) d).tree)
+          × (((get_or rs (length ps - 1) d).pass.units ≡ 0) × ((get_or rs (length ps - 1) d).pass.blocks ≡ 0) × ((get_or rs (length ps - 1) d).pass.nodes ≡ 0))
+      last_done some d =
+          let w : ℕ = length ps - 1 in
+          let inside : w < length ps = omega arith in
+          let before = unspent w d inside in
+          let r = done w d inside in
+          let same = kept.1 w d (omega (arith, len, inside)) in
+          let last = is_last (length ps) some in (
+            same.0 ∙ r.tree ∙ ap (λ (b : Bool). if b then (get_or ps w d).tree else Released) last,
+            (
+              ap (λ p. p.units) same.1 ∙ r.units ∙ ap (λ (b : Bool). if b then 0 else Cost (get_or ps w d).tree) last,
+              ap (λ p. p.blocks) same.1 ∙ r.blocks ∙ before.1.1.0,
+              ap (λ p. p.nodes) same.1 ∙ r.nodes ∙ before.1.1.1,
+            ),
+          )

@@ -16,6 +16,9 @@ pub chunk_again : (typed : KindTree) (rows : List Row) (cost : ℕ) (t u : Array
 chunk_again typed rows cost t u was is = record { lawful = is.lawful; rows = is.rows ∙ was.rows; cost = is.cost ∙ was.cost }
 
 module _ {O : Type 0} where
+  pub none_ready : (typed : KindTree) (rows : List Row) (cost : ℕ) (ps : List (Piece O)) → ps ≡ [] → All (λ p. IsReady typed rows cost p) ps
+  none_ready typed rows cost ps is = subst (All (λ (p : Piece O). IsReady typed rows cost p)) (sym is) (λ k d h. absurd (omega arith))
+
   -- one piece more is ready
   pub ready_push : (typed : KindTree) (rows : List Row) (cost : ℕ) (t : ArrayTree) (ps qs : List (Piece O)) (p : Piece O)
       → qs ≡ ps ++ p ∷ [] → p.tree ≡ t → IsChunk typed rows cost t → (p.pass.units ≡ 0) × (p.pass.blocks ≡ 0) × (p.pass.nodes ≡ 0)

@@ -1,6 +1,10 @@
 pub mod Levels
 pub mod Faults
 pub mod Firsts
+pub mod Casts
+pub mod Loops
+pub mod Readable
+pub mod LongViews
 pub mod Long
 pub mod Lawful
 pub mod NullSums

@@ -1,8 +1,9 @@
 -- How far a stream was pulled, and what is added up.
-use Rattle.std.proofs.Common.{arith, ◌≡◌, ◌∙◌, ◌≤◌, ◌<◌, ◌+◌, ◌++◌, ◌^◌, ℕ, ℤ, pos, List}
+use Rattle.std.proofs.Common.{arith, ◌≡◌, ◌∙◌, ◌≤◌, ◌<◌, ◌+◌, ◌++◌, ◌^◌, ℕ, ℤ, pos, negsuc, of_z, w32, List}
 use Rattle.std.proofs.Common.{[], ◌∷◌, length, get_or, All, IsTrue, refl, sym, ap, subst, inl, inr, true}
 use Rattle.std.specs.Prelude.{◌⊎◌, Option, None, Some}
 use Rattle.std.specs.List.{AllByRecursion}
+use Rattle.std.proofs.lemmas.Int.{ints}
 use Rattle.std.proofs.lemmas.Grind.{flat_map-append}
 use Rattle.std.proofs.lemmas.List.{append-nil, append_assoc, get_or-map, length-map}
 use Rattle.fmt_string.specs.FieldText.{IsValueOf}
@@ -23,7 +24,7 @@ use Rattle.unit_pass.specs.declared.pass.TheConstants.{CHUNK}
 use Rattle.stream_face.specs.Shown.{Seen}
 use Rattle.fmt_string.specs.Kinds.{KindOk}
 use Rattle.fmt_string.specs.declared.kind.DataType.{DataType}
-use Rattle.stream_face.specs.Calls.{Answers, Shows}
+use Rattle.stream_face.specs.Calls.{Answers, IsCode, Shows}
 use Rattle.stream_face.specs.Lawful.{AreItems, IsChunkOf, IsTable, LawfulColumns, LawfulTables, total_rows}
 use Rattle.stream_face.specs.Streams.{IsFresh, Stream}
 use Rattle.stream_face.specs.Texts.{Refusal}
@@ -34,6 +35,12 @@ use Rattle.total_stage.specs.Works.{CanTotal}
 use Rattle.total_stage.specs.declared.numbers.Totals.{Totals}
 use Rattle.total_stage.proofs.Fitting.{joined-long, picked-plain}
 use Rattle.total_stage.proofs.SummedKinds.{item-small}
+
+-- ---- codes
+-- a code that a test found to be 0
+pub zero_code : (code : ℤ) → IsCode code → of_z w32 code ≡ 0 → code ≡ pos 0
+zero_code (pos n) is zero = ap pos zero
+zero_code (negsuc n) is zero = absurd (omega (arith, ints, is.0))
 
 -- ---- the tables so far
 

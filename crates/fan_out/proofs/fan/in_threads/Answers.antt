@@ -1,4 +1,4 @@
-use Rattle.std.proofs.Common.{rules, arith, ◌≡◌, ℕ, ◌-◌, ◌≤◌, ◌*◌, length, get_or, ap, sym, ◌∙◌, subst}
+use Rattle.std.proofs.Common.{arith, ◌≡◌, ℕ, ◌+◌, ◌-◌, ◌<◌, ◌≤◌, ◌*◌, length, get_or, ap, sym, ◌∙◌, subst}
 use Rattle.std.proofs.Math.Nat.{mul-le-mul_right}
 use Rattle.std.specs.Prelude.{IfOk}
 use Rattle.unit_pass.specs.declared.pass.TheConstants.{SUPPLY}
@@ -25,10 +25,19 @@ run_pieces-tree-requires-clause-unspent g c κs within =
     let typed = typed_of c.args.typed.now in
     unspent typed (rows_of typed c.args.chunk.now) c.args.cost _ c.in-Ok.ensures.ready
 
+pub run_pieces-tree-requires-clause-workers : goal.run_pieces-tree-requires-clause-workers
+run_pieces-tree-requires-clause-workers g c κs within = subst (λ (n : ℕ). (1 ≤ n) × (n ≤ 64)) (sym c.in-Ok.ensures.len) c.requires.workers
+
+pub run_pieces-tree-requires-clause-room : goal.run_pieces-tree-requires-clause-room
+run_pieces-tree-requires-clause-room g c κs within =
+    subst (λ (n : ℕ). c.make_pieces.new.pass.units + (n - 1) * c.args.cost ≤ SUPPLY) (sym c.in-Ok.ensures.len)
+    (subst (λ (n : ℕ). n ≤ SUPPLY) (sym c.in-Ok.ensures.drawn) c.units-supply.ensures.bounded)
+
 -- the chunk is back, and its amounts are one lower for each share
 back : (g : _) (c : After-put g) → c.put.new.self ≡ LoweredBy (c.args.workers - 1) c.args.chunk.now
 back g c =
-    let d = an_item c.in-Ok.pieces.items (let l = c.in-Ok.ensures.len in search rules) in
+    let some = subst (λ (n : ℕ). 0 < n) (sym c.in-Ok.ensures.len ∙ c.in-Ok.pieces.ok.0) c.requires.workers.0 in
+    let d = an_item c.in-Ok.pieces.items some in
     c.put.ensures ∙ c.run_pieces-tree.ensures.tree d
     ∙ ap (λ (n : ℕ). (get_or c.in-Ok.pieces.items (n - 1) d).tree) c.in-Ok.ensures.len ∙ c.in-Ok.ensures.last d
 
@@ -45,3 +54,13 @@ returns-clause-like g c =
 
 pub returns-clause-lowered : goal.returns-clause-lowered
 returns-clause-lowered g c = always_on_ok c.run_pieces-tree.result.1 _ (back g c)
+
+pub returns-clause-units : goal.returns-clause-units
+returns-clause-units g c =
+    c.run_pieces-tree.ensures.units ∙ ap (λ (n : ℕ). c.make_pieces.new.pass.units + (n - 1) * c.args.cost) c.in-Ok.ensures.len ∙ c.in-Ok.ensures.drawn
+
+pub returns-clause-blocks : goal.returns-clause-blocks
+returns-clause-blocks g c = c.run_pieces-tree.ensures.blocks ∙ c.make_pieces.ensures.blocks
+
+pub returns-clause-nodes : goal.returns-clause-nodes
+returns-clause-nodes g c = c.run_pieces-tree.ensures.nodes ∙ c.make_pieces.ensures.nodes

@@ -1,4 +1,4 @@
-use Rattle.std.proofs.Common.{rules, arith, ◌≡◌, ◌≤◌, ℕ, IfOk, List, [], length, get_or, drop, refl, sym, ◌∙◌, ap, subst}
+use Rattle.std.proofs.Common.{arith, ◌≡◌, ◌≤◌, ℕ, IfOk, List, [], length, get_or, drop, refl, sym, ◌∙◌, ap, subst}
 use Rattle.csv_model.specs.Text.{header_text}
 use Rattle.csv_write.specs.CsvTexts.{HasText}
 use Rattle.field_codec.specs.TextColumns.{HaveTexts}
@@ -13,7 +13,7 @@ use Rattle.stream_face.specs.Streams.{Stream}
 use Rattle.stage_chain.specs.Boxes.{boxed_state}
 use Rattle.stage_chain.specs.Chains.{chain_links, link_shows}
 use Rattle.stage_chain.specs.Runs.{ShowsAll, ShowsSome}
-use Rattle.stage_chain.specs.Plans.{AreStages, links_of, plan_stages, stages_left}
+use Rattle.stage_chain.specs.Plans.{AreStages, links_of, plan_stages, stages_in, stages_left}
 use Rattle.stage_chain.proofs.Chaining.{on-err, on-ok}
 use Rattle.stage_chain.proofs.Driving.{shows-all, shows-some, text-is}
 use Rattle.stage_chain.proofs.Planning.{few-stages, last-link-is, last-texts, plan-are-stages}
@@ -32,25 +32,25 @@ go-requires-clause-stages g c =
     let s = g.S.ArrayStream.state c.args.source in
     let b = boxed_state g.S.ArrayStream.state c.in-Ok.source in
     let made : b ≡ s = c.in-Ok.ensures.made in
-    let left : stages_left c.into_iter.result ≡ plan_stages c.args.plan = search rules in
+    let left : stages_left c.into_iter.result ≡ plan_stages c.args.plan = ap stages_in c.into_iter.ensures.rest ∙ c.in-Ok-prepare.ensures.stages in
     subst (λ (m : Stream). AreStages m.columns (stages_left c.into_iter.result)) (sym made)
     (subst (AreStages s.columns) (sym left) (plan-are-stages s.columns c.requires.plan.0 c.args.plan c.requires.plan.1))
 
 pub go-requires-clause-numbers : goal.go-requires-clause-numbers
 go-requires-clause-numbers g c =
-    let left : stages_left c.into_iter.result ≡ plan_stages c.args.plan = search rules in
+    let left : stages_left c.into_iter.result ≡ plan_stages c.args.plan = ap stages_in c.into_iter.ensures.rest ∙ c.in-Ok-prepare.ensures.stages in
     let few = few-stages c.args.plan.steps.items (drop 1 (links_of c.args.plan)) in
     omega (arith, few, ap length left, c.requires.few)
 
 pub go-requires-clause-few : goal.go-requires-clause-few
 go-requires-clause-few g c =
-    let left : stages_left c.into_iter.result ≡ plan_stages c.args.plan = search rules in
+    let left : stages_left c.into_iter.result ≡ plan_stages c.args.plan = ap stages_in c.into_iter.ensures.rest ∙ c.in-Ok-prepare.ensures.stages in
     let few = few-stages c.args.plan.steps.items (drop 1 (links_of c.args.plan)) in
     omega (arith, few, ap length left, c.requires.few)
 
 pub go-requires-clause-room : goal.go-requires-clause-room
 go-requires-clause-room g c =
-    let left : stages_left c.into_iter.result ≡ plan_stages c.args.plan = search rules in
+    let left : stages_left c.into_iter.result ≡ plan_stages c.args.plan = ap stages_in c.into_iter.ensures.rest ∙ c.in-Ok-prepare.ensures.stages in
     let few = few-stages c.args.plan.steps.items (drop 1 (links_of c.args.plan)) in
     omega (arith, few, ap length left, c.requires.few, c.requires.room)
 
@@ -65,7 +65,7 @@ go-requires-clause-text g c =
     let s = g.S.ArrayStream.state c.args.source in
     let b = boxed_state g.S.ArrayStream.state c.in-Ok.source in
     let made : b ≡ s = c.in-Ok.ensures.made in
-    let left : stages_left c.into_iter.result ≡ plan_stages c.args.plan = search rules in
+    let left : stages_left c.into_iter.result ≡ plan_stages c.args.plan = ap stages_in c.into_iter.ensures.rest ∙ c.in-Ok-prepare.ensures.stages in
     let header = header_text (get_or (links_of c.args.plan) (length c.args.plan.steps.items) []) in
     let last =
     last-of s b (plan_stages c.args.plan) (stages_left c.into_iter.result) (get_or (links_of c.args.plan) (length c.args.plan.steps.items) []) made left
@@ -78,7 +78,7 @@ returns-in-Ok-prepare-clause-text g c =
     let s = g.S.ArrayStream.state c.args.source in
     let b = boxed_state g.S.ArrayStream.state c.in-Ok.source in
     let made : b ≡ s = c.in-Ok.ensures.made in
-    let left : stages_left c.into_iter.result ≡ plan_stages c.args.plan = search rules in
+    let left : stages_left c.into_iter.result ≡ plan_stages c.args.plan = ap stages_in c.into_iter.ensures.rest ∙ c.in-Ok-prepare.ensures.stages in
     let last =
     last-of s b (plan_stages c.args.plan) (stages_left c.into_iter.result) (get_or (links_of c.args.plan) (length c.args.plan.steps.items) []) made left
     (last-link-is s.columns c.requires.plan.0 c.args.plan c.requires.plan.1) in
@@ -97,7 +97,7 @@ returns-in-Ok-prepare-clause-shows g c =
     let s = g.S.ArrayStream.state c.args.source in
     let b = boxed_state g.S.ArrayStream.state c.in-Ok.source in
     let made : b ≡ s = c.in-Ok.ensures.made in
-    let left : stages_left c.into_iter.result ≡ plan_stages c.args.plan = search rules in
+    let left : stages_left c.into_iter.result ≡ plan_stages c.args.plan = ap stages_in c.into_iter.ensures.rest ∙ c.in-Ok-prepare.ensures.stages in
     on-ok c.go.result
     (λ shows. subst (λ (m : Stream). ShowsAll (link_shows (chain_links m (plan_stages c.args.plan))) (g.T.Tap.seen c.args.tap.now)
     (g.T.Tap.seen c.go.new.tap)) made
@@ -110,7 +110,7 @@ returns-in-Ok-prepare-clause-shows_some g c =
     let s = g.S.ArrayStream.state c.args.source in
     let b = boxed_state g.S.ArrayStream.state c.in-Ok.source in
     let made : b ≡ s = c.in-Ok.ensures.made in
-    let left : stages_left c.into_iter.result ≡ plan_stages c.args.plan = search rules in
+    let left : stages_left c.into_iter.result ≡ plan_stages c.args.plan = ap stages_in c.into_iter.ensures.rest ∙ c.in-Ok-prepare.ensures.stages in
     on-err c.go.result
     (λ shows. subst (λ (m : Stream). ShowsSome (link_shows (chain_links m (plan_stages c.args.plan))) (g.T.Tap.seen c.args.tap.now)
     (g.T.Tap.seen c.go.new.tap)) made

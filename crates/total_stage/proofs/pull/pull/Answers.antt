@@ -1,9 +1,9 @@
-use Rattle.std.proofs.Common.{rules, arith, ◌≤◌, ◌*◌, ◌++◌, List, ◌∷◌, ◌≡◌, ◌<◌, ◌∙◌, pos, length, IsTrue, sym, ap, subst, refl}
+use Rattle.std.proofs.Common.{rules, arith, ◌≤◌, ◌*◌, ◌++◌, List, ◌∷◌, ◌≡◌, ◌<◌, ◌∙◌, pos, length, IsTrue, sym, ap, subst, refl, true≢false}
 use Rattle.std.proofs.Math.Nat.{mul-le-mul_right}
 use Rattle.std.proofs.lemmas.List.{with_items_is}
 use Rattle.fmt_string.specs.Parts.{joined_rows}
 use Rattle.fmt_string.specs.Table.{Row}
-use Rattle.tree_model.specs.Tree.{IsLive, Released}
+use Rattle.tree_model.specs.Tree.{Released}
 use Rattle.raw_array.specs.Members.{Cost}
 use Rattle.layout_check.specs.Kinds.{TypedOk}
 use Rattle.layout_check.specs.TypedView.{typed_of}
@@ -14,7 +14,7 @@ use Rattle.stream_face.proofs.Joints.{live_unless}
 use Rattle.stage_kernels.proofs.Runs.{Called, Ran-counts, Ran-fresh, Ran-next, Ran-shows, Ran-start, Ran-still, Ran-works}
 use Rattle.total_stage.specs.Sums.{AreSums}
 use Rattle.total_stage.specs.declared.numbers.Totals.{Totals}
-use Rattle.total_stage.proofs.Pulling.{HavePulled, given, pulled-all, pulled-more, pulled-none, shows-wanting}
+use Rattle.total_stage.proofs.Pulling.{HavePulled, given, pulled-all, pulled-more, pulled-none, shows-wanting, zero_code}
 use Rattle.total_stage.proofs.pull.pull.Goals as goal
 
 shorter : (old new : List (List Row)) (rows : List Row) → old ≡ rows ∷ new → length new < length old
@@ -48,7 +48,7 @@ returns-in-Err-clause-shows g c = λ fresh.
     let ran = c.chunks.invariant.ran in
     let call = c.next-code.ensures in
     let still = Ran-still start m _ _ _ _ ran fresh in
-    let works : c.next-code.result ≡ pos 0 = search rules in
+    let works = zero_code c.next-code.result c.next-code.ensures.code c.if-code-ne0.false in
     shows-wanting start n c.next-code.new.out Released _ _
     (Ran-shows start m n c.next-code.result (pos 12) c.next-code.new.out c.next-code.new.out _ _ _ _ _ (ran.went fresh) (call.shows still)
     (λ _. works) (λ e. e))
@@ -61,7 +61,7 @@ returns-in-Err-added-clause-shows g c = λ fresh.
     let ran = c.chunks.invariant.ran in
     let call = c.next-code.ensures in
     let still = Ran-still start m _ _ _ _ ran fresh in
-    let works : c.next-code.result ≡ pos 0 = search rules in
+    let works = zero_code c.next-code.result c.next-code.ensures.code c.if-code-ne0.false in
     shows-wanting start n c.next-code.new.out Released _ _
     (Ran-shows start m n c.next-code.result (pos 12) c.next-code.new.out c.next-code.new.out _ _ _ _ _ (ran.went fresh) (call.shows still)
     (λ _. works) (λ e. e))
@@ -73,7 +73,7 @@ returns-then-is_released-clause-repeats g c =
     let n = meaning g.U.ArrayStream.state c.next-code.new.self in
     let ran = c.chunks.invariant.ran in
     let call = c.next-code.ensures in
-    let works : c.next-code.result ≡ pos 0 = search rules in
+    let works = zero_code c.next-code.result c.next-code.ensures.code c.if-code-ne0.false in
     let seen = g.T.Tap.seen c.chunks.tap in
     let later = g.T.Tap.seen c.next-code.new.tap in
     let called : Called m n c.next-code.result c.next-code.new.out seen later c.chunks.pass c.next-code.new.pass =
@@ -86,8 +86,8 @@ returns-then-is_released-clause-pulled g c = λ fresh.
     let start = meaning g.U.ArrayStream.state c.args.up.now in
     let m = meaning g.U.ArrayStream.state c.chunks.up in
     let ran = c.chunks.invariant.ran in
-    let works : c.next-code.result ≡ pos 0 = search rules in
-    let gone : c.next-code.new.out ≡ Released = search rules in
+    let works = zero_code c.next-code.result c.next-code.ensures.code c.if-code-ne0.false in
+    let gone = c.is_released.ensures.0 c.if-is_released.true in
     let ends = (c.next-code.ensures.answers (Ran-still start m _ _ _ _ ran fresh)).finish works gone in
     let have = c.chunks.invariant.pulled fresh in (
       sym ran.keeps.ending ∙ ends.2,
@@ -103,8 +103,8 @@ returns-then-is_released-clause-counts g c = λ fresh _.
     let ran = c.chunks.invariant.ran in
     let call = c.next-code.ensures in
     let still = Ran-still start m _ _ _ _ ran fresh in
-    let works : c.next-code.result ≡ pos 0 = search rules in
-    let gone : c.next-code.new.out ≡ Released = search rules in
+    let works = zero_code c.next-code.result c.next-code.ensures.code c.if-code-ne0.false in
+    let gone = c.is_released.ensures.0 c.if-is_released.true in
     Ran-counts start m n c.next-code.new.out Released _ _ _ _ c.next-code.new.pass c.next-code.new.pass (ran.went fresh)
     (call.counts still works) refl refl (λ _. gone)
 
@@ -116,8 +116,8 @@ returns-then-is_released-clause-shows g c = λ fresh.
     let ran = c.chunks.invariant.ran in
     let call = c.next-code.ensures in
     let still = Ran-still start m _ _ _ _ ran fresh in
-    let works : c.next-code.result ≡ pos 0 = search rules in
-    let gone : c.next-code.new.out ≡ Released = search rules in
+    let works = zero_code c.next-code.result c.next-code.ensures.code c.if-code-ne0.false in
+    let gone = c.is_released.ensures.0 c.if-is_released.true in
     Ran-shows start m n c.next-code.result (pos 0) c.next-code.new.out Released _ _ _ _ _ (ran.went fresh) (call.shows still)
     (λ _. works) (λ _. gone)
 
@@ -130,8 +130,8 @@ add_chunk-added-requires-clause-chunk g c = λ _ _.
     let ran = c.chunks.invariant.ran in
     let call = c.next-code.ensures in
     let picks = c.args.picks.now in
-    let works : c.next-code.result ≡ pos 0 = search rules in
-    let live : IsLive c.next-code.new.out = search (rules, live_unless) in
+    let works = zero_code c.next-code.result c.next-code.ensures.code c.if-code-ne0.false in
+    let live = live_unless c.next-code.new.out (λ gone. true≢false (sym (c.is_released.ensures.1 gone) ∙ c.if-is_released.false)) in
     let seen = g.T.Tap.seen c.chunks.tap in
     let later = g.T.Tap.seen c.next-code.new.tap in
     let called : Called m n c.next-code.result c.next-code.new.out seen later c.chunks.pass c.next-code.new.pass =
@@ -151,8 +151,8 @@ add_chunk-added-requires-clause-few g c = λ _ _.
     let ran = c.chunks.invariant.ran in
     let call = c.next-code.ensures in
     let picks = c.args.picks.now in
-    let works : c.next-code.result ≡ pos 0 = search rules in
-    let live : IsLive c.next-code.new.out = search (rules, live_unless) in
+    let works = zero_code c.next-code.result c.next-code.ensures.code c.if-code-ne0.false in
+    let live = live_unless c.next-code.new.out (λ gone. true≢false (sym (c.is_released.ensures.1 gone) ∙ c.if-is_released.false)) in
     let seen = g.T.Tap.seen c.chunks.tap in
     let later = g.T.Tap.seen c.next-code.new.tap in
     let called : Called m n c.next-code.result c.next-code.new.out seen later c.chunks.pass c.next-code.new.pass =
@@ -176,8 +176,8 @@ add_chunk-added-requires-clause-units g c = λ _ _.
     let ran = c.chunks.invariant.ran in
     let call = c.next-code.ensures in
     let picks = c.args.picks.now in
-    let works : c.next-code.result ≡ pos 0 = search rules in
-    let live : IsLive c.next-code.new.out = search (rules, live_unless) in
+    let works = zero_code c.next-code.result c.next-code.ensures.code c.if-code-ne0.false in
+    let live = live_unless c.next-code.new.out (λ gone. true≢false (sym (c.is_released.ensures.1 gone) ∙ c.if-is_released.false)) in
     let seen = g.T.Tap.seen c.chunks.tap in
     let later = g.T.Tap.seen c.next-code.new.tap in
     let called : Called m n c.next-code.result c.next-code.new.out seen later c.chunks.pass c.next-code.new.pass =
@@ -198,8 +198,8 @@ chunks-smaller g c =
     let n = meaning g.U.ArrayStream.state c.next-code.new.self in
     let ran = c.chunks.invariant.ran in
     let call = c.next-code.ensures in
-    let works : c.next-code.result ≡ pos 0 = search rules in
-    let live : IsLive c.next-code.new.out = search (rules, live_unless) in
+    let works = zero_code c.next-code.result c.next-code.ensures.code c.if-code-ne0.false in
+    let live = live_unless c.next-code.new.out (λ gone. true≢false (sym (c.is_released.ensures.1 gone) ∙ c.if-is_released.false)) in
     let seen = g.T.Tap.seen c.chunks.tap in
     let later = g.T.Tap.seen c.next-code.new.tap in
     let called : Called m n c.next-code.result c.next-code.new.out seen later c.chunks.pass c.next-code.new.pass =
@@ -215,8 +215,8 @@ chunks-preserved g c =
     let ran = c.chunks.invariant.ran in
     let call = c.next-code.ensures in
     let picks = c.args.picks.now in
-    let works : c.next-code.result ≡ pos 0 = search rules in
-    let live : IsLive c.next-code.new.out = search (rules, live_unless) in
+    let works = zero_code c.next-code.result c.next-code.ensures.code c.if-code-ne0.false in
+    let live = live_unless c.next-code.new.out (λ gone. true≢false (sym (c.is_released.ensures.1 gone) ∙ c.if-is_released.false)) in
     let seen = g.T.Tap.seen c.chunks.tap in
     let later = g.T.Tap.seen c.next-code.new.tap in
     let called : Called m n c.next-code.result c.next-code.new.out seen later c.chunks.pass c.next-code.new.pass =

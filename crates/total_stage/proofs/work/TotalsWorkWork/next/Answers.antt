@@ -94,7 +94,7 @@ returns-in_ok-made-in-All-clause-answers g c = λ fresh.
     let same : c.as_slice-columns.result.now ≡ w.out = c.as_slice-columns.ensures in
     let fit = totals-fit picks w.out up c.requires.fits (c.lawful_facts.ensures.columns c.requires.lawful)
     (c.lawful_facts.ensures.tables c.requires.lawful) in
-    let was : w.given ≡ false = search rules in
+    let was = c.if-self.false in
     let tree : c.put.new.self ≡ chunk_of columns (row ∷ []) =
     c.put.ensures ∙ c.in_ok-made-in-All.ensures.tree picks rows sums ∙ ap (λ (kept : List ColumnType). chunk_of (map column_of kept) (row ∷ [])) same in
     let few = few-columns picks w.out up.columns c.requires.fits in
@@ -122,7 +122,7 @@ returns-in_ok-made-in-All-clause-counts g c = λ fresh _.
     let same : c.as_slice-columns.result.now ≡ w.out = c.as_slice-columns.ensures in
     let fit = totals-fit picks w.out up c.requires.fits (c.lawful_facts.ensures.columns c.requires.lawful)
     (c.lawful_facts.ensures.tables c.requires.lawful) in
-    let was : w.given ≡ false = search rules in
+    let was = c.if-self.false in
     let tree : c.put.new.self ≡ chunk_of columns (row ∷ []) =
     c.put.ensures ∙ c.in_ok-made-in-All.ensures.tree picks rows sums ∙ ap (λ (kept : List ColumnType). chunk_of (map column_of kept) (row ∷ [])) same in
     let middle = c.pull.new.pass in

@@ -1,0 +1,179 @@
+-- What each way of a call of a checked stream gives, from what the call of its inner stream gave.
+use Rattle.std.proofs.Common.{◌≡◌, ◌≢◌, ◌+◌, ◌<◌, ℕ, ℤ, pos, negsuc, List, [], Option, Some, None, w32, to_z, of_z, FitsSigned, refl, sym}
+use Rattle.std.proofs.Common.{◌∙◌, ap, subst, inl, inr, arith}
+use Rattle.std.specs.Int.Signed.{mag}
+use Rattle.std.proofs.Math.Facts.{to_z-of_z}
+use Rattle.std.proofs.lemmas.Bool.Decides.{eqb_tells}
+use Rattle.fmt_string.specs.Table.{Row}
+use Rattle.tree_model.specs.Tree.{Released, IsLive}
+use Rattle.raw_array.specs.Members.{ArrayTree}
+use Rattle.unit_pass.specs.Tally.{Tally}
+use Rattle.layout_check.specs.Kinds.{KindTree}
+use Rattle.stream_face.specs.Calls.{Answers, IsCode, IsRowFault, IsTold, Repeats, Shows, Tells}
+use Rattle.stream_face.specs.Failures.{why}
+use Rattle.stream_face.specs.Faults.{IsOwnFault, IsWhy, code_of}
+use Rattle.stream_face.specs.Raw.{raw_joints, raw_state, refusal_or, row_or}
+use Rattle.stream_face.specs.Shown.{Seen, shown_tables}
+use Rattle.stream_face.specs.Streams.{IsFresh, Keeps, Stream}
+use Rattle.stream_face.specs.Texts.{Refusal, refused_row, wanting}
+use Rattle.stream_face.specs.declared.fault.Failure.{Failure}
+use Rattle.stream_face.specs.declared.fault.StreamFault.{StreamFault}
+use Rattle.stream_face.specs.declared.fault.StreamFault.TheVariants as faults
+use Rattle.stream_face.proofs.Joints.{inner_works, of_link-none, tells_refusal}
+
+-- ---- codes
+
+pub same : (z : ℤ) → mag z < 2147483648 → to_z w32 (of_z w32 z) ≡ z
+same z f = to_z-of_z (let fits : FitsSigned w32 z = record { sfits = f } in fits)
+
+pub is_zero : (z : ℤ) → mag z < 2147483648 → of_z w32 z ≡ 0 → z ≡ pos 0
+is_zero (pos n) f e = ap pos e
+is_zero (negsuc n) f e = absurd (omega (arith, f, e))
+
+pub zero_code : IsCode (pos 0)
+zero_code = grind arith
+
+pub own_is_code : (kinds : KindTree) (chunk : ArrayTree) (fault : StreamFault) → IsOwnFault kinds chunk fault → IsCode (code_of fault)
+own_is_code kinds chunk (faults.Row row) own = absurd own
+own_is_code kinds chunk (faults.Chunk layout) own = grind arith
+own_is_code kinds chunk (faults.Code code) own = absurd own
+own_is_code kinds chunk faults.NoMemory own = grind arith
+
+-- ---- each way
+
+pub keeps-raw : (link nodes : ℕ) (f h : Option StreamFault) (s n : Stream) → Keeps s n → Keeps (raw_state link nodes f s) (raw_state link nodes h n)
+keeps-raw link nodes f h s n k = record {
+  columns = k.columns;
+  ending = k.ending;
+  lawful = k.lawful;
+  held = ap (λ x. x + nodes) k.held;
+  live = k.live;
+  schema = k.schema;
+}
+
+pub inner_fresh : (link nodes : ℕ) (f : Option StreamFault) (s : Stream) → IsFresh (raw_state link nodes f s) → IsFresh s
+inner_fresh link nodes f s fresh = record { lawful = fresh.lawful; no_failure = inner_works f s.failure s.said fresh.no_failure }
+
+-- a stream that has not refused has no fault
+pub no_fault : {X : Type 0} → (f : Option Failure) (fault : StreamFault) → f ≡ None → why f ≡ Some fault → X
+no_fault None fault e q = absurd (cc)
+no_fault (Some failure) fault e q = absurd (cc)
+
+pub never_live : {X : Type 0} → (t : ArrayTree) → t ≡ Released → IsLive t → X
+never_live t released live = absurd (subst IsLive released live)
+
+-- ---- where the inner stream refuses
+
+-- its row at fault stays that of the inner stream
+pub same_row : (fault : StreamFault) (n : Stream) (row : _) → row ≡ n.fault → row_or (Some fault) row ≡ row → row_or (Some fault) n.fault ≡ n.fault
+same_row fault n row e h = subst (λ r. row_or (Some fault) r ≡ r) e h
+
+-- its refusal is that of the inner stream
+pub same_refusal : (fault : StreamFault) (said : Option Refusal) (refusal : Refusal) → said ≡ Some refusal → code_of fault ≡ refusal.code
+    → refusal_or (Some fault) said said ≡ Some refusal
+same_refusal fault said refusal e c =
+    ap (λ x. refusal_or (Some fault) x x) e ∙ ap (λ z. Some (let told : Refusal = record { code = z; text = refusal.text } in told)) c
+
+module _ (link nodes : ℕ) (f : Option Failure) (fault : StreamFault) (s n : Stream) (code r : ℤ) (e : f ≡ None) (same_code : r ≡ code) (of : code_of fault ≡ r)
+    (row : row_or (Some fault) n.fault ≡ n.fault) where
+  pub repeats-refused : (before after : Tally) (seen shown : Option (List Seen)) → Repeats s n code before after seen shown
+      → Repeats (raw_state link nodes (why f) s) (raw_state link nodes (Some fault) n) r before after seen shown
+  repeats-refused before after seen shown again =
+      let failed = λ (refusal : Refusal) (q : refusal_or (why f) s.failure s.said ≡ Some refusal).
+      subst (λ h. refusal_or (why h) s.failure s.said ≡ Some refusal) e q in
+      record {
+        same = λ refusal q.
+            let h = again.same refusal (failed refusal q) in (
+              same_code ∙ h.0,
+              same_refusal fault n.said refusal h.1 (of ∙ same_code ∙ h.0),
+              row ∙ h.2 ∙ sym (ap (λ x. row_or (why x) s.fault) e),
+            );
+        counts = λ refusal q. again.counts refusal (failed refusal q);
+        shows = λ refusal q. again.shows refusal (failed refusal q);
+      }
+
+  pub answers-refused : (out : ArrayTree) → out ≡ Released → code ≢ pos 0 → Answers s n code out
+      → Answers (raw_state link nodes (why f) s) (raw_state link nodes (Some fault) n) r out
+  answers-refused out released nonzero a = record {
+    chunk = λ live. never_live out released live;
+    finish = λ z. absurd (nonzero (sym same_code ∙ z));
+    bad = λ z.
+        let h = a.bad (sym same_code ∙ z) in
+        (h.0, h.1, h.2, h.3, row ∙ h.4, same_refusal fault n.said (refused_row h.2) h.5 (of ∙ z));
+    wants = λ z. same_refusal fault n.said wanting (a.wants (sym same_code ∙ z)) (of ∙ z);
+    codes = elim a.codes [ inl z ↦ inl (same_code ∙ z) | inr rest ↦ inr (elim rest [ inl z ↦ inl (same_code ∙ z) | inr z ↦ inr (same_code ∙ z) ]) ];
+  }
+
+-- ---- where it answers 0
+
+-- a stream that answers 0 has not refused before
+pub repeats-never : (old new : Stream) (code : ℤ) (before after : Tally) (seen shown : Option (List Seen))
+    → ((refusal : Refusal) → old.failure ≡ Some refusal → ⊥) → Repeats old new code before after seen shown
+repeats-never old new code before after seen shown never = record {
+  same = λ refusal q. absurd (never refusal q);
+  counts = λ refusal q. absurd (never refusal q);
+  shows = λ refusal q. absurd (never refusal q);
+}
+
+pub never_refused : (f : Option Failure) (s n : Stream) (code : ℤ) (before after : Tally) (seen shown : Option (List Seen)) → f ≡ None
+    → Repeats s n code before after seen shown → Tells code n.said → code ≡ pos 0 → (refusal : Refusal) → refusal_or (why f) s.failure s.said ≡ Some refusal → ⊥
+never_refused f s n code before after seen shown e again tells zero refusal q =
+    let h = again.same refusal (subst (λ x. refusal_or (why x) s.failure s.said ≡ Some refusal) e q) in
+    tells_refusal code n.said refusal tells h.1 zero
+
+module _ (link nodes : ℕ) (f : Option Failure) (s n : Stream) (code : ℤ) (e : f ≡ None) (zero : code ≡ pos 0) where
+  pub tells-working : Tells code n.said → Tells (pos 0) (refusal_or (why f) n.said n.said)
+  tells-working tells = subst (λ x. Tells (pos 0) (refusal_or (why x) n.said n.said)) (sym e) (subst (λ z. Tells z n.said) zero tells)
+
+  pub why-working : (kinds : KindTree) → IsWhy (pos 0) kinds s n (why f)
+  why-working kinds = subst (λ x. IsWhy (pos 0) kinds s n (why x)) (sym e) refl
+
+  pub faulted-working : IsRowFault code n.ending n.fault → IsRowFault (pos 0) n.ending (row_or (why f) n.fault)
+  faulted-working faulted = subst (λ x. IsRowFault (pos 0) n.ending (row_or (why x) n.fault)) (sym e) (subst (λ z. IsRowFault z n.ending n.fault) zero faulted)
+
+  pub answers-working : (out : ArrayTree) → Answers s n code out → Answers (raw_state link nodes (why f) s) (raw_state link nodes (why f) n) (pos 0) out
+  answers-working out a = record {
+    chunk = λ live. a.chunk live;
+    finish = λ z released. a.finish zero released;
+    bad = λ z. absurd (cc z);
+    wants = λ z. absurd (cc z);
+    codes = inl refl;
+  }
+
+-- at the end of the inner stream
+pub Shows-raw_end : (s n : Stream) (link : ℕ) (out : ArrayTree) (before after : Option (List Seen)) → s.joints link ≡ [] → s.ahead ≡ [] → n.ahead ≡ []
+    → out ≡ Released → Shows s.joints n.joints (pos 0) out before after → Shows (raw_joints link s) (raw_joints link n) (pos 0) out before after
+Shows-raw_end s n link out before after none ends ended released shows =
+    let nothing = of_link-none s.joints n.joints link (pos 0) out before after none shows in
+    record {
+      shown = shows.shown;
+      told = shows.told;
+      begins = λ k. elim (eqb_tells link k) [
+        | inl h ↦ rw (h.0, ← h.1, nothing) (shown_tables s.columns s.ahead, refl)
+        | inr h ↦ rw h.0 (shows.begins k)
+      ];
+      leaves = λ _ k. elim (eqb_tells link k) [
+        | inl h ↦ rw (h.0, ← h.1, nothing, ends, ended) refl
+        | inr h ↦ rw h.0 (shows.leaves refl k)
+      ];
+      ends = λ _ _ k. elim (eqb_tells link k) [
+        | inl h ↦ rw (h.0, ended) refl
+        | inr h ↦ rw h.0 (shows.ends refl released k)
+      ];
+    }
+
+-- ---- where the chunk is refused
+
+pub why-own : (kinds : KindTree) (chunk : ArrayTree) (s n : Stream) (fault : StreamFault) (r : ℤ) → IsOwnFault kinds chunk fault → r ≡ code_of fault
+    → n.said ≡ None → IsTold s.chunk chunk → IsWhy r kinds s n (Some fault)
+why-own kinds chunk s n (faults.Row row) r own e silent told = absurd own
+why-own kinds chunk s n (faults.Chunk layout) r own e silent told = (e, silent, chunk, told, own)
+why-own kinds chunk s n (faults.Code code) r own e silent told = absurd own
+why-own kinds chunk s n faults.NoMemory r own e silent told = e
+
+pub row-own : (kinds : KindTree) (chunk : ArrayTree) (n : Stream) (fault : StreamFault) (r : ℤ) → IsOwnFault kinds chunk fault
+    → IsRowFault r n.ending (row_or (Some fault) n.fault)
+row-own kinds chunk n (faults.Row row) r own = absurd own
+row-own kinds chunk n (faults.Chunk layout) r own = tt
+row-own kinds chunk n (faults.Code code) r own = absurd own
+row-own kinds chunk n faults.NoMemory r own = tt
