@@ -150,24 +150,15 @@ pub fn read_words<'a>(alloc: Global, words: &'a [String]) -> Result<Words<'a>, W
 fn command<'a>(alloc: Global) -> Result<Command<'a>, AllocError>
     ensures { IfOk result (λ c. app_of c ≡ arrowpipe) }
 {
-    let bare = bare_command(alloc);
-    let schema = text_option(alloc, "schema");
-    let batch = text_option(alloc, "batch");
-    let workers = text_option(alloc, "workers");
-    let audit = flag_option(alloc, "audit");
-    let check = flag_option(alloc, "check");
-    let selftest = text_option(alloc, "selftest");
-    let null = text_option(alloc, "null");
-    let stage = lone_words(alloc, "stage");
-    let command = bare
-        .arg(schema)?
-        .arg(batch)?
-        .arg(workers)?
-        .arg(audit)?
-        .arg(check)?
-        .arg(selftest)?
-        .arg(null)?
-        .arg(stage)?;
+    let command = bare_command(alloc)
+        .arg(text_option(alloc, "schema"))?
+        .arg(text_option(alloc, "batch"))?
+        .arg(text_option(alloc, "workers"))?
+        .arg(flag_option(alloc, "audit"))?
+        .arg(flag_option(alloc, "check"))?
+        .arg(text_option(alloc, "selftest"))?
+        .arg(text_option(alloc, "null"))?
+        .arg(lone_words(alloc, "stage"))?;
     Ok(command)
 }
 

@@ -4,11 +4,11 @@ use Rattle.words.proofs.command.Goals as goal
 
 pub returns : goal.returns
 returns c =
-    let schema = c.in_ok-arg.ensures.shape c.text_option-schema.ensures.local ∙ ap₂ with_rule c.bare_command-bare.ensures c.text_option-schema.ensures.rule in
-    let batch = c.in_ok-arg-2.ensures.shape c.text_option-batch.ensures.local ∙ ap₂ with_rule schema c.text_option-batch.ensures.rule in
-    let workers = c.in_ok-arg-3.ensures.shape c.text_option-workers.ensures.local ∙ ap₂ with_rule batch c.text_option-workers.ensures.rule in
-    let audit = c.in_ok-arg-4.ensures.shape c.flag_option-audit.ensures.local ∙ ap₂ with_rule workers c.flag_option-audit.ensures.rule in
-    let check = c.in_ok-arg-5.ensures.shape c.flag_option-check.ensures.local ∙ ap₂ with_rule audit c.flag_option-check.ensures.rule in
-    let selftest = c.in_ok-arg-6.ensures.shape c.text_option-selftest.ensures.local ∙ ap₂ with_rule check c.text_option-selftest.ensures.rule in
-    let null = c.in_ok-arg-7.ensures.shape c.text_option-null.ensures.local ∙ ap₂ with_rule selftest c.text_option-null.ensures.rule in
-    c.in_ok-command.ensures.shape c.lone_words-stage.ensures.local ∙ ap₂ with_rule null c.lone_words-stage.ensures.rule
+    let schema = c.in_ok-arg.ensures.shape c.text_option.ensures.local ∙ ap₂ with_rule c.bare_command.ensures c.text_option.ensures.rule in
+    let batch = c.in_ok-arg-2.ensures.shape c.text_option-2.ensures.local ∙ ap₂ with_rule schema c.text_option-2.ensures.rule in
+    let workers = c.in_ok-arg-3.ensures.shape c.text_option-3.ensures.local ∙ ap₂ with_rule batch c.text_option-3.ensures.rule in
+    let audit = c.in_ok-arg-4.ensures.shape c.flag_option.ensures.local ∙ ap₂ with_rule workers c.flag_option.ensures.rule in
+    let check = c.in_ok-arg-5.ensures.shape c.flag_option-2.ensures.local ∙ ap₂ with_rule audit c.flag_option-2.ensures.rule in
+    let selftest = c.in_ok-arg-6.ensures.shape c.text_option-4.ensures.local ∙ ap₂ with_rule check c.text_option-4.ensures.rule in
+    let null = c.in_ok-arg-7.ensures.shape c.text_option-5.ensures.local ∙ ap₂ with_rule selftest c.text_option-5.ensures.rule in
+    c.in_ok-command.ensures.shape c.lone_words.ensures.local ∙ ap₂ with_rule null c.lone_words.ensures.rule
