@@ -8,7 +8,7 @@ use Rattle.std.proofs.lemmas.List.{map-set, set-append_left}
 use mathlib.Core.Option.{some, some-injective, some-ne-none}
 use native.Mathlib.Decide.{ℕ_discrete}
 use lib.ListN.{get_elem?}
-use Rattle.atomic_table.specs.Table.{State, stepped, carried_after}
+use Rattle.atomic_table.specs.Table.{State, Splits, stepped, carried_after}
 use Rattle.holder_core.specs.HolderMachine.{Holders, amount_of, is_due, after_split}
 use Rattle.holder_core.specs.declared.Deed.{Deed}
 use Rattle.holder_core.specs.declared.Deed.TheVariants.{Home, Due, Gone}
@@ -16,9 +16,11 @@ use Rattle.holder_core.specs.declared.Reply.TheVariants.{NewHolder, Kept, Last, 
 use Rattle.holder_core.specs.declared.Reply.TheVariants as reply
 use Rattle.buf_block.specs.declared.rule.Grip.{Grip}
 use Rattle.buf_block.specs.Block.{holding, done, amounts_of, total, SlotState, slot_at, slot_with_deed, slot_without_deed, IsBlock, Back}
+use Rattle.buf_block.specs.BlockTable.{stake, with_grip, IsTable}
 use Rattle.buf_block.specs.BlockView.{Hands, empty_hands, hands_with, WasLast, Shows, HoldsAt, first_state, split_at, less_by, ShowsOk, ShowsOne, MadeWhole}
 use Rattle.buf_block.specs.BlockView.{SplitIsTheTables, SplitIsStep, LetGoIsStep, ExchangeIsStep, ReadIsStep}
-use Rattle.buf_block.proofs.Keeps.{begins, splits, total-set, amount_within}
+use Rattle.buf_block.proofs.Keeps.{begins, splits, total-set, amount_within, same_test}
+use Rattle.buf_block.proofs.Apart.{splits_one, split_here}
 
 -- ---- amounts
 
@@ -187,7 +189,11 @@ module _ (s : State SlotState Grip) (hands : Hands) (h : Holders) (seat amount :
 
 -- ---- each step is the machine's
 pub split_is_the_tables : SplitIsTheTables
-split_is_the_tables seat amount p = p
+split_is_the_tables seat v amount is more = (
+  subst (λ (n : ℕ). Splits IsTable seat v (with_grip v (holding (n - 1))) (stake v.place (holding 1) false)) (ap (λ (g : Grip). g.amount) is)
+      (splits_one seat v amount is more),
+  λ s at. split_here s seat v amount at,
+)
 
 pub split_is_step : SplitIsStep
 split_is_step s hands h seat amount k more =
@@ -202,10 +208,6 @@ split_is_step s hands h seat amount k more =
       shows_home t kept (omega arith) (hands_with hands (length s.views) []) (after_split h seat 1) (split_amounts s hands h seat amount k)
           (home_here s hands h seat amount k),
     )
-
-same_test : (n m a b : ℕ) → (n ≡ m → a ≡ b) → (a ≡ b → n ≡ m) → (n == m) ≡ (a == b)
-same_test n m a b to from =
-    dite (ℕ_discrete n m) (λ e. eq-eqb n m e ∙ sym (eq-eqb a b (to e))) (λ (ne : n ≢ m). ne_eqb n m ne ∙ sym (ne_eqb a b (λ e. ne (from e))))
 
 pub let_go_is_step : LetGoIsStep
 let_go_is_step s hands h seat amount k view act valid kept told =

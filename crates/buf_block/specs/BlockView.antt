@@ -12,6 +12,8 @@ use Rattle.holder_core.specs.declared.Event.TheVariants.{Split, LetGo, TakeDeed,
 use Rattle.holder_core.specs.declared.Reply.TheVariants.{NewHolder, Kept, Last, Bytes}
 use Rattle.holder_core.specs.declared.Reply.TheVariants as reply
 use Rattle.buf_block.specs.declared.rule.Grip.{Grip}
+use Rattle.buf_block.specs.declared.rule.Stake.{Stake}
+use Rattle.buf_block.specs.BlockTable.{stake, with_grip, block_at, rank, IsTable}
 use Rattle.buf_block.specs.Block.{holding, amounts_of, SlotState, slot_at, slot_with_deed, slot_without_deed, IsBlock, GivesBack}
 
 -- the slots in the hands of each seat, by its number, with the values that they hold
@@ -61,13 +63,17 @@ first_state = opening (4294967296 ∷ []) (Some (record {}) ∷ []) (holding 429
 abbrev pub MadeWhole : Type 0
 MadeWhole = IsBlock first_state × Shows first_state empty_hands (record { amounts = 4294967296 ∷ []; deed = Home })
 
--- the state of which the table's `Splits` speaks, where one of the amount goes to a new seat
+-- the block, where one of the amount goes to a new seat
 abbrev pub split_at : State SlotState Grip → ℕ → ℕ → State SlotState Grip
 split_at s seat amount = record { words = s.words; homes = s.homes; views = slice_set s.views seat (holding (amount - 1)) ++ holding 1 ∷ [] }
 
+-- such a split keeps the rule of the table, and is this to the block
 abbrev pub SplitIsTheTables : Type 0
-SplitIsTheTables = (seat amount : ℕ) → Splits IsBlock seat (holding amount) (holding (amount - 1)) (holding 1)
-    → (s : State SlotState Grip) → IsBlock s → get_elem? s.views seat ≡ some (holding amount) → IsBlock (split_at s seat amount)
+SplitIsTheTables = (seat : ℕ) (v : Stake) (amount : ℕ) → v.grip ≡ holding amount → 2 ≤ amount
+    → Splits IsTable seat v (with_grip v (holding (amount - 1))) (stake v.place (holding 1) false)
+    × ((s : State SlotState Stake) → get_elem? s.views seat ≡ some v
+    → block_at v.place (record { words = s.words; homes = s.homes; views = slice_set s.views seat (with_grip v (holding (amount - 1))) ++ stake v.place (holding 1) false ∷ [] })
+    ≡ split_at (block_at v.place s) (rank v.place s.views seat) amount)
 
 abbrev pub SplitIsStep : Type 0
 SplitIsStep = (s : State SlotState Grip) (hands : Hands) (h : Holders) (seat amount : ℕ) → HoldsAt s hands h seat amount → 2 ≤ amount

@@ -1,19 +1,19 @@
 -- The receipt of a hold that let go, as contracts see it.
 use Rattle.std.specs.Prelude.{◌≡◌, ℕ, ◌↔◌, true, List}
-use Rattle.atomic_table.specs.Seated.{TableId}
 use Rattle.buf_block.specs.declared.hold.LetGo.{LetGo}
 use Rattle.buf_block.specs.declared.hold.LetGo.TheVariants.{Freed}
 use Rattle.buf_block.specs.declared.rule.Grip.{Grip}
 use Rattle.buf_block.specs.Block.{SlotState, slot_without_deed}
+use Rattle.buf_block.specs.BlockTable.{BlockId}
 
--- the amount that was given back and the answer, as the receipt has them; of the seat that made the steps what it knows, and the slots in
--- its hands with the values that they hold; and which block it is of, and which of that block's seats
+-- the amount that was given back and the answer, as the receipt has them; of the seat that made the steps what it knows, and the slots of
+-- the block in its hands with the values that they hold; and which block it is of, and which of the seats of that block's table
 pub record Receipt : Type 0 where
   pub gave : ℕ
   pub answer : LetGo
   pub seat_view : Grip
   pub seat_slots : List (ℕ × SlotState)
-  pub block : TableId
+  pub block : BlockId
   pub seat : ℕ
 
 -- What the type says of each receipt: the seat has no amount, gave back just that amount, was the last exactly where the answer is that
