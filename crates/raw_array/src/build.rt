@@ -26,6 +26,7 @@ impl RawArray {
     /// A live structure with these members, which it owns from now on, the holds of its buffers among them. It draws one
     /// unit and counts one node. On want of memory the parts come back, and nothing is drawn or counted.
     #[tactic(auto, using(tree_model::proofs::Lists::tree_lists, crate::proofs::Buffers::buffer_lists))]
+    #[inline(always)]
     pub fn build(
         alloc: Global,
         parts: ArrayParts,
@@ -93,6 +94,7 @@ impl RawArray {
 
 /// Places the buffers with the node's unit, the children and the dictionary. On want of memory all come back, and no
 /// unit is drawn.
+#[inline(always)]
 fn placed_parts(alloc: Global, owned: Owned, pass: &mut Pass) -> Result<Placed, Owned>
     requires { 1 ≤ pass.old.units }
     ensures buffers { IfOk result (λ placed. (value_of placed.private).buffers.items ≡ owned.0.items) }

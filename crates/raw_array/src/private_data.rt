@@ -17,6 +17,7 @@ pub(crate) struct Private {
 }
 
 /// Draws a unit for a node, and places it with the node's buffers. On want of memory the buffers come back.
+#[inline(always)]
 pub(crate) fn placed_private(
     alloc: Global,
     buffers: Vec<Option<BufView>>,

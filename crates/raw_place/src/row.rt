@@ -1,10 +1,12 @@
-//! Values side by side in one block, by the raw pointer to the first.
-ghost use Rattle.std.specs.Prelude.{◌≡◌, ◌≤◌, ◌<◌, ◌^◌, List, length, get_or, [], ◌∷◌, ◌++◌, MatchResult};
+//! Values side by side in one block, by the raw pointer to the first; and raw pointers as such values.
+ghost use Rattle.std.specs.Prelude.{◌≡◌, ◌≤◌, ◌<◌, ◌^◌, List, length, [], ◌∷◌, ◌++◌, MatchResult};
+ghost use Rattle.std.specs.Ptr.{as_mut_ptr};
 ghost use Rattle.std.specs.Vec.Ownership.{vec_owns, vec_shares, FitsInBlock};
 
 use std::alloc::Allocator;
 use std::marker::{Model, Send, Sync};
 use std::mem::{align_of, size_of};
+use std::ptr;
 
 /// The raw pointer to the first of `len` values, in a block that has room for `room`; where `room` is 0 there is no block,
 /// and the pointer is not followed.
@@ -27,9 +29,6 @@ impl<T, A: Allocator> Model for Row<T, A> {
 }
 
 impl<T, A: Allocator> Row<T, A> {
-    ghost use Rattle.raw_place.specs.Lent.{row_follows};
-    ghost use Rattle.std.specs.Borrow.{sem};
-
     /// A row that has no value and no block.
     pub fn empty(heap: A) -> Row<T, A>
         ensures { result.items ≡ [] }
@@ -66,15 +65,6 @@ impl<T, A: Allocator> Row<T, A> {
         ensures bounded { length self.now.items < 2 ^ 63 }
     {
         unsafe { std::slice::from_raw_parts(self.at.cast_const(), self.len) }
-    }
-
-    /// The value at the place `i`, lent to be changed where it lies.
-    pub fn lend(&mut self, i: usize) -> &mut T
-        requires { i < length self.old.items }
-        ensures* writes_back { sem 𝓛 (row_follows T.row A.row A.Allocator self.entry i result) }
-        ensures value { result.now ≡ get_or self.old.items i result.now }
-    {
-        unsafe { &mut *self.at.add(i) }
     }
 
     /// Moves a value behind the last one, where there is room.
@@ -127,3 +117,29 @@ impl<T, A: Allocator> Row<T, A> {
 unsafe impl<T: Send, A: Allocator + Send> Send for Row<T, A> {}
 
 unsafe impl<T: Sync, A: Allocator + Sync> Sync for Row<T, A> {}
+
+/// The raw pointer to a value that stands elsewhere. It owns nothing.
+pub(crate) struct Pointer<T> {
+    at: *mut T,
+}
+
+impl<T> Pointer<T> {
+    /// Where the value stands.
+    pub fn to(value: &mut T) -> Pointer<T>
+        ensures address { result.at ≡ as_mut_ptr value.entry }
+        ensures unchanged { value.new ≡ value.old }
+    {
+        Pointer {
+            at: ptr::from_mut(value),
+        }
+    }
+
+    /// Lets the pointer go, and leaves the value.
+    pub fn forget(self) {
+        let Pointer { at: _ } = self;
+    }
+}
+
+unsafe impl<T: Send> Send for Pointer<T> {}
+
+unsafe impl<T: Sync> Sync for Pointer<T> {}
