@@ -26,3 +26,4 @@ pub mod ViewsScanned
 pub mod TextRuns
 pub mod ViewPasses
 pub mod MarkedText
+pub mod Passes

@@ -39,7 +39,7 @@ pub ruleset one_level = (typed_out)
 
 -- ---- lawful, and no fault
 
-is_none-none : {X : Type 0} → (o : Option X) → IsTrue (is_none o) → o ≡ None
+pub is_none-none : {X : Type 0} → (o : Option X) → IsTrue (is_none o) → o ≡ None
 is_none-none None h = refl
 is_none-none (Some x) h = absurd (true≢false (sym h))
 

@@ -1,6 +1,6 @@
 //! What an array needs of its buffers, and whether it has that: buffers that are there, long enough, and with offsets
 //! that rise.
-ghost use Rattle.std.specs.Prelude.{◌≡◌, None, not, ◌&&◌, is_some, nat_lt, if◌then◌else◌, ◌==◌, int_lt, ◌+◌, ◌*◌, ◌^◌, ◌<◌, ◌≤◌, pos, length, Option};
+ghost use Rattle.std.specs.Prelude.{◌≡◌, ◌↔◌, None, is_none, IsTrue, not, ◌&&◌, is_some, nat_lt, if◌then◌else◌, ◌==◌, int_lt, ◌+◌, ◌*◌, ◌^◌, ◌<◌, ◌≤◌, pos, length, Option};
 ghost use Rattle.bit_pack.specs.Packed.{offset_width};
 ghost use Rattle.tree_model.specs.Tree.{IsLive};
 ghost use Rattle.raw_array.specs.Members.{ArrayTree, members_of};
@@ -155,14 +155,17 @@ fn buffer_short(node: &FormedNode, k: usize) -> Option<Numbers>
     requires { k < length (own_of node.now).buffers }
     ensures { result ≡ buffer_short node.now.layout (own_of node.now) k }
 {
-    too_short(need(node, k), node.array, k)
+    match node.array.buffer(k) {
+        Some(_) => too_short(need(node, k), node.array, k),
+        None => None,
+    }
 }
 
 fn buffer_absent(node: &FormedNode, k: usize) -> Option<Numbers>
     requires { k < length (own_of node.now).buffers }
     ensures { result ≡ buffer_absent node.now.layout (own_of node.now) k }
 {
-    if k == 0 {
+    if k == 0 || node.array.buffer(k).is_some() {
         None
     } else {
         missing(need(node, k), node.array, k)
@@ -191,6 +194,31 @@ pub fn buffers_short(node: &FormedNode) -> Option<Numbers>
         }
     }
     None
+}
+
+/// Whether each buffer is there of which something is needed, and is as long as its need.
+#[inline(always)]
+pub fn buffers_pass(node: &FormedNode) -> bool
+    ensures { IsTrue result ↔ AreReadable node.now.layout (own_of node.now) }
+{
+    for k in 0..node.buffer_count() {
+        if !buffer_passes(node, k) {
+            return false;
+        }
+    }
+    true
+}
+
+/// The same of one buffer.
+#[inline(always)]
+fn buffer_passes(node: &FormedNode, k: usize) -> bool
+    requires { k < length (own_of node.now).buffers }
+    ensures { IsTrue result ↔ (buffer_absent node.now.layout (own_of node.now) k ≡ None) × (buffer_short node.now.layout (own_of node.now) k ≡ None) }
+{
+    match node.array.buffer(k) {
+        Some(bytes) => bytes.len() as u128 >= need(node, k),
+        None => k == 0 || need(node, k) == 0,
+    }
 }
 
 /// The offset at a place of the offsets buffer.
@@ -269,6 +297,36 @@ pub fn offsets_fall(wide: bool, node: &FormedNode) -> Option<Numbers>
         return None;
     }
     first_fall(wide, node)
+}
+
+/// Whether the first offset isn't below 0, and no offset is above the next one.
+fn offsets_pass(wide: bool, node: &FormedNode) -> bool
+    requires offsets { 1 < length (own_of node.now).buffers }
+    requires long { offsets_need wide (end (own_of node.now)) ≤ length (bytes (own_of node.now) 1) }
+    ensures { result ≡ is_none (offsets_fall wide (own_of node.now)) }
+{
+    node.stop == 0
+        || (offset_of(wide, node, node.start) >= 0
+            && offsets_rise(
+                wide,
+                node.bytes(1),
+                node.start as usize,
+                node.len() as usize,
+            ))
+}
+
+/// Whether the offsets of a layout that has some pass, once its buffers are long enough.
+#[inline(always)]
+#[tactic(auto, using(crate::proofs::Long::long))]
+pub fn layout_passes(node: &FormedNode) -> bool
+    requires buffers { AreReadable node.now.layout (own_of node.now) }
+    ensures { result ≡ is_none (offsets_fall_if (is_behind_offsets node.now.layout) (own_of node.now)) }
+{
+    match node.layout {
+        Layout::ByOffsets { wide } => offsets_pass(wide, node),
+        Layout::ListOffsets { wide } => offsets_pass(wide, node),
+        _ => true,
+    }
 }
 
 /// The offsets of a layout that has some, once its buffers are long enough.

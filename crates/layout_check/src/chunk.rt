@@ -1,5 +1,5 @@
 //! Chunks: what is asked of an array that holds rows.
-ghost use Rattle.std.specs.Prelude.{◌≡◌, None, Some, IsOk, IsTrue, is_some, not, ◌&&◌, ◌↔◌, pos, ℕ, length, Option};
+ghost use Rattle.std.specs.Prelude.{◌≡◌, None, Some, IsOk, IsTrue, is_none, is_some, not, ◌&&◌, ◌↔◌, pos, ℕ, length, Option};
 ghost use Rattle.raw_array.specs.Members.{ArrayTree};
 ghost use Rattle.layout_check.specs.Kinds.{TypedOk};
 ghost use Rattle.layout_check.specs.declared.typed.Typed.{out-Typed};
@@ -15,7 +15,7 @@ use crate::node::FormedNode;
 use crate::nulls::null_total;
 use crate::rule::{Failing, LayoutFault, LayoutRule, Numbers, Path};
 use crate::typed::Typed;
-use crate::walk::check_array;
+use crate::walk::{check_array, passes};
 use fmt_string::DataType;
 use raw_array::RawArray;
 
@@ -29,6 +29,14 @@ pub fn check_chunk(typed: &Typed, array: &RawArray) -> Result<(), LayoutFault>
 {
     check_array(typed, array)?;
     check_top(typed, array)
+}
+
+/// Whether [`check_chunk`] finds no fault.
+pub fn chunk_passes(typed: &Typed, array: &RawArray) -> bool
+    requires { TypedOk (typed_of typed.now) }
+    ensures { IsTrue result ↔ ChunkOk (typed_of typed.now) array.now }
+{
+    passes(typed, array) && top_passes(typed, array)
 }
 
 /// How many items of a lawful array's window are null: with a layout that has no buffer each is ("Arrow Columnar
@@ -88,6 +96,17 @@ fn check_top(typed: &Typed, array: &RawArray) -> Result<(), LayoutFault>
         return top_ruled(LayoutRule::TopNulls, nulls);
     }
     Ok(())
+}
+
+/// Whether the two rules of a chunk's root hold.
+#[inline(always)]
+#[tactic(auto, using(crate::proofs::Chunks::tops))]
+fn top_passes(typed: &Typed, array: &RawArray) -> bool
+    requires { LayoutOk (typed_of typed.now) array.now }
+    ensures { result ≡ is_none (top_fault (typed_of typed.now) array.now) }
+{
+    lawful_root(typed, array);
+    is_table(typed) && null_total(&FormedNode::of(layout_of(&typed.kind), array)) == 0
 }
 
 fn top_ruled(rule: LayoutRule, left: u64) -> Result<(), LayoutFault>

@@ -6,7 +6,8 @@
 //! - [`check_array`] walks the array and the tree of kinds together, in preorder: a node, its children by number, its
 //!   dictionary. Its answer is the first rule that fails at the first node at which one does, with the way to that node,
 //!   a place and two numbers; or `Ok` exactly where no rule fails at any node.
-//! - [`check_chunk`] asks two things more of the root: a struct without a dictionary, and no null item.
+//! - [`check_chunk`] asks two things more of the root: a struct without a dictionary, and no null item. [`chunk_passes`]
+//!   says alone whether it finds no fault, and makes none.
 //! - [`nulls_of`] counts the null items of a lawful array's window, and [`count_rows`] its items.
 //! - Laws say what whoever reads a lawful array may rely on: what holds of its root ([`lawful_root`]), that its parts are
 //!   lawful ([`lawful_parts`]), and that what is read of an item lies within the buffers, the children and the dictionary
@@ -53,7 +54,7 @@ mod worked_arrays;
 
 pub use buffers::{missing, too_short};
 pub use children::first_short;
-pub use chunk::{check_chunk, count_rows, nulls_of};
+pub use chunk::{check_chunk, chunk_passes, count_rows, nulls_of};
 pub use counts::{negative, window_too_long, wrong_count};
 pub use laws::{
     chunks_are_tables, kinds_of_typed, lawful_has_no_fault, lawful_items_lie_within, lawful_parts,

@@ -1,5 +1,5 @@
 //! Scans over whole buffers that pass what is in order, so that items are looked at one by one only for a fault.
-ghost use Rattle.std.specs.Prelude.{◌≡◌, None, IsTrue, true, false, ◌⊎◌, ◌+◌, ◌-◌, ◌*◌, ◌^◌, ◌<◌, ◌≤◌, length, Option};
+ghost use Rattle.std.specs.Prelude.{◌≡◌, None, is_none, IsTrue, true, false, ◌⊎◌, ◌+◌, ◌-◌, ◌*◌, ◌^◌, ◌<◌, ◌≤◌, length, Option};
 ghost use Rattle.std.specs.Str.{IsCharBoundary};
 ghost use Rattle.bit_pack.specs.Packed.{offset_width};
 ghost use Rattle.layout_check.specs.Layout.{natural};
@@ -9,10 +9,11 @@ ghost use Rattle.layout_check.specs.Scans.{outside_in, AreBorders};
 use crate::runs;
 use bit_pack::{int_at, offset_at};
 
+#[tactic(auto, using(crate::proofs::Passes::one_more))]
 fn narrow_rises(offsets: &[u8], start: usize, len: usize) -> bool
     requires fits { start + len + 1 < 2 ^ 64 }
     requires long { (start + len + 1) * 4 ≤ length offsets.now }
-    ensures { IsTrue result → first_below (falls_in false offsets.now start) len ≡ None }
+    ensures { result ≡ is_none (first_below (falls_in false offsets.now start) len) }
 {
     let mut rises = true;
     for i in 0..len {
@@ -23,10 +24,11 @@ fn narrow_rises(offsets: &[u8], start: usize, len: usize) -> bool
     rises
 }
 
+#[tactic(auto, using(crate::proofs::Passes::one_more))]
 fn wide_rises(offsets: &[u8], start: usize, len: usize) -> bool
     requires fits { start + len + 1 < 2 ^ 64 }
     requires long { (start + len + 1) * 8 ≤ length offsets.now }
-    ensures { IsTrue result → first_below (falls_in true offsets.now start) len ≡ None }
+    ensures { result ≡ is_none (first_below (falls_in true offsets.now start) len) }
 {
     let mut rises = true;
     for i in 0..len {
@@ -41,7 +43,7 @@ fn wide_rises(offsets: &[u8], start: usize, len: usize) -> bool
 pub fn offsets_rise(wide: bool, offsets: &[u8], start: usize, len: usize) -> bool
     requires fits { start + len + 1 < 2 ^ 64 }
     requires long { (start + len + 1) * offset_width wide ≤ length offsets.now }
-    ensures { IsTrue result → first_below (falls_in wide offsets.now start) len ≡ None }
+    ensures { result ≡ is_none (first_below (falls_in wide offsets.now start) len) }
 {
     if wide {
         wide_rises(offsets, start, len)

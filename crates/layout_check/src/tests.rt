@@ -7,7 +7,7 @@ ghost use Rattle.layout_check.specs.Kinds.{KidsOk, DictOk, NodesOk, AllNodesOk, 
 ghost use Rattle.layout_check.specs.TypedView.{typed_of, dict_in};
 
 use crate::buffers::{buffers_absent, buffers_short, first_fall, layout_falls};
-use crate::chunk::{check_chunk, nulls_of};
+use crate::chunk::{check_chunk, chunk_passes, nulls_of};
 use crate::layout::{Layout, buffer_count};
 use crate::node::FormedNode;
 use crate::rule::{DICTIONARY_STEP, LayoutFault, LayoutRule};
@@ -550,9 +550,11 @@ fn a_chunk_is_a_table_without_null_rows(rt: HostRuntime) {
         (LayoutRule::TopKind, 0, 0, 0),
         &[],
     );
+    assert!(&rt; !chunk_passes(&typed, &number));
     let typed = struct_of(&rt, alloc, typed);
     let table = over(&rt, alloc, (1, 0, 0), number, &mut pass);
     assert!(&rt; check_chunk(&typed, &table).is_ok());
+    assert!(&rt; chunk_passes(&typed, &table));
     assert!(&rt; check_array(&typed, &table).is_ok());
     assert_eq!(&rt; nulls_of(&typed, &table), 0);
     ended(&rt, table, &mut pass);
@@ -573,6 +575,7 @@ fn a_chunk_is_a_table_without_null_rows(rt: HostRuntime) {
         (LayoutRule::TopNulls, 0, 1, 0),
         &[],
     );
+    assert!(&rt; !chunk_passes(&typed, &table));
     assert!(&rt; check_array(&typed, &table).is_ok());
     assert_eq!(&rt; nulls_of(&typed, &table), 1);
     ended(&rt, table, &mut pass);

@@ -1,5 +1,5 @@
 //! The rule on texts between offsets.
-ghost use Rattle.std.specs.Prelude.{◌≡◌, ◌↔◌, None, IsTrue, IsUtf8, MatchResult, not, ◌+◌, ◌*◌, ◌^◌, ◌<◌, ◌≤◌, ◌≤ℤ◌, pos, length, Option};
+ghost use Rattle.std.specs.Prelude.{◌≡◌, ◌↔◌, None, is_none, IsTrue, IsUtf8, MatchResult, not, ◌+◌, ◌*◌, ◌^◌, ◌<◌, ◌≤◌, ◌≤ℤ◌, pos, length, Option};
 ghost use Rattle.std.specs.Str.{is_utf8};
 ghost use Rattle.std.specs.Str.Lossy.{utf8_valid_len};
 ghost use Rattle.bit_pack.specs.Packed.{offset_width};
@@ -219,6 +219,24 @@ fn text_wrong(wide: bool, node: &FormedNode) -> Option<Numbers>
         None
     } else {
         first_bad_text(wide, node)
+    }
+}
+
+/// Whether each valid text is UTF-8.
+#[tactic(auto, using(crate::proofs::Long::long))]
+pub fn texts_pass(kind: &DataType, node: &FormedNode) -> bool
+    requires layout { node.now.layout ≡ layout_of kind.now }
+    requires buffers { AreReadable node.now.layout (own_of node.now) }
+    requires rise { offsets_fall_if (is_behind_offsets node.now.layout) (own_of node.now) ≡ None }
+    requires placed { views_misplaced node.now.layout (own_of node.now) ≡ None }
+    ensures { result ≡ is_none (texts_wrong kind.now (own_of node.now)) }
+{
+    match kind {
+        DataType::Utf8 { wide } => {
+            passes_whole(*wide, node) || first_bad_text(*wide, node).is_none()
+        }
+        DataType::Utf8View => view_text_wrong(node).is_none(),
+        _ => true,
     }
 }
 

@@ -1,5 +1,5 @@
 //! The rules on the places and the prefixes of views, item by item.
-ghost use Rattle.std.specs.Prelude.{◌≡◌, ◌==◌, not, nat_lt, None, IsTrue, true, ◌+◌, ◌*◌, ◌^◌, ◌<◌, ◌≤◌, ◌≤ℤ◌, pos, length, Option};
+ghost use Rattle.std.specs.Prelude.{◌≡◌, ◌==◌, is_none, ◌&&◌, not, nat_lt, None, IsTrue, true, ◌+◌, ◌*◌, ◌^◌, ◌<◌, ◌≤◌, ◌≤ℤ◌, pos, length, Option};
 ghost use Rattle.bit_pack.specs.Packed.{meant};
 ghost use Rattle.layout_check.specs.NodeView.{AreReadable, own_of};
 ghost use Rattle.layout_check.specs.Layout.{layout_of, items, end, bytes, is_valid, IsLongIfPresent, view_width, data_buffers, data_lengths};
@@ -253,6 +253,20 @@ pub fn first_wrong_prefix(node: &FormedNode) -> Option<Numbers>
         }
     }
     None
+}
+
+/// Whether views name data and have its prefixes, once the buffers are long enough.
+#[inline(always)]
+#[tactic(auto, using(crate::proofs::Long::long))]
+pub fn views_pass(node: &FormedNode) -> bool
+    requires buffers { AreReadable node.now.layout (own_of node.now) }
+    ensures exact { result ≡ (is_none (views_misplaced node.now.layout (own_of node.now)) && is_none (prefixes_wrong node.now.layout (own_of node.now))) }
+    ensures placed { IsTrue result → views_misplaced node.now.layout (own_of node.now) ≡ None }
+{
+    match node.layout {
+        Layout::Views => first_misplaced(node).is_none() && first_wrong_prefix(node).is_none(),
+        _ => true,
+    }
 }
 
 /// The rule on the places of views, once the buffers are long enough.

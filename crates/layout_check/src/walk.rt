@@ -1,11 +1,11 @@
 //! The walk over an array and its kinds: the rules of each node in preorder.
-ghost use Rattle.std.specs.Prelude.{◌≡◌, IsOk, ◌↔◌, ◌≤ℤ◌, pos, ◌+◌, ◌-◌, ◌^◌, ◌<◌, ◌≤◌, length, map, OnOk, [], ◌∷◌, ◌++◌, None, Option};
+ghost use Rattle.std.specs.Prelude.{◌≡◌, IsOk, IsTrue, is_none, ◌↔◌, ◌≤ℤ◌, pos, ◌+◌, ◌-◌, ◌^◌, ◌<◌, ◌≤◌, length, map, OnOk, [], ◌∷◌, ◌++◌, None, Option};
 ghost use Rattle.std.specs.Global.{Box};
 ghost use Rattle.tree_model.specs.Tree.{IsLive, children_of, dictionary_of, trees, maybe_tree, Depth, depth_of_all, depth_of_maybe};
 ghost use Rattle.raw_array.specs.Members.{ArrayTree, members_of};
 ghost use Rattle.layout_check.specs.Kinds.{NodesOk, AllNodesOk, DictNodesOk, TypedOk};
 ghost use Rattle.fmt_string.specs.Kinds.{KindOk};
-ghost use Rattle.layout_check.specs.Rules.{one_if};
+ghost use Rattle.layout_check.specs.Rules.{one_if, indices_wrong, length_if};
 ghost use Rattle.layout_check.specs.declared.typed.Typed.{out-Typed};
 ghost use Rattle.layout_check.specs.TypedView.{live_node, typed_of, kids_of, dict_in};
 ghost use Rattle.layout_check.specs.Layout.{layout_of, buffer_count};
@@ -14,7 +14,7 @@ ghost use Rattle.layout_check.specs.NodeView.{AreReadable, own_of};
 ghost use Rattle.layout_check.specs.Found.{steps_of, found, found_at};
 ghost use Rattle.layout_check.specs.Walk.{LayoutOk, Steps, rules_fault, first_fault, fault_from, own_fault, children_fault, dictionary_fault};
 
-use crate::buffers::{buffers_absent, buffers_short, layout_falls};
+use crate::buffers::{buffers_absent, buffers_pass, buffers_short, layout_falls, layout_passes};
 use crate::children::children_short;
 use crate::counts::{buffers_wrong, children_wrong, dictionary_wrong, negative, window_too_long};
 use crate::indices::indices_wrong;
@@ -22,9 +22,9 @@ use crate::layout::layout_of;
 use crate::node::FormedNode;
 use crate::nulls::nulls_wrong;
 use crate::rule::{DICTIONARY_STEP, Failing, LayoutFault, LayoutRule, Numbers, Path, ruled};
-use crate::texts::texts_wrong;
+use crate::texts::{texts_pass, texts_wrong};
 use crate::typed::Typed;
-use crate::views::{prefixes_wrong, views_misplaced};
+use crate::views::{prefixes_wrong, views_misplaced, views_pass};
 use raw_array::RawArray;
 
 /// Checks an array against its kinds ("Arrow Columnar Format", "Physical memory layout"). The fault is the first rule of
@@ -40,6 +40,129 @@ pub fn check_array(typed: &Typed, array: &RawArray) -> Result<(), LayoutFault>
     match check_from(typed, array, &mut path) {
         Ok(()) => Ok(()),
         Err(failing) => Err(failing.at(&path)),
+    }
+}
+
+/// Whether all rules hold of an array and what is below it, so that [`check_array`] finds no fault.
+#[cycle(passes)]
+#[tactic(auto, using(crate::proofs::Faults::walks, crate::proofs::Passes::walks))]
+pub(crate) fn passes(typed: &Typed, array: &RawArray) -> bool
+    requires types { NodesOk (typed_of typed.now) }
+    ensures { (path : Steps) → result ≡ is_none (fault_from (typed_of typed.now) path array.now) }
+{
+    own_passes(typed, array)
+        && children_pass(&typed.kids, array)
+        && dictionary_passes(&typed.dict, array)
+}
+
+/// Whether the rules of the node itself hold.
+#[inline(always)]
+#[tactic(auto, using(crate::proofs::Passes::own))]
+fn own_passes(typed: &Typed, array: &RawArray) -> bool
+    requires type_ok { KindOk (out-Typed typed.now).kind }
+    ensures exact { (path : Steps) → result ≡ is_none (own_fault (typed_of typed.now) path array.now) }
+    ensures live { IsTrue result → IsLive array.now }
+    ensures children { IsTrue result → length (children_of array.now) ≡ length (out-Typed typed.now).kids.items }
+{
+    if array.is_released() {
+        return false;
+    }
+    if !form_passes(typed, array) {
+        return false;
+    }
+    let node = FormedNode::of(layout_of(&typed.kind), array);
+    readable_passes(typed, &node) && items_pass(typed, &node)
+}
+
+/// Whether the rules of a live node's buffers hold.
+#[inline(always)]
+#[tactic(auto, using(crate::proofs::Passes::node))]
+fn readable_passes(typed: &Typed, node: &FormedNode) -> bool
+    requires layout { node.now.layout ≡ layout_of (out-Typed typed.now).kind }
+    ensures exact { (path : Steps) → result ≡ is_none (rules_fault buffer_rules path (live_node typed.now node.now.array.now)) }
+    ensures buffers { IsTrue result → AreReadable node.now.layout (own_of node.now) }
+    ensures rise { IsTrue result → offsets_fall_if (is_behind_offsets node.now.layout) (own_of node.now) ≡ None }
+{
+    buffers_pass(node) && layout_passes(node)
+}
+
+/// Whether the rules of a live node's items hold, once its buffers are long enough.
+#[inline(always)]
+#[tactic(auto, using(crate::proofs::Passes::node))]
+fn items_pass(typed: &Typed, node: &FormedNode) -> bool
+    requires type_ok { KindOk (out-Typed typed.now).kind }
+    requires layout { node.now.layout ≡ layout_of (out-Typed typed.now).kind }
+    requires buffers { AreReadable node.now.layout (own_of node.now) }
+    requires rise { offsets_fall_if (is_behind_offsets node.now.layout) (own_of node.now) ≡ None }
+    requires dictionary { one_if (dictionary_of node.now.array.now) ≡ one_if (out-Typed typed.now).dict }
+    ensures { (path : Steps) → result ≡ is_none (rules_fault item_rules path (live_node typed.now node.now.array.now)) }
+{
+    children_short(node).is_none()
+        && nulls_wrong(node).is_none()
+        && views_pass(node)
+        && texts_pass(&typed.kind, node)
+        && indices_pass(typed, node)
+        && window_too_long(node.stop).is_none()
+}
+
+/// Whether each valid index is a place of the dictionary. Nothing is looked at where the type has none.
+#[inline(always)]
+fn indices_pass(typed: &Typed, node: &FormedNode) -> bool
+    requires type_ok { KindOk (out-Typed typed.now).kind }
+    requires layout { node.now.layout ≡ layout_of (out-Typed typed.now).kind }
+    requires buffers { AreReadable node.now.layout (own_of node.now) }
+    requires dictionary { one_if (dictionary_of node.now.array.now) ≡ one_if (out-Typed typed.now).dict }
+    ensures { result ≡ is_none (indices_wrong (out-Typed typed.now).kind (own_of node.now) (length_if (dictionary_of node.now.array.now))) }
+{
+    typed.dict.is_none() || indices_wrong(&typed.kind, node).is_none()
+}
+
+/// Whether the rules of a live node's form hold: its numbers, and how many parts it has.
+#[inline(always)]
+#[tactic(auto, using(crate::proofs::Passes::node))]
+fn form_passes(typed: &Typed, array: &RawArray) -> bool
+    requires live { IsLive array.now }
+    ensures exact { (path : Steps) → result ≡ is_none (rules_fault form_rules path (live_node typed.now array.now)) }
+    ensures length { IsTrue result → pos 0 ≤ℤ (members_of array.now).length }
+    ensures offset { IsTrue result → pos 0 ≤ℤ (members_of array.now).offset }
+    ensures buffers { IsTrue result
+        → length (members_of array.now).buffers ≡ buffer_count (layout_of (out-Typed typed.now).kind) (length (members_of array.now).buffers) }
+    ensures children { IsTrue result → length (children_of array.now) ≡ length (out-Typed typed.now).kids.items }
+    ensures dictionary { IsTrue result → one_if (dictionary_of array.now) ≡ one_if (out-Typed typed.now).dict }
+{
+    negative(array.length()).is_none()
+        && negative(array.offset()).is_none()
+        && buffers_wrong(layout_of(&typed.kind), array).is_none()
+        && children_wrong(&typed.kids, array).is_none()
+        && dictionary_wrong(&typed.dict, array).is_none()
+}
+
+/// Whether all rules hold of the children and what is below them.
+#[cycle(passes)]
+fn children_pass(kids: &[Typed], array: &RawArray) -> bool
+    requires types { AllNodesOk (trees (map typed_of kids.now)) }
+    requires live { IsLive array.now }
+    requires children { length (children_of array.now) ≡ length kids.now }
+    ensures { (path : Steps) → result ≡ is_none (children_fault (map typed_of kids.now) 0 path (children_of array.now)) }
+{
+    for i in 0..kids.len() {
+        if !passes(&kids[i], array.child(i)) {
+            return false;
+        }
+    }
+    true
+}
+
+/// Whether all rules hold of the dictionary and what is below it.
+#[cycle(passes)]
+fn dictionary_passes(dict: &Option<Box<Typed>>, array: &RawArray) -> bool
+    requires types { DictNodesOk (maybe_tree (dict_in dict.now)) }
+    requires live { IsLive array.now }
+    ensures { (path : Steps) → result ≡ is_none (dictionary_fault (dict_in dict.now) path (dictionary_of array.now)) }
+{
+    match (dict, array.dictionary()) {
+        (Some(dict), Some(dictionary)) => passes(dict, dictionary),
+        _ => true,
     }
 }
 

@@ -1,5 +1,5 @@
 -- What the links below a checked stream show.
-use Rattle.std.proofs.Common.{◌≡◌, ◌≢◌, ◌==◌, ◌++◌, ℕ, ℤ, pos, true, false, List, [], ◌∷◌, Option, Some, None, refl, sym, ◌∙◌, ap, subst, if◌then◌else◌, inl}
+use Rattle.std.proofs.Common.{◌≡◌, ◌≢◌, ◌==◌, ◌++◌, ℕ, ℤ, pos, true, false, List, [], ◌∷◌, Option, Some, None, IsSomeAnd, refl, sym, ◌∙◌, ap, subst, if◌then◌else◌, inl}
 use Rattle.std.proofs.Common.{inr}
 use Rattle.std.proofs.lemmas.Bool.Decides.{eqb_tells}
 use Rattle.std.proofs.lemmas.List.{append-nil, append_assoc}
@@ -159,11 +159,12 @@ own_code kinds chunk (faults.Code code) own = absurd own
 own_code kinds chunk faults.NoMemory own = λ e. cc
 
 -- what a checked stream answers where its tap wants memory
-pub raw_wants : (s n : Stream) (link nodes : ℕ) (fault : StreamFault) (code : ℤ) (out : ArrayTree) → fault ≡ faults.NoMemory → n.said ≡ None
-    → code ≡ code_of fault → out ≡ Released
-    → Answers s (raw_state link nodes (Some fault) n) code out
-raw_wants s n link nodes fault code out is silent codes released =
-    let twelve : code ≡ pos 12 = codes ∙ ap code_of is in
+pub raw_wants : (s n : Stream) (link nodes : ℕ) (kept : Option StreamFault) (code r : ℤ) (out : ArrayTree) → IsSomeAnd kept (λ fault. fault ≡ faults.NoMemory)
+    → n.said ≡ None → IsSomeAnd kept (λ fault. code_of fault ≡ code) → r ≡ code → out ≡ Released
+    → Answers s (raw_state link nodes kept n) r out
+raw_wants s n link nodes None code r out is silent of same_code released = absurd is
+raw_wants s n link nodes (Some fault) code r out is silent of same_code released =
+    let twelve : r ≡ pos 12 = same_code ∙ sym of ∙ ap code_of is in
     record {
       chunk = λ live. absurd (subst IsLive released live);
       finish = λ e. absurd (let k : pos 12 ≡ pos 0 = sym twelve ∙ e in cc);

@@ -1,10 +1,9 @@
 -- What each way of a call of a checked stream gives, from what the call of its inner stream gave.
-use Rattle.std.proofs.Common.{◌≡◌, ◌≢◌, ◌+◌, ◌<◌, ℕ, ℤ, pos, negsuc, List, [], Option, Some, None, w32, to_z, of_z, FitsSigned, refl, sym}
+use Rattle.std.proofs.Common.{◌≡◌, ◌≢◌, ◌+◌, ◌<◌, ℕ, ℤ, pos, negsuc, List, [], Option, Some, None, IsSomeAnd, w32, to_z, of_z, FitsSigned, refl, sym}
 use Rattle.std.proofs.Common.{◌∙◌, ap, subst, inl, inr, arith}
 use Rattle.std.specs.Int.Signed.{mag}
 use Rattle.std.proofs.Math.Facts.{to_z-of_z}
 use Rattle.std.proofs.lemmas.Bool.Decides.{eqb_tells}
-use Rattle.fmt_string.specs.Table.{Row}
 use Rattle.tree_model.specs.Tree.{Released, IsLive}
 use Rattle.raw_array.specs.Members.{ArrayTree}
 use Rattle.unit_pass.specs.Tally.{Tally}
@@ -19,7 +18,7 @@ use Rattle.stream_face.specs.Texts.{Refusal, refused_row, wanting}
 use Rattle.stream_face.specs.declared.fault.Failure.{Failure}
 use Rattle.stream_face.specs.declared.fault.StreamFault.{StreamFault}
 use Rattle.stream_face.specs.declared.fault.StreamFault.TheVariants as faults
-use Rattle.stream_face.proofs.Joints.{inner_works, of_link-none, tells_refusal}
+use Rattle.stream_face.proofs.Joints.{inner_works, of_link-none, own_code, tells_refusal}
 
 -- ---- codes
 
@@ -33,11 +32,25 @@ is_zero (negsuc n) f e = absurd (omega (arith, f, e))
 pub zero_code : IsCode (pos 0)
 zero_code = grind arith
 
-pub own_is_code : (kinds : KindTree) (chunk : ArrayTree) (fault : StreamFault) → IsOwnFault kinds chunk fault → IsCode (code_of fault)
-own_is_code kinds chunk (faults.Row row) own = absurd own
-own_is_code kinds chunk (faults.Chunk layout) own = grind arith
-own_is_code kinds chunk (faults.Code code) own = absurd own
-own_is_code kinds chunk faults.NoMemory own = grind arith
+own_fault_is_code : (kinds : KindTree) (chunk : ArrayTree) (fault : StreamFault) → IsOwnFault kinds chunk fault → IsCode (code_of fault)
+own_fault_is_code kinds chunk (faults.Row row) own = absurd own
+own_fault_is_code kinds chunk (faults.Chunk layout) own = grind arith
+own_fault_is_code kinds chunk (faults.Code code) own = absurd own
+own_fault_is_code kinds chunk faults.NoMemory own = grind arith
+
+-- the code of a fault that is kept
+abbrev pub HasCode : Option StreamFault → ℤ → Type 0
+HasCode kept code = IsSomeAnd kept (λ fault. code_of fault ≡ code)
+
+pub own_is_code : (kinds : KindTree) (chunk : ArrayTree) (kept : Option StreamFault) (code : ℤ) → IsSomeAnd kept (IsOwnFault kinds chunk) → HasCode kept code
+    → IsCode code
+own_is_code kinds chunk None code own of = absurd own
+own_is_code kinds chunk (Some fault) code own of = subst IsCode of (own_fault_is_code kinds chunk fault own)
+
+pub own_is_refusal : (kinds : KindTree) (chunk : ArrayTree) (kept : Option StreamFault) (code : ℤ) → IsSomeAnd kept (IsOwnFault kinds chunk) → HasCode kept code
+    → code ≢ pos 0
+own_is_refusal kinds chunk None code own of = absurd own
+own_is_refusal kinds chunk (Some fault) code own of = λ z. own_code kinds chunk fault own (of ∙ z)
 
 -- ---- each way
 
@@ -64,20 +77,35 @@ never_live t released live = absurd (subst IsLive released live)
 
 -- ---- where the inner stream refuses
 
--- its row at fault stays that of the inner stream
-pub same_row : (fault : StreamFault) (n : Stream) (row : _) → row ≡ n.fault → row_or (Some fault) row ≡ row → row_or (Some fault) n.fault ≡ n.fault
-same_row fault n row e h = subst (λ r. row_or (Some fault) r ≡ r) e h
+-- a refusal is told, with its code
+pub tells-kept : (kept : Option StreamFault) (said : Option Refusal) (code r : ℤ) → HasCode kept code → r ≡ code → code ≢ pos 0
+    → Tells r (refusal_or kept said said)
+tells-kept None said code r of same_code nonzero = absurd of
+tells-kept (Some fault) said code r of same_code nonzero = (same_code ∙ sym of, λ z. nonzero (sym same_code ∙ z))
 
 -- its refusal is that of the inner stream
-pub same_refusal : (fault : StreamFault) (said : Option Refusal) (refusal : Refusal) → said ≡ Some refusal → code_of fault ≡ refusal.code
-    → refusal_or (Some fault) said said ≡ Some refusal
-same_refusal fault said refusal e c =
-    ap (λ x. refusal_or (Some fault) x x) e ∙ ap (λ z. Some (let told : Refusal = record { code = z; text = refusal.text } in told)) c
+pub same_refusal : (kept : Option StreamFault) (said : Option Refusal) (refusal : Refusal) (code : ℤ) → HasCode kept code → said ≡ Some refusal
+    → code ≡ refusal.code → refusal_or kept said said ≡ Some refusal
+same_refusal None said refusal code of e c = absurd of
+same_refusal (Some fault) said refusal code of e c =
+    ap (λ x. refusal_or (Some fault) x x) e ∙ ap (λ z. Some (let told : Refusal = record { code = z; text = refusal.text } in told)) (of ∙ c)
 
-module _ (link nodes : ℕ) (f : Option Failure) (fault : StreamFault) (s n : Stream) (code r : ℤ) (e : f ≡ None) (same_code : r ≡ code) (of : code_of fault ≡ r)
-    (row : row_or (Some fault) n.fault ≡ n.fault) where
+-- where a fault is kept there is a failure
+pub kept_some : {X : Type 0} → (failure : Option Failure) (code : ℤ) → HasCode (why failure) code → failure ≡ None → X
+kept_some None code of e = absurd of
+kept_some (Some failure) code of e = absurd (cc)
+
+-- a row at fault is the inner stream's, at which it ends
+pub row_ends : (kept : Option StreamFault) (n : Stream) (code : ℤ) (fault : _) → row_or kept n.fault ≡ n.fault → IsRowFault code n.ending n.fault
+    → kept ≡ Some (faults.Row fault) → n.ending ≡ Some fault
+row_ends kept n code fault row faulted e =
+    let is : Some fault ≡ n.fault = subst (λ x. row_or x n.fault ≡ n.fault) e row in
+    (subst (IsRowFault code n.ending) (sym is) faulted).1
+
+module _ (link nodes : ℕ) (f : Option Failure) (kept : Option StreamFault) (s n : Stream) (code r : ℤ) (e : f ≡ None) (same_code : r ≡ code)
+    (of : HasCode kept r) (row : row_or kept n.fault ≡ n.fault) where
   pub repeats-refused : (before after : Tally) (seen shown : Option (List Seen)) → Repeats s n code before after seen shown
-      → Repeats (raw_state link nodes (why f) s) (raw_state link nodes (Some fault) n) r before after seen shown
+      → Repeats (raw_state link nodes (why f) s) (raw_state link nodes kept n) r before after seen shown
   repeats-refused before after seen shown again =
       let failed = λ (refusal : Refusal) (q : refusal_or (why f) s.failure s.said ≡ Some refusal).
       subst (λ h. refusal_or (why h) s.failure s.said ≡ Some refusal) e q in
@@ -85,7 +113,7 @@ module _ (link nodes : ℕ) (f : Option Failure) (fault : StreamFault) (s n : St
         same = λ refusal q.
             let h = again.same refusal (failed refusal q) in (
               same_code ∙ h.0,
-              same_refusal fault n.said refusal h.1 (of ∙ same_code ∙ h.0),
+              same_refusal kept n.said refusal r of h.1 (same_code ∙ h.0),
               row ∙ h.2 ∙ sym (ap (λ x. row_or (why x) s.fault) e),
             );
         counts = λ refusal q. again.counts refusal (failed refusal q);
@@ -93,14 +121,14 @@ module _ (link nodes : ℕ) (f : Option Failure) (fault : StreamFault) (s n : St
       }
 
   pub answers-refused : (out : ArrayTree) → out ≡ Released → code ≢ pos 0 → Answers s n code out
-      → Answers (raw_state link nodes (why f) s) (raw_state link nodes (Some fault) n) r out
+      → Answers (raw_state link nodes (why f) s) (raw_state link nodes kept n) r out
   answers-refused out released nonzero a = record {
     chunk = λ live. never_live out released live;
     finish = λ z. absurd (nonzero (sym same_code ∙ z));
     bad = λ z.
         let h = a.bad (sym same_code ∙ z) in
-        (h.0, h.1, h.2, h.3, row ∙ h.4, same_refusal fault n.said (refused_row h.2) h.5 (of ∙ z));
-    wants = λ z. same_refusal fault n.said wanting (a.wants (sym same_code ∙ z)) (of ∙ z);
+        (h.0, h.1, h.2, h.3, row ∙ h.4, same_refusal kept n.said (refused_row h.2) r of h.5 z);
+    wants = λ z. same_refusal kept n.said wanting r of (a.wants (sym same_code ∙ z)) z;
     codes = elim a.codes [ inl z ↦ inl (same_code ∙ z) | inr rest ↦ inr (elim rest [ inl z ↦ inl (same_code ∙ z) | inr z ↦ inr (same_code ∙ z) ]) ];
   }
 
@@ -164,16 +192,26 @@ Shows-raw_end s n link out before after none ends ended released shows =
 
 -- ---- where the chunk is refused
 
-pub why-own : (kinds : KindTree) (chunk : ArrayTree) (s n : Stream) (fault : StreamFault) (r : ℤ) → IsOwnFault kinds chunk fault → r ≡ code_of fault
+why-own_fault : (kinds : KindTree) (chunk : ArrayTree) (s n : Stream) (fault : StreamFault) (r : ℤ) → IsOwnFault kinds chunk fault → r ≡ code_of fault
     → n.said ≡ None → IsTold s.chunk chunk → IsWhy r kinds s n (Some fault)
-why-own kinds chunk s n (faults.Row row) r own e silent told = absurd own
-why-own kinds chunk s n (faults.Chunk layout) r own e silent told = (e, silent, chunk, told, own)
-why-own kinds chunk s n (faults.Code code) r own e silent told = absurd own
-why-own kinds chunk s n faults.NoMemory r own e silent told = e
+why-own_fault kinds chunk s n (faults.Row row) r own e silent told = absurd own
+why-own_fault kinds chunk s n (faults.Chunk layout) r own e silent told = (e, silent, chunk, told, own)
+why-own_fault kinds chunk s n (faults.Code code) r own e silent told = absurd own
+why-own_fault kinds chunk s n faults.NoMemory r own e silent told = e
 
-pub row-own : (kinds : KindTree) (chunk : ArrayTree) (n : Stream) (fault : StreamFault) (r : ℤ) → IsOwnFault kinds chunk fault
+pub why-own : (kinds : KindTree) (chunk : ArrayTree) (s n : Stream) (kept : Option StreamFault) (r code : ℤ) → IsSomeAnd kept (IsOwnFault kinds chunk)
+    → HasCode kept code → r ≡ code → n.said ≡ None → IsTold s.chunk chunk → IsWhy r kinds s n kept
+why-own kinds chunk s n None r code own of same_code silent told = absurd own
+why-own kinds chunk s n (Some fault) r code own of same_code silent told = why-own_fault kinds chunk s n fault r own (same_code ∙ sym of) silent told
+
+row-own_fault : (kinds : KindTree) (chunk : ArrayTree) (n : Stream) (fault : StreamFault) (r : ℤ) → IsOwnFault kinds chunk fault
     → IsRowFault r n.ending (row_or (Some fault) n.fault)
-row-own kinds chunk n (faults.Row row) r own = absurd own
-row-own kinds chunk n (faults.Chunk layout) r own = tt
-row-own kinds chunk n (faults.Code code) r own = absurd own
-row-own kinds chunk n faults.NoMemory r own = tt
+row-own_fault kinds chunk n (faults.Row row) r own = absurd own
+row-own_fault kinds chunk n (faults.Chunk layout) r own = tt
+row-own_fault kinds chunk n (faults.Code code) r own = absurd own
+row-own_fault kinds chunk n faults.NoMemory r own = tt
+
+pub row-own : (kinds : KindTree) (chunk : ArrayTree) (n : Stream) (kept : Option StreamFault) (r : ℤ) → IsSomeAnd kept (IsOwnFault kinds chunk)
+    → IsRowFault r n.ending (row_or kept n.fault)
+row-own kinds chunk n None r own = absurd own
+row-own kinds chunk n (Some fault) r own = row-own_fault kinds chunk n fault r own

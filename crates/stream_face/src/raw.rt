@@ -1,5 +1,5 @@
 //! A stream with its schema, each of whose chunks is checked and shown.
-ghost use Rattle.std.specs.Prelude.{◌≡◌, ◌≢◌, ◌≤◌, ◌+◌, ◌↔◌, IsTrue, List, ℕ, ℤ, None, Some, Option, true, false, pos, IfOk, IfErr, MatchResult, OnErr, OnOk};
+ghost use Rattle.std.specs.Prelude.{◌≡◌, ◌≢◌, ◌≤◌, ◌+◌, ◌↔◌, IsTrue, List, ℕ, ℤ, None, Some, Option, true, false, pos, IfOk, IfErr, IsSomeAnd, MatchResult, OnOk};
 ghost use Rattle.std.specs.Prelude.{not, [], ◌∷◌};
 ghost use Rattle.std.specs.Thread.{IsSync};
 ghost use Rattle.std.specs.Coded.{Coded-set, codes};
@@ -9,7 +9,7 @@ ghost use Rattle.tree_model.specs.Tree.{Released, IsLive};
 ghost use Rattle.raw_array.specs.Members.{Cost};
 ghost use Rattle.raw_schema.specs.Members.{Nodes, coded_schema};
 ghost use Rattle.layout_check.specs.ColumnSchema.{SchemaOf};
-ghost use Rattle.layout_check.specs.Kinds.{KindTree};
+ghost use Rattle.layout_check.specs.Kinds.{KindTree, TypedOk};
 ghost use Rattle.layout_check.specs.Schemas.{TypedOf};
 ghost use Rattle.layout_check.specs.TypedView.{typed_of};
 ghost use Rattle.layout_check.specs.Walk.{ChunkOk};
@@ -33,7 +33,7 @@ use crate::stream::ArrayStream;
 use crate::tap::Tap;
 use edge_io::Gate;
 use fmt_string::RowFault;
-use layout_check::{Typed, check_chunk};
+use layout_check::{Typed, check_chunk, chunk_passes};
 use raw_array::{Acted, RawArray};
 use raw_schema::RawSchema;
 use std::alloc::Global;
@@ -81,44 +81,72 @@ fn error_text<'a>(fault: StreamFault, said: Option<&'a str>) -> &'a str
     }
 }
 
-/// Checks a structure that the inner stream gave, and shows it to the tap. What is refused is released.
-fn admit<T: Tap>(
-    alloc: Global,
-    known: &Known,
-    link: u32,
-    out: &mut RawArray,
-    pass: &mut Pass,
-    tap: &mut T,
-) -> Result<(), StreamFault>
-    requires schema { IsLive known.now.schema }
-    requires room { pass.old.units + Cost out.old ≤ SUPPLY }
+/// Why a structure is refused that the inner stream gave: it breaks a rule, or the tap has no memory.
+fn chunk_fault(typed: &Typed, chunk: &RawArray) -> StreamFault
+    requires { TypedOk (typed_of typed.now) }
+    ensures why { IsOwnFault (typed_of typed.now) chunk.now result }
+    ensures lawful { ChunkOk (typed_of typed.now) chunk.now → result ≡ faults.NoMemory }
+{
+    match check_chunk(typed, chunk) {
+        Err(fault) => StreamFault::Chunk(fault),
+        Ok(()) => StreamFault::NoMemory,
+    }
+}
+
+/// Checks a structure that the inner stream gave, and shows it to the tap.
+fn admits<T: Tap>(alloc: Global, known: &Known, link: u32, chunk: &RawArray, tap: &mut T) -> bool
+    requires { IsLive known.now.schema }
     ensures only { (kinds : KindTree) → TypedOf known.now.schema kinds → kinds ≡ typed_of known.now.typed }
-    ensures chunk { OnOk result (ChunkOk (typed_of known.now.typed) out.old) }
-    ensures given { OnOk result (out.new ≡ out.old) }
-    ensures seen { OnOk result (T.seen tap.new ≡ grown (T.seen tap.old) (seen_of link known.now.schema (typed_of known.now.typed) out.old ∷ [])) }
-    ensures unchanged { OnOk result (pass.new ≡ pass.old) }
-    ensures why { IfErr result (IsOwnFault (typed_of known.now.typed) out.old) }
-    ensures lawful { ChunkOk (typed_of known.now.typed) out.old → IfErr result (λ fault. fault ≡ faults.NoMemory) }
-    ensures released { OnErr result (out.new ≡ Released) }
-    ensures unseen { OnErr result (T.seen tap.new ≡ T.seen tap.old) }
-    ensures units { OnErr result (pass.new.units ≡ pass.old.units + Cost out.old) }
+    ensures chunk { IsTrue result → ChunkOk (typed_of known.now.typed) chunk.now }
+    ensures seen { IsTrue result → T.seen tap.new ≡ grown (T.seen tap.old) (seen_of link known.now.schema (typed_of known.now.typed) chunk.now ∷ []) }
+    ensures unseen { result ≡ false → T.seen tap.new ≡ T.seen tap.old }
 {
     let typed = known.typed();
-    if let Err(fault) = check_chunk(typed, out) {
-        out.release(pass);
-        return Err(StreamFault::Chunk(fault));
-    }
-    if tap.see(alloc, link, known.schema(), typed, out).is_err() {
-        out.release(pass);
-        return Err(StreamFault::NoMemory);
-    }
-    Ok(())
+    chunk_passes(typed, chunk) && tap.see(alloc, link, known.schema(), typed, chunk).is_ok()
+}
+
+/// Keeps why the inner stream refused.
+#[inline(never)]
+fn refuse<S: ArrayStream>(inner: &S, code: i32, failure: &mut Option<Failure>)
+    requires number { IsCode code }
+    requires refused { code ≢ pos 0 }
+    requires tells { Tells code (S.state inner.now).said }
+    requires row { IsRowFault code (S.state inner.now).ending (S.state inner.now).fault }
+    ensures code { IsSomeAnd (why failure.new) (λ fault. code_of fault ≡ code) }
+    ensures row { row_or (why failure.new) (S.state inner.now).fault ≡ (S.state inner.now).fault }
+    ensures why { (kinds : KindTree) (before : Stream) → IsWhy code kinds before (S.state inner.now) (why failure.new) }
+{
+    let fault = fault_of(code, inner.fault());
+    *failure = Some(Failure { fault });
+}
+
+/// Releases a structure that isn't admitted, and keeps why, whose code is the answer.
+#[inline(never)]
+fn refuse_chunk(
+    known: &Known,
+    out: &mut RawArray,
+    pass: &mut Pass,
+    failure: &mut Option<Failure>,
+) -> i32
+    requires schema { IsLive known.now.schema }
+    requires room { pass.old.units + Cost out.old ≤ SUPPLY }
+    ensures code { IsSomeAnd (why failure.new) (λ fault. code_of fault ≡ result) }
+    ensures why { IsSomeAnd (why failure.new) (IsOwnFault (typed_of known.now.typed) out.old) }
+    ensures lawful { ChunkOk (typed_of known.now.typed) out.old → IsSomeAnd (why failure.new) (λ fault. fault ≡ faults.NoMemory) }
+    ensures released { out.new ≡ Released }
+    ensures units { pass.new.units ≡ pass.old.units + Cost out.old }
+    ensures blocks { pass.new.blocks ≡ pass.old.blocks }
+    ensures nodes { pass.new.nodes ≡ pass.old.nodes }
+{
+    let fault = chunk_fault(known.typed(), out);
+    out.release(pass);
+    *failure = Some(Failure { fault });
+    fault.code()
 }
 
 impl<S: ArrayStream> RawStream<S> {
     ghost use Rattle.stream_face.specs.Meaning.{below, meaning, raw_fault, raw_kinds, raw_link, raw_schema};
     ghost use Rattle.layout_check.specs.ColumnKinds.{type_of_columns};
-    ghost use Rattle.layout_check.specs.Kinds.{TypedOk};
 
     /// Asks the inner stream for its schema, once, and checks it. On a refusal the inner stream is handed back, and all units
     /// are back.
@@ -232,21 +260,17 @@ impl<S: ArrayStream> RawStream<S> {
         }
         let code = self.inner.get_next(rt, alloc, out, pass, tap, gate);
         if code != 0 {
-            let fault = fault_of(code, self.inner.fault());
-            self.failure = Some(Failure { fault });
+            refuse(&self.inner, code, &mut self.failure);
             return code;
         }
         if out.is_released() {
             return 0;
         }
         self.inner.lawful_facts();
-        match admit(alloc, &self.known, self.link, out, pass, tap) {
-            Ok(()) => 0,
-            Err(fault) => {
-                self.failure = Some(Failure { fault });
-                fault.code()
-            }
+        if admits(alloc, &self.known, self.link, out, tap) {
+            return 0;
         }
+        refuse_chunk(&self.known, out, pass, &mut self.failure)
     }
 
     /// A law: what holds of a lawful stream at every moment. The call does nothing.

@@ -1,0 +1,40 @@
+use Rattle.std.proofs.Common.{rules, ◌≡◌, ◌<◌, ◌++◌, ◌∷◌, [], length, get_or}
+use Rattle.tree_model.specs.Tree.{children_of}
+use Rattle.layout_check.proofs.Levels.{levels-kid, kid-ok}
+use Rattle.layout_check.proofs.Passes.{none-step}
+use Rattle.layout_check.proofs.walk.+passes.Goals as goal
+
+pub children_pass-passes-requires : goal.children_pass-passes-requires
+children_pass-passes-requires t c =
+    let kids = c.args.kids.now in
+    let i = c.loop-i.i in
+    let kid = c.index-kids-i.result in
+    let inside : i < length kids = search rules in
+    let is : get_or kids i kid ≡ kid = search rules in
+    let levels = levels-kid kids i kid inside in
+    let ok = kid-ok kids i kid inside c.requires.types in
+    search rules
+
+pub children_pass-returns-then-not-passes : goal.children_pass-returns-then-not-passes
+children_pass-returns-then-not-passes t c path =
+    let kids = c.args.kids.now in
+    let i = c.loop-i.i in
+    let kid = c.index-kids-i.result in
+    let inside : i < length kids = search rules in
+    let is : get_or kids i kid ≡ kid = search rules in
+    let step = none-step kids i kid path (children_of c.args.array.now) inside c.requires.children in
+    let here = c.passes.ensures (path ++ i ∷ []) in
+    let whole = c.loop-i.invariant path in
+    search rules
+
+pub children_pass-loop-i-preserved : goal.children_pass-loop-i-preserved
+children_pass-loop-i-preserved t c path =
+    let kids = c.args.kids.now in
+    let i = c.loop-i.i in
+    let kid = c.index-kids-i.result in
+    let inside : i < length kids = search rules in
+    let is : get_or kids i kid ≡ kid = search rules in
+    let step = none-step kids i kid path (children_of c.args.array.now) inside c.requires.children in
+    let here = c.passes.ensures (path ++ i ∷ []) in
+    let whole = c.loop-i.invariant path in
+    search rules
