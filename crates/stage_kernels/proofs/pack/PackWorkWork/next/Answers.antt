@@ -1,7 +1,8 @@
-use Rattle.std.proofs.Common.{rules, ◌≡◌, ◌∙◌, ◌++◌, pos, IsTrue, map, sym, subst}
-use Rattle.tree_model.specs.Tree.{IsLive}
+use Rattle.std.proofs.Common.{rules, ◌≡◌, ◌≤◌, ◌∙◌, ◌++◌, pos, IsTrue, map, sym, subst, arith}
+use Rattle.tree_model.specs.Tree.{IsLive, Depth}
 use Rattle.fmt_string.specs.ColumnView.{column_of}
 use Rattle.fmt_string.specs.Parts.{AreWithin}
+use Rattle.layout_check.specs.Kinds.{TypedOk}
 use Rattle.layout_check.specs.Walk.{ChunkOk}
 use Rattle.layout_check.specs.ColumnKinds.{type_of_columns}
 use Rattle.arr_move.specs.TreeActs.{Distinct}
@@ -41,6 +42,14 @@ packed-requires-clause-distinct g c =
     let rest : c.as_slice.result.now ≡ work.rest.items = search rules in
     let picks : c.as_slice-2.result.now ≡ work.picks.items = search rules in
     subst Distinct (λ i. sym rest i ++ sym picks i) numbers.distinct
+
+pub packed-requires-clause-not_deep : goal.packed-requires-clause-not_deep
+packed-requires-clause-not_deep g c =
+    let call = c.next-code.ensures in
+    let live : IsLive c.next-code.new.out = search (rules, live_unless) in
+    let types = subst TypedOk call.kinds c.typed-typed.ensures.types in
+    let low = c.lawful_arrays_are_not_deep.ensures _ _ types.1 (call.checked live).0 in
+    subst (λ t. Depth t ≤ 127) (sym c.move_out.ensures.moved) (omega (arith, low, types.0))
 
 -- ---- what the call answers and counts
 pub returns-in-Ok-clause-repeats : goal.returns-in-Ok-clause-repeats
