@@ -27,7 +27,7 @@ mod tests;
 mod types;
 mod worked;
 
-pub use column_array::export_column;
+pub use column_array::{export_column, export_laid};
 pub use laws::{
     columns_of_values_make_a_chunk, encoded_columns_are_lawful, indexed_columns_are_lawful,
     lawful_columns_make_a_chunk,

@@ -1,17 +1,16 @@
 -- A finished builder's buffers are those of the encoding of its values.
 use Rattle.std.proofs.Common.{◌≡◌, ◌∙◌, ◌+◌, ℕ, Bool, true, false, List, [], ◌∷◌, refl, sym, ap, arith, subst}
-use Rattle.std.specs.Prelude.{Option, None, Some, map, pos}
+use Rattle.std.specs.Prelude.{Option, None, Some, map}
 use Rattle.std.specs.List.{concat}
 use Rattle.fmt_string.specs.FieldText.{Form, Truths, Wholes, FloatBits, Text, HexBytes, SizedHex, Decimals, form_of}
 use Rattle.fmt_string.specs.Value.{Value, bytes_of}
 use Rattle.fmt_string.specs.declared.kind.DataType.{DataType}
-use Rattle.col_build.specs.Blocks.{AreSame, AreSameBut, IsBuilt, count_if}
+use Rattle.col_build.specs.Blocks.{AreSame, AreSameBut, count_if}
 use Rattle.col_build.specs.Encoding.{HasForm, buffers_if, encoded, if_some, is_wide, offset_bytes, validity_of}
-use Rattle.col_build.specs.Finished.{AreMade, IsEncoded, blocks_of, present_count}
+use Rattle.col_build.specs.Finished.{blocks_of, present_count}
 use Rattle.col_build.specs.Holding.{HasBytes, HasOffsets}
 use Rattle.col_build.specs.Settled.{HoldsWhole}
 use Rattle.col_build.specs.declared.builder.Builder.{Builder}
-use Rattle.col_build.specs.declared.built.Built.{Built}
 use Rattle.col_build.specs.declared.shape.Shape.{Shape}
 use Rattle.col_build.specs.declared.shape.Shape.TheVariants as shapes
 use Rattle.col_build.proofs.OffsetBytes.{offsets-some}
@@ -115,19 +114,7 @@ module _ (builder : Builder) (kind : DataType) (values : List Value) (wide text 
       ∙ count-three builder.validity.items (offset_bytes wide (map bytes_of values)) builder.bytes.items
       )
 
--- ---- what is built and what stays
-
-pub encoded-built : (builder : Builder) (kind : DataType) (values : List Value) (buffers : List (Option (List ℕ))) (built : Built) → HoldsWhole builder kind values
-    → (encoded kind values).buffers ≡ buffers
-    → IsBuilt builder buffers built → IsEncoded built kind values
-encoded-built builder kind values buffers built holds are is =
-    let Made : List (Option (List ℕ)) → Type 0 = λ bs. AreMade built.buffers.items bs in
-    record {
-      is_kind = is.is_kind ∙ holds.is_kind;
-      length = is.length ∙ ap pos holds.count;
-      null_count = is.null_count ∙ ap pos holds.nulls;
-      buffers = subst Made (sym are) is.made;
-    }
+-- ---- what stays where there is no memory
 
 pub same-holds : (old new : Builder) (kind : DataType) (values : List Value) → AreSame old new → HoldsWhole old kind values → HoldsWhole new kind values
 same-holds old new kind values same holds =
@@ -160,3 +147,12 @@ same-but-holds old new kind values wide text is same holds =
       bytes = subst HasNew (sym (same.shape ∙ is)) (same.offsets, same.bytes ∙ bytes.1);
       fits = holds.fits;
     }
+
+-- ---- a builder whose buffers were moved away
+
+pub none-in-place : (shape : Shape) (offsets bytes : List ℕ) → (IsBetween shape → ⊥) → bytes ≡ [] → HasBytes shape [] offsets bytes
+none-in-place shapes.Truths offsets bytes other none = none
+none-in-place (shapes.Wholes width signed) offsets bytes other none = none
+none-in-place (shapes.Floats width) offsets bytes other none = none
+none-in-place (shapes.Sized size) offsets bytes other none = none
+none-in-place (shapes.Between wide text) offsets bytes other none = absurd (other (wide, text, refl))

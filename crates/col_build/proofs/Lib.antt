@@ -6,7 +6,7 @@ pub mod ShapeFacts
 pub mod MadeAhead
 pub mod FitsFacts
 pub mod ValidityFacts
-pub mod Laid
+pub mod LaidAs
 pub mod Pushes
 pub mod OneMore
 pub mod FinishFacts

@@ -6,6 +6,7 @@ use Rattle.fmt_string.specs.Value.{Value}
 use Rattle.fmt_string.specs.declared.kind.DataType.{DataType}
 use Rattle.col_build.specs.Encoding.{encoded}
 use Rattle.col_build.specs.declared.built.Built.{Built}
+use Rattle.col_build.specs.declared.built.Laid.{Laid}
 
 -- the view is the whole of a block of these bytes, by the block's first hold
 pub record IsWhole (view : BufView) (content : List ℕ) : Type 0 where
@@ -33,6 +34,12 @@ present_count (Some bytes ∷ buffers) = 1 + present_count buffers
 -- how many blocks the encoding of a column is made of
 abbrev pub blocks_of : DataType → List Value → ℕ
 blocks_of kind values = present_count (encoded kind values).buffers
+
+-- the buffers of the finished column are the encoding of these values
+pub record IsLaidOut (laid : Laid) (kind : DataType) (values : List Value) : Type 0 where
+  pub length : laid.length ≡ pos (encoded kind values).length
+  pub null_count : laid.null_count ≡ pos (encoded kind values).null_count
+  pub buffers : AreMade laid.buffers.items (encoded kind values).buffers
 
 -- the finished column is the encoding of these values
 pub record IsEncoded (built : Built) (kind : DataType) (values : List Value) : Type 0 where

@@ -354,6 +354,25 @@ impl Builder {
         (self.count, bytes)
     }
 
+    /// Begins anew: the column without values, with room for so many items, and for so many bytes of theirs. On want of
+    /// memory it stays.
+    pub fn begin_anew(&mut self, alloc: Global, items: usize, bytes: usize) -> Result<(), NoMemory>
+        requires holds { HoldsSome self.old }
+        ensures begun { OnOk result ((kind : DataType) (values : List Value) → Holds self.old kind values → Holds self.new kind []) }
+        ensures kept { OnErr result (self.new ≡ self.old) }
+    {
+        let offsets = first_offsets(alloc, self.shape, items)?;
+        let Ok(bytes) = Vec::with_capacity(alloc, bytes) else {
+            return Err(NoMemory);
+        };
+        self.count = 0;
+        self.nulls = 0;
+        self.validity.clear();
+        self.offsets = offsets;
+        self.bytes = bytes;
+        Ok(())
+    }
+
     /// A column of a flat type, without values, with room for so many items, and for so many bytes of theirs.
     pub fn with_room(
         alloc: Global,

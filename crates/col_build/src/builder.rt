@@ -10,11 +10,11 @@ ghost use Rattle.col_build.specs.Encoding.{Fits, HasForm, is_null};
 ghost use Rattle.col_build.specs.Items.{value_of};
 
 use crate::ahead::cut_ahead;
-use crate::finish::{Spares, finish_in_place, finish_offsets};
+use crate::finish::Spares;
 use crate::shape::{Shape, shape_of};
 use crate::store::store;
 use crate::validity::{make_room, push_validity};
-use crate::{Built, Item, PushFault};
+use crate::{Built, Item, Laid, PushFault};
 use fmt_string::DataType;
 use std::alloc::Global;
 use unit_pass::{NoMemory, Pass};
@@ -145,30 +145,6 @@ impl Builder {
         self.count as i64
     }
 
-    /// The column of the items of a builder with nothing ahead. As [`Builder::finish`].
-    #[inline(always)]
-    fn finish_whole(
-        self,
-        alloc: Global,
-        spares: &mut Spares,
-        pass: &mut Pass,
-    ) -> Result<Built, (Builder, NoMemory)>
-        requires holds { HoldsSomeWhole self }
-        requires units { 3 ≤ pass.old.units }
-        ensures encoded { IfOk result (λ built. (kind : DataType) (values : List Value) → HoldsWhole self kind values → IsEncoded built kind values) }
-        ensures back { IfErr result (λ e. KeepsWhole self e.0) }
-        ensures units { (kind : DataType) (values : List Value) → HoldsWhole self kind values
-            → pass.new.units + (if is_ok result then blocks_of kind values else 0) ≡ pass.old.units }
-        ensures blocks { OnOk result
-            ((kind : DataType) (values : List Value) → HoldsWhole self kind values → pass.new.blocks ≡ risen pass.old.blocks (blocks_of kind values)) }
-        ensures nodes { pass.new.nodes ≡ pass.old.nodes }
-    {
-        match self.shape {
-            Shape::Between { wide, text } => finish_offsets(self, wide, text, alloc, spares, pass),
-            _ => finish_in_place(self, alloc, spares, pass),
-        }
-    }
-
     /// The column of the items, whose buffers are moved into blocks. Draws a unit and counts a block for
     /// each buffer that is there. `NoMemory` comes for want of memory alone, and the builder comes back with it.
     pub fn finish(self, alloc: Global, pass: &mut Pass) -> Result<Built, (Builder, NoMemory)>
@@ -183,31 +159,33 @@ impl Builder {
             ((kind : DataType) (values : List Value) → Holds self kind values → pass.new.blocks ≡ risen pass.old.blocks (blocks_of kind values)) }
         ensures nodes { pass.new.nodes ≡ pass.old.nodes }
     {
-        let mut spares = Spares::new(alloc);
-        self.finish_beside(alloc, &mut spares, pass)
-    }
-
-    /// The same, with room that serves for many columns.
-    #[inline(always)]
-    pub fn finish_beside(
-        self,
-        alloc: Global,
-        spares: &mut Spares,
-        pass: &mut Pass,
-    ) -> Result<Built, (Builder, NoMemory)>
-        requires holds { HoldsSome self }
-        requires units { 3 ≤ pass.old.units }
-        ensures encoded { IfOk result (λ built. (kind : DataType) (values : List Value) → Holds self kind values → IsEncoded built kind values) }
-        ensures fits { (kind : DataType) (values : List Value) → Holds self kind values → Fits kind values }
-        ensures back { IfErr result (λ e. Keeps self e.0) }
-        ensures units { (kind : DataType) (values : List Value) → Holds self kind values
-            → pass.new.units + (if is_ok result then blocks_of kind values else 0) ≡ pass.old.units }
-        ensures blocks { OnOk result
-            ((kind : DataType) (values : List Value) → Holds self kind values → pass.new.blocks ≡ risen pass.old.blocks (blocks_of kind values)) }
-        ensures nodes { pass.new.nodes ≡ pass.old.nodes }
-    {
         let mut builder = self;
-        builder.settle();
-        builder.finish_whole(alloc, spares, pass)
+        let mut spares = Spares::new(alloc);
+        match builder.finish_here(alloc, &mut spares, pass) {
+            Ok(
+                Laid {
+                    length,
+                    null_count,
+                    buffers,
+                },
+            ) => {
+                let Builder {
+                    kind,
+                    shape: _,
+                    count: _,
+                    nulls: _,
+                    validity: _,
+                    offsets: _,
+                    bytes: _,
+                } = builder;
+                Ok(Built {
+                    kind,
+                    length,
+                    null_count,
+                    buffers,
+                })
+            }
+            Err(NoMemory) => Err((builder, NoMemory)),
+        }
     }
 }

@@ -5,6 +5,13 @@ use fmt_string::DataType;
 /// The buffers of a finished column ("Arrow Columnar Format", "Physical memory layout"): the validity bitmap, then the data,
 /// or the offsets and the data. A buffer of no bytes is absent, but an offsets buffer is always there. It can't be dropped,
 /// since the holds of its buffers can't.
+pub struct Laid {
+    pub length: i64,
+    pub null_count: i64,
+    pub buffers: Vec<Option<BufView>>,
+}
+
+/// The same with the column's type.
 pub struct Built {
     pub kind: DataType,
     pub length: i64,

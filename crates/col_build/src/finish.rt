@@ -1,17 +1,16 @@
 //! The buffers of a builder, moved into blocks, and taken out again where memory runs out.
-ghost use Rattle.std.specs.Prelude.{◌≡◌, ◌+◌, ◌<◌, ◌≤◌, ◌^◌, ◌∷◌, [], ℕ, List, length, pos, if◌then◌else◌, is_ok, IfOk, IfErr, IsTrue, IsUtf8, OnOk};
-ghost use Rattle.std.specs.Prelude.{vec_capacity};
+ghost use Rattle.std.specs.Prelude.{◌≡◌, ◌+◌, ◌<◌, ◌≤◌, ◌∷◌, [], ℕ, List, Option, true, false, length, if◌then◌else◌, is_ok, IfOk, IsTrue, IsUtf8, OnErr, OnOk};
+ghost use Rattle.std.specs.Prelude.{vec_capacity, vec_len};
 ghost use Rattle.unit_pass.specs.Tally.{risen};
 ghost use Rattle.unit_pass.specs.declared.pass.TheConstants.{SUPPLY};
-ghost use Rattle.col_build.specs.Blocks.{AreSame, AreSameBut, IsBuilt, count_if};
-ghost use Rattle.col_build.specs.Encoding.{if_some, offset_bytes};
-ghost use Rattle.col_build.specs.Holding.{HasOffsets};
-ghost use Rattle.col_build.specs.Finished.{IsMade};
+ghost use Rattle.col_build.specs.Blocks.{AreAdded, AreSame, CanTake, IsAdded, IsEmptied, count_if};
+ghost use Rattle.col_build.specs.Encoding.{if_some};
+ghost use Rattle.col_build.specs.Finished.{AreMade};
 
+use crate::shape::Shape;
 use crate::store::begin_offsets;
-use crate::{Builder, Built};
-use buf_block::{BufView, make, make_text};
-use fmt_string::DataType;
+use crate::{Builder, Laid};
+use buf_block::{BufView, Counts, make_counted};
 use std::alloc::Global;
 use std::mem::replace;
 use unit_pass::{NoMemory, Pass, SUPPLY};
@@ -20,306 +19,345 @@ use unit_pass::{NoMemory, Pass, SUPPLY};
 /// many columns.
 #[derive(Drop)]
 pub struct Spares {
-    pub(crate) validity: Vec<u8>,
-    pub(crate) offsets: Vec<u8>,
+    // The room for the first of three buffers, and for the one before the bytes.
+    pub(crate) first: Vec<u8>,
+    pub(crate) next: Vec<u8>,
+    pub(crate) counts: Counts,
 }
 
 impl Spares {
     /// No room yet. Takes no memory.
     pub fn new(alloc: Global) -> Spares {
+        Spares::of(alloc, 3)
+    }
+
+    /// The same, whose blocks have so many counts in one table.
+    pub fn of(alloc: Global, size: usize) -> Spares
+        requires some { 1 ≤ size }
+    {
         Spares {
-            validity: Vec::new(alloc),
-            offsets: Vec::new(alloc),
+            first: Vec::new(alloc),
+            next: Vec::new(alloc),
+            counts: Counts::of(size),
         }
     }
 }
 
-/// A view of a whole block of these bytes, which is marked where they are text, and nothing where there are none.
-fn whole_block(
+/// The bytes of a kept block, whose hold is let go.
+#[inline(never)]
+fn take_out(alloc: Global, view: BufView, spare: &mut Vec<u8>, pass: &mut Pass) -> Vec<u8>
+    requires none { spare.old.items ≡ [] }
+    requires room { length view.hold.bytes ≤ vec_capacity spare.old }
+    requires units { pass.old.units < SUPPLY }
+    ensures bytes { result.items ≡ view.hold.bytes }
+    ensures units { pass.new.units ≡ pass.old.units + 1 }
+    ensures blocks { pass.new.blocks ≡ pass.old.blocks }
+    ensures nodes { pass.new.nodes ≡ pass.old.nodes }
+{
+    let mut taken = replace(spare, Vec::new(alloc));
+    match taken.extend_from_slice(view.hold.bytes()) {
+        Ok(()) => {}
+        Err(_) => unreachable!(),
+    }
+    let _left = view.let_go(pass);
+    taken
+}
+
+/// Moves the bytes into a block, and adds the buffer of it; nothing where there are none. Where there is no memory the bytes
+/// stay, and no buffer is added.
+#[inline(always)]
+fn add_block(
+    buffers: &mut Vec<Option<BufView>>,
     alloc: Global,
-    bytes: Vec<u8>,
+    bytes: &mut Vec<u8>,
     text: bool,
+    counts: &mut Counts,
     pass: &mut Pass,
-) -> Result<Option<BufView>, Vec<u8>>
+) -> bool
+    requires room { vec_len buffers.old < vec_capacity buffers.old }
     requires units { 1 ≤ pass.old.units }
-    requires text { IsTrue text → IsUtf8 bytes.items }
-    ensures made { IfOk result (λ view. IsMade view (if_some bytes.items)) }
-    ensures back { IfErr result (λ same. same.items ≡ bytes.items) }
-    ensures units { pass.new.units + (if is_ok result then count_if bytes.items else 0) ≡ pass.old.units }
-    ensures blocks { pass.new.blocks ≡ (if is_ok result then risen pass.old.blocks (count_if bytes.items) else pass.old.blocks) }
+    requires text { IsTrue text → IsUtf8 bytes.old.items }
+    ensures added { result ≡ true → IsAdded buffers.old.items (if_some bytes.old.items) buffers.new.items }
+    ensures moved { result ≡ true → bytes.new.items ≡ [] }
+    ensures kept { result ≡ false → (bytes.new.items ≡ bytes.old.items) × (buffers.new.items ≡ buffers.old.items) }
+    ensures room { vec_capacity buffers.new ≡ vec_capacity buffers.old }
+    ensures units { pass.new.units + (if result then count_if bytes.old.items else 0) ≡ pass.old.units }
+    ensures blocks { pass.new.blocks ≡ (if result then risen pass.old.blocks (count_if bytes.old.items) else pass.old.blocks) }
     ensures nodes { pass.new.nodes ≡ pass.old.nodes }
 {
     if bytes.is_empty() {
-        return Ok(None);
+        buffers.push_reserved(None);
+        return true;
     }
-    let made = if text {
-        make_text(alloc, bytes, pass)
-    } else {
-        make(alloc, bytes, pass)
-    };
-    match made {
-        Ok(hold) => Ok(Some(BufView::whole(hold))),
-        Err((bytes, NoMemory)) => Err(bytes),
+    match make_counted(alloc, counts, replace(bytes, Vec::new(alloc)), text, pass) {
+        Ok(hold) => {
+            buffers.push_reserved(Some(BufView::whole(hold)));
+            true
+        }
+        Err((back, NoMemory)) => {
+            *bytes = back;
+            false
+        }
     }
 }
 
 /// The same, with room to take the bytes out again.
 #[inline(always)]
-fn kept_block(
+fn add_kept_block(
+    buffers: &mut Vec<Option<BufView>>,
     alloc: Global,
-    bytes: Vec<u8>,
+    bytes: &mut Vec<u8>,
     spare: &mut Vec<u8>,
+    counts: &mut Counts,
     pass: &mut Pass,
-) -> Result<Option<BufView>, Vec<u8>>
-    requires { 1 ≤ pass.old.units }
-    ensures made { IfOk result (λ view. IsMade view (if_some bytes.items)) }
-    ensures none { OnOk result (spare.new.items ≡ []) }
-    ensures room { OnOk result (length bytes.items ≤ vec_capacity spare.new) }
-    ensures back { IfErr result (λ same. same.items ≡ bytes.items) }
-    ensures units { pass.new.units + (if is_ok result then count_if bytes.items else 0) ≡ pass.old.units }
-    ensures blocks { pass.new.blocks ≡ (if is_ok result then risen pass.old.blocks (count_if bytes.items) else pass.old.blocks) }
+) -> bool
+    requires room { vec_len buffers.old < vec_capacity buffers.old }
+    requires units { 1 ≤ pass.old.units }
+    ensures added { result ≡ true → IsAdded buffers.old.items (if_some bytes.old.items) buffers.new.items }
+    ensures moved { result ≡ true → bytes.new.items ≡ [] }
+    ensures spare { result ≡ true → CanTake spare.new bytes.old.items }
+    ensures kept { result ≡ false → (bytes.new.items ≡ bytes.old.items) × (buffers.new.items ≡ buffers.old.items) }
+    ensures room { vec_capacity buffers.new ≡ vec_capacity buffers.old }
+    ensures units { pass.new.units + (if result then count_if bytes.old.items else 0) ≡ pass.old.units }
+    ensures blocks { pass.new.blocks ≡ (if result then risen pass.old.blocks (count_if bytes.old.items) else pass.old.blocks) }
     ensures nodes { pass.new.nodes ≡ pass.old.nodes }
 {
+    if bytes.is_empty() {
+        buffers.push_reserved(None);
+        return true;
+    }
     spare.clear();
     if spare.reserve(bytes.len()).is_err() {
-        return Err(bytes);
+        return false;
     }
-    whole_block(alloc, bytes, false, pass)
+    add_block(buffers, alloc, bytes, false, counts, pass)
 }
 
-/// The bytes of a kept block, whose hold is let go.
+/// Takes the bytes of the last buffer out again, and the buffer away.
 #[inline(never)]
-fn take_out(alloc: Global, view: Option<BufView>, spare: &mut Vec<u8>, pass: &mut Pass) -> Vec<u8>
-    requires none { spare.old.items ≡ [] }
-    requires kept { (content : List ℕ) × IsMade view (if_some content) × (length content ≤ vec_capacity spare.old)
-        × (pass.old.units + count_if content ≤ SUPPLY) }
-    ensures bytes { (content : List ℕ) → IsMade view (if_some content) → result.items ≡ content }
-    ensures units { (content : List ℕ) → IsMade view (if_some content) → pass.new.units ≡ pass.old.units + count_if content }
-    ensures blocks { pass.new.blocks ≡ pass.old.blocks }
-    ensures nodes { pass.new.nodes ≡ pass.old.nodes }
-{
-    let mut taken = replace(spare, Vec::new(alloc));
-    if let Some(view) = view {
-        match taken.extend_from_slice(view.hold.bytes()) {
-            Ok(()) => {}
-            Err(_) => unreachable!(),
-        }
-        let _left = view.let_go(pass);
-    }
-    taken
-}
-
-/// The first bytes and the last in blocks.
-#[inline(always)]
-fn two_blocks(
+fn take_back(
+    buffers: &mut Vec<Option<BufView>>,
     alloc: Global,
-    first: Vec<u8>,
-    bytes: Vec<u8>,
-    text: bool,
+    bytes: &mut Vec<u8>,
     spare: &mut Vec<u8>,
     pass: &mut Pass,
-) -> Result<(Option<BufView>, Option<BufView>), (Vec<u8>, Vec<u8>)>
-    requires units { 2 ≤ pass.old.units }
-    requires text { IsTrue text → IsUtf8 bytes.items }
-    ensures first { IfOk result (λ views. IsMade views.0 (if_some first.items)) }
-    ensures bytes { IfOk result (λ views. IsMade views.1 (if_some bytes.items)) }
-    ensures back { IfErr result (λ same. (same.0.items ≡ first.items) × (same.1.items ≡ bytes.items)) }
-    ensures units { pass.new.units + (if is_ok result then count_if first.items + count_if bytes.items else 0) ≡ pass.old.units }
-    ensures blocks { OnOk result (pass.new.blocks ≡ risen pass.old.blocks (count_if first.items + count_if bytes.items)) }
+)
+    requires last { (first : List (Option BufView)) × (content : List ℕ) × IsAdded first (if_some content) buffers.old.items × CanTake spare.old content
+        × (pass.old.units + count_if content ≤ SUPPLY) }
+    requires moved { bytes.old.items ≡ [] }
+    ensures bytes { (first : List (Option BufView)) (content : List ℕ) → IsAdded first (if_some content) buffers.old.items → bytes.new.items ≡ content }
+    ensures buffers { (first : List (Option BufView)) (content : List ℕ) → IsAdded first (if_some content) buffers.old.items → buffers.new.items ≡ first }
+    ensures units { (first : List (Option BufView)) (content : List ℕ) → IsAdded first (if_some content) buffers.old.items
+        → pass.new.units ≡ pass.old.units + count_if content }
     ensures nodes { pass.new.nodes ≡ pass.old.nodes }
 {
-    let first = match kept_block(alloc, first, spare, pass) {
-        Ok(first) => first,
-        Err(first) => return Err((first, bytes)),
-    };
-    match whole_block(alloc, bytes, text, pass) {
-        Ok(bytes) => Ok((first, bytes)),
-        Err(bytes) => Err((take_out(alloc, first, spare, pass), bytes)),
+    if let Some(Some(view)) = buffers.pop() {
+        *bytes = take_out(alloc, view, spare, pass);
     }
 }
 
-/// The validity bits, the offsets and the bytes in blocks.
+/// Moves bytes that are kept and the last bytes into blocks, and adds their buffers. Where there is no memory all stay.
 #[inline(always)]
-fn three_blocks(
+fn lay_two(
+    buffers: &mut Vec<Option<BufView>>,
     alloc: Global,
-    validity: Vec<u8>,
-    offsets: Vec<u8>,
-    bytes: Vec<u8>,
+    kept: &mut Vec<u8>,
+    bytes: &mut Vec<u8>,
     text: bool,
     spares: &mut Spares,
     pass: &mut Pass,
-) -> Result<(Option<BufView>, Option<BufView>, Option<BufView>), (Vec<u8>, Vec<u8>, Vec<u8>)>
-    requires units { 3 ≤ pass.old.units }
-    requires text { IsTrue text → IsUtf8 bytes.items }
-    ensures validity { IfOk result (λ views. IsMade views.0 (if_some validity.items)) }
-    ensures offsets { IfOk result (λ views. IsMade views.1 (if_some offsets.items)) }
-    ensures bytes { IfOk result (λ views. IsMade views.2 (if_some bytes.items)) }
-    ensures back { IfErr result (λ same. (same.0.items ≡ validity.items) × (same.1.items ≡ offsets.items) × (same.2.items ≡ bytes.items)) }
-    ensures units { pass.new.units + (if is_ok result then count_if validity.items + count_if offsets.items + count_if bytes.items else 0) ≡ pass.old.units }
-    ensures blocks { OnOk result (pass.new.blocks ≡ risen pass.old.blocks (count_if validity.items + count_if offsets.items + count_if bytes.items)) }
-    ensures nodes { pass.new.nodes ≡ pass.old.nodes }
-{
-    let validity = match kept_block(alloc, validity, &mut spares.validity, pass) {
-        Ok(validity) => validity,
-        Err(validity) => return Err((validity, offsets, bytes)),
-    };
-    match two_blocks(alloc, offsets, bytes, text, &mut spares.offsets, pass) {
-        Ok((offsets, bytes)) => Ok((validity, offsets, bytes)),
-        Err((offsets, bytes)) => {
-            let validity = take_out(alloc, validity, &mut spares.validity, pass);
-            Err((validity, offsets, bytes))
-        }
-    }
-}
-
-/// The column of these buffers.
-fn built(kind: DataType, count: usize, nulls: usize, buffers: Vec<Option<BufView>>) -> Built
-    requires count { count < 2 ^ 63 }
-    requires nulls { nulls < 2 ^ 63 }
-    ensures is_kind { result.kind ≡ kind }
-    ensures length { result.length ≡ pos count }
-    ensures null_count { result.null_count ≡ pos nulls }
-    ensures buffers { result.buffers ≡ buffers }
-{
-    Built {
-        kind,
-        length: count as i64,
-        null_count: nulls as i64,
-        buffers,
-    }
-}
-
-/// The column of a builder whose items lie in place.
-pub(crate) fn finish_in_place(
-    builder: Builder,
-    alloc: Global,
-    spares: &mut Spares,
-    pass: &mut Pass,
-) -> Result<Built, (Builder, NoMemory)>
+) -> bool
+    requires room { vec_len buffers.old + 2 ≤ vec_capacity buffers.old }
     requires units { 2 ≤ pass.old.units }
-    requires count { builder.count < 2 ^ 63 }
-    requires nulls { builder.nulls < 2 ^ 63 }
-    ensures built { IfOk result (IsBuilt builder (if_some builder.validity.items ∷ if_some builder.bytes.items ∷ [])) }
-    ensures same { IfErr result (λ e. AreSame builder e.0) }
-    ensures units { pass.new.units + (if is_ok result then count_if builder.validity.items + count_if builder.bytes.items else 0) ≡ pass.old.units }
-    ensures blocks { OnOk result (pass.new.blocks ≡ risen pass.old.blocks (count_if builder.validity.items + count_if builder.bytes.items)) }
+    requires text { IsTrue text → IsUtf8 bytes.old.items }
+    ensures added { result ≡ true → AreAdded buffers.old.items (if_some kept.old.items ∷ if_some bytes.old.items ∷ []) buffers.new.items }
+    ensures moved { result ≡ true → (kept.new.items ≡ []) × (bytes.new.items ≡ []) }
+    ensures kept { result ≡ false → (kept.new.items ≡ kept.old.items) × (bytes.new.items ≡ bytes.old.items) }
+    ensures refused { result ≡ false → buffers.new.items ≡ buffers.old.items }
+    ensures first { spares.new.first ≡ spares.old.first }
+    ensures units { pass.new.units + (if result then count_if kept.old.items + count_if bytes.old.items else 0) ≡ pass.old.units }
+    ensures blocks { result ≡ true → pass.new.blocks ≡ risen pass.old.blocks (count_if kept.old.items + count_if bytes.old.items) }
     ensures nodes { pass.new.nodes ≡ pass.old.nodes }
 {
-    let Ok(mut buffers) = Vec::with_capacity(alloc, 2) else {
-        return Err((builder, NoMemory));
-    };
-    let Builder {
-        kind,
-        shape,
-        count,
-        nulls,
-        validity,
-        offsets,
-        bytes,
-    } = builder;
-    match two_blocks(alloc, validity, bytes, false, &mut spares.validity, pass) {
-        Ok((validity, bytes)) => {
-            buffers.push_reserved(validity);
-            buffers.push_reserved(bytes);
-            Ok(built(kind, count, nulls, buffers))
-        }
-        Err((validity, bytes)) => {
-            buffers.destroy_empty();
-            let builder = Builder {
-                kind,
-                shape,
-                count,
-                nulls,
-                validity,
-                offsets,
-                bytes,
-            };
-            Err((builder, NoMemory))
-        }
+    if !add_kept_block(
+        buffers,
+        alloc,
+        kept,
+        &mut spares.next,
+        &mut spares.counts,
+        pass,
+    ) {
+        return false;
     }
+    if add_block(buffers, alloc, bytes, text, &mut spares.counts, pass) {
+        return true;
+    }
+    take_back(buffers, alloc, kept, &mut spares.next, pass);
+    false
 }
 
-/// The column of a builder whose items lie between offsets, and are text or not.
-fn finish_between(
-    builder: Builder,
-    text: bool,
+/// Moves the buffers of a column between offsets into blocks. Where there is no memory all stay.
+#[inline(always)]
+fn lay_three(
+    buffers: &mut Vec<Option<BufView>>,
     alloc: Global,
+    builder: &mut Builder,
+    text: bool,
     spares: &mut Spares,
     pass: &mut Pass,
-) -> Result<Built, (Builder, NoMemory)>
+) -> bool
+    requires none { buffers.old.items ≡ [] }
+    requires room { 3 ≤ vec_capacity buffers.old }
     requires units { 3 ≤ pass.old.units }
-    requires text { IsTrue text → IsUtf8 builder.bytes.items }
-    requires count { builder.count < 2 ^ 63 }
-    requires nulls { builder.nulls < 2 ^ 63 }
-    ensures built { IfOk result (IsBuilt builder (if_some builder.validity.items ∷ if_some builder.offsets.items ∷ if_some builder.bytes.items ∷ [])) }
-    ensures same { IfErr result (λ e. AreSame builder e.0) }
+    requires text { IsTrue text → IsUtf8 builder.old.bytes.items }
+    ensures laid { result ≡ true → AreMade buffers.new.items
+        (if_some builder.old.validity.items ∷ if_some builder.old.offsets.items ∷ if_some builder.old.bytes.items ∷ []) }
+    ensures emptied { result ≡ true → IsEmptied builder.old builder.new }
+    ensures kept { result ≡ false → AreSame builder.old builder.new }
+    ensures refused { result ≡ false → buffers.new.items ≡ [] }
     ensures units { pass.new.units
-        + (if is_ok result then count_if builder.validity.items + count_if builder.offsets.items + count_if builder.bytes.items else 0) ≡ pass.old.units }
-    ensures blocks { OnOk result
-        (pass.new.blocks ≡ risen pass.old.blocks (count_if builder.validity.items + count_if builder.offsets.items + count_if builder.bytes.items)) }
+        + (if result then count_if builder.old.validity.items + count_if builder.old.offsets.items + count_if builder.old.bytes.items else 0) ≡ pass.old.units }
+    ensures blocks { result ≡ true → pass.new.blocks
+        ≡ risen pass.old.blocks (count_if builder.old.validity.items + count_if builder.old.offsets.items + count_if builder.old.bytes.items) }
     ensures nodes { pass.new.nodes ≡ pass.old.nodes }
 {
-    let Ok(mut buffers) = Vec::with_capacity(alloc, 3) else {
-        return Err((builder, NoMemory));
-    };
-    let Builder {
-        kind,
-        shape,
-        count,
-        nulls,
-        validity,
-        offsets,
-        bytes,
-    } = builder;
-    match three_blocks(alloc, validity, offsets, bytes, text, spares, pass) {
-        Ok((validity, offsets, bytes)) => {
-            buffers.push_reserved(validity);
-            buffers.push_reserved(offsets);
-            buffers.push_reserved(bytes);
-            Ok(built(kind, count, nulls, buffers))
-        }
-        Err((validity, offsets, bytes)) => {
-            buffers.destroy_empty();
-            let builder = Builder {
-                kind,
-                shape,
-                count,
-                nulls,
-                validity,
-                offsets,
-                bytes,
-            };
-            Err((builder, NoMemory))
-        }
+    if !add_kept_block(
+        buffers,
+        alloc,
+        &mut builder.validity,
+        &mut spares.first,
+        &mut spares.counts,
+        pass,
+    ) {
+        return false;
     }
+    if lay_two(
+        buffers,
+        alloc,
+        &mut builder.offsets,
+        &mut builder.bytes,
+        text,
+        spares,
+        pass,
+    ) {
+        return true;
+    }
+    take_back(
+        buffers,
+        alloc,
+        &mut builder.validity,
+        &mut spares.first,
+        pass,
+    );
+    false
 }
 
-/// The same, where there may be no offsets yet.
-pub(crate) fn finish_offsets(
-    builder: Builder,
-    wide: bool,
-    text: bool,
-    alloc: Global,
-    spares: &mut Spares,
-    pass: &mut Pass,
-) -> Result<Built, (Builder, NoMemory)>
-    requires units { 3 ≤ pass.old.units }
-    requires text { IsTrue text → IsUtf8 builder.bytes.items }
-    requires count { builder.count < 2 ^ 63 }
-    requires nulls { builder.nulls < 2 ^ 63 }
-    ensures built { IfOk result (λ built. (items : List (List ℕ)) → HasOffsets wide items builder.offsets.items
-        → IsBuilt builder (if_some builder.validity.items ∷ if_some (offset_bytes wide items) ∷ if_some builder.bytes.items ∷ []) built) }
-    ensures same { IfErr result (λ e. (items : List (List ℕ)) → HasOffsets wide items builder.offsets.items → AreSameBut wide items builder e.0) }
-    ensures units { (items : List (List ℕ)) → HasOffsets wide items builder.offsets.items
-        → pass.new.units + (if is_ok result then count_if builder.validity.items + count_if (offset_bytes wide items) + count_if builder.bytes.items else 0)
-        ≡ pass.old.units }
-    ensures blocks { OnOk result ((items : List (List ℕ)) → HasOffsets wide items builder.offsets.items
-        → pass.new.blocks ≡ risen pass.old.blocks (count_if builder.validity.items + count_if (offset_bytes wide items) + count_if builder.bytes.items)) }
-    ensures nodes { pass.new.nodes ≡ pass.old.nodes }
-{
-    let mut builder = builder;
-    match begin_offsets(&mut builder.offsets, wide) {
-        Ok(()) => finish_between(builder, text, alloc, spares, pass),
-        Err(_) => Err((builder, NoMemory)),
+impl Builder {
+    ghost use Rattle.col_build.specs.Encoding.{Fits, encoded};
+    ghost use Rattle.col_build.specs.Finished.{IsLaidOut, blocks_of};
+    ghost use Rattle.col_build.specs.Holding.{Holds, HoldsSome, Keeps};
+    ghost use Rattle.col_build.specs.Settled.{HoldsSomeWhole, HoldsWhole, KeepsWhole};
+    ghost use Rattle.fmt_string.specs.Value.{Value};
+    ghost use Rattle.fmt_string.specs.declared.kind.DataType.{DataType};
+
+    /// Moves the buffers of a column with nothing ahead into blocks. Where there is no memory the builder holds the same.
+    #[inline(always)]
+    fn lay_out(
+        &mut self,
+        buffers: &mut Vec<Option<BufView>>,
+        alloc: Global,
+        spares: &mut Spares,
+        pass: &mut Pass,
+    ) -> bool
+        requires none { buffers.old.items ≡ [] }
+        requires room { 3 ≤ vec_capacity buffers.old }
+        requires holds { HoldsSomeWhole self.old }
+        requires units { 3 ≤ pass.old.units }
+        ensures laid { result ≡ true
+            → (kind : DataType) (values : List Value) → HoldsWhole self.old kind values → AreMade buffers.new.items (encoded kind values).buffers }
+        ensures emptied { result ≡ true → IsEmptied self.old self.new }
+        ensures kept { result ≡ false → KeepsWhole self.old self.new }
+        ensures refused { result ≡ false → buffers.new.items ≡ [] }
+        ensures units { (kind : DataType) (values : List Value) → HoldsWhole self.old kind values
+            → pass.new.units + (if result then blocks_of kind values else 0) ≡ pass.old.units }
+        ensures blocks { result ≡ true
+            → (kind : DataType) (values : List Value) → HoldsWhole self.old kind values → pass.new.blocks ≡ risen pass.old.blocks (blocks_of kind values) }
+        ensures nodes { pass.new.nodes ≡ pass.old.nodes }
+    {
+        match self.shape {
+            Shape::Between { wide, text } => match begin_offsets(&mut self.offsets, wide) {
+                Ok(()) => lay_three(buffers, alloc, self, text, spares, pass),
+                Err(_) => false,
+            },
+            _ => lay_two(
+                buffers,
+                alloc,
+                &mut self.validity,
+                &mut self.bytes,
+                false,
+                spares,
+                pass,
+            ),
+        }
+    }
+
+    /// The column of the items of a builder with nothing ahead. As [`Builder::finish_here`].
+    #[inline(always)]
+    fn finish_whole(
+        &mut self,
+        alloc: Global,
+        spares: &mut Spares,
+        pass: &mut Pass,
+    ) -> Result<Laid, NoMemory>
+        requires holds { HoldsSomeWhole self.old }
+        requires units { 3 ≤ pass.old.units }
+        ensures encoded { IfOk result (λ laid. (kind : DataType) (values : List Value) → HoldsWhole self.old kind values → IsLaidOut laid kind values) }
+        ensures emptied { OnOk result ((kind : DataType) (values : List Value) → HoldsWhole self.old kind values → Holds self.new kind []) }
+        ensures kept { OnErr result (KeepsWhole self.old self.new) }
+        ensures units { (kind : DataType) (values : List Value) → HoldsWhole self.old kind values
+            → pass.new.units + (if is_ok result then blocks_of kind values else 0) ≡ pass.old.units }
+        ensures blocks { OnOk result
+            ((kind : DataType) (values : List Value) → HoldsWhole self.old kind values → pass.new.blocks ≡ risen pass.old.blocks (blocks_of kind values)) }
+        ensures nodes { pass.new.nodes ≡ pass.old.nodes }
+    {
+        let Ok(mut buffers) = Vec::with_capacity(alloc, 3) else {
+            return Err(NoMemory);
+        };
+        if !self.lay_out(&mut buffers, alloc, spares, pass) {
+            buffers.destroy_empty();
+            return Err(NoMemory);
+        }
+        let laid = Laid {
+            length: self.count as i64,
+            null_count: self.nulls as i64,
+            buffers,
+        };
+        self.count = 0;
+        self.nulls = 0;
+        Ok(laid)
+    }
+
+    /// The column of the items, whose buffers are moved into blocks. Draws a unit and counts a block for each buffer that is
+    /// there. The builder holds no items then, and on want of memory the same as before. The spares serve for many columns.
+    pub fn finish_here(
+        &mut self,
+        alloc: Global,
+        spares: &mut Spares,
+        pass: &mut Pass,
+    ) -> Result<Laid, NoMemory>
+        requires holds { HoldsSome self.old }
+        requires units { 3 ≤ pass.old.units }
+        ensures encoded { IfOk result (λ laid. (kind : DataType) (values : List Value) → Holds self.old kind values → IsLaidOut laid kind values) }
+        ensures fits { (kind : DataType) (values : List Value) → Holds self.old kind values → Fits kind values }
+        ensures emptied { OnOk result ((kind : DataType) (values : List Value) → Holds self.old kind values → Holds self.new kind []) }
+        ensures kept { OnErr result (Keeps self.old self.new) }
+        ensures units { (kind : DataType) (values : List Value) → Holds self.old kind values
+            → pass.new.units + (if is_ok result then blocks_of kind values else 0) ≡ pass.old.units }
+        ensures blocks { OnOk result
+            ((kind : DataType) (values : List Value) → Holds self.old kind values → pass.new.blocks ≡ risen pass.old.blocks (blocks_of kind values)) }
+        ensures nodes { pass.new.nodes ≡ pass.old.nodes }
+    {
+        self.settle();
+        self.finish_whole(alloc, spares, pass)
     }
 }

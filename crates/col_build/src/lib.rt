@@ -4,8 +4,9 @@
 //! A [`Builder`] is made for a flat type and takes [`Item`]s. [`Builder::push`] adds one behind those that are there, or
 //! answers why the column doesn't take it and changes nothing; [`Builder::push_text`] does so with a text that the caller
 //! has tested by [`is_text`]. [`Builder::finish`] moves the buffers into blocks and answers the column as [`Built`]; where
-//! memory runs out it gives the builder back with all its items. The bytes of a column of texts are UTF-8, and their block
-//! is marked as text.
+//! memory runs out it gives the builder back with all its items. [`Builder::finish_here`] does so with a builder that stays,
+//! empty then, and [`Builder::begin_anew`] makes room in it for the next items. The bytes of a column of texts are UTF-8, and
+//! their block is marked as text.
 //!
 //! - What the buffers of a column are is said by `specs/Encoding.antt`, from the values alone: the validity bitmap, the
 //!   offsets and the data, which of them are absent, and what a null has in its place. The same module says which items a
@@ -37,7 +38,7 @@ mod text;
 mod validity;
 
 pub use builder::Builder;
-pub use built::Built;
+pub use built::{Built, Laid};
 pub use finish::Spares;
 pub use item::{Item, PushFault};
 pub use laws::worked_encodings;

@@ -127,13 +127,13 @@ next-in-turn batch builders old new some columns mark found =
     let here : at (old.read + 1 + length found.rows) (drop batch old.records) ≡ left batch new =
     ap (λ (n : ℕ). at n (drop batch old.records)) number
     ∙ ap (at (new.read + 1)) (sym found.left)
-    ∙ ap (λ (m : List ℕ). left batch (record { columns = old.columns; mark = m; read = new.read; records = new.records })) (sym mark)
-    ∙ ap (λ cs. left batch (record { columns = cs; mark = new.mark; read = new.read; records = new.records })) (sym columns) in
+    ∙ ap (λ (m : List ℕ). left batch (record { columns = old.columns; mark = m; read = new.read; records = new.records; builders = new.builders })) (sym mark)
+    ∙ ap (λ cs. left batch (record { columns = cs; mark = new.mark; read = new.read; records = new.records; builders = new.builders })) (sym columns) in
     first-batch old.mark (old.read + 1) batch (columns_in old) old.records found.rows some found.some found.spelled
     ∙ ap (behind found.rows) here
 
 pub end-in-turn : (batch : ℕ) (s : BatchesLeft) → s.records ≡ [] → batches_left batch s ≡ record { chunks = []; ending = None }
-end-in-turn batch s end = ap (λ (rs : List Record). left batch (record { columns = s.columns; mark = s.mark; read = s.read; records = rs })) end
+end-in-turn batch s end = ap (λ (rs : List Record). left batch (record { columns = s.columns; mark = s.mark; read = s.read; records = rs; builders = s.builders })) end
 
 pub fault-in-turn : (batch : ℕ) (s : BatchesLeft) (fault : RowFault) → body_from s.mark (s.read + 1) (columns_in s) (take batch s.records) ≡ Err fault
     → batches_left batch s ≡ record { chunks = []; ending = Some fault }

@@ -1,7 +1,8 @@
 -- From one batch to the next.
 use Rattle.std.proofs.Common.{◌≡◌, ◌≤◌, ◌+◌, ◌^◌, ◌∙◌, ℕ, zero, suc, List, [], ◌∷◌, length, take, drop, refl, sym, ap, arith}
+use Rattle.col_build.specs.declared.builder.Builder.{Builder}
 use Rattle.csv_model.specs.Reading.{Record, body_from}
-use Rattle.csv_read.specs.BatchesLeft.{BatchesLeft, IsNextBatch, columns_in}
+use Rattle.csv_read.specs.BatchesLeft.{BatchesLeft, IsNextBatch, at_end, columns_in}
 use Rattle.csv_read.specs.BodyRows.{HasBatch}
 use Rattle.csv_read.specs.RecordReader.{RecordsLeft}
 use Rattle.csv_read.specs.declared.body_columns.BodyColumns.{BodyColumns}
@@ -13,15 +14,16 @@ abbrev Reads : BatchesLeft → ℕ → RecordsLeft → BodyColumns → RecordsLe
 Reads s batch from made to = HasBatch s.mark (s.read + 1) batch (columns_in s) from made to
 
 -- behind a batch, under a mark, which stays
-abbrev pub under : BatchesLeft → List ℕ → ℕ → RecordsLeft → BatchesLeft
-under s mark rows to = record { columns = s.columns; mark = mark; read = s.read + rows; records = to.records }
+abbrev pub under : BatchesLeft → List ℕ → ℕ → RecordsLeft → List Builder → BatchesLeft
+under s mark rows to builders = record { columns = s.columns; mark = mark; read = s.read + rows; records = to.records; builders = builders }
 
-abbrev pub after : BatchesLeft → ℕ → RecordsLeft → BatchesLeft
-after s rows to = under s s.mark rows to
+abbrev pub after : BatchesLeft → ℕ → RecordsLeft → List Builder → BatchesLeft
+after s rows to builders = under s s.mark rows to builders
 
-none-dropped : (batch : ℕ) (records : List Record) → records ≡ [] → drop batch records ≡ []
-none-dropped zero records is = is
-none-dropped (suc batch) records is = ap (drop (suc batch)) is
+-- at the end nothing is left
+pub ended : (s : BatchesLeft) (mark : List ℕ) (records : List Record) (builders : List Builder) → mark ≡ s.mark → records ≡ [] → builders ≡ []
+    → ◌≡◌ {A = BatchesLeft} (record { columns = s.columns; mark = mark; read = s.read; records = records; builders = builders }) (at_end s)
+ended s mark records builders same none empty = rw (same, none, empty) refl
 
 none-taken : (batch : ℕ) (records : List Record) → 1 ≤ batch → length (take batch records) ≡ 0 → records ≡ []
 none-taken zero records some is = absurd (omega (arith, some))
@@ -36,7 +38,7 @@ next-room s batch from to made room has = omega (arith, room, has.few, has.holds
 -- the builders hold the next batch
 pub next-batch : (s : BatchesLeft) (batch : ℕ) (from to : RecordsLeft) (made : BodyColumns) → s.read + from.size ≤ 2 ^ 30 → s.records ≡ from.records
     → Reads s batch from made to → 1 ≤ made.rows
-    → IsNextBatch batch made.builders.items s (after s made.rows to)
+    → IsNextBatch batch made.builders.items s (after s made.rows to made.builders.items)
 next-batch s batch from to made room same has some = record {
   rows = has.rows;
   spelled = ap (λ (rs : List Record). body_from s.mark (s.read + 1) (columns_in s) (take batch rs)) same ∙ has.spelled;
@@ -52,14 +54,7 @@ next-batch s batch from to made room same has some = record {
 
 -- a batch of no rows is at the end
 pub next-end : (s : BatchesLeft) (batch : ℕ) (from to : RecordsLeft) (made : BodyColumns) → 1 ≤ batch → s.records ≡ from.records → Reads s batch from made to
-    → made.rows ≡ 0 → (s.records ≡ []) × (after s made.rows to ≡ s)
+    → made.rows ≡ 0 → s.records ≡ []
 next-end s batch from to made some same has none =
     let count = rows-count s.mark (s.read + 1) (columns_in s) (take batch from.records) has.rows has.spelled in
-    let empty : from.records ≡ [] = none-taken batch from.records some (omega (arith, count, none, has.holds.height)) in
-    let left : s.records ≡ [] = same ∙ empty in
-    let rest : to.records ≡ [] = has.behind ∙ none-dropped batch from.records empty in
-    let read : s.read + made.rows ≡ s.read = omega (arith, none) in (
-      left,
-      ap (λ (n : ℕ). record { columns = s.columns; mark = s.mark; read = n; records = to.records }) read
-          ∙ ap (λ (rs : List Record). record { columns = s.columns; mark = s.mark; read = s.read; records = rs }) (rest ∙ sym left),
-    )
+    same ∙ none-taken batch from.records some (omega (arith, count, none, has.holds.height))

@@ -13,6 +13,7 @@ pub mod TextRecords
 pub mod FieldPush
 pub mod StoredForms
 pub mod BodyRows
+pub mod EmptiedBuilders
 pub mod FieldsSoFar
 pub mod Widths
 pub mod Bodies

@@ -18,17 +18,23 @@ pub record BatchesLeft : Type 0 where
   pub read : ℕ
   -- those that were not
   pub records : List Record
+  -- the builders of the columns; there are none before the first batch and behind the last one
+  pub builders : List Builder
 
 abbrev pub columns_in : BatchesLeft → List Column
 columns_in s = map column_of s.columns
 
 -- before the first batch of these records, which stand behind the header
 abbrev pub all_left : List Record → List ColumnType → List ℕ → BatchesLeft
-all_left records columns mark = record { columns = columns; mark = mark; read = 0; records = records }
+all_left records columns mark = record { columns = columns; mark = mark; read = 0; records = records; builders = [] }
 
--- no record is left
+-- no record is left, and no builder
 abbrev pub at_end : BatchesLeft → BatchesLeft
-at_end s = record { columns = s.columns; mark = s.mark; read = s.read; records = [] }
+at_end s = record { columns = s.columns; mark = s.mark; read = s.read; records = []; builders = [] }
+
+-- the same with these builders
+abbrev pub with_builders : List Builder → BatchesLeft → BatchesLeft
+with_builders builders s = record { columns = s.columns; mark = s.mark; read = s.read; records = s.records; builders = builders }
 
 -- the builders hold the rows of the next records, so many or all that are left; they were read, and the others are left
 pub record IsNextBatch (batch : ℕ) (builders : List Builder) (old new : BatchesLeft) : Type 0 where

@@ -1,10 +1,11 @@
--- The form that the fields of each column are read in, and a builder for each column, which holds nothing yet.
-use Rattle.std.specs.Prelude.{◌≡◌, ◌<◌, ℕ, Bool, true, false, List, [], length, get_or, Some}
+-- The form that the fields of each column are read in, and a builder for each column.
+use Rattle.std.specs.Prelude.{◌≡◌, ◌<◌, ◌⊎◌, ℕ, Bool, true, false, List, [], length, get_or, Some}
 use Rattle.col_build.specs.Holding.{Holds}
 use Rattle.col_build.specs.declared.builder.Builder.{Builder}
 use Rattle.fmt_string.specs.declared.kind.DataType.{DataType}
 use Rattle.fmt_string.specs.FieldText.{form_of}
 use Rattle.fmt_string.specs.Table.{Column, Flat}
+use Rattle.fmt_string.specs.Value.{Value}
 use Rattle.field_codec.specs.FieldForms.{IsProper, form_in}
 use Rattle.field_codec.specs.declared.form.FieldForm.{FieldForm}
 use Rattle.field_codec.specs.declared.form.FieldForm.TheVariants as forms
@@ -36,3 +37,17 @@ pub record IsBegun (builder : Builder) (column : Column) : Type 0 where
 
 abbrev pub AreBegun : List Builder → List Column → Type 0
 AreBegun builders columns = EachOf IsBegun builders columns (length columns)
+
+-- the builder is a column's, and holds some values
+pub record IsKept (builder : Builder) (column : Column) : Type 0 where
+  pub kind : DataType
+  pub flat : column.kind ≡ Flat kind
+  pub values : List Value
+  pub holds : Holds builder kind values
+
+abbrev pub AreKept : List Builder → List Column → Type 0
+AreKept builders columns = EachOf IsKept builders columns (length columns)
+
+-- there is no builder yet, or one for each column
+abbrev pub AreReady : List Builder → List Column → Type 0
+AreReady builders columns = (builders ≡ []) ⊎ AreKept builders columns

@@ -4,6 +4,7 @@ pub mod BodyRows
 pub mod Entries
 pub mod RecordReader
 pub mod Chunks
+pub mod Emptied
 pub mod BatchesLeft
 pub mod FaultTexts
 pub mod Texts

@@ -54,8 +54,8 @@ fn expect_batches(
 {
     for length in lengths {
         match batches.next(alloc, batch) {
-            Ok(Some(builders)) => expect_lengths(rt, builders.as_slice(), 2, *length),
-            Ok(None) => assert!(rt; false, "no batch of {length} under {batch}"),
+            Ok(true) => expect_lengths(rt, batches.builders(), 2, *length),
+            Ok(false) => assert!(rt; false, "no batch of {length} under {batch}"),
             Err(fault) => assert!(rt; false, "{fault:?} for {length} under {batch}"),
         }
     }
@@ -78,8 +78,8 @@ fn batches_have_their_rows(rt: HostRuntime) -> Result<(), Fail> {
                 let mut batches = batches;
                 expect_batches(&rt, alloc, &mut batches, *batch, *lengths);
                 match batches.next(alloc, *batch) {
-                    Ok(Some(_)) => assert!(rt; false, "one batch more under {batch}"),
-                    Ok(None) => assert_eq!(rt; None, *wanted, "the end under {batch}"),
+                    Ok(true) => assert!(rt; false, "one batch more under {batch}"),
+                    Ok(false) => assert_eq!(rt; None, *wanted, "the end under {batch}"),
                     Err(fault) => {
                         assert_eq!(rt;
                             Some(fault),
@@ -89,7 +89,7 @@ fn batches_have_their_rows(rt: HostRuntime) -> Result<(), Fail> {
                     }
                 }
                 let behind = batches.next(alloc, *batch);
-                assert!(rt; matches!(behind, Ok(None)), "behind the end under {batch}");
+                assert!(rt; matches!(behind, Ok(false)), "behind the end under {batch}");
             }
             Err(_) => assert!(rt; false, "no reader under {batch}"),
         }

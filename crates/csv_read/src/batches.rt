@@ -1,16 +1,35 @@
 //! The rows of a text, read into builders a batch a call. The reader keeps its place between two calls.
-ghost use Rattle.std.specs.Prelude.{◌≡◌, ◌≤◌, ◌^◌, [], map, Ok, None, IfErr, IfOk, IfSome, OnErr};
+ghost use Rattle.std.specs.Prelude.{◌≡◌, ◌≤◌, ◌<◌, ◌+◌, ◌*◌, ◌^◌, [], List, map, length, pos, false, true, Ok, IfErr, IfOk, OnErr, OnOk};
 ghost use Rattle.fmt_string.specs.ColumnView.{column_of};
+ghost use Rattle.fmt_string.specs.Table.{Row};
 ghost use Rattle.field_codec.specs.TextColumns.{AreAllowed, AreProper};
+ghost use Rattle.raw_array.specs.Members.{Cost};
+ghost use Rattle.unit_pass.specs.Tally.{risen};
+ghost use Rattle.csv_read.specs.Body.{HoldRows};
+ghost use Rattle.csv_read.specs.Chunks.{chunk_blocks, chunk_of};
+ghost use Rattle.csv_read.specs.Emptied.{AreEmptied, AreSpent};
 
 use crate::body::{BodyFault, read_rows};
 use crate::body_columns::BodyColumns;
 use crate::records::Records;
-use col_build::Builder;
+use col_build::{Builder, Spares};
 use fmt_string::ColumnType;
+use raw_array::RawArray;
 use std::alloc::Global;
 use std::marker::Model;
-use unit_pass::NoMemory;
+use unit_pass::{NoMemory, Pass};
+
+/// Leaves no record and no builder.
+fn end(records: &mut Records<'_>, body: &mut BodyColumns)
+    ensures records { records.new.records ≡ [] }
+    ensures size { records.new.size ≡ 0 }
+    ensures builders { body.new.builders.items ≡ [] }
+    ensures forms { body.new.forms ≡ body.old.forms }
+    ensures mark { body.new.mark ≡ body.old.mark }
+{
+    records.end();
+    body.builders.clear();
+}
 
 /// The records behind the header of a text, whose rows are read in batches.
 ///
@@ -30,22 +49,30 @@ impl<'a> Model for BatchReader<'a> {
     ghost use Rattle.std.specs.Coded.{codes};
     ghost use Rattle.fmt_string.specs.ColumnView.{column_of};
     ghost use Rattle.fmt_string.specs.contracts.kind.ColumnType as kinds;
+    ghost use Rattle.col_build.specs.contracts.builder.Builder as builders;
     ghost use Rattle.field_codec.specs.TextColumns.{AreAllowed, AreProper};
     ghost use Rattle.csv_read.specs.BatchesLeft.{BatchesLeft};
-    ghost use Rattle.csv_read.specs.ColumnForms.{AreForms};
+    ghost use Rattle.csv_read.specs.ColumnForms.{AreForms, AreReady};
 
     ghost Value = { BatchesLeft };
 
-    ghost coded = { Prim.hlevel (codes, kinds.the_row.coded) };
+    ghost coded = { Prim.hlevel (codes, kinds.the_row.coded, builders.the_row.coded) };
 
-    ghost view = { λ s. record { columns = s.columns.items; mark = s.body.mark; read = s.read; records = s.records.records } };
+    ghost view = { λ s. record {
+      columns = s.columns.items;
+      mark = s.body.mark;
+      read = s.read;
+      records = s.records.records;
+      builders = s.body.builders.items;
+    } };
 
     ghost invariant = { λ s. AreProper (map column_of s.columns.items) × AreAllowed (map column_of s.columns.items)
-        × AreForms s.body.forms.items (map column_of s.columns.items) × (s.read + s.records.size ≤ 2 ^ 30) };
+        × AreForms s.body.forms.items (map column_of s.columns.items) × (s.read + s.records.size ≤ 2 ^ 30)
+        × AreReady s.body.builders.items (map column_of s.columns.items) };
 }
 
 impl<'a> BatchReader<'a> {
-    ghost use Rattle.csv_read.specs.BatchesLeft.{IsNextBatch, IsNextFault, all_left, at_end};
+    ghost use Rattle.csv_read.specs.BatchesLeft.{IsNextBatch, IsNextFault, all_left, at_end, columns_in, with_builders};
 
     /// Stands before the first batch of the records that are left, which stand behind the header. A field that equals the
     /// mark is null.
@@ -79,47 +106,85 @@ impl<'a> BatchReader<'a> {
         self.columns.as_slice()
     }
 
-    /// A builder a column, which hold the rows of the next `batch` records, or of all that are left where they are fewer;
-    /// none where no record is left.
+    /// The builders of the columns, which hold the rows that were read last, until these are exported.
+    pub fn builders(&self) -> &[Builder]
+        ensures { result.now ≡ self.now.builders }
+    {
+        self.body.builders.as_slice()
+    }
+
+    /// Reads the next `batch` records, or all that are left where they are fewer, and answers whether there was one. A builder
+    /// a column holds their rows then, and no other.
     ///
     /// The first of these records that spells no row is the fault, and in it that it has another number of fields than there
     /// are columns, or else its first field that is no value of its column. Records are numbered from 1 behind the header,
     /// over all batches. Want of memory alone is free. After an error no record is left.
-    pub fn next(&mut self, alloc: Global, batch: u64) -> Result<Option<Vec<Builder>>, BodyFault>
+    pub fn next(&mut self, alloc: Global, batch: u64) -> Result<bool, BodyFault>
         requires some { 1 ≤ batch }
         ensures columns { self.new.columns ≡ self.old.columns }
         ensures mark { self.new.mark ≡ self.old.mark }
         // The builders hold the rows that the next records spell.
-        ensures batch { IfOk result (λ found. IfSome found (λ builders. IsNextBatch batch builders.items self.old self.new)) }
+        ensures batch { result ≡ Ok true → IsNextBatch batch self.new.builders self.old self.new }
         // There is nothing where no record is left.
-        ensures end { result ≡ Ok None → self.old.records ≡ [] }
-        ensures end_stays { result ≡ Ok None → self.new ≡ self.old }
+        ensures end { result ≡ Ok false → self.old.records ≡ [] }
+        ensures end_stays { result ≡ Ok false → self.new ≡ at_end self.old }
         // Which fault it is.
         ensures fault { IfErr result (λ fault. IsNextFault fault batch self.old) }
         ensures fault_ends { OnErr result (self.new ≡ at_end self.old) }
     {
         if self.records.has_ended() {
-            return Ok(None);
+            end(&mut self.records, &mut self.body);
+            return Ok(false);
         }
         match self.body.begin(alloc, self.columns.as_slice()) {
             Ok(()) => {}
             Err(NoMemory) => {
-                self.records.end();
+                end(&mut self.records, &mut self.body);
                 return Err(BodyFault::NoMemory);
             }
         }
         match read_rows(&mut self.records, &mut self.body, batch, self.read) {
             Ok(()) => {
-                self.read += self.body.rows;
                 if self.body.rows == 0 {
-                    return Ok(None);
+                    end(&mut self.records, &mut self.body);
+                    return Ok(false);
                 }
-                Ok(Some(self.body.take(alloc)))
+                self.read += self.body.rows;
+                self.body.note();
+                Ok(true)
             }
             Err(fault) => {
-                self.records.end();
+                end(&mut self.records, &mut self.body);
                 Err(fault)
             }
         }
+    }
+
+    /// The chunk of the rows that were read last, as [`export_rows`](crate::export_rows) makes it of the builders.
+    pub fn export(
+        &mut self,
+        alloc: Global,
+        rows: i64,
+        spares: &mut Spares,
+        pass: &mut Pass,
+    ) -> Result<RawArray, NoMemory>
+        requires held { (values : List Row) × HoldRows self.old.builders (columns_in self.old) values × (rows ≡ pos (length values))
+            × (length values ≤ 2 ^ 40) }
+        requires few { length self.old.columns < 2 ^ 31 }
+        requires units { 1 + 4 * length self.old.columns ≤ pass.old.units }
+        ensures stays { self.new ≡ with_builders self.new.builders self.old }
+        ensures chunk { IfOk result (λ chunk. (values : List Row) → HoldRows self.old.builders (columns_in self.old) values → rows ≡ pos (length values)
+            → chunk ≡ chunk_of (columns_in self.old) values) }
+        // The builders hold nothing then; on want of memory each holds nothing or what it held.
+        ensures emptied { OnOk result (AreEmptied self.old.builders self.new.builders) }
+        ensures spent { OnErr result (AreSpent self.old.builders self.new.builders) }
+        ensures units { IfOk result (λ chunk. pass.new.units + Cost chunk ≡ pass.old.units) }
+        ensures units_back { OnErr result (pass.new.units ≡ pass.old.units) }
+        ensures cost { IfOk result (λ chunk. Cost chunk ≤ 1 + 4 * length self.old.columns) }
+        ensures blocks { OnOk result ((values : List Row) → HoldRows self.old.builders (columns_in self.old) values
+            → pass.new.blocks ≡ risen pass.old.blocks (chunk_blocks (columns_in self.old) values)) }
+        ensures nodes { OnOk result (pass.new.nodes ≡ risen pass.old.nodes (1 + length self.old.columns)) }
+    {
+        self.body.export(alloc, rows, spares, pass)
     }
 }

@@ -76,6 +76,7 @@ pub fn read_body(
 }
 
 /// Reads the next records into columns without rows, so many or all that are left; `read` were read before.
+#[inline(never)]
 pub(crate) fn read_rows(
     records: &mut Records<'_>,
     made: &mut BodyColumns,

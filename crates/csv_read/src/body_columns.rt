@@ -1,5 +1,5 @@
 //! The columns of a body in the making.
-ghost use Rattle.std.specs.Prelude.{◌≡◌, ◌<◌, ℕ, [], get_or, length, map, IfOk};
+ghost use Rattle.std.specs.Prelude.{◌≡◌, ◌<◌, ℕ, [], get_or, length, map, IfOk, OnOk};
 ghost use Rattle.std.specs.List.{list_all};
 ghost use Rattle.col_build.specs.Encoding.{HasForm};
 ghost use Rattle.col_build.specs.Holding.{Holds, HoldsSome};
@@ -8,18 +8,20 @@ ghost use Rattle.fmt_string.specs.ColumnView.{column_of};
 ghost use Rattle.fmt_string.specs.FieldText.{form_of};
 ghost use Rattle.fmt_string.specs.Kinds.{KindOk};
 ghost use Rattle.fmt_string.specs.Table.{Flat};
-ghost use Rattle.csv_read.specs.ColumnForms.{AreBegun, AreForms, is_text_form};
+ghost use Rattle.csv_read.specs.ColumnForms.{AreBegun, AreForms, AreReady, is_text_form};
+ghost use Rattle.csv_read.specs.Emptied.{AreEmptied};
 ghost use Rattle.field_codec.specs.TextColumns.{AreAllowed, AreProper, IsAllowed, IsFlatOf};
 
 use crate::body::BodyFault;
+use crate::chunk::export_rows;
 use crate::field_push::push_row;
-use col_build::Builder;
+use col_build::{Builder, Spares};
 use csv::ByteRecord;
 use field_codec::{FieldForm, flat_form};
 use fmt_string::{ColKind, ColumnType, DataType, RowFault, clone_kind};
+use raw_array::RawArray;
 use std::alloc::Global;
-use std::mem::replace;
-use unit_pass::{Name, NoMemory};
+use unit_pass::{Name, NoMemory, Pass};
 
 /// How the fields of each column are read, what each holds, and how many rows there are.
 #[derive(Drop)]
@@ -94,6 +96,23 @@ fn builders_of(
     Ok(builders)
 }
 
+/// Begins each builder anew, with the room that it needed last.
+fn begin_all(
+    alloc: Global,
+    used: &[(usize, usize)],
+    builders: &mut [Builder],
+) -> Result<(), NoMemory>
+    requires used { length used.now ≡ length builders.old }
+    requires held { (j : ℕ) (b : Builder) → j < length builders.old → HoldsSome (get_or builders.old j b) }
+    ensures { OnOk result (AreEmptied builders.old builders.new) }
+{
+    for j in 0..builders.len() {
+        let (items, bytes) = used[j];
+        builders[j].begin_anew(alloc, items, bytes)?;
+    }
+    Ok(())
+}
+
 /// Notes how many items and bytes builders have, where it is worth to make room for them.
 fn note_used(used: &mut [(usize, usize)], builders: &[Builder])
     requires count { length used.old ≡ length builders.now }
@@ -109,9 +128,14 @@ fn note_used(used: &mut [(usize, usize)], builders: &[Builder])
 }
 
 impl BodyColumns {
-    ghost use Rattle.std.specs.Prelude.{◌^◌, List, true, IfErr, OnOk};
+    ghost use Rattle.std.specs.Prelude.{◌≤◌, ◌+◌, ◌*◌, ◌^◌, List, pos, true, IfErr, OnErr, OnOk};
     ghost use Rattle.csv.specs.Records.{fields_of};
     ghost use Rattle.fmt_string.specs.Table.{Column, Row};
+    ghost use Rattle.raw_array.specs.Members.{Cost};
+    ghost use Rattle.unit_pass.specs.Tally.{risen};
+    ghost use Rattle.csv_read.specs.Body.{HoldRows};
+    ghost use Rattle.csv_read.specs.Chunks.{chunk_blocks, chunk_of};
+    ghost use Rattle.csv_read.specs.Emptied.{AreSpent};
     ghost use Rattle.csv_read.specs.BodyRows.{AddsRow, HasRoomFor, HasRows, RefusesRow};
     ghost use Rattle.csv_read.specs.Texts.{AreTexts};
 
@@ -140,6 +164,7 @@ impl BodyColumns {
         requires proper { AreProper (map column_of columns.now) }
         requires allowed { AreAllowed (map column_of columns.now) }
         ensures forms { IfOk result (λ made. AreForms made.forms.items (map column_of columns.now)) }
+        ensures builders { IfOk result (λ made. made.builders.items ≡ []) }
         ensures mark { IfOk result (λ made. made.mark ≡ mark.now) }
     {
         let mark = Name::from_slice(alloc, mark)?;
@@ -166,24 +191,58 @@ impl BodyColumns {
         requires proper { AreProper (map column_of columns.now) }
         requires allowed { AreAllowed (map column_of columns.now) }
         requires forms { AreForms self.old.forms.items (map column_of columns.now) }
+        requires builders { AreReady self.old.builders.items (map column_of columns.now) }
         ensures rows { OnOk result (HasRows self.new (map column_of columns.now) []) }
         ensures forms { self.new.forms ≡ self.old.forms }
         ensures mark { self.new.mark ≡ self.old.mark }
     {
-        self.builders = builders_of(alloc, columns, self.used.as_slice())?;
         self.rows = 0;
+        if self.builders.is_empty() {
+            self.builders = builders_of(alloc, columns, self.used.as_slice())?;
+            return Ok(());
+        }
+        begin_all(alloc, self.used.as_slice(), self.builders.as_mut_slice())?;
         Ok(())
     }
 
-    /// The builders, which are taken out of it; the next ones have room for as much.
-    pub(crate) fn take(&mut self, alloc: Global) -> Vec<Builder>
+    /// Notes how much room the rows took; the next ones will have as much.
+    pub(crate) fn note(&mut self)
         requires held { (columns : List Column) × (rows : List Row) × HasRows self.old columns rows }
-        ensures builders { result.items ≡ self.old.builders.items }
+        ensures builders { self.new.builders.items ≡ self.old.builders.items }
+        ensures rows { self.new.rows ≡ self.old.rows }
         ensures forms { self.new.forms ≡ self.old.forms }
         ensures mark { self.new.mark ≡ self.old.mark }
     {
         note_used(self.used.as_mut_slice(), self.builders.as_slice());
-        replace(&mut self.builders, Vec::new(alloc))
+    }
+
+    /// The chunk of the rows, as `export_rows` makes it of the builders.
+    pub(crate) fn export(
+        &mut self,
+        alloc: Global,
+        rows: i64,
+        spares: &mut Spares,
+        pass: &mut Pass,
+    ) -> Result<RawArray, NoMemory>
+        requires held { (columns : List Column) × (values : List Row) × HoldRows self.old.builders.items columns values × (rows ≡ pos (length values))
+            × (length values ≤ 2 ^ 40) }
+        requires few { length self.old.builders.items < 2 ^ 31 }
+        requires units { 1 + 4 * length self.old.builders.items ≤ pass.old.units }
+        ensures chunk { IfOk result (λ chunk. (columns : List Column) (values : List Row) → HoldRows self.old.builders.items columns values
+            → rows ≡ pos (length values) → chunk ≡ chunk_of columns values) }
+        ensures emptied { OnOk result (AreEmptied self.old.builders.items self.new.builders.items) }
+        ensures spent { OnErr result (AreSpent self.old.builders.items self.new.builders.items) }
+        ensures units { IfOk result (λ chunk. pass.new.units + Cost chunk ≡ pass.old.units) }
+        ensures units_back { OnErr result (pass.new.units ≡ pass.old.units) }
+        ensures cost { IfOk result (λ chunk. Cost chunk ≤ 1 + 4 * length self.old.builders.items) }
+        ensures blocks { OnOk result ((columns : List Column) (values : List Row) → HoldRows self.old.builders.items columns values
+            → pass.new.blocks ≡ risen pass.old.blocks (chunk_blocks columns values)) }
+        ensures nodes { OnOk result (pass.new.nodes ≡ risen pass.old.nodes (1 + length self.old.builders.items)) }
+        ensures forms { self.new.forms ≡ self.old.forms }
+        ensures mark { self.new.mark ≡ self.old.mark }
+    {
+        let made = export_rows(alloc, self.builders.as_mut_slice(), rows, spares, pass)?;
+        Ok(made)
     }
 
     /// Adds the row that the record of this number spells. Whether all its fields are UTF-8 may be known.

@@ -11,11 +11,12 @@ ghost use Rattle.layout_check.specs.Values.{rows_of};
 ghost use Rattle.layout_check.specs.Walk.{ChunkOk};
 ghost use Rattle.layout_check.specs.ColumnKinds.{type_of_columns};
 ghost use Rattle.csv_read.specs.Body.{HoldRows};
+ghost use Rattle.csv_read.specs.Emptied.{AreEmptied, AreSpent, IsEmptied, IsSpent};
 ghost use Rattle.csv_read.specs.Chunks.{AreColumnsOf, FitFrom, IsColumnOf, all_blocks, chunk_blocks, chunk_of, own_blocks};
 
-use arr_export::{export_column, export_table};
+use arr_export::{export_laid, export_table};
 use buf_block::let_go_all;
-use col_build::{Builder, Built};
+use col_build::{Builder, Laid, Spares};
 use raw_array::{RawArray, release_all};
 use std::alloc::Global;
 use unit_pass::{NoMemory, Pass, SUPPLY};
@@ -37,47 +38,46 @@ pub fn held_rows_fit()
     ensures fit { (builders : List ABuilder) (columns : List Column) (rows : List Row) → HoldRows builders columns rows → FitFrom 0 columns rows }
 {}
 
-/// The array of the column that a builder holds.
-fn column_array(alloc: Global, builder: Builder, pass: &mut Pass) -> Result<RawArray, NoMemory>
-    requires holds { HoldsSome builder }
+/// The array of the column that a builder holds, which holds nothing then.
+fn column_array(
+    alloc: Global,
+    builder: &mut Builder,
+    spares: &mut Spares,
+    pass: &mut Pass,
+) -> Result<RawArray, NoMemory>
+    requires holds { HoldsSome builder.old }
     requires units { 4 ≤ pass.old.units }
-    ensures column { IfOk result (λ array. IsColumnOf builder array) }
+    ensures column { IfOk result (λ array. IsColumnOf builder.old array) }
+    ensures emptied { OnOk result (IsEmptied builder.old builder.new) }
+    ensures spent { OnErr result (IsSpent builder.old builder.new) }
     ensures units { IfOk result (λ array. pass.new.units + Cost array ≡ pass.old.units) }
     ensures units_back { OnErr result (pass.new.units ≡ pass.old.units) }
     ensures small { IfOk result (λ array. Cost array ≤ 4) }
     ensures blocks { IfOk result (λ array. pass.new.blocks ≡ risen pass.old.blocks (own_blocks array)) }
     ensures nodes { OnOk result (pass.new.nodes ≡ risen pass.old.nodes 1) }
 {
-    match builder.finish(alloc, pass) {
-        Ok(built) => match export_column(alloc, built, None, pass) {
-            Ok(array) => Ok(array),
-            Err((built, dictionary, NoMemory)) => {
-                give_up(built, dictionary, pass);
-                Err(NoMemory)
-            }
-        },
-        Err((_builder, NoMemory)) => Err(NoMemory),
+    let laid = builder.finish_here(alloc, spares, pass)?;
+    match export_laid(alloc, laid, pass) {
+        Ok(array) => Ok(array),
+        Err((laid, NoMemory)) => {
+            give_up(laid, pass);
+            Err(NoMemory)
+        }
     }
 }
 
-/// Lets the buffers of a finished column without a dictionary go.
-fn give_up(built: Built, dictionary: Option<RawArray>, pass: &mut Pass)
-    requires none { dictionary ≡ None }
-    requires units { pass.old.units + count_by is_some built.buffers.items ≤ SUPPLY }
-    ensures units { pass.new.units ≡ pass.old.units + count_by is_some built.buffers.items }
+/// Lets the buffers of a finished column go.
+fn give_up(laid: Laid, pass: &mut Pass)
+    requires units { pass.old.units + count_by is_some laid.buffers.items ≤ SUPPLY }
+    ensures units { pass.new.units ≡ pass.old.units + count_by is_some laid.buffers.items }
     ensures blocks { pass.new.blocks ≡ pass.old.blocks }
     ensures nodes { pass.new.nodes ≡ pass.old.nodes }
 {
-    match dictionary {
-        None => {}
-        Some(_dictionary) => unreachable!(),
-    }
-    let Built {
-        kind: _,
+    let Laid {
         length: _,
         null_count: _,
         buffers,
-    } = built;
+    } = laid;
     let_go_all(buffers, pass);
 }
 
@@ -85,23 +85,26 @@ fn give_up(built: Built, dictionary: Option<RawArray>, pass: &mut Pass)
 #[tactic(auto, using(tree_model::proofs::Measures::measures))]
 fn column_arrays(
     alloc: Global,
-    builders: Vec<Builder>,
+    builders: &mut [Builder],
+    spares: &mut Spares,
     pass: &mut Pass,
 ) -> Result<Vec<RawArray>, NoMemory>
-    requires holds { All HoldsSome builders.items }
-    requires units { 4 * length builders.items ≤ pass.old.units }
-    ensures columns { IfOk result (λ arrays. AreColumnsOf builders.items arrays.items) }
+    requires holds { All HoldsSome builders.old }
+    requires units { 4 * length builders.old ≤ pass.old.units }
+    ensures columns { IfOk result (λ arrays. AreColumnsOf builders.old arrays.items) }
+    ensures emptied { OnOk result (AreEmptied builders.old builders.new) }
+    ensures spent { OnErr result (AreSpent builders.old builders.new) }
     ensures units { IfOk result (λ arrays. pass.new.units + cost_of_all (trees arrays.items) ≡ pass.old.units) }
     ensures units_back { OnErr result (pass.new.units ≡ pass.old.units) }
-    ensures small { IfOk result (λ arrays. cost_of_all (trees arrays.items) ≤ 4 * length builders.items) }
+    ensures small { IfOk result (λ arrays. cost_of_all (trees arrays.items) ≤ 4 * length builders.old) }
     ensures blocks { IfOk result (λ arrays. pass.new.blocks ≡ risen pass.old.blocks (all_blocks arrays.items)) }
-    ensures nodes { OnOk result (pass.new.nodes ≡ risen pass.old.nodes (length builders.items)) }
+    ensures nodes { OnOk result (pass.new.nodes ≡ risen pass.old.nodes (length builders.old)) }
 {
     let Ok(mut arrays) = Vec::with_capacity(alloc, builders.len()) else {
         return Err(NoMemory);
     };
-    for builder in builders {
-        match column_array(alloc, builder, pass) {
+    for j in 0..builders.len() {
+        match column_array(alloc, &mut builders[j], spares, pass) {
             Ok(array) => arrays.push_reserved(array),
             Err(NoMemory) => {
                 release_all(arrays, pass);
@@ -113,27 +116,32 @@ fn column_arrays(
 }
 
 /// The chunk of the rows that builders hold: their buffers are moved into blocks, and no byte is copied. It draws a unit for
-/// each structure and each buffer, and counts them. `NoMemory` comes for want of memory alone, and gives all units back.
+/// each structure and each buffer, and counts them. `NoMemory` comes for want of memory alone, and gives all units back. The
+/// spares are room that serves for many chunks.
 pub fn export_rows(
     alloc: Global,
-    builders: Vec<Builder>,
+    builders: &mut [Builder],
     rows: i64,
+    spares: &mut Spares,
     pass: &mut Pass,
 ) -> Result<RawArray, NoMemory>
-    requires held { (columns : List Column) × (values : List Row) × HoldRows builders.items columns values × (rows ≡ pos (length values))
+    requires held { (columns : List Column) × (values : List Row) × HoldRows builders.old columns values × (rows ≡ pos (length values))
         × (length values ≤ 2 ^ 40) }
-    requires few { length builders.items < 2 ^ 31 }
-    requires units { 1 + 4 * length builders.items ≤ pass.old.units }
-    ensures chunk { IfOk result (λ chunk. (columns : List Column) (values : List Row) → HoldRows builders.items columns values → rows ≡ pos (length values)
+    requires few { length builders.old < 2 ^ 31 }
+    requires units { 1 + 4 * length builders.old ≤ pass.old.units }
+    ensures chunk { IfOk result (λ chunk. (columns : List Column) (values : List Row) → HoldRows builders.old columns values → rows ≡ pos (length values)
         → chunk ≡ chunk_of columns values) }
+    // The builders are of the same columns, and hold nothing; on want of memory each holds nothing or what it held.
+    ensures emptied { OnOk result (AreEmptied builders.old builders.new) }
+    ensures spent { OnErr result (AreSpent builders.old builders.new) }
     ensures units { IfOk result (λ chunk. pass.new.units + Cost chunk ≡ pass.old.units) }
     ensures units_back { OnErr result (pass.new.units ≡ pass.old.units) }
-    ensures cost { IfOk result (λ chunk. Cost chunk ≤ 1 + 4 * length builders.items) }
-    ensures blocks { OnOk result ((columns : List Column) (values : List Row) → HoldRows builders.items columns values
+    ensures cost { IfOk result (λ chunk. Cost chunk ≤ 1 + 4 * length builders.old) }
+    ensures blocks { OnOk result ((columns : List Column) (values : List Row) → HoldRows builders.old columns values
         → pass.new.blocks ≡ risen pass.old.blocks (chunk_blocks columns values)) }
-    ensures nodes { OnOk result (pass.new.nodes ≡ risen pass.old.nodes (1 + length builders.items)) }
+    ensures nodes { OnOk result (pass.new.nodes ≡ risen pass.old.nodes (1 + length builders.old)) }
 {
-    let arrays = column_arrays(alloc, builders, pass)?;
+    let arrays = column_arrays(alloc, builders, spares, pass)?;
     match export_table(alloc, arrays, rows, pass) {
         Ok(chunk) => Ok(chunk),
         Err((arrays, NoMemory)) => {

@@ -93,23 +93,34 @@ pub next-chunk : (batch : ℕ) (builders : List Builder) (chunk : ArrayTree) (ol
     → chunk ≡ chunk_of (columns_in old) found.rows
     → ChunkOk (type_of_columns (columns_in old)) (chunk_of (columns_in old) found.rows)
     → rows_of (type_of_columns (columns_in old)) (chunk_of (columns_in old) found.rows) ≡ found.rows
-    → Cost chunk ≤ 1 + 4 * length builders
+    → Cost chunk ≤ 1 + 4 * length old.columns
     → after.blocks ≡ risen before.blocks (chunk_blocks (columns_in old) found.rows)
-    → after.nodes ≡ risen before.nodes (1 + length builders)
+    → after.nodes ≡ risen before.nodes (1 + length old.columns)
     → IsNextChunk batch chunk old new before after
 next-chunk batch builders chunk old new before after found plain short few ahead is ok back cost blocks nodes =
     let columns = columns_in old in
-    let count : length builders ≡ length columns = found.held.held.count in
     let long : length columns ≡ length old.columns = length-map old.columns column_of in
     let table = next-table batch old found.rows (batches_left batch new) plain short ahead in
     record {
       rows = found.rows;
       ahead = ahead;
       live = live-chunk columns found.rows chunk is;
-      is = is-chunk columns found.rows chunk (length builders) plain is ok back cost (omega (arith, count, long, few));
+      is = is-chunk columns found.rows chunk (length old.columns) plain is ok back cost few;
       blocks = blocks ∙ ap (risen before.blocks) (blocks-are columns found.rows plain table);
-      nodes = nodes ∙ ap (λ (n : ℕ). risen before.nodes (1 + n)) count ∙ ap (risen before.nodes) (nodes-are columns plain);
+      nodes = nodes ∙ ap (λ (n : ℕ). risen before.nodes (1 + n)) (sym long) ∙ ap (risen before.nodes) (nodes-are columns plain);
     }
+
+-- the same where as much is left
+pub chunk-same : (batch : ℕ) (chunk : ArrayTree) (old new other : BatchesLeft) (before after : Tally) → IsNextChunk batch chunk old new before after
+    → batches_left batch other ≡ batches_left batch new → IsNextChunk batch chunk old other before after
+chunk-same batch chunk old new other before after next same = record {
+  rows = next.rows;
+  ahead = next.ahead ∙ ap (behind next.rows) (sym same);
+  live = next.live;
+  is = next.is;
+  blocks = next.blocks;
+  nodes = next.nodes;
+}
 
 -- ---- a refusal
 

@@ -28,20 +28,12 @@ none-left batch s none = subst
     (λ (rs : List Record). (batches_if (body_from s.mark (s.read + 1) (columns_in s) rs) batch (rows_before s.mark (s.read + 1) (columns_in s) rs)).chunks ≡ [])
     (sym none) refl
 
-pub chunk-answers : (s n : Stream) (rows : List Row) (out : ArrayTree) → s.ahead ≡ rows ∷ n.ahead → IsChunkOf s.columns rows out → IsLive out
-    → Answers s n (pos 0) out
-chunk-answers s n rows out ahead is live = record {
-  chunk = λ _. (rows, ahead, is);
-  finish = λ _ gone. absurd (not-released out live gone);
-  bad = λ e. absurd (differ 0 22 (λ (d : 0 ≡ 22). omega (arith, d)) e);
-  wants = λ e. absurd (differ 0 12 (λ (d : 0 ≡ 12). omega (arith, d)) e);
-  codes = inl refl;
-}
-
-pub end-answers : (s n : Stream) (out : ArrayTree) → s.ahead ≡ [] → n.ahead ≡ [] → s.ending ≡ None → out ≡ Released → Answers s n (pos 0) out
-end-answers s n out none after ending gone = record {
-  chunk = λ live. absurd (not-released out live gone);
-  finish = λ _ _. (none, after, ending);
+-- a chunk, or the end
+pub given-answers : (s n : Stream) (out : ArrayTree) → (IsLive out → (rows : List Row) × (s.ahead ≡ rows ∷ n.ahead) × IsChunkOf s.columns rows out)
+    → (out ≡ Released → (s.ahead ≡ []) × (n.ahead ≡ []) × (s.ending ≡ None)) → Answers s n (pos 0) out
+given-answers s n out chunk end = record {
+  chunk = chunk;
+  finish = λ _ gone. end gone;
   bad = λ e. absurd (differ 0 22 (λ (d : 0 ≡ 22). omega (arith, d)) e);
   wants = λ e. absurd (differ 0 12 (λ (d : 0 ≡ 12). omega (arith, d)) e);
   codes = inl refl;

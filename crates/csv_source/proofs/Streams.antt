@@ -1,5 +1,5 @@
 -- What a call for the next chunk answers, counts and shows.
-use Rattle.std.proofs.Common.{◌≡◌, ◌<◌, ◌+◌, ◌^◌, ◌∙◌, ℕ, ℤ, List, [], ◌∷◌, map, Option, None, Some, refl, sym, ap, subst, arith}
+use Rattle.std.proofs.Common.{◌≡◌, ◌<◌, ◌+◌, ◌^◌, ◌∙◌, ◌⊎◌, ℕ, ℤ, List, [], ◌∷◌, map, Option, None, Some, refl, sym, ap, subst, arith, inl, inr}
 use Rattle.std.proofs.Common.{append-nil}
 use Rattle.std.proofs.lemmas.List.Sums.{sum_by-cons}
 use Rattle.std.specs.List.{sum_by}
@@ -12,13 +12,17 @@ use Rattle.raw_array.specs.Members.{ArrayTree}
 use Rattle.stage_model.specs.Traffic.{made_blocks, made_nodes}
 use Rattle.stream_face.specs.Calls.{Counts, Shows}
 use Rattle.stream_face.specs.Shown.{Seen, grown}
-use Rattle.tree_model.specs.Tree.{IsLive, Released}
+use Rattle.tree_model.specs.Tree.{IsLive, Live, Released}
 use Rattle.unit_pass.specs.Tally.{Tally, risen}
 use Rattle.csv_source.specs.NextChunks.{IsNextChunk, no_batches}
 use Rattle.csv_source.specs.Sources.{chunks_traffic, no_joints}
 
 pub not-released : (out : ArrayTree) → IsLive out → out ≡ Released → ⊥
 not-released out live is = subst IsLive is live
+
+pub live-or-released : (out : ArrayTree) → IsLive out ⊎ (out ≡ Released)
+live-or-released Released = inr refl
+live-or-released (Live members children dictionary) = inl tt
 
 -- ---- what is counted
 
@@ -64,6 +68,18 @@ end-counts columns batches t out none blocks nodes =
       no_blocks = λ _. no_blocks;
       no_nodes = λ _. no_nodes;
     }
+
+-- the same where the batches that are left stay
+pub same-counts : (batch : ℕ) (old new : BatchesLeft) (before after : Tally) (out : ArrayTree) → batches_left batch old ≡ no_batches None
+    → batches_left batch new ≡ batches_left batch old → new.columns ≡ old.columns → after ≡ before → before.blocks < 2 ^ 64 → before.nodes < 2 ^ 64
+    → Counts (chunks_traffic (columns_in old) (batches_left batch old).chunks)
+    (chunks_traffic (columns_in new) (batches_left batch new).chunks) before after out
+same-counts batch old new before after out none stays columns same blocks nodes =
+    let due = chunks_traffic (columns_in old) (batches_left batch old).chunks in
+    subst (λ (t : Tally). Counts due (chunks_traffic (columns_in new) (batches_left batch new).chunks) before t out) (sym same)
+    (subst (λ (b : Chunks). Counts due (chunks_traffic (columns_in new) b.chunks) before before out) (sym stays)
+    (subst (λ (cs : List ColumnType). Counts due (chunks_traffic (map column_of cs) (batches_left batch old).chunks) before before out) (sym columns)
+    (end-counts (columns_in old) (batches_left batch old) before out none blocks nodes)))
 
 -- ---- what is shown
 

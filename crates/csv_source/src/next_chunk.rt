@@ -1,18 +1,17 @@
 //! The chunk of the next batch of a text.
-ghost use Rattle.std.specs.Prelude.{◌≡◌, ◌≤◌, ◌+◌, ◌*◌, ◌^◌, List, Ok, None, Some, pos, length, vec_len, IfErr, IfOk, IfSome, MatchResult, OnErr};
+ghost use Rattle.std.specs.Prelude.{◌≡◌, ◌≤◌, ◌+◌, ◌*◌, ◌^◌, List, None, pos, length, IfErr, OnErr, OnOk};
 ghost use Rattle.csv_model.specs.Header.{most_columns};
 ghost use Rattle.csv_read.specs.BatchesLeft.{batches_left, columns_in};
 ghost use Rattle.csv_read.specs.Body.{HoldRows};
-ghost use Rattle.csv_source.specs.NextChunks.{AreShort, EndsAt, IsNextChunk, no_batches};
+ghost use Rattle.csv_source.specs.NextChunks.{AreShort, EndsAt, IsNextChunk, ending_of, no_batches};
 ghost use Rattle.fmt_string.specs.Table.{Column, Row};
 ghost use Rattle.raw_array.specs.Members.{Cost};
+ghost use Rattle.tree_model.specs.Tree.{IsLive, Released};
 ghost use Rattle.unit_pass.specs.declared.pass.TheConstants.{CHUNK};
 
 use crate::refused::Refused;
-use col_build::Builder;
-use csv_read::{
-    BatchReader, batches_are_read_in_turn, chunks_have_their_rows, export_rows, held_rows_fit,
-};
+use col_build::{Builder, Spares};
+use csv_read::{BatchReader, batches_are_read_in_turn, chunks_have_their_rows, held_rows_fit};
 use raw_array::RawArray;
 use std::alloc::Global;
 use unit_pass::{CHUNK, NoMemory, Pass};
@@ -27,26 +26,31 @@ fn count_rows(builders: &[Builder]) -> i64
     builders[0].len()
 }
 
-/// The chunk of the next `batch` records, or of all that are left where they are fewer; none where no record is left; or
-/// why there is none.
+/// Puts the chunk of the next `batch` records out, or of all that are left where they are fewer; none where no record is
+/// left; or tells why there is none.
 pub(crate) fn next_chunk(
     batches: &mut BatchReader<'_>,
     alloc: Global,
     batch: u64,
+    spares: &mut Spares,
+    out: &mut RawArray,
     pass: &mut Pass,
-) -> Result<Option<RawArray>, Refused>
+) -> Result<(), Refused>
     requires some_rows { 1 ≤ batch }
     requires some { 1 ≤ length batches.old.columns }
     requires few { length batches.old.columns ≤ most_columns }
     requires short { AreShort batches.old.records }
+    requires empty { out.old ≡ Released }
     requires room { CHUNK ≤ pass.old.units }
     ensures columns { batches.new.columns ≡ batches.old.columns }
-    ensures chunk { IfOk result (λ found. IfSome found (λ chunk. IsNextChunk batch chunk batches.old batches.new pass.old pass.new)) }
-    ensures units { IfOk result (λ found. IfSome found (λ chunk. pass.new.units + Cost chunk ≡ pass.old.units)) }
-    ensures end { result ≡ Ok None → batches_left batch batches.old ≡ no_batches None }
-    ensures end_stays { result ≡ Ok None → batches.new ≡ batches.old }
-    ensures end_counts { result ≡ Ok None → pass.new ≡ pass.old }
+    ensures chunk { OnOk result (IsLive out.new → IsNextChunk batch out.new batches.old batches.new pass.old pass.new) }
+    ensures units { OnOk result (pass.new.units + Cost out.new ≡ pass.old.units) }
+    ensures end { OnOk result (out.new ≡ Released → batches_left batch batches.old ≡ no_batches None) }
+    ensures end_stays { OnOk result (out.new ≡ Released → batches_left batch batches.new ≡ batches_left batch batches.old) }
+    ensures ending { OnOk result (ending_of batch batches.new ≡ ending_of batch batches.old) }
+    ensures end_counts { OnOk result (out.new ≡ Released → pass.new ≡ pass.old) }
     ensures fault { IfErr result (λ why. EndsAt batch why batches.old batches.new) }
+    ensures refuses { OnErr result (out.new ≡ Released) }
     ensures units_back { OnErr result (pass.new.units ≡ pass.old.units) }
     ensures short { AreShort batches.new.records }
 {
@@ -54,14 +58,17 @@ pub(crate) fn next_chunk(
     chunks_have_their_rows();
     held_rows_fit();
     let _columns = batches.columns();
-    let builders = match batches.next(alloc, batch) {
-        Ok(Some(builders)) => builders,
-        Ok(None) => return Ok(None),
+    match batches.next(alloc, batch) {
+        Ok(true) => {}
+        Ok(false) => return Ok(()),
         Err(fault) => return Err(Refused::of(alloc, fault)),
-    };
-    let rows = count_rows(builders.as_slice());
-    match export_rows(alloc, builders, rows, pass) {
-        Ok(chunk) => Ok(Some(chunk)),
+    }
+    let rows = count_rows(batches.builders());
+    match batches.export(alloc, rows, spares, pass) {
+        Ok(chunk) => {
+            out.put(chunk);
+            Ok(())
+        }
         Err(NoMemory) => Err(Refused::NoMemory),
     }
 }

@@ -13,6 +13,7 @@ ghost use Rattle.fmt_string.specs.declared.row_fault.RowFault.{RowFault as RowVa
 use crate::next_chunk::next_chunk;
 use crate::refused::{Refused, Word};
 use arr_export::{column_schemas_are_lawful, export_schema, schema_size};
+use col_build::Spares;
 use csv_read::{BatchReader, Records};
 use edge_io::Gate;
 use fmt_string::{ColumnType, RowFault};
@@ -32,6 +33,8 @@ pub struct CsvSource<'a> {
     // in the middle of the text.
     whole: Snapshot<BatchReader<'a>>,
     batch: u32,
+    // Room that serves for all chunks.
+    spares: Spares,
     refused: Option<Refused>,
     word: Word,
     released: bool,
@@ -76,6 +79,7 @@ impl<'a> CsvSource<'a> {
             batches,
             whole,
             batch,
+            spares: Spares::of(alloc, 64),
             refused: None,
             word: Word::Nothing,
             released: false,
@@ -117,12 +121,16 @@ impl<'a> ArrayStream for CsvSource<'a> {
             self.word = Word::Refusal;
             return code;
         }
-        match next_chunk(&mut self.batches, alloc, u64::from(self.batch), pass) {
-            Ok(found) => {
+        match next_chunk(
+            &mut self.batches,
+            alloc,
+            u64::from(self.batch),
+            &mut self.spares,
+            out,
+            pass,
+        ) {
+            Ok(()) => {
                 self.word = Word::Nothing;
-                if let Some(chunk) = found {
-                    out.put(chunk);
-                }
                 0
             }
             Err(refused) => {
@@ -166,6 +174,7 @@ impl<'a> ArrayStream for CsvSource<'a> {
             batches: _,
             whole: _,
             batch: _,
+            spares: _,
             refused: _,
             word: _,
             released: _,

@@ -11,6 +11,7 @@ ghost use Rattle.total_stage.specs.Sums.{AreSums};
 
 use crate::numbers::Totals;
 use crate::row::{row_builders, row_values};
+use col_build::Spares;
 use csv_read::export_rows;
 use fmt_string::ColumnType;
 use raw_array::RawArray;
@@ -36,6 +37,12 @@ pub(crate) fn totals_chunk(
     ensures nodes { OnOk result (pass.new.nodes ≡ risen pass.old.nodes (1 + length columns.now)) }
 {
     let values = row_values(alloc, sums)?;
-    let builders = row_builders(alloc, columns, values.as_slice())?;
-    export_rows(alloc, builders, 1, pass)
+    let mut builders = row_builders(alloc, columns, values.as_slice())?;
+    export_rows(
+        alloc,
+        builders.as_mut_slice(),
+        1,
+        &mut Spares::new(alloc),
+        pass,
+    )
 }

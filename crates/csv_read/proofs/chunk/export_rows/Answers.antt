@@ -5,25 +5,26 @@ use Rattle.unit_pass.specs.Tally.{risen}
 use Rattle.arr_export.specs.ArrayTrees.{IsColumn, table_tree}
 use Rattle.layout_check.specs.Layout.{natural}
 use Rattle.csv_read.specs.Chunks.{IsColumnOf, all_blocks}
+use Rattle.csv_read.proofs.EmptiedBuilders.{emptied-spent}
 use Rattle.csv_read.proofs.HeldRows.{are-columns, blocks-are, columns-are, from-each, held-fit, held-some}
 use Rattle.csv_read.proofs.chunk.export_rows.Goals as goal
 
 pub column_arrays-requires-clause-holds : goal.column_arrays-requires-clause-holds
 column_arrays-requires-clause-holds c =
     let held = c.requires.held in
-    held-some 0 c.args.builders.items held.0 held.1 (from-each c.args.builders.items held.0 held.1 held.2.held)
+    held-some 0 c.args.builders.now held.0 held.1 (from-each c.args.builders.now held.0 held.1 held.2.held)
 
 pub export_table-requires-clause-few_columns : goal.export_table-requires-clause-few_columns
 export_table-requires-clause-few_columns c =
-    omega (arith, AllZip-long IsColumnOf c.args.builders.items c.in_ok-arrays.arrays.items c.in_ok-arrays.ensures.columns, c.requires.few)
+    omega (arith, AllZip-long IsColumnOf c.args.builders.now c.in_ok-arrays.arrays.items c.in_ok-arrays.ensures.columns, c.requires.few)
 
 pub export_table-requires-clause-columns : goal.export_table-requires-clause-columns
 export_table-requires-clause-columns c =
     let held = c.requires.held in
     let arrays =
-    columns-are 0 c.args.builders.items held.0 held.1 c.in_ok-arrays.arrays.items (from-each c.args.builders.items held.0 held.1 held.2.held)
+    columns-are 0 c.args.builders.now held.0 held.1 c.in_ok-arrays.arrays.items (from-each c.args.builders.now held.0 held.1 held.2.held)
     c.in_ok-arrays.ensures.columns in
-    let fits = held-fit 0 c.args.builders.items held.0 held.1 (from-each c.args.builders.items held.0 held.1 held.2.held) in
+    let fits = held-fit 0 c.args.builders.now held.0 held.1 (from-each c.args.builders.now held.0 held.1 held.2.held) in
     let same : to_z w64 (of_z w64 c.args.rows) ≡ c.args.rows = omega (arith, ints) in
     let rows = same ∙ held.3 in
     subst (λ rows. All (IsColumn (natural rows)) c.in_ok-arrays.arrays.items) (sym rows)
@@ -32,7 +33,7 @@ export_table-requires-clause-columns c =
 pub returns-in-Ok-clause-chunk : goal.returns-in-Ok-clause-chunk
 returns-in-Ok-clause-chunk c columns values held count =
     let arrays =
-    columns-are 0 c.args.builders.items columns values c.in_ok-arrays.arrays.items (from-each c.args.builders.items columns values held.held)
+    columns-are 0 c.args.builders.now columns values c.in_ok-arrays.arrays.items (from-each c.args.builders.now columns values held.held)
     c.in_ok-arrays.ensures.columns in
     let same : to_z w64 (of_z w64 c.args.rows) ≡ c.args.rows = omega (arith, ints) in
     let rows = same ∙ count in
@@ -41,6 +42,9 @@ returns-in-Ok-clause-chunk c columns values held count =
 pub returns-in-Ok-clause-blocks : goal.returns-in-Ok-clause-blocks
 returns-in-Ok-clause-blocks c columns values held =
     let arrays =
-    columns-are 0 c.args.builders.items columns values c.in_ok-arrays.arrays.items (from-each c.args.builders.items columns values held.held)
+    columns-are 0 c.args.builders.now columns values c.in_ok-arrays.arrays.items (from-each c.args.builders.now columns values held.held)
     c.in_ok-arrays.ensures.columns in
     c.in-Ok.ensures.blocks ∙ c.in_ok-arrays.ensures.blocks ∙ ap (risen c.args.pass.now.blocks) (ap all_blocks arrays ∙ blocks-are 0 columns values)
+
+pub returns-in-Err-clause-spent : goal.returns-in-Err-clause-spent
+returns-in-Err-clause-spent c = emptied-spent _ _ c.in_ok-arrays.ensures.emptied

@@ -1,40 +1,70 @@
-use Rattle.std.proofs.Common.{◌≡◌, arith, List, sym, subst}
+use Rattle.std.proofs.Common.{rules, ◌≡◌, ◌≤◌, ◌+◌, ◌*◌, ◌∙◌, ℕ, List, length, map, ap, arith, sym, subst}
 use Rattle.std.proofs.lemmas.Int.{ints}
+use Rattle.csv_model.specs.Batches.{Chunks}
 use Rattle.col_build.specs.declared.builder.Builder.{Builder}
-use Rattle.csv_read.specs.BatchesLeft.{IsNextBatch, columns_in}
+use Rattle.csv_read.specs.BatchesLeft.{BatchesLeft, IsNextBatch, batches_left, columns_in}
 use Rattle.csv_read.specs.Body.{HoldRows}
-use Rattle.csv_read.specs.Chunks.{chunk_of}
-use Rattle.csv_source.proofs.Chunks.{next-chunk, next-short}
+use Rattle.csv_read.specs.Chunks.{chunk_blocks, chunk_of}
+use Rattle.fmt_string.specs.ColumnView.{column_of}
+use Rattle.fmt_string.specs.Table.{Column}
+use Rattle.fmt_string.specs.declared.kind.ColumnType.{ColumnType}
+use Rattle.raw_array.specs.Members.{ArrayTree, Cost}
+use Rattle.unit_pass.specs.Tally.{risen}
+use Rattle.csv_source.specs.NextChunks.{IsNextChunk}
+use Rattle.csv_source.proofs.Chunks.{chunk-same, next-chunk, next-short}
 use Rattle.csv_source.proofs.PlainKinds.{plain-columns}
 use Rattle.csv_source.proofs.next_chunk.next_chunk.Goals as goal
 
 pub returns-in-Ok-clause-chunk : goal.returns-in-Ok-clause-chunk
-returns-in-Ok-clause-chunk c =
+returns-in-Ok-clause-chunk c = λ _.
     let batches = c.args.batches.now in
-    let new = c.next.new.self in
-    let builders = c.in-Ok-Some.builders.items in
+    let read = c.next.new.self in
+    let new = c.export.new.self in
+    let before = c.args.pass.now in
+    let after = c.export.new.pass in
+    let chunk = c.in-Ok.chunk in
     let columns = columns_in batches in
-    let found : IsNextBatch c.args.batch builders batches new = rw c.in-Ok-Some.field-0-is at c.in-Ok-Some.ensures.batch in
-    let held = subst (λ (bs : List Builder). HoldRows bs columns found.rows) (sym c.as_slice.ensures.value) found.held in
-    let count = c.count_rows-rows.ensures columns found.rows held in
-    let is : c.in-Ok.chunk ≡ chunk_of columns found.rows = c.in-Ok.ensures.chunk columns found.rows found.held (omega (arith, ints, count)) in
-    let fit = c.held_rows_fit.ensures.fit builders columns found.rows found.held in
-    next-chunk c.args.batch builders c.in-Ok.chunk batches new c.args.pass.now c.export_rows.new.pass found
+    let found : IsNextBatch c.args.batch read.builders batches read = c.next.ensures.batch (search rules) in
+    let same : columns_in read ≡ columns = ap (map column_of) c.next.ensures.columns in
+    let lent = subst (λ (bs : List Builder). HoldRows bs columns found.rows) (sym c.builders.ensures) found.held in
+    let count = c.count_rows-rows.ensures columns found.rows lent in
+    let held = subst (λ (cs : List Column). HoldRows read.builders cs found.rows) (sym same) found.held in
+    let is : chunk ≡ chunk_of columns found.rows =
+    c.in-Ok.ensures.chunk found.rows held (omega (arith, ints, count)) ∙ ap (λ (cs : List Column). chunk_of cs found.rows) same in
+    let fit = c.held_rows_fit.ensures.fit read.builders columns found.rows found.held in
+    let cost = subst (λ (cs : List ColumnType). Cost chunk ≤ 1 + 4 * length cs) c.next.ensures.columns c.in-Ok.ensures.cost in
+    let blocks = c.in-Ok.ensures.blocks found.rows held ∙ ap (λ (cs : List Column). risen before.blocks (chunk_blocks cs found.rows)) same in
+    let nodes = c.in-Ok.ensures.nodes ∙ ap (λ (cs : List ColumnType). risen before.nodes (1 + length cs)) c.next.ensures.columns in
+    let next : IsNextChunk c.args.batch chunk batches read before after =
+    next-chunk c.args.batch read.builders chunk batches read before after found
     (plain-columns columns c.columns-columns.ensures.proper c.columns-columns.ensures.allowed) c.requires.short c.requires.few
-    (c.batches_are_read_in_turn.ensures.next c.args.batch builders batches new c.requires.some_rows c.next.ensures.columns c.next.ensures.mark found)
+    (c.batches_are_read_in_turn.ensures.next c.args.batch read.builders batches read c.requires.some_rows c.next.ensures.columns c.next.ensures.mark found)
     is
     (c.chunks_have_their_rows.ensures.chunk columns found.rows fit (omega (arith, found.few)))
     (c.chunks_have_their_rows.ensures.rows columns found.rows fit found.held.widths)
-    c.in-Ok.ensures.cost (c.in-Ok.ensures.blocks columns found.rows found.held) c.in-Ok.ensures.nodes
+    cost blocks nodes in
+    subst (λ (tree : ArrayTree). IsNextChunk c.args.batch tree batches new before after) (sym c.put.ensures)
+    (chunk-same c.args.batch chunk batches read new before after next (ap (batches_left c.args.batch) c.export.ensures.stays))
+
+pub returns-in-Ok-clause-ending : goal.returns-in-Ok-clause-ending
+returns-in-Ok-clause-ending c =
+    let batches = c.args.batches.now in
+    let read = c.next.new.self in
+    let found : IsNextBatch c.args.batch read.builders batches read = c.next.ensures.batch (search rules) in
+    ap (λ (s : BatchesLeft). (batches_left c.args.batch s).ending) c.export.ensures.stays
+    ∙ sym (ap (λ (b : Chunks). b.ending)
+    (c.batches_are_read_in_turn.ensures.next c.args.batch read.builders batches read c.requires.some_rows c.next.ensures.columns c.next.ensures.mark found))
 
 pub returns-in-Ok-clause-short : goal.returns-in-Ok-clause-short
 returns-in-Ok-clause-short c =
-    let found : IsNextBatch c.args.batch c.in-Ok-Some.builders.items c.args.batches.now c.next.new.self =
-    rw c.in-Ok-Some.field-0-is at c.in-Ok-Some.ensures.batch in
-    next-short c.args.batch c.args.batches.now.records c.next.new.self.records found.left c.requires.short
+    let read = c.next.new.self in
+    let found : IsNextBatch c.args.batch read.builders c.args.batches.now read = c.next.ensures.batch (search rules) in
+    next-short c.args.batch c.args.batches.now.records c.export.new.self.records
+    (ap (λ (s : BatchesLeft). s.records) c.export.ensures.stays ∙ found.left) c.requires.short
 
-pub returns-in-Err-export_rows-clause-short : goal.returns-in-Err-export_rows-clause-short
-returns-in-Err-export_rows-clause-short c =
-    let found : IsNextBatch c.args.batch c.in-Ok-Some.builders.items c.args.batches.now c.next.new.self =
-    rw c.in-Ok-Some.field-0-is at c.in-Ok-Some.ensures.batch in
-    next-short c.args.batch c.args.batches.now.records c.next.new.self.records found.left c.requires.short
+pub returns-in-Err-export-clause-short : goal.returns-in-Err-export-clause-short
+returns-in-Err-export-clause-short c =
+    let read = c.next.new.self in
+    let found : IsNextBatch c.args.batch read.builders c.args.batches.now read = c.next.ensures.batch (search rules) in
+    next-short c.args.batch c.args.batches.now.records c.export.new.self.records
+    (ap (λ (s : BatchesLeft). s.records) c.export.ensures.stays ∙ found.left) c.requires.short

@@ -9,7 +9,7 @@ use Rattle.col_build.specs.declared.item.PushFault.{PushFault}
 use Rattle.col_build.specs.declared.shape.Shape.{Shape}
 use Rattle.col_build.specs.declared.item.PushFault.TheVariants.{NoMemory}
 use Rattle.col_build.proofs.FitsFacts.{fits-more, total-bounded}
-use Rattle.col_build.proofs.Laid.{laid-back, laid-has}
+use Rattle.col_build.proofs.LaidAs.{laid-back, laid-has}
 use Rattle.col_build.proofs.MadeAhead.{whole_holds}
 use Rattle.col_build.proofs.Pushes.{fault-held, validity-held}
 use Rattle.col_build.proofs.ShapeFacts.{shape-same}

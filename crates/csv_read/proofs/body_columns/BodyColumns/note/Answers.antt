@@ -2,7 +2,7 @@ use Rattle.std.proofs.Common.{List, ℕ, ◌<◌, get_or, length, subst, sym}
 use Rattle.col_build.specs.Holding.{HoldsSome}
 use Rattle.col_build.specs.declared.builder.Builder.{Builder}
 use Rattle.csv_read.proofs.BodyRows.{all-held}
-use Rattle.csv_read.proofs.body_columns.BodyColumns.take.Goals as goal
+use Rattle.csv_read.proofs.body_columns.BodyColumns.note.Goals as goal
 
 pub note_used-requires-clause-held : goal.note_used-requires-clause-held
 note_used-requires-clause-held c =
