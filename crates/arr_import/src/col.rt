@@ -81,6 +81,7 @@ impl<'a> Col<'a> {
     ghost use Rattle.arr_import.specs.Cols.{window_of};
 
     /// All items of an array that [`layout_check::check_array`] accepted.
+    #[inline(always)]
     pub fn of(typed: &'a Typed, array: &'a RawArray) -> Col<'a>
         requires lawful { LayoutOk (typed_of typed.now) array.now }
         requires types { TypedOk (typed_of typed.now) }
@@ -93,6 +94,7 @@ impl<'a> Col<'a> {
     }
 
     /// Some items of an array.
+    #[inline(always)]
     pub(crate) fn window(typed: &'a Typed, array: &'a RawArray, start: u64, count: u64) -> Col<'a>
         requires lawful { IsTrue (is_none (first_fault (typed_of typed.now) array.now)) }
         requires valid { ∥ NodesOk (typed_of typed.now) ∥₁ }

@@ -61,6 +61,7 @@ impl<'a> Col<'a> {
 
 impl<'a> Col<'a> {
     /// Some items of a child.
+    #[inline(always)]
     pub(crate) fn child_items(&self, k: usize, from: u64, count: u64) -> Col<'a>
         requires inside { k < length (kids_of self.now.typed.now) }
         requires within { from + count ≤ tree_items (child_at self.now.array.now k) }

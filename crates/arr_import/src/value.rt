@@ -88,6 +88,7 @@ impl<'a> Col<'a> {
     }
 
     /// The items of a struct's child `k`, counted from 0, over this column's window.
+    #[inline(always)]
     pub fn child(&self, k: usize) -> Col<'a>
         requires kind { IsStruct (window_of self.now).typed }
         requires inside { k < length (children_of (window_of self.now).typed) }

@@ -3,7 +3,7 @@ use Rattle.std.proofs.Common.{◌≡◌, ◌≢◌, ◌∙◌, ◌<◌, ◌+◌,
 use Rattle.std.proofs.Common.{below_more, append-nil, append_assoc}
 use Rattle.std.specs.List.{AllZip, concat}
 use Rattle.std.specs.Prelude.{ℤ, Bool}
-use Rattle.std.proofs.lemmas.List.{length-map, map-append, get_or_append_left, get_or_default}
+use Rattle.std.proofs.lemmas.List.{length-append, length-map, map-append, get_or_append_left, get_or_default}
 use Rattle.std.proofs.Math.Seq.{get_or-append_seam}
 use Rattle.std.proofs.lemmas.List.Folds.{concat-append}
 use Rattle.csv.specs.Writing.{default_writer, row_text}
@@ -85,6 +85,22 @@ children-push ts t fs w k e last before j d f lt =
     (λ n less d f. subst (λ x. IsChild x (get_or fs n f) w n) (sym (get_or_append_left ts (t ∷ []) d n (omega (arith, less, e)))) (before n d f less))
     (λ d f. subst (λ x. IsChild x (get_or fs k f) w k) (sym (subst (λ n. get_or (ts ++ t ∷ []) n d ≡ t) e (get_or-append_seam ts t [] d))) (last f))
     j lt d f
+
+-- the columns of a struct's first children
+pub record AreFirst (columns : List ChunkColumn) (forms : List FieldForm) (w : Window) (k : ℕ) : Type 0 where
+  pub count : length columns ≡ k
+  pub each_is : (j : ℕ) (d : ChunkColumn) (f : FieldForm) → j < k → IsChild (get_or columns j d) (get_or forms j f) w j
+
+pub first-push : (ts : List ChunkColumn) (t : ChunkColumn) (fs : List FieldForm) (w : Window) (k : ℕ) → AreFirst ts fs w k
+    → ((f : FieldForm) → IsChild t (get_or fs k f) w k) → AreFirst (ts ++ t ∷ []) fs w (k + 1)
+first-push ts t fs w k before last =
+    let long = length-append ts (t ∷ []) in
+    record { count = omega (arith, long, before.count); each_is = children-push ts t fs w k before.count last before.each_is }
+
+pub first-all : (ts : List ChunkColumn) (fs : List FieldForm) (w : Window) (k : ℕ) → AreFirst ts fs w k → k ≡ length fs
+    → ((i : ℕ) → length (row_items w.typed w.array (w.start + i)) ≡ length fs) → AreChildren ts fs w
+first-all ts fs w k first end wide =
+    record { count = first.count ∙ end; each_is = λ j d f lt. first.each_is j d f (omega (arith, lt, end)); wide = wide }
 
 listed-trees : (types : List KindTree) → tree_list (trees types) ≡ types
 listed-trees [] = refl

@@ -1,12 +1,15 @@
 -- How the items of a column are read: what a reading shows are the column's items, and it is written in the column's form.
-use Rattle.std.specs.Prelude.{◌≡◌, ℕ, true}
+use Rattle.std.specs.Prelude.{◌≡◌, ℕ, true, List}
+use Rattle.std.specs.List.{AllZip}
 use Rattle.fmt_string.specs.FieldText.{Form, Truths, Wholes, FloatBits, Text, HexBytes, Decimals}
 use Rattle.fmt_string.specs.Value.{Value}
 use Rattle.arr_import.specs.Cols.{window_of}
 use Rattle.arr_import.specs.Indexing.{shown_by}
 use Rattle.arr_import.specs.Plain.{ShowsTexts, ShowsWholes, ShowsTruths, ShowsDoubles}
-use Rattle.arr_import.specs.Window.{item_at}
+use Rattle.arr_import.specs.Window.{Window, item_at}
 use Rattle.field_codec.specs.FieldForms.{form_in}
+use Rattle.field_codec.specs.declared.form.FieldForm.{FieldForm}
+use Rattle.csv_write.specs.ChunkTexts.{AreChildren}
 use Rattle.csv_write.specs.declared.chunk_text.ChunkColumn.{ChunkColumn}
 use Rattle.csv_write.specs.declared.reading.Reading.{Reading}
 use Rattle.csv_write.specs.declared.reading.Reading.TheVariants as readings
@@ -28,3 +31,7 @@ Reads (readings.Bytes texts) column = IsShown HexBytes (ShowsTexts texts) column
 Reads (readings.SomeTexts read) column = (form_in column.form ≡ Text) × (read.now ≡ column)
 Reads (readings.Entries indexed) column = (form_in column.form ≡ Text) × (shown_by indexed.now ≡ window_of column.items)
 Reads (readings.Any read) column = read.now ≡ column
+
+-- readings are those of the children of a struct's window, one after the other, each child with its form
+abbrev pub ReadsChildren : List Reading → List FieldForm → Window → Type 0
+ReadsChildren readings forms w = (columns : List ChunkColumn) × AreChildren columns forms w × AllZip Reads readings columns

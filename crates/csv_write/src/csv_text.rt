@@ -12,11 +12,12 @@ ghost use Rattle.csv_model.specs.Text.{header_text, rows_text};
 ghost use Rattle.layout_check.specs.ColumnKinds.{type_of_columns};
 ghost use Rattle.arr_import.specs.Cols.{window_of};
 ghost use Rattle.csv_write.specs.CsvTexts.{HasText, rows_in};
+ghost use Rattle.csv_write.specs.Readings.{ReadsChildren};
 ghost use Rattle.field_codec.specs.TextColumns.{HaveTexts};
 
 use crate::chunk_text::{chunk_columns, count_rows};
 use crate::column_form::{column_forms, write_names};
-use crate::reading::readings;
+use crate::reading::{Reading, common_readings, readings};
 use crate::rows::write_rows;
 use crate::writer::{finish_lines, new_writer};
 use arr_import::Col;
@@ -68,12 +69,35 @@ impl CsvText {
             → (window_of chunk.entry).typed ≡ type_of_columns columns
             → HasText self.new mark columns (written ++ rows_text mark columns (rows_in (window_of chunk.entry)))) }
     {
-        let columns = chunk_columns(alloc, &self.forms, &chunk)?;
+        match common_readings(alloc, &self.forms, &chunk)? {
+            Some(readings) => self.add_read(&readings, &chunk),
+            None => self.add_any(alloc, &chunk),
+        }
+    }
+
+    /// Writes the rows of a chunk, whatever readings its columns have.
+    fn add_any(&mut self, alloc: Global, chunk: &Col<'_>) -> Result<(), NoMemory>
+        requires { (mark : List ℕ) × (columns : List Column) × (written : List ℕ) × HasText self.old mark columns written
+            × ((window_of chunk.now).typed ≡ type_of_columns columns) }
+        ensures { OnOk result ((mark : List ℕ) (columns : List Column) (written : List ℕ) → HasText self.old mark columns written
+            → HasText self.new mark columns (written ++ rows_text mark columns (rows_in (window_of chunk.now)))) }
+    {
+        let columns = chunk_columns(alloc, &self.forms, chunk)?;
         let readings = readings(alloc, &columns)?;
-        let rows = count_rows(&chunk);
+        self.add_read(&readings, chunk)
+    }
+
+    /// Writes the rows of a chunk, by the readings of its columns.
+    fn add_read(&mut self, readings: &[Reading<'_, '_>], chunk: &Col<'_>) -> Result<(), NoMemory>
+        requires { (mark : List ℕ) × (columns : List Column) × (written : List ℕ) × HasText self.old mark columns written
+            × ReadsChildren readings.now self.old.forms.items (window_of chunk.now) }
+        ensures { OnOk result ((mark : List ℕ) (columns : List Column) (written : List ℕ) → HasText self.old mark columns written
+            → HasText self.new mark columns (written ++ rows_text mark columns (rows_in (window_of chunk.now)))) }
+    {
+        let rows = count_rows(chunk);
         write_rows(
             &mut *self.writer,
-            &readings,
+            readings,
             rows,
             self.mark.as_slice(),
             &mut self.room,

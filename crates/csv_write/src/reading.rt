@@ -1,12 +1,16 @@
 //! How the items of a chunk's columns are read, settled before the first of them.
-ghost use Rattle.std.specs.Prelude.{◌≡◌, All, IfOk, IfSome};
+ghost use Rattle.std.specs.Prelude.{◌≡◌, Option, All, length, IfOk, IfSome};
 ghost use Rattle.std.specs.List.{AllZip};
+ghost use Rattle.tree_model.specs.Tree.{children_of};
+ghost use Rattle.arr_import.specs.Cols.{window_of};
+ghost use Rattle.arr_import.specs.Window.{IsStruct};
+ghost use Rattle.arr_import.specs.declared.indexed.Indexed.{Indexed};
 ghost use Rattle.csv_write.specs.ChunkTexts.{HasEntries, HasItem, text_in};
-ghost use Rattle.csv_write.specs.Readings.{Reads};
+ghost use Rattle.csv_write.specs.Readings.{Reads, ReadsChildren};
 ghost use Rattle.csv_write.specs.declared.chunk_text.ChunkColumn.{ChunkColumn};
 
 use crate::chunk_text::{ChunkColumn, entry_text, rare_text, some_text};
-use arr_import::{Doubles, Indexed, Texts, Truths, Wholes};
+use arr_import::{Col, Doubles, Indexed, Texts, Truths, Wholes};
 use field_codec::{FieldForm, bits_text, bytes_text, decimal_text, truth_text, whole_text};
 use std::alloc::Global;
 use unit_pass::NoMemory;
@@ -34,11 +38,11 @@ pub(crate) enum Reading<'b, 'a> {
 }
 
 /// A column's reading in a common way: it has no nulls, and its items are of one of the common widths.
-fn common_reading<'b, 'a>(column: &'b ChunkColumn<'a>) -> Option<Reading<'b, 'a>>
-    ensures { IfSome result (λ reading. Reads reading column.now) }
+#[inline(always)]
+fn common_reading<'b, 'a>(form: FieldForm, items: &Col<'a>) -> Option<Reading<'b, 'a>>
+    ensures { IfSome result (λ reading. (entries : Option Indexed) → Reads reading (record { form = form; items = items.now; entries = entries })) }
 {
-    let items = &column.items;
-    match column.form {
+    match form {
         FieldForm::Text => Some(Reading::Texts(items.texts()?)),
         FieldForm::Wholes {
             bits: 32,
@@ -78,7 +82,7 @@ fn reading_of<'b, 'a>(column: &'b ChunkColumn<'a>) -> Reading<'b, 'a>
     requires { HasEntries column.now }
     ensures { Reads result column.now }
 {
-    match common_reading(column) {
+    match common_reading(column.form, &column.items) {
         Some(reading) => reading,
         None => rare_reading(column),
     }
@@ -97,6 +101,27 @@ pub(crate) fn readings<'b, 'a>(
         readings.push(reading_of(column))?;
     }
     Ok(readings)
+}
+
+/// The reading of each column of a chunk, where each has one in a common way.
+pub(crate) fn common_readings<'b, 'a>(
+    alloc: Global,
+    forms: &[FieldForm],
+    chunk: &Col<'a>,
+) -> Result<Option<Vec<Reading<'b, 'a>>>, NoMemory>
+    requires kind { IsStruct (window_of chunk.now).typed }
+    requires count { length forms.now ≡ length (children_of (window_of chunk.now).typed) }
+    ensures { IfOk result (λ found. IfSome found (λ readings. ReadsChildren readings.items forms.now (window_of chunk.now))) }
+{
+    chunk.rows_are_whole();
+    let mut readings = Vec::with_capacity(alloc, forms.len())?;
+    for (k, form) in forms.iter().enumerate() {
+        match common_reading(*form, &chunk.child(k)) {
+            Some(reading) => readings.push_reserved(reading),
+            None => return Ok(None),
+        }
+    }
+    Ok(Some(readings))
 }
 
 /// The text of an item, by its column's reading. A null is the mark.
