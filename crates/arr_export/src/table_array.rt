@@ -36,6 +36,7 @@ fn end_no_validity(mut buffers: Vec<Option<BufView>>)
 /// A table: a live struct of these columns with so many rows, none of them null ("Arrow Columnar Format", "Struct
 /// Layout"). Columns that are longer stand in it as they are. It draws one unit and counts one node. On want of memory the
 /// columns come back.
+#[inline(always)]
 pub fn export_table(
     alloc: Global,
     columns: Vec<RawArray>,

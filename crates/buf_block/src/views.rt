@@ -6,6 +6,7 @@ use crate::BufView;
 use unit_pass::{Pass, SUPPLY};
 
 /// Lets the hold of each view that is there go, from the last to the first. Takes no memory and can't be refused.
+#[inline(always)]
 pub fn let_go_all(mut views: Vec<Option<BufView>>, pass: &mut Pass)
     requires { pass.old.units + count_by is_some views.items ≤ SUPPLY }
     ensures units { pass.new.units ≡ pass.old.units + count_by is_some views.items }

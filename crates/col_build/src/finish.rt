@@ -339,6 +339,7 @@ impl Builder {
 
     /// The column of the items, whose buffers are moved into blocks. Draws a unit and counts a block for each buffer that is
     /// there. The builder holds no items then, and on want of memory the same as before. The spares serve for many columns.
+    #[inline(always)]
     pub fn finish_here(
         &mut self,
         alloc: Global,

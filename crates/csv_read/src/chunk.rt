@@ -67,6 +67,7 @@ fn column_array(
 }
 
 /// Lets the buffers of a finished column go.
+#[inline(never)]
 fn give_up(laid: Laid, pass: &mut Pass)
     requires units { pass.old.units + count_by is_some laid.buffers.items ≤ SUPPLY }
     ensures units { pass.new.units ≡ pass.old.units + count_by is_some laid.buffers.items }
@@ -118,6 +119,7 @@ fn column_arrays(
 /// The chunk of the rows that builders hold: their buffers are moved into blocks, and no byte is copied. It draws a unit for
 /// each structure and each buffer, and counts them. `NoMemory` comes for want of memory alone, and gives all units back. The
 /// spares are room that serves for many chunks.
+#[inline(always)]
 pub fn export_rows(
     alloc: Global,
     builders: &mut [Builder],

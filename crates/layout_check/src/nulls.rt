@@ -11,6 +11,7 @@ use crate::rule::Numbers;
 use bit_pack::{bit_at, count_clear};
 
 /// How many items of the window are null.
+#[inline(always)]
 #[tactic(auto, using(crate::proofs::NullSums::nulls))]
 pub fn null_total(node: &FormedNode) -> u64
     requires validity { 0 < length (own_of node.now).buffers }

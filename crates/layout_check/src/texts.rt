@@ -188,6 +188,7 @@ fn is_text_in_items(wide: bool, node: &FormedNode, used: &[u8]) -> bool
 }
 
 /// The used data passes as a whole: there is none, it is ASCII, or it is UTF-8 that is cut between characters.
+#[inline(always)]
 #[tactic(auto, using(crate::proofs::Scanned::texts))]
 fn passes_whole(wide: bool, node: &FormedNode) -> bool
     requires buffers { 2 < length (own_of node.now).buffers }

@@ -58,6 +58,7 @@ pub(crate) fn taken_private(private: Place<Private>, pass: &mut Pass) -> Vec<Opt
 }
 
 /// Ends a node's record with its holds, whose units go back.
+#[inline(always)]
 #[tactic(auto, using(crate::proofs::Buffers::buffer_lists))]
 pub(crate) fn end_private(private: Place<Private>, pass: &mut Pass)
     requires { pass.old.units + 1 + holds_of (buffers_of (value_of private).buffers.items) ≤ SUPPLY }
