@@ -16,7 +16,7 @@ use crate::nulls::is_valid;
 use crate::rule::Numbers;
 use crate::runs::is_border;
 use crate::scans::cut_between_characters;
-use crate::view_texts::view_text_wrong;
+use crate::view_texts::{view_text_wrong, view_texts_pass};
 use fmt_string::DataType;
 
 /// The place in the data at which an offset is.
@@ -223,6 +223,19 @@ fn text_wrong(wide: bool, node: &FormedNode) -> Option<Numbers>
     }
 }
 
+/// Whether each valid item is UTF-8, item by item. The place of a fault gets its room here, and so not at each node.
+#[inline(never)]
+fn all_are_texts(wide: bool, node: &FormedNode) -> bool
+    requires buffers { 2 < length (own_of node.now).buffers }
+    requires validity { IsLongIfPresent (own_of node.now) }
+    requires long { offsets_need wide (end (own_of node.now)) ≤ length (bytes (own_of node.now) 1) }
+    requires data { data_need wide (own_of node.now) ≤ length (bytes (own_of node.now) 2) }
+    requires rise { offsets_fall wide (own_of node.now) ≡ None }
+    ensures { result ≡ is_none (first_below (not_text wide (own_of node.now)) (items (own_of node.now))) }
+{
+    first_bad_text(wide, node).is_none()
+}
+
 /// Whether each valid text is UTF-8.
 #[tactic(auto, using(crate::proofs::Long::long))]
 pub fn texts_pass(kind: &DataType, node: &FormedNode) -> bool
@@ -233,10 +246,8 @@ pub fn texts_pass(kind: &DataType, node: &FormedNode) -> bool
     ensures { result ≡ is_none (texts_wrong kind.now (own_of node.now)) }
 {
     match kind {
-        DataType::Utf8 { wide } => {
-            passes_whole(*wide, node) || first_bad_text(*wide, node).is_none()
-        }
-        DataType::Utf8View => view_text_wrong(node).is_none(),
+        DataType::Utf8 { wide } => passes_whole(*wide, node) || all_are_texts(*wide, node),
+        DataType::Utf8View => view_texts_pass(node),
         _ => true,
     }
 }

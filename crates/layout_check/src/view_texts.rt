@@ -1,6 +1,6 @@
 //! The rule on texts, for views. Views may overlap, so no time is spent on a byte for each view that names it: data buffers
 //! are tested as a whole, and where one isn't text, by a table of its texts.
-ghost use Rattle.std.specs.Prelude.{◌≡◌, None, IsTrue, false, ◌+◌, ◌*◌, ◌^◌, ◌<◌, ◌≤◌, ◌≤ℤ◌, pos, length, Option};
+ghost use Rattle.std.specs.Prelude.{◌≡◌, None, is_none, IsTrue, false, ◌+◌, ◌*◌, ◌^◌, ◌<◌, ◌≤◌, ◌≤ℤ◌, pos, length, Option};
 ghost use Rattle.layout_check.specs.NodeView.{own_of};
 ghost use Rattle.layout_check.specs.Layout.{items, end, bytes as bytes_at, is_valid, IsLongIfPresent, view_width, data_buffers, data_lengths, lengths_need};
 ghost use Rattle.layout_check.specs.Rules.{first_below, misplaced, view_not_text};
@@ -289,4 +289,18 @@ pub fn view_text_wrong(node: &FormedNode) -> Option<Numbers>
     } else {
         first_bad_text(node, passed(node))
     }
+}
+
+/// Whether each valid view's bytes are UTF-8. The place of a fault gets its room here, and so not at each node.
+#[inline(never)]
+pub fn view_texts_pass(node: &FormedNode) -> bool
+    requires buffers { 3 ≤ length (own_of node.now).buffers }
+    requires validity { IsLongIfPresent (own_of node.now) }
+    requires long { end (own_of node.now) * view_width ≤ length (bytes_at (own_of node.now) 1) }
+    requires lengths { lengths_need (own_of node.now) ≤ length (data_lengths (own_of node.now)) }
+    requires named { AreThere (own_of node.now) }
+    requires placed { first_below (misplaced (own_of node.now)) (items (own_of node.now)) ≡ None }
+    ensures { result ≡ is_none (first_below (view_not_text (own_of node.now)) (items (own_of node.now))) }
+{
+    view_text_wrong(node).is_none()
 }

@@ -255,6 +255,31 @@ pub fn first_wrong_prefix(node: &FormedNode) -> Option<Numbers>
     None
 }
 
+/// Whether each valid view names data. The place of a fault gets its room here, and so not at each node that has no views.
+#[inline(never)]
+fn all_are_placed(node: &FormedNode) -> bool
+    requires buffers { 3 ≤ length (own_of node.now).buffers }
+    requires validity { IsLongIfPresent (own_of node.now) }
+    requires long { end (own_of node.now) * view_width ≤ length (bytes (own_of node.now) 1) }
+    requires lengths { lengths_need (own_of node.now) ≤ length (data_lengths (own_of node.now)) }
+    ensures { result ≡ is_none (first_below (misplaced (own_of node.now)) (items (own_of node.now))) }
+{
+    first_misplaced(node).is_none()
+}
+
+/// Whether each valid long view has the prefix of its data, once each valid view names some.
+#[inline(never)]
+fn all_prefixes_pass(node: &FormedNode) -> bool
+    requires buffers { 3 ≤ length (own_of node.now).buffers }
+    requires validity { IsLongIfPresent (own_of node.now) }
+    requires long { end (own_of node.now) * view_width ≤ length (bytes (own_of node.now) 1) }
+    requires named { AreThere (own_of node.now) }
+    requires placed { first_below (misplaced (own_of node.now)) (items (own_of node.now)) ≡ None }
+    ensures { result ≡ is_none (first_below (prefix_wrong (own_of node.now)) (items (own_of node.now))) }
+{
+    first_wrong_prefix(node).is_none()
+}
+
 /// Whether views name data and have its prefixes, once the buffers are long enough.
 #[inline(always)]
 #[tactic(auto, using(crate::proofs::Long::long))]
@@ -264,7 +289,7 @@ pub fn views_pass(node: &FormedNode) -> bool
     ensures placed { IsTrue result → views_misplaced node.now.layout (own_of node.now) ≡ None }
 {
     match node.layout {
-        Layout::Views => first_misplaced(node).is_none() && first_wrong_prefix(node).is_none(),
+        Layout::Views => all_are_placed(node) && all_prefixes_pass(node),
         _ => true,
     }
 }

@@ -25,6 +25,7 @@ use crate::rule::{DICTIONARY_STEP, Failing, LayoutFault, LayoutRule, Numbers, Pa
 use crate::texts::{texts_pass, texts_wrong};
 use crate::typed::Typed;
 use crate::views::{prefixes_wrong, views_misplaced, views_pass};
+use fmt_string::DataType;
 use raw_array::RawArray;
 
 /// Checks an array against its kinds ("Arrow Columnar Format", "Physical memory layout"). The fault is the first rule of
@@ -114,7 +115,18 @@ fn indices_pass(typed: &Typed, node: &FormedNode) -> bool
     requires dictionary { one_if (dictionary_of node.now.array.now) ≡ one_if (out-Typed typed.now).dict }
     ensures { result ≡ is_none (indices_wrong (out-Typed typed.now).kind (own_of node.now) (length_if (dictionary_of node.now.array.now))) }
 {
-    typed.dict.is_none() || indices_wrong(&typed.kind, node).is_none()
+    typed.dict.is_none() || all_indices_pass(&typed.kind, node)
+}
+
+/// Whether each valid index is a place of the dictionary. The place of a fault gets its room here, and so not at each node.
+#[inline(never)]
+fn all_indices_pass(kind: &DataType, node: &FormedNode) -> bool
+    requires layout { node.now.layout ≡ layout_of kind.now }
+    requires type_ok { KindOk kind.now }
+    requires buffers { AreReadable node.now.layout (own_of node.now) }
+    ensures { result ≡ is_none (indices_wrong kind.now (own_of node.now) (length_if (dictionary_of node.now.array.now))) }
+{
+    indices_wrong(kind, node).is_none()
 }
 
 /// Whether the rules of a live node's form hold: its numbers, and how many parts it has.
