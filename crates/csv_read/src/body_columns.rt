@@ -113,7 +113,7 @@ fn begin_all(
     Ok(())
 }
 
-/// Notes how many items and bytes builders have, where it is worth to make room for them.
+/// Notes how many items and bytes builders have.
 fn note_used(used: &mut [(usize, usize)], builders: &[Builder])
     requires count { length used.old ≡ length builders.now }
     requires held { (j : ℕ) (b : Builder) → j < length builders.now → HoldsSome (get_or builders.now j b) }
@@ -121,9 +121,7 @@ fn note_used(used: &mut [(usize, usize)], builders: &[Builder])
 {
     for j in 0..builders.len() {
         let (items, bytes) = builders[j].used();
-        if items > 11 {
-            used[j] = (items, bytes.saturating_add(64));
-        }
+        used[j] = (items, bytes.saturating_add(64));
     }
 }
 
@@ -205,7 +203,7 @@ impl BodyColumns {
         Ok(())
     }
 
-    /// Notes how much room the rows took; the next ones will have as much.
+    /// Notes how much room the rows took, where they are so many that it is worth; the next ones will have as much.
     pub(crate) fn note(&mut self)
         requires held { (columns : List Column) × (rows : List Row) × HasRows self.old columns rows }
         ensures builders { self.new.builders.items ≡ self.old.builders.items }
@@ -213,7 +211,9 @@ impl BodyColumns {
         ensures forms { self.new.forms ≡ self.old.forms }
         ensures mark { self.new.mark ≡ self.old.mark }
     {
-        note_used(self.used.as_mut_slice(), self.builders.as_slice());
+        if self.rows > 11 {
+            note_used(self.used.as_mut_slice(), self.builders.as_slice());
+        }
     }
 
     /// The chunk of the rows, as `export_rows` makes it of the builders.
