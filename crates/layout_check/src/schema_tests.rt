@@ -10,7 +10,7 @@ use raw_schema::{RawSchema, SchemaParts};
 use schema_meta::MetaFault;
 use std::alloc::Global;
 use std::process::Abort;
-use unit_pass::{Pass, SUPPLY, open_desk};
+use unit_pass::{Desk, Pass, SUPPLY, open_desk};
 
 #[tactic(auto, using(tree_model::proofs::Measures::measures))]
 fn few_levels(rt: &impl Abort, children: &[RawSchema])
@@ -147,18 +147,18 @@ fn given_back(rt: &impl Abort, tree: RawSchema, pass: &mut Pass) {
     tree.discard();
 }
 
+fn closed(rt: &impl Abort, desk: Desk, pass: Pass) {
+    assert_eq!(rt; pass.units(), SUPPLY);
+    let _audit = desk.close(pass);
+}
+
 /// The answer is this fault, at these steps.
 fn faulted(rt: &impl Abort, answer: Result<Typed, SchemaFault>, steps: &[u32], rule: SchemaRule) {
     match answer {
         Ok(_typed) => panic!(rt; "the schema is in order"),
         Err(SchemaFault::NoMemory) => panic!(rt; "no memory"),
         Err(SchemaFault::At { path, rule: found }) => {
-            assert_eq!(rt; found, rule);
-            assert_eq!(rt; path.depth as usize, steps.len());
-            for i in 0..steps.len() {
-                assert!(rt; i < 64);
-                assert_eq!(rt; path.steps[i], steps[i]);
-            }
+            assert_eq!(rt; (found, path.way()), (rule, steps));
         }
     }
 }
@@ -193,8 +193,7 @@ fn the_rules_of_a_node_are_named_at_the_root_and_at_a_child(rt: HostRuntime) {
     refused(rt, alloc, tree, short, pass_mut);
     let tree = node(rt, alloc, b"", Some(b""), Vec::new(alloc), None, pass_mut);
     refused(rt, alloc, tree, EMPTY, pass_mut);
-    assert_eq!(rt; pass.units(), SUPPLY);
-    let _audit = desk.close(pass);
+    closed(rt, desk, pass);
 }
 
 #[test]
@@ -221,8 +220,7 @@ fn the_rules_of_its_parts_are_named_at_the_root_and_at_a_child(rt: HostRuntime) 
     let one = over(rt, alloc, b"+s", number, pass_mut);
     let tree = over(rt, alloc, b"+m", one, pass_mut);
     refused(rt, alloc, tree, SchemaRule::MapShape, pass_mut);
-    assert_eq!(rt; pass.units(), SUPPLY);
-    let _audit = desk.close(pass);
+    closed(rt, desk, pass);
 }
 
 #[test]
@@ -237,8 +235,21 @@ fn a_child_fails_before_the_dictionary(rt: HostRuntime) {
     let steps = [0, DICTIONARY_STEP];
     faulted(rt, check_schema(alloc, &top), &steps, SchemaRule::Released);
     given_back(rt, top, pass_mut);
-    assert_eq!(rt; pass.units(), SUPPLY);
-    let _audit = desk.close(pass);
+    closed(rt, desk, pass);
+}
+
+fn levels_are_taken(rt: &impl Abort, alloc: Global, pass: &mut Pass) {
+    let lowest = flat(rt, alloc, b"i", pass);
+    let tree = lists(rt, alloc, 63, lowest, pass);
+    assert!(rt; check_schema(alloc, &tree).is_ok(), "64 levels are refused");
+    given_back(rt, tree, pass);
+}
+
+/// The level is tried before the node is read.
+fn a_level_more_is_refused(rt: &impl Abort, alloc: Global, pass: &mut Pass) {
+    let tree = lists(rt, alloc, 64, RawSchema::released(), pass);
+    faulted(rt, check_schema(alloc, &tree), &[0; 64], SchemaRule::Deep);
+    given_back(rt, tree, pass);
 }
 
 #[test]
@@ -246,20 +257,55 @@ fn sixty_four_levels_are_taken_and_no_more(rt: HostRuntime) {
     let rt = &rt;
     let alloc = rt.alloc();
     let (desk, mut pass) = open_desk();
-    let pass_mut = &mut pass;
-    let lowest = flat(rt, alloc, b"i", pass_mut);
-    let tree = lists(rt, alloc, 63, lowest, pass_mut);
-    match check_schema(alloc, &tree) {
-        Ok(_typed) => {}
-        Err(_fault) => panic!(rt; "64 levels are refused"),
+    levels_are_taken(rt, alloc, &mut pass);
+    a_level_more_is_refused(rt, alloc, &mut pass);
+    closed(rt, desk, pass);
+}
+
+fn is_index_into_text(typed: &Typed) -> bool {
+    match (&typed.kind, &typed.dict) {
+        (
+            DataType::Int {
+                bits: 16,
+                signed: false,
+            },
+            Some(dict),
+        ) => matches!(&dict.kind, DataType::Utf8 { wide: false }),
+        _ => false,
     }
-    given_back(rt, tree, pass_mut);
-    // The level is tried before the node is read.
-    let tree = lists(rt, alloc, 64, RawSchema::released(), pass_mut);
-    faulted(rt, check_schema(alloc, &tree), &[0; 64], SchemaRule::Deep);
-    given_back(rt, tree, pass_mut);
-    assert_eq!(rt; pass.units(), SUPPLY);
-    let _audit = desk.close(pass);
+}
+
+/// A struct of two, of which the second is of truth values.
+fn is_entry(typed: &Typed) -> bool {
+    match (&typed.kind, typed.kids.as_slice()) {
+        (DataType::Struct, [_key, value]) => matches!(&value.kind, DataType::Bool),
+        _ => false,
+    }
+}
+
+fn is_map(typed: &Typed) -> bool {
+    match (&typed.kind, typed.kids.as_slice()) {
+        (DataType::Map, [entries]) => is_entry(entries),
+        _ => false,
+    }
+}
+
+/// A struct of an index and a map.
+fn index_and_map(rt: &impl Abort, typed: &Typed) {
+    match (&typed.kind, &typed.dict, typed.kids.as_slice()) {
+        (DataType::Struct, None, [first, second]) => {
+            assert_eq!(rt; (is_index_into_text(first), is_map(second)), (true, true));
+        }
+        _ => panic!(rt; "no struct of two"),
+    }
+}
+
+/// A map from text to truth values.
+fn map_to_truths(rt: &impl Abort, alloc: Global, pass: &mut Pass) -> RawSchema {
+    let key = flat(rt, alloc, b"u", pass);
+    let value = flat(rt, alloc, b"b", pass);
+    let entries = pair(rt, alloc, key, value, pass);
+    over(rt, alloc, b"+m", entries, pass)
 }
 
 #[test]
@@ -270,39 +316,12 @@ fn the_kinds_stand_as_the_nodes_do(rt: HostRuntime) {
     let pass_mut = &mut pass;
     let word = flat(rt, alloc, b"u", pass_mut);
     let index = encoded(rt, alloc, b"S", word, pass_mut);
-    let key = flat(rt, alloc, b"u", pass_mut);
-    let value = flat(rt, alloc, b"b", pass_mut);
-    let entries = pair(rt, alloc, key, value, pass_mut);
-    let map = over(rt, alloc, b"+m", entries, pass_mut);
+    let map = map_to_truths(rt, alloc, pass_mut);
     let top = pair(rt, alloc, index, map, pass_mut);
-    let typed = match check_schema(alloc, &top) {
-        Ok(typed) => typed,
+    match check_schema(alloc, &top) {
+        Ok(typed) => index_and_map(rt, &typed),
         Err(_fault) => panic!(rt; "the schema is refused"),
-    };
-    assert!(rt; matches!(&typed.kind, DataType::Struct));
-    assert!(rt; typed.dict.is_none());
-    assert_eq!(rt; typed.kids.len(), 2);
-    let first = &typed.kids[0];
-    assert!(rt;
-        matches!(
-            &first.kind,
-            DataType::Int {
-                bits: 16,
-                signed: false
-            }
-        )
-    );
-    match &first.dict {
-        Some(dict) => assert!(rt; matches!(&dict.kind, DataType::Utf8 { wide: false })),
-        None => panic!(rt; "no dictionary"),
     }
-    let second = &typed.kids[1];
-    assert!(rt; matches!(&second.kind, DataType::Map));
-    assert_eq!(rt; second.kids.len(), 1);
-    assert!(rt; matches!(&second.kids[0].kind, DataType::Struct));
-    assert_eq!(rt; second.kids[0].kids.len(), 2);
-    assert!(rt; matches!(&second.kids[0].kids[1].kind, DataType::Bool));
     given_back(rt, top, pass_mut);
-    assert_eq!(rt; pass.units(), SUPPLY);
-    let _audit = desk.close(pass);
+    closed(rt, desk, pass);
 }

@@ -255,24 +255,11 @@ pub(crate) fn ended(rt: &impl Abort, array: RawArray, pass: &mut Pass) {
 pub(crate) type Want = (LayoutRule, u64, i128, i128);
 
 pub(crate) fn found(rt: &impl Abort, answer: Result<(), LayoutFault>, want: Want, path: &[u32]) {
-    match answer {
-        Ok(()) => panic!(rt; "taken in place of {:?}", want.0),
-        Err(fault) => {
-            assert_eq!(rt; fault.rule, want.0, "the rule");
-            assert_eq!(rt; fault.place, want.1, "place of {:?}", want.0);
-            assert_eq!(rt; fault.left, want.2, "left of {:?}", want.0);
-            assert_eq!(rt; fault.right, want.3, "right of {:?}", want.0);
-            assert_eq!(rt;
-                fault.path.depth as usize,
-                path.len(),
-                "depth of {:?}",
-                want.0
-            );
-            for (step, want) in fault.path.steps.iter().zip(path) {
-                assert_eq!(rt; step, want);
-            }
-        }
-    }
+    let Err(fault) = answer else {
+        panic!(rt; "taken in place of {:?}", want.0)
+    };
+    let numbers = (fault.rule, fault.place, fault.left, fault.right);
+    assert_eq!(rt; (numbers, fault.path.way()), (want, path));
 }
 
 /// The fault of an array as it stands, under a struct, and behind a dictionary.
@@ -328,35 +315,82 @@ pub(crate) fn leaf_found(
     closed(rt, desk, pass);
 }
 
+/// An array's window and buffers, and its fault.
+type Row<'x> = (Window, &'x [Option<&'x [u8]>], Want);
+
+fn numbers_found(rt: &impl Abort, alloc: Global, rows: &[Row<'_>]) {
+    for (window, bytes, want) in rows {
+        leaf_found(rt, alloc, int32(alloc), *window, bytes, *want);
+    }
+}
+
+/// Arrays of which some buffers are needed, absent or short.
+fn each_rule_of_numbers(rt: &impl Abort, alloc: Global) {
+    let zeros = [0u8; 8];
+    let zeros = zeros.as_slice();
+    let rows: [Row<'_>; 5] = [
+        (
+            (0, 0, -1),
+            &[None, None],
+            (LayoutRule::NegativeOffset, 0, -1, 0),
+        ),
+        ((0, 0, 0), &[None], (LayoutRule::BufferCount, 0, 1, 2)),
+        (
+            (2, 0, 0),
+            &[None, None],
+            (LayoutRule::BufferAbsent, 1, 0, 8),
+        ),
+        (
+            (3, 0, 0),
+            &[None, Some(zeros)],
+            (LayoutRule::BufferShort, 1, 8, 12),
+        ),
+        (
+            (1, 0, 0),
+            &[Some(&zeros[..1]), Some(zeros)],
+            (LayoutRule::NullCount, 0, 0, 1),
+        ),
+    ];
+    numbers_found(rt, alloc, &rows);
+}
+
+fn each_rule_of_texts(rt: &impl Abort, alloc: Global) {
+    let falling = [0u8, 0, 0, 0, 3, 0, 0, 0, 2, 0, 0, 0];
+    let rising = [0u8, 0, 0, 0, 3, 0, 0, 0, 4, 0, 0, 0, 5, 0, 0, 0];
+    let rows: [(Window, [Option<&[u8]>; 3], Want); 4] = [
+        (
+            (2, -1, 0),
+            [None, Some(&falling), Some(b"abc")],
+            (LayoutRule::OffsetsFall, 1, 3, 2),
+        ),
+        // The absent data comes before the short validity.
+        (
+            (1, 0, 0),
+            [Some(&[]), Some(&falling), None],
+            (LayoutRule::BufferAbsent, 2, 0, 3),
+        ),
+        // The second item is a byte that begins no character, or half of one.
+        (
+            (2, 0, 0),
+            [None, Some(&rising[..12]), Some(b"caf\xff")],
+            (LayoutRule::NotText, 1, 0, 1),
+        ),
+        (
+            (3, 0, 0),
+            [None, Some(&rising), Some("caf\u{e9}".as_bytes())],
+            (LayoutRule::NotText, 1, 0, 1),
+        ),
+    ];
+    for (window, bytes, want) in rows {
+        leaf_found(rt, alloc, text(alloc), window, &bytes, want);
+    }
+}
+
 #[test]
 fn each_rule_has_its_fault_at_each_place(rt: HostRuntime) {
     let alloc = rt.alloc();
-    let zeros = [0u8; 8];
-    let zeros = zeros.as_slice();
-    let want = (LayoutRule::NegativeOffset, 0, -1, 0);
-    leaf_found(&rt, alloc, int32(alloc), (0, 0, -1), &[None, None], want);
-    let want = (LayoutRule::BufferCount, 0, 1, 2);
-    leaf_found(&rt, alloc, int32(alloc), (0, 0, 0), &[None], want);
-    let want = (LayoutRule::BufferAbsent, 1, 0, 8);
-    leaf_found(&rt, alloc, int32(alloc), (2, 0, 0), &[None, None], want);
-    let want = (LayoutRule::BufferShort, 1, 8, 12);
-    leaf_found(
-        &rt,
-        alloc,
-        int32(alloc),
-        (3, 0, 0),
-        &[None, Some(zeros)],
-        want,
-    );
-    let want = (LayoutRule::NullCount, 0, 0, 1);
-    leaf_found(
-        &rt,
-        alloc,
-        int32(alloc),
-        (1, 0, 0),
-        &[Some(&zeros[..1]), Some(zeros)],
-        want,
-    );
+    each_rule_of_numbers(&rt, alloc);
+    each_rule_of_texts(&rt, alloc);
     // 2^31 - 1 bytes at each of 2^64 - 2 places.
     let want = (
         LayoutRule::BufferAbsent,
@@ -373,46 +407,6 @@ fn each_rule_has_its_fault_at_each_place(rt: HostRuntime) {
         flat(alloc, wide),
         (i64::MAX, 0, i64::MAX),
         &[None, None],
-        want,
-    );
-    let offsets = [0u8, 0, 0, 0, 3, 0, 0, 0, 2, 0, 0, 0];
-    let want = (LayoutRule::OffsetsFall, 1, 3, 2);
-    leaf_found(
-        &rt,
-        alloc,
-        text(alloc),
-        (2, -1, 0),
-        &[None, Some(&offsets), Some(b"abc")],
-        want,
-    );
-    // The absent data comes before the short validity.
-    let want = (LayoutRule::BufferAbsent, 2, 0, 3);
-    leaf_found(
-        &rt,
-        alloc,
-        text(alloc),
-        (1, 0, 0),
-        &[Some(&[]), Some(&offsets), None],
-        want,
-    );
-    // The second item is a byte that begins no character, or half of one.
-    let offsets = [0u8, 0, 0, 0, 3, 0, 0, 0, 4, 0, 0, 0];
-    let want = (LayoutRule::NotText, 1, 0, 1);
-    leaf_found(
-        &rt,
-        alloc,
-        text(alloc),
-        (2, 0, 0),
-        &[None, Some(&offsets), Some(b"caf\xff")],
-        want,
-    );
-    let offsets = [0u8, 0, 0, 0, 3, 0, 0, 0, 4, 0, 0, 0, 5, 0, 0, 0];
-    leaf_found(
-        &rt,
-        alloc,
-        text(alloc),
-        (3, 0, 0),
-        &[None, Some(&offsets), Some("caf\u{e9}".as_bytes())],
         want,
     );
     let want = (
@@ -448,6 +442,51 @@ pub(crate) fn parts_found(
     closed(rt, desk, pass);
 }
 
+fn a_child_is_found(rt: &impl Abort, alloc: Global) {
+    let (desk, mut pass) = open_desk();
+    let pair = [None, None];
+    let mut kids = Vec::new(alloc);
+    let kid = leaf(rt, alloc, (0, 0, 0), &pair, &mut pass);
+    listed(rt, &mut kids, kid);
+    let a = array(rt, alloc, (0, 0, 0), &pair, kids, None, &mut pass);
+    let want = (LayoutRule::ChildCount, 0, 1, 0);
+    parts_found(rt, alloc, int32(alloc), a, want, (desk, pass));
+}
+
+fn a_dictionary_is_found(rt: &impl Abort, alloc: Global) {
+    let (desk, mut pass) = open_desk();
+    let dictionary = leaf(rt, alloc, (0, 0, 0), &[None, None], &mut pass);
+    let a = before(rt, alloc, dictionary, &mut pass);
+    let want = (LayoutRule::Dictionary, 0, 1, 0);
+    parts_found(rt, alloc, int32(alloc), a, want, (desk, pass));
+}
+
+/// A child that is too short comes before one that is released.
+fn a_short_child_is_found(rt: &impl Abort, alloc: Global) {
+    let (desk, mut pass) = open_desk();
+    let mut kids = Vec::new(alloc);
+    listed(rt, &mut kids, RawArray::released());
+    let kid = leaf(rt, alloc, (-1, 0, 0), &[None, None], &mut pass);
+    listed(rt, &mut kids, kid);
+    let a = array(rt, alloc, (0, 0, 0), &[None], kids, None, &mut pass);
+    let typed = struct_of_two(rt, alloc, int32(alloc), int32(alloc));
+    let want = (LayoutRule::ChildShort, 1, -1, 0);
+    parts_found(rt, alloc, typed, a, want, (desk, pass));
+}
+
+/// An index of the dictionary's length.
+fn an_index_is_found(rt: &impl Abort, alloc: Global) {
+    let (desk, mut pass) = open_desk();
+    let dictionary = leaf(rt, alloc, (0, 0, 0), &[None, None], &mut pass);
+    let bytes = [None, Some([0u8, 0, 0, 0].as_slice())];
+    let kids = Vec::new(alloc);
+    let behind = Some(dictionary);
+    let a = array(rt, alloc, (1, 0, 0), &bytes, kids, behind, &mut pass);
+    let want = (LayoutRule::IndexRange, 0, 0, 0);
+    let typed = indexed(rt, alloc, int32(alloc));
+    parts_found(rt, alloc, typed, a, want, (desk, pass));
+}
+
 #[test]
 fn parts_are_checked_from_the_root_on(rt: HostRuntime) {
     let alloc = rt.alloc();
@@ -460,61 +499,10 @@ fn parts_are_checked_from_the_root_on(rt: HostRuntime) {
         want,
         open_desk(),
     );
-
-    let (desk, mut pass) = open_desk();
-    let pair = [None, None];
-    let mut kids = Vec::new(alloc);
-    listed(
-        &rt,
-        &mut kids,
-        leaf(&rt, alloc, (0, 0, 0), &pair, &mut pass),
-    );
-    let a = array(&rt, alloc, (0, 0, 0), &pair, kids, None, &mut pass);
-    let want = (LayoutRule::ChildCount, 0, 1, 0);
-    parts_found(&rt, alloc, int32(alloc), a, want, (desk, pass));
-
-    let (desk, mut pass) = open_desk();
-    let dictionary = leaf(&rt, alloc, (0, 0, 0), &pair, &mut pass);
-    let a = before(&rt, alloc, dictionary, &mut pass);
-    let want = (LayoutRule::Dictionary, 0, 1, 0);
-    parts_found(&rt, alloc, int32(alloc), a, want, (desk, pass));
-
-    // A child that is too short comes before one that is released.
-    let (desk, mut pass) = open_desk();
-    let mut kids = Vec::new(alloc);
-    listed(&rt, &mut kids, RawArray::released());
-    listed(
-        &rt,
-        &mut kids,
-        leaf(&rt, alloc, (-1, 0, 0), &pair, &mut pass),
-    );
-    let a = array(&rt, alloc, (0, 0, 0), &[None], kids, None, &mut pass);
-    let typed = struct_of_two(&rt, alloc, int32(alloc), int32(alloc));
-    let want = (LayoutRule::ChildShort, 1, -1, 0);
-    parts_found(&rt, alloc, typed, a, want, (desk, pass));
-
-    // An index of the dictionary's length.
-    let (desk, mut pass) = open_desk();
-    let dictionary = leaf(&rt, alloc, (0, 0, 0), &pair, &mut pass);
-    let bytes = [None, Some([0u8, 0, 0, 0].as_slice())];
-    let a = array(
-        &rt,
-        alloc,
-        (1, 0, 0),
-        &bytes,
-        Vec::new(alloc),
-        Some(dictionary),
-        &mut pass,
-    );
-    let want = (LayoutRule::IndexRange, 0, 0, 0);
-    parts_found(
-        &rt,
-        alloc,
-        indexed(&rt, alloc, int32(alloc)),
-        a,
-        want,
-        (desk, pass),
-    );
+    a_child_is_found(&rt, alloc);
+    a_dictionary_is_found(&rt, alloc);
+    a_short_child_is_found(&rt, alloc);
+    an_index_is_found(&rt, alloc);
 }
 
 #[test]
@@ -537,6 +525,27 @@ fn windows_without_bytes_are_taken(rt: HostRuntime) {
     closed(&rt, desk, pass);
 }
 
+/// A lawful array with so many null items is a chunk, or isn't one by this fault.
+fn chunk_found(rt: &impl Abort, typed: &Typed, array: &RawArray, want: Option<Want>, nulls: i64)
+    requires ok { NodesOk (typed_of typed.now) }
+    requires few { Depth (typed_of typed.now) ≤ 9 }
+{
+    let answer = check_chunk(typed, array);
+    let passes = chunk_passes(typed, array);
+    let counted = match check_array(typed, array) {
+        Ok(()) => Some(nulls_of(typed, array)),
+        Err(_fault) => None,
+    };
+    let chunk = want.is_none();
+    assert_eq!(rt;
+        (answer.is_ok(), passes, counted),
+        (chunk, chunk, Some(nulls))
+    );
+    if let Some(want) = want {
+        found(rt, answer, want, &[]);
+    }
+}
+
 #[test]
 fn a_chunk_is_a_table_without_null_rows(rt: HostRuntime) {
     let alloc = rt.alloc();
@@ -544,40 +553,18 @@ fn a_chunk_is_a_table_without_null_rows(rt: HostRuntime) {
     let one = [None, Some([5u8, 0, 0, 0].as_slice())];
     let number = leaf(&rt, alloc, (1, 0, 0), &one, &mut pass);
     let typed = int32(alloc);
-    found(
-        &rt,
-        check_chunk(&typed, &number),
-        (LayoutRule::TopKind, 0, 0, 0),
-        &[],
-    );
-    assert!(&rt; !chunk_passes(&typed, &number));
+    let want = (LayoutRule::TopKind, 0, 0, 0);
+    chunk_found(&rt, &typed, &number, Some(want), 0);
     let typed = struct_of(&rt, alloc, typed);
     let table = over(&rt, alloc, (1, 0, 0), number, &mut pass);
-    assert!(&rt; check_chunk(&typed, &table).is_ok());
-    assert!(&rt; chunk_passes(&typed, &table));
-    assert!(&rt; check_array(&typed, &table).is_ok());
-    assert_eq!(&rt; nulls_of(&typed, &table), 0);
+    chunk_found(&rt, &typed, &table, None, 0);
     ended(&rt, table, &mut pass);
     let mut kids = Vec::new(alloc);
     listed(&rt, &mut kids, leaf(&rt, alloc, (1, 0, 0), &one, &mut pass));
-    let table = array(
-        &rt,
-        alloc,
-        (1, 1, 0),
-        &[Some([0u8].as_slice())],
-        kids,
-        None,
-        &mut pass,
-    );
-    found(
-        &rt,
-        check_chunk(&typed, &table),
-        (LayoutRule::TopNulls, 0, 1, 0),
-        &[],
-    );
-    assert!(&rt; !chunk_passes(&typed, &table));
-    assert!(&rt; check_array(&typed, &table).is_ok());
-    assert_eq!(&rt; nulls_of(&typed, &table), 1);
+    let null = [Some([0u8].as_slice())];
+    let table = array(&rt, alloc, (1, 1, 0), &null, kids, None, &mut pass);
+    let want = (LayoutRule::TopNulls, 0, 1, 0);
+    chunk_found(&rt, &typed, &table, Some(want), 1);
     ended(&rt, table, &mut pass);
     closed(&rt, desk, pass);
 }
@@ -607,6 +594,14 @@ fn both_ways(rt: &impl Abort, array: &RawArray) {
     assert_eq!(rt; texts_wrong(&kind, &node), first_bad_text(false, &node));
 }
 
+fn both_ways_of(rt: &impl Abort, alloc: Global, window: Window, bytes: &[Option<&[u8]>]) {
+    let (desk, mut pass) = open_desk();
+    let a = leaf(rt, alloc, window, bytes, &mut pass);
+    both_ways(rt, &a);
+    ended(rt, a, &mut pass);
+    closed(rt, desk, pass);
+}
+
 #[test]
 fn scans_and_single_items_agree(rt: HostRuntime) {
     let alloc = rt.alloc();
@@ -620,21 +615,10 @@ fn scans_and_single_items_agree(rt: HostRuntime) {
         b"\xe2\x82\xacx",
     ];
     for data in rows {
-        for valid in [0b1111u8, 0b1101, 0b1000] {
-            let (desk, mut pass) = open_desk();
-            let validity = [valid];
-            let bytes = [
-                Some(validity.as_slice()),
-                Some(offsets.as_slice()),
-                Some(data),
-            ];
-            let whole = leaf(&rt, alloc, (3, -1, 0), &bytes, &mut pass);
-            both_ways(&rt, &whole);
-            ended(&rt, whole, &mut pass);
-            let window = leaf(&rt, alloc, (2, -1, 1), &bytes, &mut pass);
-            both_ways(&rt, &window);
-            ended(&rt, window, &mut pass);
-            closed(&rt, desk, pass);
+        for valid in [[0b1111u8], [0b1101], [0b1000]] {
+            let bytes = [Some(valid.as_slice()), Some(offsets.as_slice()), Some(data)];
+            both_ways_of(&rt, alloc, (3, -1, 0), &bytes);
+            both_ways_of(&rt, alloc, (2, -1, 1), &bytes);
         }
     }
 }
