@@ -30,7 +30,7 @@ fn shows_texts(rt: &impl Abort, col: &Col<'_>, want: &[&[u8]]) {
     assert_eq!(rt; col.len(), want.len() as i64);
     for (i, want) in want.iter().enumerate() {
         assert!(rt; (i as i64) < col.len());
-        assert_eq!(rt; texts.get(i as u64), *want, "item {i}");
+        assert_eq!(rt; (i, texts.get(i as u64)), (i, *want));
     }
 }
 
@@ -41,7 +41,7 @@ fn shows_wholes(rt: &impl Abort, col: &Col<'_>, width: u8, want: &[i128]) {
     assert_eq!(rt; col.len(), want.len() as i64);
     for (i, want) in want.iter().enumerate() {
         assert!(rt; (i as i64) < col.len());
-        assert_eq!(rt; wholes.get(width, i as u64), *want, "item {i}");
+        assert_eq!(rt; (i, wholes.get(width, i as u64)), (i, *want));
     }
 }
 
@@ -52,7 +52,7 @@ fn shows_truths(rt: &impl Abort, col: &Col<'_>, want: &[bool]) {
     assert_eq!(rt; col.len(), want.len() as i64);
     for (i, want) in want.iter().enumerate() {
         assert!(rt; (i as i64) < col.len());
-        assert_eq!(rt; truths.get(i as u64), *want, "item {i}");
+        assert_eq!(rt; (i, truths.get(i as u64)), (i, *want));
     }
 }
 
@@ -63,7 +63,7 @@ fn shows_doubles(rt: &impl Abort, col: &Col<'_>, want: &[u64]) {
     assert_eq!(rt; col.len(), want.len() as i64);
     for (i, want) in want.iter().enumerate() {
         assert!(rt; (i as i64) < col.len());
-        assert_eq!(rt; doubles.get(i as u64), *want, "item {i}");
+        assert_eq!(rt; (i, doubles.get(i as u64)), (i, *want));
     }
 }
 
@@ -89,11 +89,22 @@ fn is_plain(rt: &impl Abort, col: &Col<'_>, want: Plain<'_>) {
         }
         Plain::Other => {}
     }
-    assert_eq!(rt; col.texts().is_some(), texts);
-    assert_eq!(rt; col.truths().is_some(), truths);
-    assert_eq!(rt; col.doubles().is_some(), doubles);
+    let found = (
+        col.texts().is_some(),
+        col.truths().is_some(),
+        col.doubles().is_some(),
+    );
+    assert_eq!(rt; found, (texts, truths, doubles));
+    has_width(rt, col, wide);
+}
+
+/// A column has numbers of so many bytes alone, where they aren't 0.
+fn has_width(rt: &impl Abort, col: &Col<'_>, wide: u8) {
     for width in [1u8, 2, 4, 8, 16, 32, 255] {
-        assert_eq!(rt; col.wholes(width).is_some(), width == wide, "width {width}");
+        assert_eq!(rt;
+            (width, col.wholes(width).is_some()),
+            (width, width == wide)
+        );
     }
 }
 
@@ -333,8 +344,8 @@ fn shows_indexed(rt: &impl Abort, col: &Col<'_>, entries: i64, want: &[Entry<'_>
     for (i, want) in want.iter().enumerate() {
         let place = i as i64;
         assert!(rt; place < col.len());
-        assert_eq!(rt; indexed.index(place), want.0, "index of item {i}");
-        assert_eq!(rt; indexed.bytes(place), want.1, "bytes of item {i}");
+        let found = (indexed.index(place), indexed.bytes(place));
+        assert_eq!(rt; (i, found), (i, *want));
     }
 }
 

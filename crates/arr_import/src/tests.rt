@@ -46,17 +46,24 @@ fn show(rt: &impl Abort, levels: u8, col: &Col<'_>, i: i64, want: &Want<'_>)
 {
     show_alone(rt, col, i, want);
     match (col.value(i), want) {
-        (ValueRef::Null, Want::Null) => {}
-        (ValueRef::Truth(found), Want::Truth(want)) => assert_eq!(rt; found, *want),
-        (ValueRef::Whole(found), Want::Whole(want)) => assert_eq!(rt; found, *want),
-        (ValueRef::Bits(found), Want::Bits(want)) => assert_eq!(rt; found, *want),
-        (ValueRef::Bytes(found), Want::Bytes(want)) => assert_eq!(rt; found, *want),
         (ValueRef::Items(items), Want::Items(want)) => shows(rt, levels, &items, want),
         (ValueRef::Struct, Want::Fields(want)) => {
             let (home, place) = col.home(i);
             show_fields(rt, levels, &home, place, want);
         }
-        _ => panic!(rt; "another kind of value at {i}"),
+        (found, want) => assert!(rt; is_alone(found, want), "another value at {i}"),
+    }
+}
+
+/// An item without parts of its own is this one.
+fn is_alone(found: ValueRef<'_>, want: &Want<'_>) -> bool {
+    match (found, want) {
+        (ValueRef::Null, Want::Null) => true,
+        (ValueRef::Truth(found), Want::Truth(want)) => found == *want,
+        (ValueRef::Whole(found), Want::Whole(want)) => found == *want,
+        (ValueRef::Bits(found), Want::Bits(want)) => found == *want,
+        (ValueRef::Bytes(found), Want::Bytes(want)) => found == *want,
+        _ => false,
     }
 }
 
@@ -65,18 +72,15 @@ fn show_alone(rt: &impl Abort, col: &Col<'_>, i: i64, want: &Want<'_>)
     requires from { pos 0 ≤ℤ i }
     requires below { i <ℤ pos (window_of col.now).count }
 {
-    let (mut truth, mut whole, mut bits, mut bytes) = (None, None, None, None);
-    match want {
-        Want::Truth(want) => truth = Some(*want),
-        Want::Whole(want) => whole = Some(*want),
-        Want::Bits(want) => bits = Some(*want),
-        Want::Bytes(want) => bytes = Some(*want),
-        _ => {}
-    }
-    assert_eq!(rt; col.truth(i), truth);
-    assert_eq!(rt; col.whole(i), whole);
-    assert_eq!(rt; col.bits(i), bits);
-    assert_eq!(rt; col.bytes(i), bytes);
+    let want = match want {
+        Want::Truth(want) => (Some(*want), None, None, None),
+        Want::Whole(want) => (None, Some(*want), None, None),
+        Want::Bits(want) => (None, None, Some(*want), None),
+        Want::Bytes(want) => (None, None, None, Some(*want)),
+        _ => (None, None, None, None),
+    };
+    let found = (col.truth(i), col.whole(i), col.bits(i), col.bytes(i));
+    assert_eq!(rt; found, want);
 }
 
 #[cycle(show)]
