@@ -1,3 +1,4 @@
+use Rattle.std.proofs.lemmas.Grind.{common_steps}
 use Rattle.std.proofs.Common.{rules, ◌≡◌, ◌+◌, ◌<◌, length, take, ap, sym, subst, ◌∙◌, arith}
 use Rattle.std.proofs.Math.Seq.{take-length}
 use Rattle.raw_place.specs.Kept.{values_of}
@@ -109,3 +110,90 @@ share::shared_all-returns-clause-units t c =
     let made = cost_of_first ts c.loop-i.copies.items c.loop-i.i c.loop-i.invariant.1 in
     let all = ap (λ cs. cost_of_all (trees cs)) (ap (λ n. take n ts) end ∙ take-length ts) in
     search rules
+
+pub array::RawArray::shared-released-requires : goal.array::RawArray::shared-released-requires
+array::RawArray::shared-released-requires t c = grind (arith, common_steps)
+
+pub array::RawArray::shared-returns-clause-tree : goal.array::RawArray::shared-returns-clause-tree
+array::RawArray::shared-returns-clause-tree t c = grind (arith, common_steps)
+
+pub share::shared_all-loop-i-init : goal.share::shared_all-loop-i-init
+share::shared_all-loop-i-init t c = grind (arith, common_steps)
+
+pub share::shared_all-push_reserved-requires : goal.share::shared_all-push_reserved-requires
+share::shared_all-push_reserved-requires t c = grind (arith, common_steps)
+
+pub share::shared_all-release_all-requires : goal.share::shared_all-release_all-requires
+share::shared_all-release_all-requires t c = grind (arith, common_steps)
+
+pub share::shared_all-loop-i-smaller : goal.share::shared_all-loop-i-smaller
+share::shared_all-loop-i-smaller t c = grind (arith, common_steps)
+
+pub share::shared_all-kept_all-requires : goal.share::shared_all-kept_all-requires
+share::shared_all-kept_all-requires t c = grind (arith, common_steps)
+
+pub share::shared_all-returns-clause-blocks : goal.share::shared_all-returns-clause-blocks
+share::shared_all-returns-clause-blocks t c = grind (arith, common_steps)
+
+pub share::shared_all-returns-clause-nodes : goal.share::shared_all-returns-clause-nodes
+share::shared_all-returns-clause-nodes t c = grind (arith, common_steps)
+
+pub share::shared_behind-shared-requires : goal.share::shared_behind-shared-requires
+share::shared_behind-shared-requires t c = grind (arith, common_steps)
+
+pub share::shared_child-released-child-requires : goal.share::shared_child-released-child-requires
+share::shared_child-released-child-requires t c = grind (arith, common_steps)
+
+pub share::shared_child-swap-requires : goal.share::shared_child-swap-requires
+share::shared_child-swap-requires t c = grind (arith, common_steps)
+
+pub share::shared_child-shared-copy-requires : goal.share::shared_child-shared-copy-requires
+share::shared_child-shared-copy-requires t c = grind (arith, common_steps)
+
+pub share::shared_child-swap-requires-2 : goal.share::shared_child-swap-requires-2
+share::shared_child-swap-requires-2 t c = grind (arith, common_steps)
+
+pub share::shared_child-returns-clause-tree : goal.share::shared_child-returns-clause-tree
+share::shared_child-returns-clause-tree t c = grind (arith, common_steps)
+
+pub share::shared_child-returns-clause-units : goal.share::shared_child-returns-clause-units
+share::shared_child-returns-clause-units t c = grind (arith, common_steps)
+
+pub share::shared_child-returns-clause-blocks : goal.share::shared_child-returns-clause-blocks
+share::shared_child-returns-clause-blocks t c = grind (arith, common_steps)
+
+pub share::shared_child-returns-clause-nodes : goal.share::shared_child-returns-clause-nodes
+share::shared_child-returns-clause-nodes t c = grind (arith, common_steps)
+
+pub share::shared_node-shared_all-requires : goal.share::shared_node-shared_all-requires
+share::shared_node-shared_all-requires t c = grind (arith, common_steps)
+
+pub share::shared_node-shared_behind-requires : goal.share::shared_node-shared_behind-requires
+share::shared_node-shared_behind-requires t c = grind (arith, common_steps)
+
+pub share::shared_node-length-requires : goal.share::shared_node-length-requires
+share::shared_node-length-requires t c = grind (arith, common_steps)
+
+pub share::shared_node-null_count-requires : goal.share::shared_node-null_count-requires
+share::shared_node-null_count-requires t c = grind (arith, common_steps)
+
+pub share::shared_node-offset-requires : goal.share::shared_node-offset-requires
+share::shared_node-offset-requires t c = grind (arith, common_steps)
+
+pub share::shared_node-returns-clause-tree : goal.share::shared_node-returns-clause-tree
+share::shared_node-returns-clause-tree t c = grind (arith, common_steps)
+
+pub share::shared_node-returns-clause-lowered : goal.share::shared_node-returns-clause-lowered
+share::shared_node-returns-clause-lowered t c = grind (arith, common_steps)
+
+pub share::shared_node-returns-clause-one_lower : goal.share::shared_node-returns-clause-one_lower
+share::shared_node-returns-clause-one_lower t c = grind (arith, common_steps)
+
+pub share::shared_node-returns-clause-units : goal.share::shared_node-returns-clause-units
+share::shared_node-returns-clause-units t c = grind (arith, common_steps)
+
+pub share::shared_node-returns-clause-blocks : goal.share::shared_node-returns-clause-blocks
+share::shared_node-returns-clause-blocks t c = grind (arith, common_steps)
+
+pub share::shared_node-returns-clause-nodes : goal.share::shared_node-returns-clause-nodes
+share::shared_node-returns-clause-nodes t c = grind (arith, common_steps)

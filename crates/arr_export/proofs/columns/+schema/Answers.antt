@@ -1,3 +1,4 @@
+use Rattle.std.proofs.lemmas.Grind.{common_steps}
 use Rattle.std.proofs.Common.{◌≡◌, ◌∙◌, ◌+◌, ◌<◌, ◌++◌, ◌∷◌, [], ap, arith, sym, subst, rules, length, map, take, get_or, List, ℕ, Some, IfOk}
 use Rattle.std.proofs.lemmas.List.{length-map}
 use Rattle.fmt_string.specs.ColumnView.{kind_of}
@@ -107,3 +108,12 @@ column_schemas-loop-column-preserved t c =
       blocks = c.in-Ok-column_schema.ensures.blocks ∙ c.loop-column.invariant.blocks;
       nodes = omega (arith, pushed, cost, c.in-Ok-column_schema.ensures.nodes, c.loop-column.invariant.nodes);
     }
+
+pub column_schemas-returns-clause-trees : goal.column_schemas-returns-clause-trees
+column_schemas-returns-clause-trees t c = grind (arith, common_steps)
+
+pub column_schemas-returns-clause-units : goal.column_schemas-returns-clause-units
+column_schemas-returns-clause-units t c = grind (arith, common_steps)
+
+pub column_schemas-returns-clause-nodes : goal.column_schemas-returns-clause-nodes
+column_schemas-returns-clause-nodes t c = grind (arith, common_steps)

@@ -1,3 +1,4 @@
+use Rattle.std.proofs.lemmas.Grind.{common_steps}
 use Rattle.std.proofs.Common.{◌≡◌, map, ap, ◌∙◌, arith, w64, to_z, of_z}
 use Rattle.std.proofs.lemmas.Int.{ints}
 use Rattle.raw_array.specs.Members.{Cost, members_of}
@@ -20,3 +21,75 @@ returns-in-Ok-clause-units c =
 pub vacant_struct-requires-clause-few : goal.vacant_struct-requires-clause-few
 vacant_struct-requires-clause-few c =
     omega (arith, picks_le-children c.args.array c.args.picks.now c.requires.distinct c.requires.in_range, c.n_children-children.ensures.few)
+
+pub n_children-children-requires : goal.n_children-children-requires
+n_children-children-requires c = grind (arith, common_steps)
+
+pub offset-off-requires : goal.offset-off-requires
+offset-off-requires c = grind (arith, common_steps)
+
+pub length-len-requires : goal.length-len-requires
+length-len-requires c = grind (arith, common_steps)
+
+pub vacant_struct-requires-clause-unit : goal.vacant_struct-requires-clause-unit
+vacant_struct-requires-clause-unit c = grind (arith, common_steps)
+
+pub fill_struct-requires-clause-live : goal.fill_struct-requires-clause-live
+fill_struct-requires-clause-live c = grind (arith, common_steps)
+
+pub fill_struct-requires-clause-off : goal.fill_struct-requires-clause-off
+fill_struct-requires-clause-off c = grind (arith, common_steps)
+
+pub fill_struct-requires-clause-len : goal.fill_struct-requires-clause-len
+fill_struct-requires-clause-len c = grind (arith, common_steps)
+
+pub fill_struct-requires-clause-distinct : goal.fill_struct-requires-clause-distinct
+fill_struct-requires-clause-distinct c = grind (arith, common_steps)
+
+pub fill_struct-requires-clause-in_range : goal.fill_struct-requires-clause-in_range
+fill_struct-requires-clause-in_range c = grind (arith, common_steps)
+
+pub fill_struct-requires-clause-fit : goal.fill_struct-requires-clause-fit
+fill_struct-requires-clause-fit c = grind (arith, common_steps)
+
+pub fill_struct-requires-clause-places : goal.fill_struct-requires-clause-places
+fill_struct-requires-clause-places c = grind (arith, common_steps)
+
+pub fill_struct-requires-clause-vacant : goal.fill_struct-requires-clause-vacant
+fill_struct-requires-clause-vacant c = grind (arith, common_steps)
+
+pub fill_struct-requires-clause-room : goal.fill_struct-requires-clause-room
+fill_struct-requires-clause-room c = grind (arith, common_steps)
+
+pub returns-in-Ok-clause-columns : goal.returns-in-Ok-clause-columns
+returns-in-Ok-clause-columns c = grind (arith, common_steps)
+
+pub returns-in-Ok-clause-cost : goal.returns-in-Ok-clause-cost
+returns-in-Ok-clause-cost c = grind (arith, common_steps)
+
+pub returns-in-Ok-clause-handed_back : goal.returns-in-Ok-clause-handed_back
+returns-in-Ok-clause-handed_back c = grind (arith, common_steps)
+
+pub returns-in-Ok-clause-nodes : goal.returns-in-Ok-clause-nodes
+returns-in-Ok-clause-nodes c = grind (arith, common_steps)
+
+pub returns-in-Ok-clause-blocks : goal.returns-in-Ok-clause-blocks
+returns-in-Ok-clause-blocks c = grind (arith, common_steps)
+
+pub returns-in-Err-clause-columns : goal.returns-in-Err-clause-columns
+returns-in-Err-clause-columns c = grind (arith, common_steps)
+
+pub returns-in-Err-clause-cost : goal.returns-in-Err-clause-cost
+returns-in-Err-clause-cost c = grind (arith, common_steps)
+
+pub returns-in-Err-clause-handed_back : goal.returns-in-Err-clause-handed_back
+returns-in-Err-clause-handed_back c = grind (arith, common_steps)
+
+pub returns-in-Err-clause-units : goal.returns-in-Err-clause-units
+returns-in-Err-clause-units c = grind (arith, common_steps)
+
+pub returns-in-Err-clause-nodes : goal.returns-in-Err-clause-nodes
+returns-in-Err-clause-nodes c = grind (arith, common_steps)
+
+pub returns-in-Err-clause-blocks : goal.returns-in-Err-clause-blocks
+returns-in-Err-clause-blocks c = grind (arith, common_steps)

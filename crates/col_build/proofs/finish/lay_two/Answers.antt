@@ -1,3 +1,4 @@
+use Rattle.std.proofs.lemmas.Grind.{common_steps}
 use Rattle.std.proofs.Common.{List, Option, refl, sym, subst, arith}
 use Rattle.buf_block.specs.declared.hold.BufView.{BufView}
 use Rattle.col_build.specs.Blocks.{IsAdded}
@@ -32,3 +33,9 @@ returns-clause-units c =
     let Added : List (Option BufView) → Type 0 = λ bs. IsAdded first (if_some content) bs in
     let added : Added c.add_block.new.buffers.items = subst Added (sym stayed.1) (c.if-not-add_kept_block.ensures.added refl) in
     omega (arith, c.take_back.ensures.units first content added, c.if-add_block.ensures.units, c.if-not-add_kept_block.ensures.units)
+
+pub add_block-requires-clause-room : goal.add_block-requires-clause-room
+add_block-requires-clause-room c = grind (arith, common_steps)
+
+pub returns-then-add_block-clause-added : goal.returns-then-add_block-clause-added
+returns-then-add_block-clause-added c = grind (arith, common_steps)

@@ -1,3 +1,4 @@
+use Rattle.std.proofs.lemmas.Grind.{common_steps}
 use Rattle.std.proofs.Common.{◌≡◌, ◌∙◌, ap, arith, length, sym, subst, All, w64, to_z, of_z}
 use Rattle.std.proofs.lemmas.Int.{ints}
 use Rattle.std.proofs.lemmas.Slice.Zip.{AllZip-long}
@@ -48,3 +49,81 @@ returns-in-Ok-clause-blocks c columns values held =
 
 pub returns-in-Err-clause-spent : goal.returns-in-Err-clause-spent
 returns-in-Err-clause-spent c = emptied-spent _ _ c.in_ok-arrays.ensures.emptied
+
+pub column_arrays-requires-clause-units : goal.column_arrays-requires-clause-units
+column_arrays-requires-clause-units c = grind (arith, common_steps)
+
+pub returns-in_err-arrays-clause-chunk : goal.returns-in_err-arrays-clause-chunk
+returns-in_err-arrays-clause-chunk c = grind (arith, common_steps)
+
+pub returns-in_err-arrays-clause-emptied : goal.returns-in_err-arrays-clause-emptied
+returns-in_err-arrays-clause-emptied c = grind (arith, common_steps)
+
+pub returns-in_err-arrays-clause-spent : goal.returns-in_err-arrays-clause-spent
+returns-in_err-arrays-clause-spent c = grind (arith, common_steps)
+
+pub returns-in_err-arrays-clause-units : goal.returns-in_err-arrays-clause-units
+returns-in_err-arrays-clause-units c = grind (arith, common_steps)
+
+pub returns-in_err-arrays-clause-units_back : goal.returns-in_err-arrays-clause-units_back
+returns-in_err-arrays-clause-units_back c = grind (arith, common_steps)
+
+pub returns-in_err-arrays-clause-cost : goal.returns-in_err-arrays-clause-cost
+returns-in_err-arrays-clause-cost c = grind (arith, common_steps)
+
+pub returns-in_err-arrays-clause-blocks : goal.returns-in_err-arrays-clause-blocks
+returns-in_err-arrays-clause-blocks c = grind (arith, common_steps)
+
+pub returns-in_err-arrays-clause-nodes : goal.returns-in_err-arrays-clause-nodes
+returns-in_err-arrays-clause-nodes c = grind (arith, common_steps)
+
+pub export_table-requires-clause-units : goal.export_table-requires-clause-units
+export_table-requires-clause-units c = grind (arith, common_steps)
+
+pub export_table-requires-clause-some : goal.export_table-requires-clause-some
+export_table-requires-clause-some c = grind (arith, common_steps)
+
+pub export_table-requires-clause-few_rows : goal.export_table-requires-clause-few_rows
+export_table-requires-clause-few_rows c = grind (arith, common_steps)
+
+pub release_all-requires : goal.release_all-requires
+release_all-requires c = grind (arith, common_steps)
+
+pub returns-in-Ok-clause-emptied : goal.returns-in-Ok-clause-emptied
+returns-in-Ok-clause-emptied c = grind (arith, common_steps)
+
+pub returns-in-Ok-clause-spent : goal.returns-in-Ok-clause-spent
+returns-in-Ok-clause-spent c = grind (arith, common_steps)
+
+pub returns-in-Ok-clause-units : goal.returns-in-Ok-clause-units
+returns-in-Ok-clause-units c = grind (arith, common_steps)
+
+pub returns-in-Ok-clause-units_back : goal.returns-in-Ok-clause-units_back
+returns-in-Ok-clause-units_back c = grind (arith, common_steps)
+
+pub returns-in-Ok-clause-cost : goal.returns-in-Ok-clause-cost
+returns-in-Ok-clause-cost c = grind (arith, common_steps)
+
+pub returns-in-Ok-clause-nodes : goal.returns-in-Ok-clause-nodes
+returns-in-Ok-clause-nodes c = grind (arith, common_steps)
+
+pub returns-in-Err-clause-chunk : goal.returns-in-Err-clause-chunk
+returns-in-Err-clause-chunk c = grind (arith, common_steps)
+
+pub returns-in-Err-clause-emptied : goal.returns-in-Err-clause-emptied
+returns-in-Err-clause-emptied c = grind (arith, common_steps)
+
+pub returns-in-Err-clause-units : goal.returns-in-Err-clause-units
+returns-in-Err-clause-units c = grind (arith, common_steps)
+
+pub returns-in-Err-clause-units_back : goal.returns-in-Err-clause-units_back
+returns-in-Err-clause-units_back c = grind (arith, common_steps)
+
+pub returns-in-Err-clause-cost : goal.returns-in-Err-clause-cost
+returns-in-Err-clause-cost c = grind (arith, common_steps)
+
+pub returns-in-Err-clause-blocks : goal.returns-in-Err-clause-blocks
+returns-in-Err-clause-blocks c = grind (arith, common_steps)
+
+pub returns-in-Err-clause-nodes : goal.returns-in-Err-clause-nodes
+returns-in-Err-clause-nodes c = grind (arith, common_steps)

@@ -1,4 +1,5 @@
-use Rattle.std.proofs.Common.{◌≡◌, ◌∙◌, List, ℕ, None, Bor, refl, subst, sym}
+use Rattle.std.proofs.lemmas.Grind.{common_steps}
+use Rattle.std.proofs.Common.{◌≡◌, ◌∙◌, List, ℕ, None, Bor, refl, subst, sym, arith}
 use Rattle.fmt_string.specs.Kinds.{KindOk}
 use Rattle.csv_model.specs.Header.{names_fault}
 use Rattle.csv_read.specs.Entries.{entries_of, texts}
@@ -23,3 +24,12 @@ pub returns-clause-allowed : goal.returns-clause-allowed
 returns-clause-allowed c =
     λ each.
     subst AreAllowed (sym c.in_ok-columns.ensures) (columns-have IsAllowed refl c.args.entries.now each (texts c.as_slice-2.result.now))
+
+pub check_names-requires : goal.check_names-requires
+check_names-requires c = grind (arith, common_steps)
+
+pub returns-clause-some : goal.returns-clause-some
+returns-clause-some c = grind (arith, common_steps)
+
+pub returns-clause-few : goal.returns-clause-few
+returns-clause-few c = grind (arith, common_steps)

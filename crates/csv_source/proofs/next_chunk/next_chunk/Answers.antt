@@ -1,3 +1,4 @@
+use Rattle.std.proofs.lemmas.Grind.{common_steps}
 use Rattle.std.proofs.Common.{rules, ◌≡◌, ◌≤◌, ◌+◌, ◌*◌, ◌∙◌, ℕ, List, length, map, ap, arith, sym, subst}
 use Rattle.std.proofs.lemmas.Int.{ints}
 use Rattle.csv_model.specs.Batches.{Chunks}
@@ -68,3 +69,6 @@ returns-in-Err-export-clause-short c =
     let found : IsNextBatch c.args.batch read.builders c.args.batches.now read = c.next.ensures.batch (search rules) in
     next-short c.args.batch c.args.batches.now.records c.export.new.self.records
     (ap (λ (s : BatchesLeft). s.records) c.export.ensures.stays ∙ found.left) c.requires.short
+
+pub count_rows-rows-requires-clause-some : goal.count_rows-rows-requires-clause-some
+count_rows-rows-requires-clause-some c = grind (arith, common_steps)

@@ -1,3 +1,4 @@
+use Rattle.std.proofs.lemmas.Grind.{common_steps}
 use Rattle.std.proofs.Common.{rules, arith, ◌≡◌, ℕ, ◌+◌, ◌-◌, ◌≤◌, ◌*◌, ap, sym, ◌∙◌}
 use Rattle.std.proofs.Math.Nat.{mul-le-mul_right}
 use Rattle.raw_array.specs.Members.{Cost, LeastAmount, LoweredBy}
@@ -39,3 +40,90 @@ returns-clause-rows g c =
 
 pub returns-clause-cost : goal.returns-clause-cost
 returns-clause-cost g c = c.like_trees_are_ordered.ensures.cost _ _ c.in_threads.ensures.like
+
+pub trees_that_show_the_same-requires : goal.trees_that_show_the_same-requires
+trees_that_show_the_same-requires g c = grind (arith, common_steps)
+
+pub shares_show_the_same-requires : goal.shares_show_the_same-requires
+shares_show_the_same-requires g c = grind (arith, common_steps)
+
+pub like_trees_are_ordered-requires : goal.like_trees_are_ordered-requires
+like_trees_are_ordered-requires g c = grind (arith, common_steps)
+
+pub shares_add_up-requires : goal.shares_add_up-requires
+shares_add_up-requires g c = grind (arith, common_steps)
+
+pub units-supply-requires : goal.units-supply-requires
+units-supply-requires g c = grind (arith, common_steps)
+
+pub least_amount-requires : goal.least_amount-requires
+least_amount-requires g c = grind (arith, common_steps)
+
+pub from-requires : goal.from-requires
+from-requires g c = grind (arith, common_steps)
+
+pub in_turn-requires-clause-types : goal.in_turn-requires-clause-types
+in_turn-requires-clause-types g c = grind (arith, common_steps)
+
+pub in_turn-requires-clause-chunk : goal.in_turn-requires-clause-chunk
+in_turn-requires-clause-chunk g c = grind (arith, common_steps)
+
+pub in_turn-requires-clause-fits : goal.in_turn-requires-clause-fits
+in_turn-requires-clause-fits g c = grind (arith, common_steps)
+
+pub in_turn-requires-clause-workers : goal.in_turn-requires-clause-workers
+in_turn-requires-clause-workers g c = grind (arith, common_steps)
+
+pub returns-then-workers-eq1-clause-answers : goal.returns-then-workers-eq1-clause-answers
+returns-then-workers-eq1-clause-answers g c = grind (arith, common_steps)
+
+pub returns-then-workers-eq1-clause-unchanged : goal.returns-then-workers-eq1-clause-unchanged
+returns-then-workers-eq1-clause-unchanged g c = grind (arith, common_steps)
+
+pub returns-then-workers-eq1-clause-alone : goal.returns-then-workers-eq1-clause-alone
+returns-then-workers-eq1-clause-alone g c = grind (arith, common_steps)
+
+pub returns-then-workers-eq1-clause-lawful : goal.returns-then-workers-eq1-clause-lawful
+returns-then-workers-eq1-clause-lawful g c = grind (arith, common_steps)
+
+pub returns-then-workers-eq1-clause-rows : goal.returns-then-workers-eq1-clause-rows
+returns-then-workers-eq1-clause-rows g c = grind (arith, common_steps)
+
+pub returns-then-workers-eq1-clause-cost : goal.returns-then-workers-eq1-clause-cost
+returns-then-workers-eq1-clause-cost g c = grind (arith, common_steps)
+
+pub returns-then-workers-eq1-clause-units : goal.returns-then-workers-eq1-clause-units
+returns-then-workers-eq1-clause-units g c = grind (arith, common_steps)
+
+pub returns-then-workers-eq1-clause-blocks : goal.returns-then-workers-eq1-clause-blocks
+returns-then-workers-eq1-clause-blocks g c = grind (arith, common_steps)
+
+pub returns-then-workers-eq1-clause-nodes : goal.returns-then-workers-eq1-clause-nodes
+returns-then-workers-eq1-clause-nodes g c = grind (arith, common_steps)
+
+pub cost-cost-requires : goal.cost-cost-requires
+cost-cost-requires g c = grind (arith, common_steps)
+
+pub returns-clause-answers : goal.returns-clause-answers
+returns-clause-answers g c = grind (arith, common_steps)
+
+pub returns-clause-like : goal.returns-clause-like
+returns-clause-like g c = grind (arith, common_steps)
+
+pub returns-clause-lowered : goal.returns-clause-lowered
+returns-clause-lowered g c = grind (arith, common_steps)
+
+pub returns-clause-unchanged : goal.returns-clause-unchanged
+returns-clause-unchanged g c = grind (arith, common_steps)
+
+pub returns-clause-alone : goal.returns-clause-alone
+returns-clause-alone g c = grind (arith, common_steps)
+
+pub returns-clause-units : goal.returns-clause-units
+returns-clause-units g c = grind (arith, common_steps)
+
+pub returns-clause-blocks : goal.returns-clause-blocks
+returns-clause-blocks g c = grind (arith, common_steps)
+
+pub returns-clause-nodes : goal.returns-clause-nodes
+returns-clause-nodes g c = grind (arith, common_steps)

@@ -1,3 +1,4 @@
+use Rattle.std.proofs.lemmas.Grind.{common_steps}
 use Rattle.std.proofs.Common.{arith, ◌≡◌, ℕ, ◌+◌, ◌-◌, ◌<◌, ◌≤◌, ◌*◌, length, get_or, ap, sym, ◌∙◌, subst}
 use Rattle.std.proofs.Math.Nat.{mul-le-mul_right}
 use Rattle.std.specs.Prelude.{IfOk}
@@ -64,3 +65,45 @@ returns-clause-blocks g c = c.run_pieces-tree.ensures.blocks ∙ c.make_pieces.e
 
 pub returns-clause-nodes : goal.returns-clause-nodes
 returns-clause-nodes g c = c.run_pieces-tree.ensures.nodes ∙ c.make_pieces.ensures.nodes
+
+pub like_trees_are_ordered-requires : goal.like_trees_are_ordered-requires
+like_trees_are_ordered-requires g c = grind (arith, common_steps)
+
+pub units-supply-requires : goal.units-supply-requires
+units-supply-requires g c = grind (arith, common_steps)
+
+pub make_pieces-requires-clause-chunk : goal.make_pieces-requires-clause-chunk
+make_pieces-requires-clause-chunk g c = grind (arith, common_steps)
+
+pub make_pieces-requires-clause-workers : goal.make_pieces-requires-clause-workers
+make_pieces-requires-clause-workers g c = grind (arith, common_steps)
+
+pub make_pieces-requires-clause-amounts : goal.make_pieces-requires-clause-amounts
+make_pieces-requires-clause-amounts g c = grind (arith, common_steps)
+
+pub make_pieces-requires-clause-cost : goal.make_pieces-requires-clause-cost
+make_pieces-requires-clause-cost g c = grind (arith, common_steps)
+
+pub make_pieces-requires-clause-units : goal.make_pieces-requires-clause-units
+make_pieces-requires-clause-units g c = grind (arith, common_steps)
+
+pub returns-in-Err-clause-answers : goal.returns-in-Err-clause-answers
+returns-in-Err-clause-answers g c = grind (arith, common_steps)
+
+pub returns-in-Err-clause-like : goal.returns-in-Err-clause-like
+returns-in-Err-clause-like g c = grind (arith, common_steps)
+
+pub returns-in-Err-clause-lowered : goal.returns-in-Err-clause-lowered
+returns-in-Err-clause-lowered g c = grind (arith, common_steps)
+
+pub returns-in-Err-clause-units : goal.returns-in-Err-clause-units
+returns-in-Err-clause-units g c = grind (arith, common_steps)
+
+pub returns-in-Err-clause-blocks : goal.returns-in-Err-clause-blocks
+returns-in-Err-clause-blocks g c = grind (arith, common_steps)
+
+pub returns-in-Err-clause-nodes : goal.returns-in-Err-clause-nodes
+returns-in-Err-clause-nodes g c = grind (arith, common_steps)
+
+pub put-requires : goal.put-requires
+put-requires g c = grind (arith, common_steps)

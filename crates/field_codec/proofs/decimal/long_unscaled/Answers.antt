@@ -1,3 +1,4 @@
+use Rattle.std.proofs.lemmas.Grind.{common_steps}
 use Rattle.std.proofs.Common.{◌≡◌, ℕ, ◌*◌, ◌^◌, Some, drop, take, ap, sym, ◌∙◌, arith}
 use Rattle.std.specs.List.{prefix_len}
 use Rattle.std.specs.Char.{is_ascii_digit}
@@ -68,3 +69,9 @@ returns-clause-some c =
     record { len = whole.ensures.count; found = found; fine_len = fraction.ensures.count } in
     parts_read c.args.places whole.count text digits fraction.fine whole.whole fraction.fraction c.in_ok-whole-2.whole c.in_ok-fraction-2.fraction
     parts c.if-count-eq0.false c.if-fine-digits.false whole.ensures.value fraction.ensures.value c.in_ok-whole-2.ensures.some c.in_ok-fraction-2.ensures.some
+
+pub split_at-requires : goal.split_at-requires
+split_at-requires c = grind (arith, common_steps)
+
+pub overflow_sub-places : goal.overflow_sub-places
+overflow_sub-places c = grind (arith, common_steps)

@@ -1,3 +1,4 @@
+use Rattle.std.proofs.lemmas.Grind.{common_steps}
 use Rattle.std.proofs.Common.{◌≡◌, ℕ, ◌-◌, ◌*◌, ◌^◌, ◌<◌, Some, drop, ap, sym, ◌∙◌, arith}
 use Rattle.std.specs.Char.{is_ascii_digit}
 use Rattle.std.proofs.lemmas.List.Sums.{prefix_len-le-length}
@@ -80,3 +81,9 @@ returns-clause-small c =
     (record { len = whole.ensures.count; found = found; fine_len = fraction.ensures.count }) in
     parts_small whole.result.0 whole.result.1 fraction.result.0 fraction.result.1 c.args.places c.power.result c.power-2.result whole.ensures.small
     fraction.ensures.small few (omega (arith, c.requires, whole.ensures.count, prefix_len-le-length is_ascii_digit text)) c.power.ensures c.power-2.ensures
+
+pub split_at-requires : goal.split_at-requires
+split_at-requires c = grind (arith, common_steps)
+
+pub overflow_sub-places : goal.overflow_sub-places
+overflow_sub-places c = grind (arith, common_steps)

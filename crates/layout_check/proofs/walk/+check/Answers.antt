@@ -1,4 +1,5 @@
-use Rattle.std.proofs.Common.{rules, ◌≡◌, ◌<◌, length, get_or}
+use Rattle.std.proofs.lemmas.Grind.{common_steps}
+use Rattle.std.proofs.Common.{rules, ◌≡◌, ◌<◌, length, get_or, arith}
 use Rattle.tree_model.specs.Tree.{children_of}
 use Rattle.layout_check.specs.Found.{steps_of}
 use Rattle.layout_check.proofs.Levels.{levels-kid, kid-ok}
@@ -35,3 +36,6 @@ check_children-loop-i-preserved t c =
     let is : get_or kids i kid ≡ kid = search rules in
     let step = children_fault-step kids i kid (steps_of c.args.path.now) (children_of c.args.array.now) inside c.requires.children in
     search rules
+
+pub check_children-returns-clause-fault : goal.check_children-returns-clause-fault
+check_children-returns-clause-fault t c = grind (arith, common_steps)

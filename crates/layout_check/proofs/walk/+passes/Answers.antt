@@ -1,4 +1,5 @@
-use Rattle.std.proofs.Common.{rules, ◌≡◌, ◌<◌, ◌++◌, ◌∷◌, [], length, get_or}
+use Rattle.std.proofs.lemmas.Grind.{common_steps}
+use Rattle.std.proofs.Common.{rules, ◌≡◌, ◌<◌, ◌++◌, ◌∷◌, [], length, get_or, arith}
 use Rattle.tree_model.specs.Tree.{children_of}
 use Rattle.layout_check.proofs.Levels.{levels-kid, kid-ok}
 use Rattle.layout_check.proofs.Passes.{none-step}
@@ -38,3 +39,6 @@ children_pass-loop-i-preserved t c path =
     let here = c.passes.ensures (path ++ i ∷ []) in
     let whole = c.loop-i.invariant path in
     search rules
+
+pub children_pass-returns : goal.children_pass-returns
+children_pass-returns t c = grind (arith, common_steps)

@@ -1,3 +1,4 @@
+use Rattle.std.proofs.lemmas.Grind.{common_steps}
 use Rattle.std.proofs.Common.{rules, ◌<◌, length, ap, sym, subst, arith}
 use Rattle.tree_model.specs.Tree.{Depth}
 use Rattle.layout_check.specs.Kinds.{NodesOk}
@@ -16,3 +17,9 @@ kept_kids-kept_kinds-requires t c =
     let depth = depth-kid kids i kid within in
     let is = ap (λ (x : Typed). Depth (typed_of x)) c.kid-item.is in
     search rules
+
+pub kept_kids-loop-kid-preserved : goal.kept_kids-loop-kid-preserved
+kept_kids-loop-kid-preserved t c = grind (arith, common_steps)
+
+pub kept_kids-returns : goal.kept_kids-returns
+kept_kids-returns t c = grind (arith, common_steps)

@@ -1,4 +1,5 @@
-use Rattle.std.proofs.Common.{rules, ◌≡◌, ◌∙◌, ◌<◌, ◌++◌, [], ◌∷◌, length, take, ap, sym, subst, append_assoc, OnOk}
+use Rattle.std.proofs.lemmas.Grind.{common_steps}
+use Rattle.std.proofs.Common.{rules, ◌≡◌, ◌∙◌, ◌<◌, ◌++◌, [], ◌∷◌, length, take, ap, sym, subst, append_assoc, OnOk, arith}
 use Rattle.tree_model.specs.Tree.{Depth, IsLive, trees, children_of}
 use Rattle.raw_schema.specs.Members.{members_of}
 use Rattle.stream_face.specs.Shown.{names_of, names_of_all}
@@ -56,3 +57,6 @@ add_names-returns-in-Some t c =
     ∙ append_assoc before (name ∷ below) (names_of dictionary)
     ∙ ap (λ ns. before ++ ns) (sym (names-below schema dictionary live c.in-Some.ensures)) in
     subst (λ ns. OnOk c.add_names.result (c.add_names.new.names.items ≡ ns)) all c.add_names.ensures
+
+pub add_child_names-returns : goal.add_child_names-returns
+add_child_names-returns t c = grind (arith, common_steps)

@@ -1,3 +1,4 @@
+use Rattle.std.proofs.lemmas.Grind.{common_steps}
 use Rattle.std.proofs.Common.{rules, ◌∙◌, ◌+◌, ◌<◌, ◌++◌, [], ◌∷◌, length, map, ap, sym, arith}
 use Rattle.std.proofs.lemmas.List.{map-append}
 use Rattle.fmt_string.specs.Value.{Null}
@@ -38,3 +39,9 @@ kept_items-loop-i-preserved t c =
     ∙ ap (λ vs. vs ++ value_of value ∷ []) c.loop-i.invariant
     ∙ ap (λ v. each f w.start i ++ v ∷ []) c.in_ok-kept_value.ensures
     ∙ sym (each-more f w.start i)
+
+pub kept_fields-loop-k-preserved : goal.kept_fields-loop-k-preserved
+kept_fields-loop-k-preserved t c = grind (arith, common_steps)
+
+pub kept_fields-returns : goal.kept_fields-returns
+kept_fields-returns t c = grind (arith, common_steps)

@@ -1,3 +1,4 @@
+use Rattle.std.proofs.lemmas.Grind.{common_steps}
 use Rattle.std.proofs.Common.{◌≡◌, ◌∙◌, ◌≤◌, ◌^◌, ℕ, List, map, length, sym, ap, subst, arith}
 use Rattle.fmt_string.specs.ColumnView.{column_of}
 use Rattle.fmt_string.specs.Table.{Row}
@@ -56,3 +57,57 @@ returns-in-Ok-moved_struct-clause-blocks g c =
     c.in-Ok-moved_struct.ensures.moved.blocks
     ∙ ap (λ (rs : List Row). risen c.kept_by_workers.new.pass.blocks (table_blocks Moved columns rs)) rows
     ∙ ap (λ (n : ℕ). risen n (table_blocks Moved columns (after (rows_of (type_of_columns columns) c.args.chunk)))) c.kept_by_workers.ensures.blocks
+
+pub lawful_trees-requires : goal.lawful_trees-requires
+lawful_trees-requires g c = grind (arith, common_steps)
+
+pub like_trees_are_the_same-requires : goal.like_trees_are_the_same-requires
+like_trees_are_the_same-requires g c = grind (arith, common_steps)
+
+pub moved_struct-requires-clause-typed : goal.moved_struct-requires-clause-typed
+moved_struct-requires-clause-typed g c = grind (arith, common_steps)
+
+pub moved_struct-requires-clause-types : goal.moved_struct-requires-clause-types
+moved_struct-requires-clause-types g c = grind (arith, common_steps)
+
+pub moved_struct-requires-clause-units : goal.moved_struct-requires-clause-units
+moved_struct-requires-clause-units g c = grind (arith, common_steps)
+
+pub moved_struct-requires-clause-room : goal.moved_struct-requires-clause-room
+moved_struct-requires-clause-room g c = grind (arith, common_steps)
+
+pub returns-in-Ok-moved_struct-clause-tree : goal.returns-in-Ok-moved_struct-clause-tree
+returns-in-Ok-moved_struct-clause-tree g c = grind (arith, common_steps)
+
+pub returns-in-Ok-moved_struct-clause-units : goal.returns-in-Ok-moved_struct-clause-units
+returns-in-Ok-moved_struct-clause-units g c = grind (arith, common_steps)
+
+pub returns-in-Ok-moved_struct-clause-nodes : goal.returns-in-Ok-moved_struct-clause-nodes
+returns-in-Ok-moved_struct-clause-nodes g c = grind (arith, common_steps)
+
+pub returns-in-Ok-clause-tree : goal.returns-in-Ok-clause-tree
+returns-in-Ok-clause-tree g c = grind (arith, common_steps)
+
+pub returns-in-Ok-clause-units : goal.returns-in-Ok-clause-units
+returns-in-Ok-clause-units g c = grind (arith, common_steps)
+
+pub returns-in-Ok-clause-blocks : goal.returns-in-Ok-clause-blocks
+returns-in-Ok-clause-blocks g c = grind (arith, common_steps)
+
+pub returns-in-Ok-clause-nodes : goal.returns-in-Ok-clause-nodes
+returns-in-Ok-clause-nodes g c = grind (arith, common_steps)
+
+pub end-requires : goal.end-requires
+end-requires g c = grind (arith, common_steps)
+
+pub returns-clause-tree : goal.returns-clause-tree
+returns-clause-tree g c = grind (arith, common_steps)
+
+pub returns-clause-units : goal.returns-clause-units
+returns-clause-units g c = grind (arith, common_steps)
+
+pub returns-clause-blocks : goal.returns-clause-blocks
+returns-clause-blocks g c = grind (arith, common_steps)
+
+pub returns-clause-nodes : goal.returns-clause-nodes
+returns-clause-nodes g c = grind (arith, common_steps)

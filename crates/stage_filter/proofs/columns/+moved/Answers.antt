@@ -1,3 +1,4 @@
+use Rattle.std.proofs.lemmas.Grind.{common_steps}
 use Rattle.std.proofs.Common.{rules, ◌≡◌, ◌∙◌, ◌≤◌, ◌<◌, ◌+◌, ◌++◌, ◌∷◌, [], map, take, length, get_or, List, All, pos, to_z, w64, sym, ap, subst, arith}
 use Rattle.std.proofs.lemmas.Int.{ints}
 use Rattle.std.proofs.lemmas.List.{get_or-map, length-map, length-set, length-take, map_more, take-map}
@@ -179,3 +180,6 @@ moved_kind-returns-in-Columns-clause-moved t c =
     ∙ ap (λ (cs : List ColumnType). StructOf (members (map column_of cs))) (sym same) in
     moved-struct-if columns kind c.args.array c.args.start c.args.kept.now c.moved_struct.result c.args.pass.now c.moved_struct.new.pass is c.requires.items
     c.moved_struct.ensures.moved
+
+pub move_columns-returns-clause-moved : goal.move_columns-returns-clause-moved
+move_columns-returns-clause-moved t c = grind (arith, common_steps)

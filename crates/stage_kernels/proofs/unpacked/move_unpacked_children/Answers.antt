@@ -1,3 +1,4 @@
+use Rattle.std.proofs.lemmas.Grind.{common_steps}
 use Rattle.std.proofs.Common.{arith, ◌≡◌, ◌+◌, ◌-◌, ◌∙◌, ◌++◌, map, take, drop, ap, w64, to_z, of_z}
 use Rattle.std.proofs.lemmas.Int.{ints}
 use Rattle.tree_model.specs.Tree.{children_of, child_at, trees}
@@ -47,3 +48,15 @@ returns-clause-units c =
     let none = ap (λ cs. cost_of_all (trees cs)) c.requires.empty in
     let whole = ap Cost c.begin-moved.ensures in
     omega (arith, cut, none, whole, c.in-Ok.ensures.parted)
+
+pub slice-requires-clause-fits : goal.slice-requires-clause-fits
+slice-requires-clause-fits c = grind (arith, common_steps)
+
+pub move_all_children-requires-clause-room : goal.move_all_children-requires-clause-room
+move_all_children-requires-clause-room c = grind (arith, common_steps)
+
+pub unreachable-requires : goal.unreachable-requires
+unreachable-requires c = grind (arith, common_steps)
+
+pub move_children-requires-2-clause-room : goal.move_children-requires-2-clause-room
+move_children-requires-2-clause-room c = grind (arith, common_steps)

@@ -1,4 +1,5 @@
-use Rattle.std.proofs.Common.{subst, sym}
+use Rattle.std.proofs.lemmas.Grind.{common_steps}
+use Rattle.std.proofs.Common.{subst, sym, arith}
 use Rattle.stage_plan.specs.PlanWords.{IsThere, columns_in}
 use Rattle.stage_plan.proofs.Fits.{AreFit, after-fit, fit, fit-back}
 use Rattle.stage_plan.proofs.Rules.{are-there}
@@ -28,3 +29,6 @@ pub returns-clause-kinds : goal.returns-clause-kinds
 returns-clause-kinds c =
     let columns = columns_in c.args.columns.now in
     fit-back c.in_ok-after.after.items (subst AreFit (sym c.in_ok-after.ensures) (after-fit columns c.args.text.now (fit c.args.columns.now c.requires)))
+
+pub returns-clause-found : goal.returns-clause-found
+returns-clause-found c = grind (arith, common_steps)

@@ -1,3 +1,4 @@
+use Rattle.std.proofs.lemmas.Grind.{common_steps}
 use Rattle.std.proofs.Common.{rules, arith, ◌≤◌, ◌*◌, ◌++◌, List, ◌∷◌, ◌≡◌, ◌<◌, ◌∙◌, pos, length, IsTrue, sym, ap, subst, refl, true≢false}
 use Rattle.std.proofs.Math.Nat.{mul-le-mul_right}
 use Rattle.std.proofs.lemmas.List.{with_items_is}
@@ -243,3 +244,156 @@ chunks-preserved g c =
       units = omega (arith, release.units, add.units, add.cost, call.units, c.chunks.invariant.units);
       chunk = release.released;
     }
+
+pub units-units-requires : goal.units-units-requires
+units-units-requires g c = grind (arith, common_steps)
+
+pub blocks-blocks-requires : goal.blocks-blocks-requires
+blocks-blocks-requires g c = grind (arith, common_steps)
+
+pub nodes-nodes-requires : goal.nodes-nodes-requires
+nodes-nodes-requires g c = grind (arith, common_steps)
+
+pub lawful_facts-requires : goal.lawful_facts-requires
+lawful_facts-requires g c κs = grind (arith, common_steps)
+
+pub next-code-requires : goal.next-code-requires
+next-code-requires g c = grind (arith, common_steps)
+
+pub returns-then-code-ne0-clause-keeps : goal.returns-then-code-ne0-clause-keeps
+returns-then-code-ne0-clause-keeps g c = grind (arith, common_steps)
+
+pub returns-then-code-ne0-clause-code : goal.returns-then-code-ne0-clause-code
+returns-then-code-ne0-clause-code g c = grind (arith, common_steps)
+
+pub returns-then-code-ne0-clause-tells : goal.returns-then-code-ne0-clause-tells
+returns-then-code-ne0-clause-tells g c = grind (arith, common_steps)
+
+pub returns-then-code-ne0-clause-gone : goal.returns-then-code-ne0-clause-gone
+returns-then-code-ne0-clause-gone g c = grind (arith, common_steps)
+
+pub returns-then-code-ne0-clause-units : goal.returns-then-code-ne0-clause-units
+returns-then-code-ne0-clause-units g c = grind (arith, common_steps)
+
+pub returns-then-code-ne0-clause-failure : goal.returns-then-code-ne0-clause-failure
+returns-then-code-ne0-clause-failure g c = grind (arith, common_steps)
+
+pub returns-then-code-ne0-clause-faulted : goal.returns-then-code-ne0-clause-faulted
+returns-then-code-ne0-clause-faulted g c = grind (arith, common_steps)
+
+pub returns-then-code-ne0-clause-worked : goal.returns-then-code-ne0-clause-worked
+returns-then-code-ne0-clause-worked g c = grind (arith, common_steps)
+
+pub returns-then-code-ne0-clause-repeats : goal.returns-then-code-ne0-clause-repeats
+returns-then-code-ne0-clause-repeats g c = grind (arith, common_steps)
+
+pub returns-then-code-ne0-clause-pulled : goal.returns-then-code-ne0-clause-pulled
+returns-then-code-ne0-clause-pulled g c = grind (arith, common_steps)
+
+pub returns-then-code-ne0-clause-counts : goal.returns-then-code-ne0-clause-counts
+returns-then-code-ne0-clause-counts g c = grind (arith, common_steps)
+
+pub begin-requires : goal.begin-requires
+begin-requires g c = grind (arith, common_steps)
+
+pub release-requires : goal.release-requires
+release-requires g c = grind (arith, common_steps)
+
+pub returns-in-Err-clause-keeps : goal.returns-in-Err-clause-keeps
+returns-in-Err-clause-keeps g c = grind (arith, common_steps)
+
+pub returns-in-Err-clause-code : goal.returns-in-Err-clause-code
+returns-in-Err-clause-code g c = grind (arith, common_steps)
+
+pub returns-in-Err-clause-tells : goal.returns-in-Err-clause-tells
+returns-in-Err-clause-tells g c = grind (arith, common_steps)
+
+pub returns-in-Err-clause-gone : goal.returns-in-Err-clause-gone
+returns-in-Err-clause-gone g c = grind (arith, common_steps)
+
+pub returns-in-Err-clause-units : goal.returns-in-Err-clause-units
+returns-in-Err-clause-units g c = grind (arith, common_steps)
+
+pub returns-in-Err-clause-failure : goal.returns-in-Err-clause-failure
+returns-in-Err-clause-failure g c = grind (arith, common_steps)
+
+pub returns-in-Err-clause-faulted : goal.returns-in-Err-clause-faulted
+returns-in-Err-clause-faulted g c = grind (arith, common_steps)
+
+pub returns-in-Err-clause-worked : goal.returns-in-Err-clause-worked
+returns-in-Err-clause-worked g c = grind (arith, common_steps)
+
+pub returns-in-Err-clause-repeats : goal.returns-in-Err-clause-repeats
+returns-in-Err-clause-repeats g c = grind (arith, common_steps)
+
+pub returns-in-Err-clause-pulled : goal.returns-in-Err-clause-pulled
+returns-in-Err-clause-pulled g c = grind (arith, common_steps)
+
+pub returns-in-Err-clause-counts : goal.returns-in-Err-clause-counts
+returns-in-Err-clause-counts g c = grind (arith, common_steps)
+
+pub is_released-requires : goal.is_released-requires
+is_released-requires g c = grind (arith, common_steps)
+
+pub returns-then-is_released-clause-keeps : goal.returns-then-is_released-clause-keeps
+returns-then-is_released-clause-keeps g c = grind (arith, common_steps)
+
+pub returns-then-is_released-clause-code : goal.returns-then-is_released-clause-code
+returns-then-is_released-clause-code g c = grind (arith, common_steps)
+
+pub returns-then-is_released-clause-tells : goal.returns-then-is_released-clause-tells
+returns-then-is_released-clause-tells g c = grind (arith, common_steps)
+
+pub returns-then-is_released-clause-gone : goal.returns-then-is_released-clause-gone
+returns-then-is_released-clause-gone g c = grind (arith, common_steps)
+
+pub returns-then-is_released-clause-units : goal.returns-then-is_released-clause-units
+returns-then-is_released-clause-units g c = grind (arith, common_steps)
+
+pub returns-then-is_released-clause-failure : goal.returns-then-is_released-clause-failure
+returns-then-is_released-clause-failure g c = grind (arith, common_steps)
+
+pub returns-then-is_released-clause-faulted : goal.returns-then-is_released-clause-faulted
+returns-then-is_released-clause-faulted g c = grind (arith, common_steps)
+
+pub returns-then-is_released-clause-worked : goal.returns-then-is_released-clause-worked
+returns-then-is_released-clause-worked g c = grind (arith, common_steps)
+
+pub typed-requires : goal.typed-requires
+typed-requires g c = grind (arith, common_steps)
+
+pub release-requires-in-chunks : goal.release-requires-in-chunks
+release-requires-in-chunks g c = grind (arith, common_steps)
+
+pub returns-in-Err-added-clause-keeps : goal.returns-in-Err-added-clause-keeps
+returns-in-Err-added-clause-keeps g c = grind (arith, common_steps)
+
+pub returns-in-Err-added-clause-code : goal.returns-in-Err-added-clause-code
+returns-in-Err-added-clause-code g c = grind (arith, common_steps)
+
+pub returns-in-Err-added-clause-tells : goal.returns-in-Err-added-clause-tells
+returns-in-Err-added-clause-tells g c = grind (arith, common_steps)
+
+pub returns-in-Err-added-clause-gone : goal.returns-in-Err-added-clause-gone
+returns-in-Err-added-clause-gone g c = grind (arith, common_steps)
+
+pub returns-in-Err-added-clause-units : goal.returns-in-Err-added-clause-units
+returns-in-Err-added-clause-units g c = grind (arith, common_steps)
+
+pub returns-in-Err-added-clause-failure : goal.returns-in-Err-added-clause-failure
+returns-in-Err-added-clause-failure g c = grind (arith, common_steps)
+
+pub returns-in-Err-added-clause-faulted : goal.returns-in-Err-added-clause-faulted
+returns-in-Err-added-clause-faulted g c = grind (arith, common_steps)
+
+pub returns-in-Err-added-clause-worked : goal.returns-in-Err-added-clause-worked
+returns-in-Err-added-clause-worked g c = grind (arith, common_steps)
+
+pub returns-in-Err-added-clause-repeats : goal.returns-in-Err-added-clause-repeats
+returns-in-Err-added-clause-repeats g c = grind (arith, common_steps)
+
+pub returns-in-Err-added-clause-pulled : goal.returns-in-Err-added-clause-pulled
+returns-in-Err-added-clause-pulled g c = grind (arith, common_steps)
+
+pub returns-in-Err-added-clause-counts : goal.returns-in-Err-added-clause-counts
+returns-in-Err-added-clause-counts g c = grind (arith, common_steps)

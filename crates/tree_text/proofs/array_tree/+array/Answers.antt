@@ -1,3 +1,4 @@
+use Rattle.std.proofs.lemmas.Grind.{common_steps}
 use Rattle.std.proofs.Common.{rules, ◌+◌, ◌≤◌, List, [], ◌∷◌, length, replicate, sym, ap, ◌∙◌, arith, subst, Some}
 use Rattle.tree_model.specs.Tree.{trees}
 use Rattle.tree_model.specs.TreeCost.{Nodes, nodes_of_all, Holds, holds_of_all}
@@ -150,3 +151,9 @@ live-returns-in-Err-clause-fault t c =
     buffers_stop c.args.bytes.now c.args.cursor c.in_ok-views.middle c.args.own.buffers (buffers_of c.in_ok-views.views.items)
     (replicate (c.args.own.children + c.args.own.dictionaries) (AtArray (c.args.level + 1))) c.in-Err.fault c.requires.cursor c.in_ok-views.ensures.read
     c.in-Err.ensures.fault
+
+pub live-returns-in_err-views-clause-fault : goal.live-returns-in_err-views-clause-fault
+live-returns-in_err-views-clause-fault t c = grind (arith, common_steps)
+
+pub live-built-requires-clause-few_children : goal.live-built-requires-clause-few_children
+live-built-requires-clause-few_children t c = grind (arith, common_steps)

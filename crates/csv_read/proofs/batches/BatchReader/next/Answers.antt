@@ -1,4 +1,5 @@
-use Rattle.std.proofs.Common.{rules, ◌≡◌, ◌≤◌, ◌+◌, ◌∙◌, ℕ, List, [], ap, inl, inr, map, refl, subst, sym}
+use Rattle.std.proofs.lemmas.Grind.{common_steps}
+use Rattle.std.proofs.Common.{rules, ◌≡◌, ◌≤◌, ◌+◌, ◌∙◌, ℕ, List, [], ap, inl, inr, map, refl, subst, sym, arith}
 use Rattle.fmt_string.specs.ColumnView.{column_of}
 use Rattle.field_codec.specs.TextColumns.{AreAllowed, AreProper}
 use Rattle.col_build.specs.declared.builder.Builder.{Builder}
@@ -94,3 +95,144 @@ returns-else-self-eq0-clause-batch c = λ _.
     (next-batch s c.args.batch inside.records to made c.self.invariant.3 refl reads some) in
     subst (λ (o : BatchesLeft). IsNextBatch c.args.batch kept o (under s c.note.new.self.mark made.rows to kept)) view
     (subst (λ (m : List ℕ). IsNextBatch c.args.batch kept s (under s m made.rows to kept)) (sym mark) next)
+
+pub has_ended-requires : goal.has_ended-requires
+has_ended-requires c = grind (arith, common_steps)
+
+pub end-requires : goal.end-requires
+end-requires c = grind (arith, common_steps)
+
+pub invariant_of-self : goal.invariant_of-self
+invariant_of-self c = grind (arith, common_steps)
+
+pub returns-then-has_ended-clause-columns : goal.returns-then-has_ended-clause-columns
+returns-then-has_ended-clause-columns c = grind (arith, common_steps)
+
+pub returns-then-has_ended-clause-mark : goal.returns-then-has_ended-clause-mark
+returns-then-has_ended-clause-mark c = grind (arith, common_steps)
+
+pub returns-then-has_ended-clause-batch : goal.returns-then-has_ended-clause-batch
+returns-then-has_ended-clause-batch c = grind (arith, common_steps)
+
+pub returns-then-has_ended-clause-end : goal.returns-then-has_ended-clause-end
+returns-then-has_ended-clause-end c = grind (arith, common_steps)
+
+pub returns-then-has_ended-clause-end_stays : goal.returns-then-has_ended-clause-end_stays
+returns-then-has_ended-clause-end_stays c = grind (arith, common_steps)
+
+pub returns-then-has_ended-clause-fault : goal.returns-then-has_ended-clause-fault
+returns-then-has_ended-clause-fault c = grind (arith, common_steps)
+
+pub returns-then-has_ended-clause-fault_ends : goal.returns-then-has_ended-clause-fault_ends
+returns-then-has_ended-clause-fault_ends c = grind (arith, common_steps)
+
+pub end-requires-in-Err : goal.end-requires-in-Err
+end-requires-in-Err c = grind (arith, common_steps)
+
+pub invariant_of-self-in-Err : goal.invariant_of-self-in-Err
+invariant_of-self-in-Err c = grind (arith, common_steps)
+
+pub returns-in-Err-clause-columns : goal.returns-in-Err-clause-columns
+returns-in-Err-clause-columns c = grind (arith, common_steps)
+
+pub returns-in-Err-clause-mark : goal.returns-in-Err-clause-mark
+returns-in-Err-clause-mark c = grind (arith, common_steps)
+
+pub returns-in-Err-clause-batch : goal.returns-in-Err-clause-batch
+returns-in-Err-clause-batch c = grind (arith, common_steps)
+
+pub returns-in-Err-clause-end : goal.returns-in-Err-clause-end
+returns-in-Err-clause-end c = grind (arith, common_steps)
+
+pub returns-in-Err-clause-end_stays : goal.returns-in-Err-clause-end_stays
+returns-in-Err-clause-end_stays c = grind (arith, common_steps)
+
+pub returns-in-Err-clause-fault : goal.returns-in-Err-clause-fault
+returns-in-Err-clause-fault c = grind (arith, common_steps)
+
+pub returns-in-Err-clause-fault_ends : goal.returns-in-Err-clause-fault_ends
+returns-in-Err-clause-fault_ends c = grind (arith, common_steps)
+
+pub read_rows-requires-clause-none : goal.read_rows-requires-clause-none
+read_rows-requires-clause-none c = grind (arith, common_steps)
+
+pub read_rows-requires-clause-short : goal.read_rows-requires-clause-short
+read_rows-requires-clause-short c = grind (arith, common_steps)
+
+pub read_rows-requires-clause-few : goal.read_rows-requires-clause-few
+read_rows-requires-clause-few c = grind (arith, common_steps)
+
+pub end-requires-then-self-eq0 : goal.end-requires-then-self-eq0
+end-requires-then-self-eq0 c = grind (arith, common_steps)
+
+pub invariant_of-self-then-self-eq0 : goal.invariant_of-self-then-self-eq0
+invariant_of-self-then-self-eq0 c = grind (arith, common_steps)
+
+pub returns-then-self-eq0-clause-columns : goal.returns-then-self-eq0-clause-columns
+returns-then-self-eq0-clause-columns c = grind (arith, common_steps)
+
+pub returns-then-self-eq0-clause-mark : goal.returns-then-self-eq0-clause-mark
+returns-then-self-eq0-clause-mark c = grind (arith, common_steps)
+
+pub returns-then-self-eq0-clause-batch : goal.returns-then-self-eq0-clause-batch
+returns-then-self-eq0-clause-batch c = grind (arith, common_steps)
+
+pub returns-then-self-eq0-clause-end_stays : goal.returns-then-self-eq0-clause-end_stays
+returns-then-self-eq0-clause-end_stays c = grind (arith, common_steps)
+
+pub returns-then-self-eq0-clause-fault : goal.returns-then-self-eq0-clause-fault
+returns-then-self-eq0-clause-fault c = grind (arith, common_steps)
+
+pub returns-then-self-eq0-clause-fault_ends : goal.returns-then-self-eq0-clause-fault_ends
+returns-then-self-eq0-clause-fault_ends c = grind (arith, common_steps)
+
+pub overflow_add-self : goal.overflow_add-self
+overflow_add-self c = grind (arith, common_steps)
+
+pub note-requires : goal.note-requires
+note-requires c = grind (arith, common_steps)
+
+pub end-requires-in-Err-read_rows : goal.end-requires-in-Err-read_rows
+end-requires-in-Err-read_rows c = grind (arith, common_steps)
+
+pub invariant_of-self-in-Err-read_rows : goal.invariant_of-self-in-Err-read_rows
+invariant_of-self-in-Err-read_rows c = grind (arith, common_steps)
+
+pub returns-else-self-eq0-clause-columns : goal.returns-else-self-eq0-clause-columns
+returns-else-self-eq0-clause-columns c = grind (arith, common_steps)
+
+pub returns-else-self-eq0-clause-mark : goal.returns-else-self-eq0-clause-mark
+returns-else-self-eq0-clause-mark c = grind (arith, common_steps)
+
+pub returns-else-self-eq0-clause-end : goal.returns-else-self-eq0-clause-end
+returns-else-self-eq0-clause-end c = grind (arith, common_steps)
+
+pub returns-else-self-eq0-clause-end_stays : goal.returns-else-self-eq0-clause-end_stays
+returns-else-self-eq0-clause-end_stays c = grind (arith, common_steps)
+
+pub returns-else-self-eq0-clause-fault : goal.returns-else-self-eq0-clause-fault
+returns-else-self-eq0-clause-fault c = grind (arith, common_steps)
+
+pub returns-else-self-eq0-clause-fault_ends : goal.returns-else-self-eq0-clause-fault_ends
+returns-else-self-eq0-clause-fault_ends c = grind (arith, common_steps)
+
+pub returns-in-Err-read_rows-clause-columns : goal.returns-in-Err-read_rows-clause-columns
+returns-in-Err-read_rows-clause-columns c = grind (arith, common_steps)
+
+pub returns-in-Err-read_rows-clause-mark : goal.returns-in-Err-read_rows-clause-mark
+returns-in-Err-read_rows-clause-mark c = grind (arith, common_steps)
+
+pub returns-in-Err-read_rows-clause-batch : goal.returns-in-Err-read_rows-clause-batch
+returns-in-Err-read_rows-clause-batch c = grind (arith, common_steps)
+
+pub returns-in-Err-read_rows-clause-end : goal.returns-in-Err-read_rows-clause-end
+returns-in-Err-read_rows-clause-end c = grind (arith, common_steps)
+
+pub returns-in-Err-read_rows-clause-end_stays : goal.returns-in-Err-read_rows-clause-end_stays
+returns-in-Err-read_rows-clause-end_stays c = grind (arith, common_steps)
+
+pub returns-in-Err-read_rows-clause-fault : goal.returns-in-Err-read_rows-clause-fault
+returns-in-Err-read_rows-clause-fault c = grind (arith, common_steps)
+
+pub returns-in-Err-read_rows-clause-fault_ends : goal.returns-in-Err-read_rows-clause-fault_ends
+returns-in-Err-read_rows-clause-fault_ends c = grind (arith, common_steps)

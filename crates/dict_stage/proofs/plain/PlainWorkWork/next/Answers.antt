@@ -1,3 +1,4 @@
+use Rattle.std.proofs.lemmas.Grind.{common_steps}
 use Rattle.std.proofs.Common.{rules, ◌≡◌, ◌∙◌, ◌+◌, map, length, false, List, pos, IsTrue, sym, ap, subst, arith}
 use Rattle.std.proofs.lemmas.List.{length-map}
 use Rattle.fmt_string.specs.ColumnView.{column_of, kind_of}
@@ -133,3 +134,174 @@ returns-in-Ok-clause-counts g c = λ fresh_is _.
     ∙ ap (λ (k : Kind). risen middle.nodes (kind_nodes Made k + 1)) (kind ∙ kind-is false w.column w.out up.columns told) in
     recode-counts up n (map column_of w.out) w.column 2 (kind_of c.kind_at-kind.result.now) (typed_of c.typed.result.now) c.next-code.result out _
     c.put.new.self c.args.pass.now middle c.recoded_chunk.new.pass live answers (call.counts fresh_is none) tree kind read blocks nodes
+
+pub lawful_facts-requires : goal.lawful_facts-requires
+lawful_facts-requires g c κs = grind (arith, common_steps)
+
+pub schema_is_small-requires : goal.schema_is_small-requires
+schema_is_small-requires g c = grind (arith, common_steps)
+
+pub next-code-requires : goal.next-code-requires
+next-code-requires g c = grind (arith, common_steps)
+
+pub is_released-requires : goal.is_released-requires
+is_released-requires g c = grind (arith, common_steps)
+
+pub returns-then-code-ne0-clause-keeps : goal.returns-then-code-ne0-clause-keeps
+returns-then-code-ne0-clause-keeps g c = grind (arith, common_steps)
+
+pub returns-then-code-ne0-clause-columns : goal.returns-then-code-ne0-clause-columns
+returns-then-code-ne0-clause-columns g c = grind (arith, common_steps)
+
+pub returns-then-code-ne0-clause-fits : goal.returns-then-code-ne0-clause-fits
+returns-then-code-ne0-clause-fits g c = grind (arith, common_steps)
+
+pub returns-then-code-ne0-clause-code : goal.returns-then-code-ne0-clause-code
+returns-then-code-ne0-clause-code g c = grind (arith, common_steps)
+
+pub returns-then-code-ne0-clause-tells : goal.returns-then-code-ne0-clause-tells
+returns-then-code-ne0-clause-tells g c = grind (arith, common_steps)
+
+pub returns-then-code-ne0-clause-refuses : goal.returns-then-code-ne0-clause-refuses
+returns-then-code-ne0-clause-refuses g c = grind (arith, common_steps)
+
+pub returns-then-code-ne0-clause-gone : goal.returns-then-code-ne0-clause-gone
+returns-then-code-ne0-clause-gone g c = grind (arith, common_steps)
+
+pub returns-then-code-ne0-clause-units : goal.returns-then-code-ne0-clause-units
+returns-then-code-ne0-clause-units g c = grind (arith, common_steps)
+
+pub returns-then-code-ne0-clause-failure : goal.returns-then-code-ne0-clause-failure
+returns-then-code-ne0-clause-failure g c = grind (arith, common_steps)
+
+pub returns-then-code-ne0-clause-faulted : goal.returns-then-code-ne0-clause-faulted
+returns-then-code-ne0-clause-faulted g c = grind (arith, common_steps)
+
+pub returns-then-code-ne0-clause-worked : goal.returns-then-code-ne0-clause-worked
+returns-then-code-ne0-clause-worked g c = grind (arith, common_steps)
+
+pub returns-then-code-ne0-clause-repeats : goal.returns-then-code-ne0-clause-repeats
+returns-then-code-ne0-clause-repeats g c = grind (arith, common_steps)
+
+pub returns-then-code-ne0-clause-answers : goal.returns-then-code-ne0-clause-answers
+returns-then-code-ne0-clause-answers g c = grind (arith, common_steps)
+
+pub returns-then-code-ne0-clause-gives : goal.returns-then-code-ne0-clause-gives
+returns-then-code-ne0-clause-gives g c = grind (arith, common_steps)
+
+pub returns-then-code-ne0-clause-counts : goal.returns-then-code-ne0-clause-counts
+returns-then-code-ne0-clause-counts g c = grind (arith, common_steps)
+
+pub returns-then-code-ne0-clause-shows : goal.returns-then-code-ne0-clause-shows
+returns-then-code-ne0-clause-shows g c = grind (arith, common_steps)
+
+pub column_schemas_are_lawful-requires : goal.column_schemas_are_lawful-requires
+column_schemas_are_lawful-requires g c = grind (arith, common_steps)
+
+pub recoded_chunks_have_their_rows-requires : goal.recoded_chunks_have_their_rows-requires
+recoded_chunks_have_their_rows-requires g c = grind (arith, common_steps)
+
+pub as_slice-requires : goal.as_slice-requires
+as_slice-requires g c = grind (arith, common_steps)
+
+pub typed-requires : goal.typed-requires
+typed-requires g c = grind (arith, common_steps)
+
+pub move_out-requires : goal.move_out-requires
+move_out-requires g c = grind (arith, common_steps)
+
+pub recoded_chunk-requires-clause-types : goal.recoded_chunk-requires-clause-types
+recoded_chunk-requires-clause-types g c = grind (arith, common_steps)
+
+pub recoded_chunk-requires-clause-room : goal.recoded_chunk-requires-clause-room
+recoded_chunk-requires-clause-room g c = grind (arith, common_steps)
+
+pub put-requires : goal.put-requires
+put-requires g c = grind (arith, common_steps)
+
+pub returns-in-Ok-clause-keeps : goal.returns-in-Ok-clause-keeps
+returns-in-Ok-clause-keeps g c = grind (arith, common_steps)
+
+pub returns-in-Ok-clause-columns : goal.returns-in-Ok-clause-columns
+returns-in-Ok-clause-columns g c = grind (arith, common_steps)
+
+pub returns-in-Ok-clause-fits : goal.returns-in-Ok-clause-fits
+returns-in-Ok-clause-fits g c = grind (arith, common_steps)
+
+pub returns-in-Ok-clause-code : goal.returns-in-Ok-clause-code
+returns-in-Ok-clause-code g c = grind (arith, common_steps)
+
+pub returns-in-Ok-clause-tells : goal.returns-in-Ok-clause-tells
+returns-in-Ok-clause-tells g c = grind (arith, common_steps)
+
+pub returns-in-Ok-clause-refuses : goal.returns-in-Ok-clause-refuses
+returns-in-Ok-clause-refuses g c = grind (arith, common_steps)
+
+pub returns-in-Ok-clause-gone : goal.returns-in-Ok-clause-gone
+returns-in-Ok-clause-gone g c = grind (arith, common_steps)
+
+pub returns-in-Ok-clause-units : goal.returns-in-Ok-clause-units
+returns-in-Ok-clause-units g c = grind (arith, common_steps)
+
+pub returns-in-Ok-clause-failure : goal.returns-in-Ok-clause-failure
+returns-in-Ok-clause-failure g c = grind (arith, common_steps)
+
+pub returns-in-Ok-clause-faulted : goal.returns-in-Ok-clause-faulted
+returns-in-Ok-clause-faulted g c = grind (arith, common_steps)
+
+pub returns-in-Ok-clause-worked : goal.returns-in-Ok-clause-worked
+returns-in-Ok-clause-worked g c = grind (arith, common_steps)
+
+pub returns-in-Ok-clause-repeats : goal.returns-in-Ok-clause-repeats
+returns-in-Ok-clause-repeats g c = grind (arith, common_steps)
+
+pub returns-in-Ok-clause-shows : goal.returns-in-Ok-clause-shows
+returns-in-Ok-clause-shows g c = grind (arith, common_steps)
+
+pub returns-in-Err-clause-keeps : goal.returns-in-Err-clause-keeps
+returns-in-Err-clause-keeps g c = grind (arith, common_steps)
+
+pub returns-in-Err-clause-columns : goal.returns-in-Err-clause-columns
+returns-in-Err-clause-columns g c = grind (arith, common_steps)
+
+pub returns-in-Err-clause-fits : goal.returns-in-Err-clause-fits
+returns-in-Err-clause-fits g c = grind (arith, common_steps)
+
+pub returns-in-Err-clause-code : goal.returns-in-Err-clause-code
+returns-in-Err-clause-code g c = grind (arith, common_steps)
+
+pub returns-in-Err-clause-tells : goal.returns-in-Err-clause-tells
+returns-in-Err-clause-tells g c = grind (arith, common_steps)
+
+pub returns-in-Err-clause-refuses : goal.returns-in-Err-clause-refuses
+returns-in-Err-clause-refuses g c = grind (arith, common_steps)
+
+pub returns-in-Err-clause-gone : goal.returns-in-Err-clause-gone
+returns-in-Err-clause-gone g c = grind (arith, common_steps)
+
+pub returns-in-Err-clause-units : goal.returns-in-Err-clause-units
+returns-in-Err-clause-units g c = grind (arith, common_steps)
+
+pub returns-in-Err-clause-failure : goal.returns-in-Err-clause-failure
+returns-in-Err-clause-failure g c = grind (arith, common_steps)
+
+pub returns-in-Err-clause-faulted : goal.returns-in-Err-clause-faulted
+returns-in-Err-clause-faulted g c = grind (arith, common_steps)
+
+pub returns-in-Err-clause-worked : goal.returns-in-Err-clause-worked
+returns-in-Err-clause-worked g c = grind (arith, common_steps)
+
+pub returns-in-Err-clause-repeats : goal.returns-in-Err-clause-repeats
+returns-in-Err-clause-repeats g c = grind (arith, common_steps)
+
+pub returns-in-Err-clause-answers : goal.returns-in-Err-clause-answers
+returns-in-Err-clause-answers g c = grind (arith, common_steps)
+
+pub returns-in-Err-clause-gives : goal.returns-in-Err-clause-gives
+returns-in-Err-clause-gives g c = grind (arith, common_steps)
+
+pub returns-in-Err-clause-counts : goal.returns-in-Err-clause-counts
+returns-in-Err-clause-counts g c = grind (arith, common_steps)
+
+pub returns-in-Err-clause-shows : goal.returns-in-Err-clause-shows
+returns-in-Err-clause-shows g c = grind (arith, common_steps)

@@ -1,3 +1,4 @@
+use Rattle.std.proofs.lemmas.Grind.{common_steps}
 use Rattle.std.proofs.Common.{rules, arith, ◌+◌, List, ◌∷◌, ◌≡◌, ◌<◌, ◌∙◌, ℕ, pos, length, map, to_z, of_z, w32, IsTrue, sym, ap, subst, refl}
 use Rattle.fmt_string.specs.ColumnView.{column_of}
 use Rattle.fmt_string.specs.Table.{Row}
@@ -200,3 +201,111 @@ chunks-preserved g c =
       units = units-kept _ _ _ _ _ c.narrow.new.chunk narrow.units gone call.units c.chunks.invariant.units;
       chunk = gone;
     }
+
+pub units-units-requires : goal.units-units-requires
+units-units-requires g c = grind (arith, common_steps)
+
+pub blocks-blocks-requires : goal.blocks-blocks-requires
+blocks-blocks-requires g c = grind (arith, common_steps)
+
+pub nodes-nodes-requires : goal.nodes-nodes-requires
+nodes-nodes-requires g c = grind (arith, common_steps)
+
+pub chunks_are_tables-requires : goal.chunks_are_tables-requires
+chunks_are_tables-requires g c = grind (arith, common_steps)
+
+pub slices_are_windows-requires : goal.slices_are_windows-requires
+slices_are_windows-requires g c = grind (arith, common_steps)
+
+pub windows_are_parts-requires : goal.windows_are_parts-requires
+windows_are_parts-requires g c = grind (arith, common_steps)
+
+pub windows_keep_measures-requires : goal.windows_keep_measures-requires
+windows_keep_measures-requires g c = grind (arith, common_steps)
+
+pub next-code-requires : goal.next-code-requires
+next-code-requires g c = grind (arith, common_steps)
+
+pub is_released-requires : goal.is_released-requires
+is_released-requires g c = grind (arith, common_steps)
+
+pub returns-then-code-ne0-clause-keeps : goal.returns-then-code-ne0-clause-keeps
+returns-then-code-ne0-clause-keeps g c = grind (arith, common_steps)
+
+pub returns-then-code-ne0-clause-columns : goal.returns-then-code-ne0-clause-columns
+returns-then-code-ne0-clause-columns g c = grind (arith, common_steps)
+
+pub returns-then-code-ne0-clause-fits : goal.returns-then-code-ne0-clause-fits
+returns-then-code-ne0-clause-fits g c = grind (arith, common_steps)
+
+pub returns-then-code-ne0-clause-code : goal.returns-then-code-ne0-clause-code
+returns-then-code-ne0-clause-code g c = grind (arith, common_steps)
+
+pub returns-then-code-ne0-clause-tells : goal.returns-then-code-ne0-clause-tells
+returns-then-code-ne0-clause-tells g c = grind (arith, common_steps)
+
+pub returns-then-code-ne0-clause-refuses : goal.returns-then-code-ne0-clause-refuses
+returns-then-code-ne0-clause-refuses g c = grind (arith, common_steps)
+
+pub returns-then-code-ne0-clause-gone : goal.returns-then-code-ne0-clause-gone
+returns-then-code-ne0-clause-gone g c = grind (arith, common_steps)
+
+pub returns-then-code-ne0-clause-units : goal.returns-then-code-ne0-clause-units
+returns-then-code-ne0-clause-units g c = grind (arith, common_steps)
+
+pub returns-then-code-ne0-clause-failure : goal.returns-then-code-ne0-clause-failure
+returns-then-code-ne0-clause-failure g c = grind (arith, common_steps)
+
+pub returns-then-code-ne0-clause-faulted : goal.returns-then-code-ne0-clause-faulted
+returns-then-code-ne0-clause-faulted g c = grind (arith, common_steps)
+
+pub returns-then-code-ne0-clause-worked : goal.returns-then-code-ne0-clause-worked
+returns-then-code-ne0-clause-worked g c = grind (arith, common_steps)
+
+pub returns-then-code-ne0-clause-gives : goal.returns-then-code-ne0-clause-gives
+returns-then-code-ne0-clause-gives g c = grind (arith, common_steps)
+
+pub typed-typed-requires : goal.typed-typed-requires
+typed-typed-requires g c = grind (arith, common_steps)
+
+pub narrow-requires-clause-room : goal.narrow-requires-clause-room
+narrow-requires-clause-room g c = grind (arith, common_steps)
+
+pub is_released-requires-in-chunks : goal.is_released-requires-in-chunks
+is_released-requires-in-chunks g c = grind (arith, common_steps)
+
+pub returns-then-not-is_released-clause-keeps : goal.returns-then-not-is_released-clause-keeps
+returns-then-not-is_released-clause-keeps g c = grind (arith, common_steps)
+
+pub returns-then-not-is_released-clause-columns : goal.returns-then-not-is_released-clause-columns
+returns-then-not-is_released-clause-columns g c = grind (arith, common_steps)
+
+pub returns-then-not-is_released-clause-fits : goal.returns-then-not-is_released-clause-fits
+returns-then-not-is_released-clause-fits g c = grind (arith, common_steps)
+
+pub returns-then-not-is_released-clause-code : goal.returns-then-not-is_released-clause-code
+returns-then-not-is_released-clause-code g c = grind (arith, common_steps)
+
+pub returns-then-not-is_released-clause-tells : goal.returns-then-not-is_released-clause-tells
+returns-then-not-is_released-clause-tells g c = grind (arith, common_steps)
+
+pub returns-then-not-is_released-clause-refuses : goal.returns-then-not-is_released-clause-refuses
+returns-then-not-is_released-clause-refuses g c = grind (arith, common_steps)
+
+pub returns-then-not-is_released-clause-gone : goal.returns-then-not-is_released-clause-gone
+returns-then-not-is_released-clause-gone g c = grind (arith, common_steps)
+
+pub returns-then-not-is_released-clause-units : goal.returns-then-not-is_released-clause-units
+returns-then-not-is_released-clause-units g c = grind (arith, common_steps)
+
+pub returns-then-not-is_released-clause-failure : goal.returns-then-not-is_released-clause-failure
+returns-then-not-is_released-clause-failure g c = grind (arith, common_steps)
+
+pub returns-then-not-is_released-clause-faulted : goal.returns-then-not-is_released-clause-faulted
+returns-then-not-is_released-clause-faulted g c = grind (arith, common_steps)
+
+pub returns-then-not-is_released-clause-worked : goal.returns-then-not-is_released-clause-worked
+returns-then-not-is_released-clause-worked g c = grind (arith, common_steps)
+
+pub returns-then-not-is_released-clause-gives : goal.returns-then-not-is_released-clause-gives
+returns-then-not-is_released-clause-gives g c = grind (arith, common_steps)

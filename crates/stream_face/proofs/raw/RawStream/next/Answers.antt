@@ -1,4 +1,5 @@
-use Rattle.std.proofs.Common.{IsTrue, ◌≡◌, ◌∙◌, pos, w32, of_z, refl, sym, ap, subst, true≢false}
+use Rattle.std.proofs.lemmas.Grind.{common_steps}
+use Rattle.std.proofs.Common.{IsTrue, ◌≡◌, ◌∙◌, pos, w32, of_z, refl, sym, ap, subst, true≢false, arith}
 use Rattle.raw_schema.specs.Members.{Nodes}
 use Rattle.layout_check.specs.ColumnKinds.{type_of_columns}
 use Rattle.layout_check.specs.ColumnSchema.{SchemaOf}
@@ -476,3 +477,135 @@ returns-clause-counts g c =
     c.refuse_chunk.ensures.code in
     let e = same c.refuse_chunk.result c.refuse_chunk.type_inv in
     λ _ z. absurd (refusal (sym e ∙ z))
+
+pub code-requires : goal.code-requires
+code-requires g c = grind (arith, common_steps)
+
+pub returns-in-Some-clause-keeps : goal.returns-in-Some-clause-keeps
+returns-in-Some-clause-keeps g c = grind (arith, common_steps)
+
+pub returns-in-Some-clause-link : goal.returns-in-Some-clause-link
+returns-in-Some-clause-link g c = grind (arith, common_steps)
+
+pub returns-in-Some-clause-schema : goal.returns-in-Some-clause-schema
+returns-in-Some-clause-schema g c = grind (arith, common_steps)
+
+pub returns-in-Some-clause-kinds : goal.returns-in-Some-clause-kinds
+returns-in-Some-clause-kinds g c = grind (arith, common_steps)
+
+pub returns-in-Some-clause-code : goal.returns-in-Some-clause-code
+returns-in-Some-clause-code g c = grind (arith, common_steps)
+
+pub returns-in-Some-clause-tells : goal.returns-in-Some-clause-tells
+returns-in-Some-clause-tells g c = grind (arith, common_steps)
+
+pub returns-in-Some-clause-refuses : goal.returns-in-Some-clause-refuses
+returns-in-Some-clause-refuses g c = grind (arith, common_steps)
+
+pub returns-in-Some-clause-told : goal.returns-in-Some-clause-told
+returns-in-Some-clause-told g c = grind (arith, common_steps)
+
+pub returns-in-Some-clause-checked : goal.returns-in-Some-clause-checked
+returns-in-Some-clause-checked g c = grind (arith, common_steps)
+
+pub returns-in-Some-clause-shown : goal.returns-in-Some-clause-shown
+returns-in-Some-clause-shown g c = grind (arith, common_steps)
+
+pub returns-in-Some-clause-units : goal.returns-in-Some-clause-units
+returns-in-Some-clause-units g c = grind (arith, common_steps)
+
+pub returns-in-Some-clause-why : goal.returns-in-Some-clause-why
+returns-in-Some-clause-why g c = grind (arith, common_steps)
+
+pub returns-in-Some-clause-stays : goal.returns-in-Some-clause-stays
+returns-in-Some-clause-stays g c = grind (arith, common_steps)
+
+pub returns-in-Some-clause-failure : goal.returns-in-Some-clause-failure
+returns-in-Some-clause-failure g c = grind (arith, common_steps)
+
+pub returns-in-Some-clause-faulted : goal.returns-in-Some-clause-faulted
+returns-in-Some-clause-faulted g c = grind (arith, common_steps)
+
+pub returns-in-Some-clause-repeats : goal.returns-in-Some-clause-repeats
+returns-in-Some-clause-repeats g c = grind (arith, common_steps)
+
+pub returns-in-Some-clause-answers : goal.returns-in-Some-clause-answers
+returns-in-Some-clause-answers g c = grind (arith, common_steps)
+
+pub returns-in-Some-clause-counts : goal.returns-in-Some-clause-counts
+returns-in-Some-clause-counts g c = grind (arith, common_steps)
+
+pub returns-in-Some-clause-shows : goal.returns-in-Some-clause-shows
+returns-in-Some-clause-shows g c = grind (arith, common_steps)
+
+pub get_next-code-requires-clause-shared : goal.get_next-code-requires-clause-shared
+get_next-code-requires-clause-shared g c = grind (arith, common_steps)
+
+pub get_next-code-requires-clause-live : goal.get_next-code-requires-clause-live
+get_next-code-requires-clause-live g c = grind (arith, common_steps)
+
+pub get_next-code-requires-clause-empty : goal.get_next-code-requires-clause-empty
+get_next-code-requires-clause-empty g c = grind (arith, common_steps)
+
+pub get_next-code-requires-clause-room : goal.get_next-code-requires-clause-room
+get_next-code-requires-clause-room g c = grind (arith, common_steps)
+
+pub returns-then-code-ne0-clause-link : goal.returns-then-code-ne0-clause-link
+returns-then-code-ne0-clause-link g c = grind (arith, common_steps)
+
+pub returns-then-code-ne0-clause-schema : goal.returns-then-code-ne0-clause-schema
+returns-then-code-ne0-clause-schema g c = grind (arith, common_steps)
+
+pub returns-then-code-ne0-clause-kinds : goal.returns-then-code-ne0-clause-kinds
+returns-then-code-ne0-clause-kinds g c = grind (arith, common_steps)
+
+pub is_released-requires : goal.is_released-requires
+is_released-requires g c = grind (arith, common_steps)
+
+pub invariant_of-self-then-is_released : goal.invariant_of-self-then-is_released
+invariant_of-self-then-is_released g c = grind (arith, common_steps)
+
+pub returns-then-is_released-clause-link : goal.returns-then-is_released-clause-link
+returns-then-is_released-clause-link g c = grind (arith, common_steps)
+
+pub returns-then-is_released-clause-schema : goal.returns-then-is_released-clause-schema
+returns-then-is_released-clause-schema g c = grind (arith, common_steps)
+
+pub returns-then-is_released-clause-kinds : goal.returns-then-is_released-clause-kinds
+returns-then-is_released-clause-kinds g c = grind (arith, common_steps)
+
+pub lawful_facts-requires : goal.lawful_facts-requires
+lawful_facts-requires g c κs = grind (arith, common_steps)
+
+pub admits-requires : goal.admits-requires
+admits-requires g c = grind (arith, common_steps)
+
+pub returns-then-admits-clause-link : goal.returns-then-admits-clause-link
+returns-then-admits-clause-link g c = grind (arith, common_steps)
+
+pub returns-then-admits-clause-schema : goal.returns-then-admits-clause-schema
+returns-then-admits-clause-schema g c = grind (arith, common_steps)
+
+pub returns-then-admits-clause-kinds : goal.returns-then-admits-clause-kinds
+returns-then-admits-clause-kinds g c = grind (arith, common_steps)
+
+pub refuse_chunk-requires-clause-schema : goal.refuse_chunk-requires-clause-schema
+refuse_chunk-requires-clause-schema g c = grind (arith, common_steps)
+
+pub refuse_chunk-requires-clause-room : goal.refuse_chunk-requires-clause-room
+refuse_chunk-requires-clause-room g c = grind (arith, common_steps)
+
+pub invariant_of-self-2 : goal.invariant_of-self-2
+invariant_of-self-2 g c = grind (arith, common_steps)
+
+pub returns-clause-link : goal.returns-clause-link
+returns-clause-link g c = grind (arith, common_steps)
+
+pub returns-clause-schema : goal.returns-clause-schema
+returns-clause-schema g c = grind (arith, common_steps)
+
+pub returns-clause-kinds : goal.returns-clause-kinds
+returns-clause-kinds g c = grind (arith, common_steps)
+
+pub returns-clause-units : goal.returns-clause-units
+returns-clause-units g c = grind (arith, common_steps)

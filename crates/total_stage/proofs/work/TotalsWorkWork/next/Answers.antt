@@ -1,3 +1,4 @@
+use Rattle.std.proofs.lemmas.Grind.{common_steps}
 use Rattle.std.proofs.Common.{rules, arith, ◌≡◌, ◌≤◌, ◌∙◌, ◌+◌, ◌*◌, ◌∷◌, [], ℕ, pos, Bool}
 use Rattle.std.proofs.Common.{List, true, false, length, map, to_z, of_z, IsTrue, sym, ap, subst, refl}
 use Rattle.std.specs.Int.{w32}
@@ -135,3 +136,249 @@ returns-in_ok-made-in-All-clause-counts g c = λ fresh _.
     subst (λ (given : Bool). Counts (due_with (steps.Totals picks) columns (totals_ahead picks given up.ending up.ahead) up.due)
     (due_with (steps.Totals picks) columns (totals_ahead picks true n.ending n.ahead) n.due) c.args.pass.now c.totals_chunk.new.pass c.put.new.self) (sym was)
     (counts-row picks columns columns up n c.args.pass.now middle c.totals_chunk.new.pass c.put.new.self all.0 fit tree counted blocks nodes)
+
+pub lawful_facts-requires : goal.lawful_facts-requires
+lawful_facts-requires g c κs = grind (arith, common_steps)
+
+pub returns-in_err-pulled-clause-keeps : goal.returns-in_err-pulled-clause-keeps
+returns-in_err-pulled-clause-keeps g c = grind (arith, common_steps)
+
+pub returns-in_err-pulled-clause-columns : goal.returns-in_err-pulled-clause-columns
+returns-in_err-pulled-clause-columns g c = grind (arith, common_steps)
+
+pub returns-in_err-pulled-clause-fits : goal.returns-in_err-pulled-clause-fits
+returns-in_err-pulled-clause-fits g c = grind (arith, common_steps)
+
+pub returns-in_err-pulled-clause-code : goal.returns-in_err-pulled-clause-code
+returns-in_err-pulled-clause-code g c = grind (arith, common_steps)
+
+pub returns-in_err-pulled-clause-tells : goal.returns-in_err-pulled-clause-tells
+returns-in_err-pulled-clause-tells g c = grind (arith, common_steps)
+
+pub returns-in_err-pulled-clause-refuses : goal.returns-in_err-pulled-clause-refuses
+returns-in_err-pulled-clause-refuses g c = grind (arith, common_steps)
+
+pub returns-in_err-pulled-clause-gone : goal.returns-in_err-pulled-clause-gone
+returns-in_err-pulled-clause-gone g c = grind (arith, common_steps)
+
+pub returns-in_err-pulled-clause-units : goal.returns-in_err-pulled-clause-units
+returns-in_err-pulled-clause-units g c = grind (arith, common_steps)
+
+pub returns-in_err-pulled-clause-failure : goal.returns-in_err-pulled-clause-failure
+returns-in_err-pulled-clause-failure g c = grind (arith, common_steps)
+
+pub returns-in_err-pulled-clause-faulted : goal.returns-in_err-pulled-clause-faulted
+returns-in_err-pulled-clause-faulted g c = grind (arith, common_steps)
+
+pub returns-in_err-pulled-clause-worked : goal.returns-in_err-pulled-clause-worked
+returns-in_err-pulled-clause-worked g c = grind (arith, common_steps)
+
+pub returns-in_err-pulled-clause-repeats : goal.returns-in_err-pulled-clause-repeats
+returns-in_err-pulled-clause-repeats g c = grind (arith, common_steps)
+
+pub returns-in_err-pulled-clause-answers : goal.returns-in_err-pulled-clause-answers
+returns-in_err-pulled-clause-answers g c = grind (arith, common_steps)
+
+pub returns-in_err-pulled-clause-gives : goal.returns-in_err-pulled-clause-gives
+returns-in_err-pulled-clause-gives g c = grind (arith, common_steps)
+
+pub returns-in_err-pulled-clause-counts : goal.returns-in_err-pulled-clause-counts
+returns-in_err-pulled-clause-counts g c = grind (arith, common_steps)
+
+pub returns-in_err-pulled-clause-shows : goal.returns-in_err-pulled-clause-shows
+returns-in_err-pulled-clause-shows g c = grind (arith, common_steps)
+
+pub returns-then-self-clause-keeps : goal.returns-then-self-clause-keeps
+returns-then-self-clause-keeps g c = grind (arith, common_steps)
+
+pub returns-then-self-clause-columns : goal.returns-then-self-clause-columns
+returns-then-self-clause-columns g c = grind (arith, common_steps)
+
+pub returns-then-self-clause-fits : goal.returns-then-self-clause-fits
+returns-then-self-clause-fits g c = grind (arith, common_steps)
+
+pub returns-then-self-clause-code : goal.returns-then-self-clause-code
+returns-then-self-clause-code g c = grind (arith, common_steps)
+
+pub returns-then-self-clause-tells : goal.returns-then-self-clause-tells
+returns-then-self-clause-tells g c = grind (arith, common_steps)
+
+pub returns-then-self-clause-refuses : goal.returns-then-self-clause-refuses
+returns-then-self-clause-refuses g c = grind (arith, common_steps)
+
+pub returns-then-self-clause-gone : goal.returns-then-self-clause-gone
+returns-then-self-clause-gone g c = grind (arith, common_steps)
+
+pub returns-then-self-clause-units : goal.returns-then-self-clause-units
+returns-then-self-clause-units g c = grind (arith, common_steps)
+
+pub returns-then-self-clause-failure : goal.returns-then-self-clause-failure
+returns-then-self-clause-failure g c = grind (arith, common_steps)
+
+pub returns-then-self-clause-faulted : goal.returns-then-self-clause-faulted
+returns-then-self-clause-faulted g c = grind (arith, common_steps)
+
+pub returns-then-self-clause-worked : goal.returns-then-self-clause-worked
+returns-then-self-clause-worked g c = grind (arith, common_steps)
+
+pub returns-then-self-clause-repeats : goal.returns-then-self-clause-repeats
+returns-then-self-clause-repeats g c = grind (arith, common_steps)
+
+pub returns-then-self-clause-answers : goal.returns-then-self-clause-answers
+returns-then-self-clause-answers g c = grind (arith, common_steps)
+
+pub returns-then-self-clause-gives : goal.returns-then-self-clause-gives
+returns-then-self-clause-gives g c = grind (arith, common_steps)
+
+pub returns-then-self-clause-counts : goal.returns-then-self-clause-counts
+returns-then-self-clause-counts g c = grind (arith, common_steps)
+
+pub returns-then-self-clause-shows : goal.returns-then-self-clause-shows
+returns-then-self-clause-shows g c = grind (arith, common_steps)
+
+pub invariant_of-self : goal.invariant_of-self
+invariant_of-self g c = grind (arith, common_steps)
+
+pub chunks_have_their_rows-requires : goal.chunks_have_their_rows-requires
+chunks_have_their_rows-requires g c = grind (arith, common_steps)
+
+pub as_slice-columns-requires : goal.as_slice-columns-requires
+as_slice-columns-requires g c = grind (arith, common_steps)
+
+pub returns-in_err-made-in-All-clause-keeps : goal.returns-in_err-made-in-All-clause-keeps
+returns-in_err-made-in-All-clause-keeps g c = grind (arith, common_steps)
+
+pub returns-in_err-made-in-All-clause-columns : goal.returns-in_err-made-in-All-clause-columns
+returns-in_err-made-in-All-clause-columns g c = grind (arith, common_steps)
+
+pub returns-in_err-made-in-All-clause-fits : goal.returns-in_err-made-in-All-clause-fits
+returns-in_err-made-in-All-clause-fits g c = grind (arith, common_steps)
+
+pub returns-in_err-made-in-All-clause-code : goal.returns-in_err-made-in-All-clause-code
+returns-in_err-made-in-All-clause-code g c = grind (arith, common_steps)
+
+pub returns-in_err-made-in-All-clause-tells : goal.returns-in_err-made-in-All-clause-tells
+returns-in_err-made-in-All-clause-tells g c = grind (arith, common_steps)
+
+pub returns-in_err-made-in-All-clause-refuses : goal.returns-in_err-made-in-All-clause-refuses
+returns-in_err-made-in-All-clause-refuses g c = grind (arith, common_steps)
+
+pub returns-in_err-made-in-All-clause-gone : goal.returns-in_err-made-in-All-clause-gone
+returns-in_err-made-in-All-clause-gone g c = grind (arith, common_steps)
+
+pub returns-in_err-made-in-All-clause-units : goal.returns-in_err-made-in-All-clause-units
+returns-in_err-made-in-All-clause-units g c = grind (arith, common_steps)
+
+pub returns-in_err-made-in-All-clause-failure : goal.returns-in_err-made-in-All-clause-failure
+returns-in_err-made-in-All-clause-failure g c = grind (arith, common_steps)
+
+pub returns-in_err-made-in-All-clause-faulted : goal.returns-in_err-made-in-All-clause-faulted
+returns-in_err-made-in-All-clause-faulted g c = grind (arith, common_steps)
+
+pub returns-in_err-made-in-All-clause-worked : goal.returns-in_err-made-in-All-clause-worked
+returns-in_err-made-in-All-clause-worked g c = grind (arith, common_steps)
+
+pub returns-in_err-made-in-All-clause-repeats : goal.returns-in_err-made-in-All-clause-repeats
+returns-in_err-made-in-All-clause-repeats g c = grind (arith, common_steps)
+
+pub returns-in_err-made-in-All-clause-answers : goal.returns-in_err-made-in-All-clause-answers
+returns-in_err-made-in-All-clause-answers g c = grind (arith, common_steps)
+
+pub returns-in_err-made-in-All-clause-gives : goal.returns-in_err-made-in-All-clause-gives
+returns-in_err-made-in-All-clause-gives g c = grind (arith, common_steps)
+
+pub returns-in_err-made-in-All-clause-counts : goal.returns-in_err-made-in-All-clause-counts
+returns-in_err-made-in-All-clause-counts g c = grind (arith, common_steps)
+
+pub returns-in_err-made-in-All-clause-shows : goal.returns-in_err-made-in-All-clause-shows
+returns-in_err-made-in-All-clause-shows g c = grind (arith, common_steps)
+
+pub put-requires : goal.put-requires
+put-requires g c = grind (arith, common_steps)
+
+pub returns-in-Refused-clause-keeps : goal.returns-in-Refused-clause-keeps
+returns-in-Refused-clause-keeps g c = grind (arith, common_steps)
+
+pub returns-in-Refused-clause-columns : goal.returns-in-Refused-clause-columns
+returns-in-Refused-clause-columns g c = grind (arith, common_steps)
+
+pub returns-in-Refused-clause-fits : goal.returns-in-Refused-clause-fits
+returns-in-Refused-clause-fits g c = grind (arith, common_steps)
+
+pub returns-in-Refused-clause-code : goal.returns-in-Refused-clause-code
+returns-in-Refused-clause-code g c = grind (arith, common_steps)
+
+pub returns-in-Refused-clause-tells : goal.returns-in-Refused-clause-tells
+returns-in-Refused-clause-tells g c = grind (arith, common_steps)
+
+pub returns-in-Refused-clause-refuses : goal.returns-in-Refused-clause-refuses
+returns-in-Refused-clause-refuses g c = grind (arith, common_steps)
+
+pub returns-in-Refused-clause-gone : goal.returns-in-Refused-clause-gone
+returns-in-Refused-clause-gone g c = grind (arith, common_steps)
+
+pub returns-in-Refused-clause-units : goal.returns-in-Refused-clause-units
+returns-in-Refused-clause-units g c = grind (arith, common_steps)
+
+pub returns-in-Refused-clause-failure : goal.returns-in-Refused-clause-failure
+returns-in-Refused-clause-failure g c = grind (arith, common_steps)
+
+pub returns-in-Refused-clause-faulted : goal.returns-in-Refused-clause-faulted
+returns-in-Refused-clause-faulted g c = grind (arith, common_steps)
+
+pub returns-in-Refused-clause-worked : goal.returns-in-Refused-clause-worked
+returns-in-Refused-clause-worked g c = grind (arith, common_steps)
+
+pub returns-in-Refused-clause-repeats : goal.returns-in-Refused-clause-repeats
+returns-in-Refused-clause-repeats g c = grind (arith, common_steps)
+
+pub returns-in-Refused-clause-gives : goal.returns-in-Refused-clause-gives
+returns-in-Refused-clause-gives g c = grind (arith, common_steps)
+
+pub returns-in-Refused-clause-counts : goal.returns-in-Refused-clause-counts
+returns-in-Refused-clause-counts g c = grind (arith, common_steps)
+
+pub returns-in-Refused-clause-shows : goal.returns-in-Refused-clause-shows
+returns-in-Refused-clause-shows g c = grind (arith, common_steps)
+
+pub returns-in_ok-made-in-All-clause-keeps : goal.returns-in_ok-made-in-All-clause-keeps
+returns-in_ok-made-in-All-clause-keeps g c = grind (arith, common_steps)
+
+pub returns-in_ok-made-in-All-clause-columns : goal.returns-in_ok-made-in-All-clause-columns
+returns-in_ok-made-in-All-clause-columns g c = grind (arith, common_steps)
+
+pub returns-in_ok-made-in-All-clause-fits : goal.returns-in_ok-made-in-All-clause-fits
+returns-in_ok-made-in-All-clause-fits g c = grind (arith, common_steps)
+
+pub returns-in_ok-made-in-All-clause-code : goal.returns-in_ok-made-in-All-clause-code
+returns-in_ok-made-in-All-clause-code g c = grind (arith, common_steps)
+
+pub returns-in_ok-made-in-All-clause-tells : goal.returns-in_ok-made-in-All-clause-tells
+returns-in_ok-made-in-All-clause-tells g c = grind (arith, common_steps)
+
+pub returns-in_ok-made-in-All-clause-refuses : goal.returns-in_ok-made-in-All-clause-refuses
+returns-in_ok-made-in-All-clause-refuses g c = grind (arith, common_steps)
+
+pub returns-in_ok-made-in-All-clause-gone : goal.returns-in_ok-made-in-All-clause-gone
+returns-in_ok-made-in-All-clause-gone g c = grind (arith, common_steps)
+
+pub returns-in_ok-made-in-All-clause-units : goal.returns-in_ok-made-in-All-clause-units
+returns-in_ok-made-in-All-clause-units g c = grind (arith, common_steps)
+
+pub returns-in_ok-made-in-All-clause-failure : goal.returns-in_ok-made-in-All-clause-failure
+returns-in_ok-made-in-All-clause-failure g c = grind (arith, common_steps)
+
+pub returns-in_ok-made-in-All-clause-faulted : goal.returns-in_ok-made-in-All-clause-faulted
+returns-in_ok-made-in-All-clause-faulted g c = grind (arith, common_steps)
+
+pub returns-in_ok-made-in-All-clause-worked : goal.returns-in_ok-made-in-All-clause-worked
+returns-in_ok-made-in-All-clause-worked g c = grind (arith, common_steps)
+
+pub returns-in_ok-made-in-All-clause-repeats : goal.returns-in_ok-made-in-All-clause-repeats
+returns-in_ok-made-in-All-clause-repeats g c = grind (arith, common_steps)
+
+pub returns-in_ok-made-in-All-clause-gives : goal.returns-in_ok-made-in-All-clause-gives
+returns-in_ok-made-in-All-clause-gives g c = grind (arith, common_steps)
+
+pub returns-in_ok-made-in-All-clause-shows : goal.returns-in_ok-made-in-All-clause-shows
+returns-in_ok-made-in-All-clause-shows g c = grind (arith, common_steps)
