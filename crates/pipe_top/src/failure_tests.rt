@@ -1,7 +1,7 @@
 //! Sources and sinks that fail at one call, at each in turn: what the run comes to, and that nothing is left.
+use crate::RunFault;
 use crate::stage_tests::Ran;
-use crate::tests::{sink_with_room, source_of, words_of};
-use crate::{RunFault, run};
+use crate::tests::{Ends, run_over, words_of};
 use edge_io::OpenGate;
 use std::alloc::Global;
 use std::process::Abort;
@@ -24,27 +24,17 @@ fn run_failing<R: Threads + Sync + Abort>(
     bytes: &[u8],
     fails: (&[u64], &[u64], &[u64]),
 ) -> Result<Ran, Fail> {
-    let (reads, writes, lines) = fails;
     let words = words_of(alloc, line)?;
-    let mut source = source_of(alloc, bytes, 1, reads)?;
-    let mut sink = sink_with_room(alloc, 100, 1, writes)?;
-    let mut errs = sink_with_room(alloc, 100, 1, lines)?;
-    let outcome = run(
-        rt,
-        alloc,
-        &words,
-        &mut source,
-        &mut sink,
-        &mut errs,
-        &mut NoTap,
-        &OpenGate,
-    );
-    assert_eq!(rt; outcome.audit.left, 0, "what is left, calls {fails:?}");
-    Ok(Ran {
-        outcome,
-        sink,
-        errs,
-    })
+    let ends = Ends {
+        read_step: 1,
+        room: 100,
+        write_step: 1,
+        line_room: 100,
+        line_step: 1,
+    };
+    let ran = run_over(rt, alloc, &words, bytes, ends, fails, &mut NoTap, &OpenGate)?;
+    assert_eq!(rt; ran.outcome.audit.left, 0, "what is left, calls {fails:?}");
+    Ok(ran)
 }
 
 #[test]

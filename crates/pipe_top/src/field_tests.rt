@@ -325,11 +325,11 @@ fn expect_fields<R: Threads + Sync + Abort>(
         match *wanted {
             Some(text) => {
                 let text = table_with(alloc, text)?;
-                expect_outcome(rt, alloc, *line, &bytes, None, &text)?;
+                expect_outcome(rt, alloc, *line, &bytes, (None, 0), &text)?;
             }
             None => {
                 let fault = RunFault::Field { row: 1, column: 1 };
-                expect_outcome(rt, alloc, *line, &bytes, Some(fault), b"")?;
+                expect_outcome(rt, alloc, *line, &bytes, (Some(fault), 4), b"")?;
             }
         }
     }

@@ -1,5 +1,5 @@
 //! Runs with stages: the texts and the blocks and nodes, the faults and their order, and the chunks that a tap is shown.
-use crate::tests::{sink_of, sink_with_room, source_of, words_of};
+use crate::tests::{Ends, run_over, sink_of, source_of, words_of};
 use crate::{Outcome, PlanRule, RunFault, StageFault, TypesRule, WordsFault, run};
 use edge_io::{MemSink, OpenGate};
 use record_tap::{OwnedValue, RecordTap, SeenChunk};
@@ -25,24 +25,23 @@ fn run_shown<R: Threads + Sync, T: Tap>(
     bytes: &[u8],
     tap: &mut T,
 ) -> Result<Ran, Fail> {
-    let mut source = source_of(alloc, bytes, 4096, &[])?;
-    let mut sink = sink_with_room(alloc, 20_000, 4096, &[])?;
-    let mut errs = sink_of(alloc, 5, &[])?;
-    let outcome = run(
+    let ends = Ends {
+        read_step: 4096,
+        room: 20_000,
+        write_step: 4096,
+        line_room: 100,
+        line_step: 5,
+    };
+    run_over(
         rt,
         alloc,
         words,
-        &mut source,
-        &mut sink,
-        &mut errs,
+        bytes,
+        ends,
+        (&[], &[], &[]),
         tap,
         &OpenGate,
-    );
-    Ok(Ran {
-        outcome,
-        sink,
-        errs,
-    })
+    )
 }
 
 /// Runs with the words of a line over a text.

@@ -1,14 +1,15 @@
 //! Runs over sources and sinks in memory, with answers from outside.
 ghost use Rattle.std.specs.Prelude.{◌≤◌};
 
+use crate::stage_tests::Ran;
 use crate::told::tell;
-use crate::{PlanRule, RunFault, StageFault, TypesRule, WordsFault, run};
-use edge_io::{CountSource, MemSink, MemSource, OpenGate};
+use crate::{Outcome, PlanRule, RunFault, StageFault, TypesRule, WordsFault, run};
+use edge_io::{CountSource, Gate, MemSink, MemSource, OpenGate, Source};
 use std::alloc::Global;
 use std::process::Abort;
 use std::test::Fail;
 use std::thread::Threads;
-use stream_face::NoTap;
+use stream_face::{NoTap, Tap};
 use unit_pass::Audit;
 
 /// A source of these bytes.
@@ -45,6 +46,127 @@ pub(crate) fn sink_of(alloc: Global, step: usize, fails: &[u64]) -> Result<MemSi
     sink_with_room(alloc, 100, step, fails)
 }
 
+/// How many bytes a call of the source, of the sink and of the sink of lines moves at most, and how many the sinks have room for.
+#[derive(Clone, Copy)]
+pub(crate) struct Ends {
+    pub(crate) read_step: usize,
+    pub(crate) room: usize,
+    pub(crate) write_step: usize,
+    pub(crate) line_room: usize,
+    pub(crate) line_step: usize,
+}
+
+/// What a run from this source to these sinks comes to.
+pub(crate) fn run_into<R: Threads + Sync, S: Source, T: Tap>(
+    rt: &R,
+    alloc: Global,
+    words: &[String],
+    source: &mut S,
+    sink: &mut MemSink,
+    errs: &mut MemSink,
+    tap: &mut T,
+    gate: &(dyn Gate + Sync),
+) -> Outcome {
+    run(rt, alloc, words, source, sink, errs, tap, gate)
+}
+
+/// Runs with these words over a text, from a source to sinks that behave so, of which each fails at these calls.
+pub(crate) fn run_over<R: Threads + Sync, T: Tap>(
+    rt: &R,
+    alloc: Global,
+    words: &[String],
+    bytes: &[u8],
+    ends: Ends,
+    fails: (&[u64], &[u64], &[u64]),
+    tap: &mut T,
+    gate: &(dyn Gate + Sync),
+) -> Result<Ran, Fail>
+    requires read { 1 ≤ ends.read_step }
+    requires write { 1 ≤ ends.write_step }
+    requires line { 1 ≤ ends.line_step }
+{
+    let (reads, writes, lines) = fails;
+    let mut source = source_of(alloc, bytes, ends.read_step, reads)?;
+    let mut sink = sink_with_room(alloc, ends.room, ends.write_step, writes)?;
+    let mut errs = sink_with_room(alloc, ends.line_room, ends.line_step, lines)?;
+    let outcome = run_into(
+        rt,
+        alloc,
+        words,
+        &mut source,
+        &mut sink,
+        &mut errs,
+        tap,
+        gate,
+    );
+    Ok(Ran {
+        outcome,
+        sink,
+        errs,
+    })
+}
+
+/// Expects that the run of a row came to this fault and status, left nothing, and wrote this text.
+pub(crate) fn came_to(
+    rt: &impl Abort,
+    line: &str,
+    bytes: &[u8],
+    ran: &Ran,
+    wanted: (Option<RunFault>, u8),
+    text: &[u8],
+) {
+    let (fault, status) = wanted;
+    let came = (
+        ran.outcome.fault,
+        ran.outcome.status,
+        ran.outcome.audit.left,
+    );
+    assert_eq!(rt;
+        came,
+        (fault, status, 0),
+        "the end of {line} over {bytes:?}"
+    );
+    assert_eq!(rt; ran.sink.taken(), text, "the text of {line} over {bytes:?}");
+}
+
+/// Expects that the run of a row, named by its words, told this.
+pub(crate) fn has_told(rt: &impl Abort, line: &str, ran: &Ran, told: &[u8]) {
+    assert_eq!(rt; ran.errs.taken(), told, "what is told of {line}");
+}
+
+/// Expects that the run of a row, named by its words, made so many blocks and nodes.
+pub(crate) fn has_made(rt: &impl Abort, line: &str, ran: &Ran, traffic: (u64, u64)) {
+    let made = (ran.outcome.audit.blocks, ran.outcome.audit.nodes);
+    assert_eq!(rt; made, traffic, "the blocks and nodes of {line}");
+}
+
+/// Runs with these words over a short text, whose lines fail at these calls.
+fn run_short<R: Threads + Sync>(
+    rt: &R,
+    alloc: Global,
+    words: &[String],
+    bytes: &[u8],
+    lines: &[u64],
+) -> Result<Ran, Fail> {
+    let ends = Ends {
+        read_step: 7,
+        room: 100,
+        write_step: 5,
+        line_room: 100,
+        line_step: 5,
+    };
+    run_over(
+        rt,
+        alloc,
+        words,
+        bytes,
+        ends,
+        (&[], &[], lines),
+        &mut NoTap,
+        &OpenGate,
+    )
+}
+
 /// Runs without words and without a failing call, and expects this text, made with so many blocks and nodes.
 fn expect_table<R: Threads + Sync + Abort>(
     rt: &R,
@@ -53,23 +175,9 @@ fn expect_table<R: Threads + Sync + Abort>(
     traffic: (u64, u64),
     text: &[u8],
 ) -> Result<(), Fail> {
-    let mut source = source_of(alloc, bytes, 7, &[])?;
-    let mut sink = sink_of(alloc, 5, &[])?;
-    let mut errs = sink_of(alloc, 5, &[])?;
-    let outcome = run(
-        rt,
-        alloc,
-        &[],
-        &mut source,
-        &mut sink,
-        &mut errs,
-        &mut NoTap,
-        &OpenGate,
-    );
-    assert_eq!(rt; outcome.fault, None, "the fault of {bytes:?}");
-    assert_eq!(rt; outcome.status, 0, "the status of {bytes:?}");
-    assert_eq!(rt; sink.taken(), text, "the text of {bytes:?}");
-    let made = (outcome.audit.blocks, outcome.audit.nodes);
+    let ran = run_short(rt, alloc, &[], bytes, &[])?;
+    came_to(rt, "no words", bytes, &ran, (None, 0), text);
+    let made = (ran.outcome.audit.blocks, ran.outcome.audit.nodes);
     assert_eq!(rt; made, traffic, "the blocks and nodes of {bytes:?}");
     Ok(())
 }
@@ -81,22 +189,8 @@ fn expect_refusal<R: Threads + Sync + Abort>(
     bytes: &[u8],
     fault: RunFault,
 ) -> Result<(), Fail> {
-    let mut source = source_of(alloc, bytes, 7, &[])?;
-    let mut sink = sink_of(alloc, 5, &[])?;
-    let mut errs = sink_of(alloc, 5, &[])?;
-    let outcome = run(
-        rt,
-        alloc,
-        &[],
-        &mut source,
-        &mut sink,
-        &mut errs,
-        &mut NoTap,
-        &OpenGate,
-    );
-    assert_eq!(rt; outcome.fault, Some(fault), "the fault of {bytes:?}");
-    assert_eq!(rt; outcome.status, 4, "the status of {bytes:?}");
-    assert_eq!(rt; sink.taken().len(), 0, "the text of {bytes:?}");
+    let ran = run_short(rt, alloc, &[], bytes, &[])?;
+    came_to(rt, "no words", bytes, &ran, (Some(fault), 4), b"");
     Ok(())
 }
 
@@ -135,29 +229,49 @@ fn bad_headers_and_records_are_refused_with_their_places(rt: HostRuntime) -> Res
 
 #[test]
 fn write_fault_leaves_a_prefix(rt: HostRuntime) -> Result<(), Fail> {
-    let alloc = rt.alloc();
-    let mut source = source_of(alloc, b"a\n1\n2\n", 7, &[])?;
-    let mut sink = sink_of(alloc, 4, &[2])?;
-    let mut errs = sink_of(alloc, 4, &[])?;
-    let outcome = run(
+    let bytes = b"a\n1\n2\n".as_slice();
+    let ends = Ends {
+        read_step: 7,
+        room: 100,
+        write_step: 4,
+        line_room: 100,
+        line_step: 4,
+    };
+    let ran = run_over(
         &rt,
-        alloc,
+        rt.alloc(),
         &[],
-        &mut source,
-        &mut sink,
-        &mut errs,
+        bytes,
+        ends,
+        (&[], &[2], &[]),
         &mut NoTap,
         &OpenGate,
-    );
-    assert_eq!(rt; outcome.status, 7);
-    assert_eq!(rt; outcome.fault, Some(RunFault::WriteFault { taken: 4 }));
-    assert_eq!(rt; outcome.audit.left, 0);
-    assert_eq!(rt; sink.taken(), b"a\n1\n".as_slice());
-    assert_eq!(rt;
-        errs.taken(),
-        b"arrowpipe: write failed after 4 bytes\n".as_slice()
+    )?;
+    let fault = RunFault::WriteFault { taken: 4 };
+    came_to(&rt, "no words", bytes, &ran, (Some(fault), 7), b"a\n1\n");
+    has_told(
+        &rt,
+        "no words",
+        &ran,
+        b"arrowpipe: write failed after 4 bytes\n",
     );
     Ok(())
+}
+
+/// Expects that a run to this sink comes to this fault and status, and that nothing is in the sink.
+fn expect_unwritten<R: Threads + Sync + Abort, S: Source>(
+    rt: &R,
+    alloc: Global,
+    words: &[String],
+    source: &mut S,
+    sink: &mut MemSink,
+    errs: &mut MemSink,
+    wanted: (RunFault, u8),
+) {
+    let outcome = run_into(rt, alloc, words, source, sink, errs, &mut NoTap, &OpenGate);
+    let (fault, status) = wanted;
+    let came = (outcome.fault, outcome.status, sink.taken().len());
+    assert_eq!(rt; came, (Some(fault), status, 0));
 }
 
 #[test]
@@ -166,32 +280,19 @@ fn read_fault_and_refused_words_write_nothing(rt: HostRuntime) -> Result<(), Fai
     let mut source = source_of(alloc, b"a,b\n1,\n", 2, &[2])?;
     let mut sink = sink_of(alloc, 4, &[])?;
     let mut errs = sink_of(alloc, 4, &[])?;
-    let failed = run(
-        &rt,
-        alloc,
-        &[],
-        &mut source,
-        &mut sink,
-        &mut errs,
-        &mut NoTap,
-        &OpenGate,
-    );
-    assert_eq!(rt; failed.fault, Some(RunFault::ReadFault));
-    assert_eq!(rt; failed.status, 6);
-    let words = vec![in alloc; String::from_str(alloc, "--x")?]?;
-    let refused = run(
+    let failed = (RunFault::ReadFault, 6);
+    expect_unwritten(&rt, alloc, &[], &mut source, &mut sink, &mut errs, failed);
+    let words = words_of(alloc, "--x")?;
+    let refused = (RunFault::Words(WordsFault::Refused), 2);
+    expect_unwritten(
         &rt,
         alloc,
         &words,
         &mut source,
         &mut sink,
         &mut errs,
-        &mut NoTap,
-        &OpenGate,
+        refused,
     );
-    assert_eq!(rt; refused.fault, Some(RunFault::Words(WordsFault::Refused)));
-    assert_eq!(rt; refused.status, 2);
-    assert_eq!(rt; sink.taken().len(), 0);
     Ok(())
 }
 
@@ -201,19 +302,15 @@ fn an_input_past_the_limit_is_too_long(rt: HostRuntime) -> Result<(), Fail> {
     let mut source = CountSource::new(1_073_741_825);
     let mut sink = sink_of(alloc, 4, &[])?;
     let mut errs = sink_of(alloc, 4, &[])?;
-    let outcome = run(
+    expect_unwritten(
         &rt,
         alloc,
         &[],
         &mut source,
         &mut sink,
         &mut errs,
-        &mut NoTap,
-        &OpenGate,
+        (RunFault::InputTooLong, 5),
     );
-    assert_eq!(rt; outcome.fault, Some(RunFault::InputTooLong));
-    assert_eq!(rt; outcome.status, 5);
-    assert_eq!(rt; sink.taken().len(), 0);
     Ok(())
 }
 
@@ -226,29 +323,31 @@ pub(crate) fn words_of(alloc: Global, line: &str) -> Result<Vec<String>, Fail> {
     Ok(words)
 }
 
-/// Runs with these words over a text, and answers the outcome's status and fault and what was told.
+/// Runs with the words of a line over a short text, whose lines fail at these calls.
 fn run_words<R: Threads + Sync>(
     rt: &R,
     alloc: Global,
     line: &str,
     bytes: &[u8],
     fails: &[u64],
-) -> Result<(u8, Option<RunFault>, MemSink), Fail> {
+) -> Result<Ran, Fail> {
     let words = words_of(alloc, line)?;
-    let mut source = source_of(alloc, bytes, 7, &[])?;
-    let mut sink = sink_of(alloc, 5, &[])?;
-    let mut errs = sink_of(alloc, 5, fails)?;
-    let outcome = run(
-        rt,
-        alloc,
-        &words,
-        &mut source,
-        &mut sink,
-        &mut errs,
-        &mut NoTap,
-        &OpenGate,
-    );
-    Ok((outcome.status, outcome.fault, errs))
+    run_short(rt, alloc, &words, bytes, fails)
+}
+
+/// Runs with the words of a line over a short text, and expects this fault and status.
+fn expect_fault<R: Threads + Sync + Abort>(
+    rt: &R,
+    alloc: Global,
+    line: &str,
+    bytes: &[u8],
+    wanted: (RunFault, u8),
+) -> Result<(), Fail> {
+    let ran = run_words(rt, alloc, line, bytes, &[])?;
+    let (fault, status) = wanted;
+    let came = (ran.outcome.fault, ran.outcome.status);
+    assert_eq!(rt; came, (Some(fault), status), "the fault of {line}");
+    Ok(())
 }
 
 #[test]
@@ -261,45 +360,48 @@ fn words_and_schema_texts_are_refused_by_their_rules(rt: HostRuntime) -> Result<
         ("--audit --schema a:l;a:i", 2, TypesRule::Twice),
     ];
     for (line, entry, rule) in cases {
-        let (status, fault, _errs) = run_words(&rt, rt.alloc(), line, b"a,b\n1,\n", &[])?;
-        assert_eq!(rt;
-            fault,
-            Some(RunFault::Schema { entry, rule }),
-            "the fault of {line}"
-        );
-        assert_eq!(rt; status, 3, "the status of {line}");
+        let fault = RunFault::Schema { entry, rule };
+        expect_fault(&rt, rt.alloc(), line, b"a,b\n1,\n", (fault, 3))?;
     }
-    let (status, fault, _errs) = run_words(&rt, rt.alloc(), "--audit --batch", b"a\n", &[])?;
-    assert_eq!(rt; fault, Some(RunFault::Words(WordsFault::Refused)));
-    assert_eq!(rt; status, 2);
-    Ok(())
+    let fault = RunFault::Words(WordsFault::Refused);
+    expect_fault(&rt, rt.alloc(), "--audit --batch", b"a\n", (fault, 2))
+}
+
+/// A table of so many records of a digit and a letter.
+fn digits(alloc: Global, rows: u32) -> Result<Vec<u8>, Fail> {
+    let mut bytes = b"a,b\n".to_vec(alloc)?;
+    for row in 0..rows {
+        bytes.push(b'0' + (row % 10) as u8)?;
+        bytes.extend_from_slice(b",x\n")?;
+    }
+    Ok(bytes)
 }
 
 #[test]
 fn a_table_of_thousands_of_rows_comes_back(rt: HostRuntime) -> Result<(), Fail> {
     let alloc = rt.alloc();
-    let mut bytes = b"a,b\n".to_vec(alloc)?;
-    for row in 0..3000_u32 {
-        bytes.push(b'0' + (row % 10) as u8)?;
-        bytes.extend_from_slice(b",x\n")?;
-    }
+    let bytes = digits(alloc, 3000)?;
     let words = words_of(alloc, "--schema a:l")?;
-    let mut source = source_of(alloc, &bytes, 4096, &[])?;
-    let mut errs = sink_of(alloc, 5, &[])?;
-    let mut sink = sink_with_room(alloc, 20_000, 4096, &[])?;
-    let outcome = run(
+    let ends = Ends {
+        read_step: 4096,
+        room: 20_000,
+        write_step: 4096,
+        line_room: 100,
+        line_step: 5,
+    };
+    let ran = run_over(
         &rt,
         alloc,
         &words,
-        &mut source,
-        &mut sink,
-        &mut errs,
+        &bytes,
+        ends,
+        (&[], &[], &[]),
         &mut NoTap,
         &OpenGate,
-    );
-    assert_eq!(rt; outcome.status, 0);
-    assert_eq!(rt; sink.taken(), bytes.as_slice());
-    assert_eq!(rt; outcome.audit.left, 0);
+    )?;
+    let came = (ran.outcome.status, ran.outcome.audit.left);
+    assert_eq!(rt; came, (0, 0));
+    assert_eq!(rt; ran.sink.taken(), bytes.as_slice());
     Ok(())
 }
 
@@ -320,45 +422,23 @@ fn wide_header(alloc: Global, columns: u32) -> Result<Vec<u8>, Fail> {
 fn headers_are_refused_for_width_and_for_entries_of_no_column(rt: HostRuntime) -> Result<(), Fail> {
     let alloc = rt.alloc();
     let wide = wide_header(alloc, 1024)?;
-    let (status, fault, _errs) = run_words(&rt, alloc, "--audit", &wide, &[])?;
-    assert_eq!(rt; fault, Some(RunFault::TooManyColumns { count: 1025 }));
-    assert_eq!(rt; status, 4);
-    let (status, fault, _errs) = run_words(&rt, alloc, "--schema q:u", b"a,b\n1,\n", &[])?;
-    assert_eq!(rt; fault, Some(RunFault::HeaderUnknown { entry: 1 }));
-    assert_eq!(rt; status, 4);
-    Ok(())
+    let too_wide = RunFault::TooManyColumns { count: 1025 };
+    expect_fault(&rt, alloc, "--audit", &wide, (too_wide, 4))?;
+    let unknown = RunFault::HeaderUnknown { entry: 1 };
+    expect_fault(&rt, alloc, "--schema q:u", b"a,b\n1,\n", (unknown, 4))
 }
 
-/// Runs with these words, and expects this fault and this text.
+/// Runs with these words, and expects this fault and status, and this text.
 pub(crate) fn expect_outcome<R: Threads + Sync + Abort>(
     rt: &R,
     alloc: Global,
     line: &str,
     bytes: &[u8],
-    fault: Option<RunFault>,
+    wanted: (Option<RunFault>, u8),
     text: &[u8],
 ) -> Result<(), Fail> {
-    let words = words_of(alloc, line)?;
-    let mut source = source_of(alloc, bytes, 7, &[])?;
-    let mut sink = sink_of(alloc, 5, &[])?;
-    let mut errs = sink_of(alloc, 5, &[])?;
-    let outcome = run(
-        rt,
-        alloc,
-        &words,
-        &mut source,
-        &mut sink,
-        &mut errs,
-        &mut NoTap,
-        &OpenGate,
-    );
-    assert_eq!(rt; outcome.fault, fault, "the fault of {line} over {bytes:?}");
-    assert_eq!(rt; sink.taken(), text, "the text of {line} over {bytes:?}");
-    assert_eq!(rt;
-        outcome.audit.left,
-        0,
-        "what is left of {line} over {bytes:?}"
-    );
+    let ran = run_words(rt, alloc, line, bytes, &[])?;
+    came_to(rt, line, bytes, &ran, wanted, text);
     Ok(())
 }
 
@@ -371,28 +451,9 @@ fn expect_typed<R: Threads + Sync + Abort>(
     traffic: (u64, u64),
     text: &[u8],
 ) -> Result<(), Fail> {
-    let words = words_of(alloc, line)?;
-    let mut source = source_of(alloc, bytes, 7, &[])?;
-    let mut sink = sink_of(alloc, 5, &[])?;
-    let mut errs = sink_of(alloc, 5, &[])?;
-    let outcome = run(
-        rt,
-        alloc,
-        &words,
-        &mut source,
-        &mut sink,
-        &mut errs,
-        &mut NoTap,
-        &OpenGate,
-    );
-    assert_eq!(rt; outcome.fault, None, "the fault of {line} over {bytes:?}");
-    assert_eq!(rt; sink.taken(), text, "the text of {line} over {bytes:?}");
-    let made = (outcome.audit.blocks, outcome.audit.nodes);
-    assert_eq!(rt;
-        made,
-        traffic,
-        "the blocks and nodes of {line} over {bytes:?}"
-    );
+    let ran = run_words(rt, alloc, line, bytes, &[])?;
+    came_to(rt, line, bytes, &ran, (None, 0), text);
+    has_made(rt, line, &ran, traffic);
     Ok(())
 }
 
@@ -466,7 +527,7 @@ fn fields_outside_their_types_are_refused_with_their_places(rt: HostRuntime) -> 
         ),
     ];
     for (line, bytes, fault) in cases {
-        expect_outcome(&rt, rt.alloc(), line, bytes, Some(fault), b"")?;
+        expect_outcome(&rt, rt.alloc(), line, bytes, (Some(fault), 4), b"")?;
     }
     Ok(())
 }
@@ -500,10 +561,25 @@ fn fault_and_audit_are_told_line_by_line(rt: HostRuntime) -> Result<(), Fail> {
         ("--audit", b"", &[1], 4, b""),
     ];
     for (line, bytes, fails, expected, told) in cases {
-        let (status, _fault, errs) = run_words(&rt, rt.alloc(), line, bytes, fails)?;
-        assert_eq!(rt; status, expected, "the status of {line} over {bytes:?}");
-        assert_eq!(rt; errs.taken(), told, "what is told of {line} over {bytes:?}");
+        let ran = run_words(&rt, rt.alloc(), line, bytes, fails)?;
+        assert_eq!(rt; ran.outcome.status, expected, "the status of {line}");
+        has_told(&rt, line, &ran, told);
     }
+    Ok(())
+}
+
+/// Expects this line of a fault, also where its text is shown.
+fn expect_line(rt: &impl Abort, alloc: Global, fault: RunFault, line: &[u8]) -> Result<(), Fail> {
+    let audit = Audit {
+        blocks: 0,
+        nodes: 0,
+        left: 0,
+    };
+    let mut errs = sink_of(alloc, 9, &[])?;
+    let told = tell(&mut errs, Some(fault), &audit, false);
+    let shown = format!(in alloc; "arrowpipe: {fault}\n")?;
+    let has_line = told.is_ok() && errs.taken() == line && shown.as_bytes() == line;
+    assert!(rt; has_line, "the line of {fault:?}");
     Ok(())
 }
 
@@ -638,18 +714,8 @@ fn each_fault_has_its_line(rt: HostRuntime) -> Result<(), Fail> {
         ),
         (RunFault::NoMemory, b"arrowpipe: out of memory\n"),
     ];
-    let audit = Audit {
-        blocks: 0,
-        nodes: 0,
-        left: 0,
-    };
     for (fault, line) in cases {
-        let mut errs = sink_of(rt.alloc(), 9, &[])?;
-        let told = tell(&mut errs, Some(fault), &audit, false);
-        assert_eq!(rt; told.is_ok(), true, "the line of {fault:?}");
-        assert_eq!(rt; errs.taken(), line, "the line of {fault:?}");
-        let shown = format!(in rt.alloc(); "arrowpipe: {fault}\n")?;
-        assert_eq!(rt; shown.as_bytes(), line, "the text of {fault:?}");
+        expect_line(&rt, rt.alloc(), fault, line)?;
     }
     Ok(())
 }

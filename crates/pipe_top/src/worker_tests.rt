@@ -1,8 +1,7 @@
 //! Runs with several workers: texts, blocks and nodes are those of one worker, and two workers are seen side by side.
 use crate::payment_tests::{CHAIN, TOTALS, payments};
-use crate::run;
 use crate::stage_tests::Ran;
-use crate::tests::{sink_of, sink_with_room, source_of, words_of};
+use crate::tests::{Ends, run_over, words_of};
 use edge_io::{Gate, OpenGate};
 use std::alloc::Global;
 use std::sync::atomic::{AtomicU64, Ordering};
@@ -47,24 +46,23 @@ fn run_by<R: Threads + Sync>(
 ) -> Result<Ran, Fail> {
     let all = format!(in alloc; "--workers {workers} {line}")?;
     let words = words_of(alloc, all.as_str())?;
-    let mut source = source_of(alloc, bytes, 4096, &[])?;
-    let mut sink = sink_with_room(alloc, 20_000, 4096, &[])?;
-    let mut errs = sink_of(alloc, 5, &[])?;
-    let outcome = run(
+    let ends = Ends {
+        read_step: 4096,
+        room: 20_000,
+        write_step: 4096,
+        line_room: 100,
+        line_step: 5,
+    };
+    run_over(
         rt,
         alloc,
         &words,
-        &mut source,
-        &mut sink,
-        &mut errs,
+        bytes,
+        ends,
+        (&[], &[], &[]),
         &mut NoTap,
         gate,
-    );
-    Ok(Ran {
-        outcome,
-        sink,
-        errs,
-    })
+    )
 }
 
 // Each row has the words, an input, the text, and the blocks and nodes that are made, by however many workers.
