@@ -1,3 +1,4 @@
+use Rattle.std.proofs.lemmas.Grind.{common_steps}
 use Rattle.std.proofs.Common.{rules, arith, ◌≡◌, ◌≤◌, ◌+◌, ◌++◌, ℕ, ℤ, pos, IsTrue, List, length, Option, Some, None, refl, sym, ◌∙◌, ap, subst}
 use Rattle.tree_model.specs.Tree.{Released, IsLive}
 use Rattle.layout_check.specs.TypedView.{typed_of}
@@ -175,3 +176,117 @@ chunks-smaller g c =
     let live : IsLive out = search (rules, live_unless) in
     let taken = ap length ((call.answers fresh).chunk live).1 in
     omega (arith, taken)
+
+pub units-supply-requires : goal.units-supply-requires
+units-supply-requires g c = grind (arith, common_steps)
+
+pub blocks-blocks-requires : goal.blocks-blocks-requires
+blocks-blocks-requires g c = grind (arith, common_steps)
+
+pub nodes-nodes-requires : goal.nodes-nodes-requires
+nodes-nodes-requires g c = grind (arith, common_steps)
+
+pub released-chunk-requires : goal.released-chunk-requires
+released-chunk-requires g c = grind (arith, common_steps)
+
+pub next-code-requires : goal.next-code-requires
+next-code-requires g c = grind (arith, common_steps)
+
+pub discard-requires : goal.discard-requires
+discard-requires g c = grind (arith, common_steps)
+
+pub row_fault-requires : goal.row_fault-requires
+row_fault-requires g c κs = grind (arith, common_steps)
+
+pub fault_of-requires : goal.fault_of-requires
+fault_of-requires g c = grind (arith, common_steps)
+
+pub returns-then-code-eq22-clause-keeps : goal.returns-then-code-eq22-clause-keeps
+returns-then-code-eq22-clause-keeps g c = grind (arith, common_steps)
+
+pub returns-then-code-eq22-clause-units : goal.returns-then-code-eq22-clause-units
+returns-then-code-eq22-clause-units g c = grind (arith, common_steps)
+
+pub returns-then-code-eq22-clause-text : goal.returns-then-code-eq22-clause-text
+returns-then-code-eq22-clause-text g c = grind (arith, common_steps)
+
+pub returns-then-code-eq22-clause-ends : goal.returns-then-code-eq22-clause-ends
+returns-then-code-eq22-clause-ends g c = grind (arith, common_steps)
+
+pub returns-then-code-eq22-clause-row : goal.returns-then-code-eq22-clause-row
+returns-then-code-eq22-clause-row g c = grind (arith, common_steps)
+
+pub returns-then-code-eq22-clause-counts : goal.returns-then-code-eq22-clause-counts
+returns-then-code-eq22-clause-counts g c = grind (arith, common_steps)
+
+pub returns-then-code-eq22-clause-shows : goal.returns-then-code-eq22-clause-shows
+returns-then-code-eq22-clause-shows g c = grind (arith, common_steps)
+
+pub returns-else-code-eq22-clause-keeps : goal.returns-else-code-eq22-clause-keeps
+returns-else-code-eq22-clause-keeps g c = grind (arith, common_steps)
+
+pub returns-else-code-eq22-clause-units : goal.returns-else-code-eq22-clause-units
+returns-else-code-eq22-clause-units g c = grind (arith, common_steps)
+
+pub returns-else-code-eq22-clause-text : goal.returns-else-code-eq22-clause-text
+returns-else-code-eq22-clause-text g c = grind (arith, common_steps)
+
+pub returns-else-code-eq22-clause-ends : goal.returns-else-code-eq22-clause-ends
+returns-else-code-eq22-clause-ends g c = grind (arith, common_steps)
+
+pub returns-else-code-eq22-clause-row : goal.returns-else-code-eq22-clause-row
+returns-else-code-eq22-clause-row g c = grind (arith, common_steps)
+
+pub returns-else-code-eq22-clause-counts : goal.returns-else-code-eq22-clause-counts
+returns-else-code-eq22-clause-counts g c = grind (arith, common_steps)
+
+pub returns-else-code-eq22-clause-shows : goal.returns-else-code-eq22-clause-shows
+returns-else-code-eq22-clause-shows g c = grind (arith, common_steps)
+
+pub is_released-requires : goal.is_released-requires
+is_released-requires g c = grind (arith, common_steps)
+
+pub discard-requires-then-is_released : goal.discard-requires-then-is_released
+discard-requires-then-is_released g c = grind (arith, common_steps)
+
+pub returns-then-is_released-clause-keeps : goal.returns-then-is_released-clause-keeps
+returns-then-is_released-clause-keeps g c = grind (arith, common_steps)
+
+pub returns-then-is_released-clause-units : goal.returns-then-is_released-clause-units
+returns-then-is_released-clause-units g c = grind (arith, common_steps)
+
+pub returns-then-is_released-clause-row : goal.returns-then-is_released-clause-row
+returns-then-is_released-clause-row g c = grind (arith, common_steps)
+
+pub returns-then-is_released-clause-shows_some : goal.returns-then-is_released-clause-shows_some
+returns-then-is_released-clause-shows_some g c = grind (arith, common_steps)
+
+pub typed-requires : goal.typed-requires
+typed-requires g c = grind (arith, common_steps)
+
+pub add_chunk-added-requires-clause-types : goal.add_chunk-added-requires-clause-types
+add_chunk-added-requires-clause-types g c = grind (arith, common_steps)
+
+pub discard-requires-in-Err : goal.discard-requires-in-Err
+discard-requires-in-Err g c = grind (arith, common_steps)
+
+pub returns-in-Err-clause-keeps : goal.returns-in-Err-clause-keeps
+returns-in-Err-clause-keeps g c = grind (arith, common_steps)
+
+pub returns-in-Err-clause-units : goal.returns-in-Err-clause-units
+returns-in-Err-clause-units g c = grind (arith, common_steps)
+
+pub returns-in-Err-clause-text : goal.returns-in-Err-clause-text
+returns-in-Err-clause-text g c = grind (arith, common_steps)
+
+pub returns-in-Err-clause-ends : goal.returns-in-Err-clause-ends
+returns-in-Err-clause-ends g c = grind (arith, common_steps)
+
+pub returns-in-Err-clause-row : goal.returns-in-Err-clause-row
+returns-in-Err-clause-row g c = grind (arith, common_steps)
+
+pub returns-in-Err-clause-counts : goal.returns-in-Err-clause-counts
+returns-in-Err-clause-counts g c = grind (arith, common_steps)
+
+pub returns-in-Err-clause-shows : goal.returns-in-Err-clause-shows
+returns-in-Err-clause-shows g c = grind (arith, common_steps)

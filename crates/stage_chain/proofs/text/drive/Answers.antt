@@ -1,3 +1,4 @@
+use Rattle.std.proofs.lemmas.Grind.{common_steps}
 use Rattle.std.proofs.Common.{arith, ◌≡◌, ◌≤◌, ℕ, IfOk, List, [], length, get_or, drop, refl, sym, ◌∙◌, ap, subst}
 use Rattle.csv_model.specs.Text.{header_text}
 use Rattle.csv_write.specs.CsvTexts.{HasText}
@@ -117,3 +118,6 @@ returns-in-Ok-prepare-clause-shows_some g c =
     (shows-some b (plan_stages c.args.plan) (stages_left c.into_iter.result) (g.T.Tap.seen c.args.tap.now) (g.T.Tap.seen c.go.new.tap) left
     (none-below s b made c.requires.no_joints) shows))
     c.go.ensures.shows_some
+
+pub prepare-requires-clause-as_many : goal.prepare-requires-clause-as_many
+prepare-requires-clause-as_many g c = grind (arith, common_steps)

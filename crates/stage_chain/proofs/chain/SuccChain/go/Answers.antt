@@ -1,3 +1,4 @@
+use Rattle.std.proofs.lemmas.Grind.{common_steps}
 use Rattle.std.proofs.Common.{rules, arith, ◌≡◌, ◌≤◌, ◌∷◌, ℕ, List, [], length, refl, sym, ◌∙◌, ap, subst}
 use Rattle.raw_schema.specs.Members.{Nodes}
 use Rattle.stage_kernels.specs.Structs.{column_structs}
@@ -125,3 +126,9 @@ returns-in-Ok-new-clause-shows_some g c =
 
 pub returns-in-Err-new-clause-shows_some : goal.returns-in-Err-new-clause-shows_some
 returns-in-Err-new-clause-shows_some g c = whatever c.refuse-in-Err-new.result (shows-nothing _ _)
+
+pub write_rows-requires : goal.write_rows-requires
+write_rows-requires g c = grind (arith, common_steps)
+
+pub returns-in-None-clause-shows : goal.returns-in-None-clause-shows
+returns-in-None-clause-shows g c = grind (arith, common_steps)

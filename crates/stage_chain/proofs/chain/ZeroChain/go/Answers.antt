@@ -1,3 +1,4 @@
+use Rattle.std.proofs.lemmas.Grind.{common_steps}
 use Rattle.std.proofs.Common.{rules, arith, ◌≡◌, ◌≤◌, ◌∷◌, ℕ, List, [], length, refl, sym, ◌∙◌, ap, subst}
 use Rattle.raw_schema.specs.Members.{Nodes}
 use Rattle.stage_model.specs.Typing.{Stage}
@@ -39,3 +40,9 @@ returns-in-Ok-clause-shows_some g c =
     (subst (λ joints. ShowsSome joints (g.T.Tap.seen c.args.tap.now) (g.T.Tap.seen c.write_rows.new.tap)) (joints-last
     (stages_left c.args._stages) s up c.args.link _ none raw))
     c.write_rows.ensures.shows_some
+
+pub write_rows-requires : goal.write_rows-requires
+write_rows-requires g c = grind (arith, common_steps)
+
+pub returns-in-Ok-clause-shows : goal.returns-in-Ok-clause-shows
+returns-in-Ok-clause-shows g c = grind (arith, common_steps)
