@@ -201,6 +201,14 @@ fn expect_bytes(rt: &impl Abort, alloc: Global, wide: bool) {
     expect_alike(rt, alloc, DataType::Binary { wide }, 0, &[Null], 300);
 }
 
+/// Numbers whose highest bit is no sign.
+fn expect_large(rt: &impl Abort, alloc: Global) {
+    let large = [Whole(0xffff_ffff), Whole(0), Whole(0x8000_0000)];
+    expect_alike(rt, alloc, int(32, false), 0, &large, 600);
+    let largest = [Whole(0xffff_ffff_ffff_ffff), Whole(0x8000_0000_0000_0000)];
+    expect_alike(rt, alloc, int(64, false), 0, &largest, 600);
+}
+
 #[test]
 fn added_numbers_lie_as_pushed_ones(rt: HostRuntime) {
     let alloc = rt.alloc();
@@ -208,10 +216,7 @@ fn added_numbers_lie_as_pushed_ones(rt: HostRuntime) {
     expect_ints(&rt, alloc, 16);
     expect_ints(&rt, alloc, 32);
     expect_ints(&rt, alloc, 64);
-    let large = [Whole(0xffff_ffff), Whole(0), Whole(0x8000_0000)];
-    expect_alike(&rt, alloc, int(32, false), 0, &large, 600);
-    let largest = [Whole(0xffff_ffff_ffff_ffff), Whole(0x8000_0000_0000_0000)];
-    expect_alike(&rt, alloc, int(64, false), 0, &largest, 600);
+    expect_large(&rt, alloc);
     let wide = [
         Whole(0x0102_0304_0506_0708_090a_0b0c_0d0e_0f10),
         Whole(-1),

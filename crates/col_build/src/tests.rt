@@ -6,14 +6,14 @@ ghost use Rattle.fmt_string.specs.Kinds.{KindOk};
 ghost use Rattle.fmt_string.specs.Value.{Value};
 ghost use Rattle.fmt_string.specs.declared.kind.DataType.{DataType};
 ghost use Rattle.col_build.specs.Encoding.{HasForm};
-ghost use Rattle.col_build.specs.Finished.{IsEncoded, blocks_of};
+ghost use Rattle.col_build.specs.Finished.{IsEncoded, IsLaidOut, blocks_of};
 ghost use Rattle.col_build.specs.Holding.{Adds, Holds, HoldsFew, HoldsSome, Keeps};
 ghost use Rattle.col_build.specs.Items.{value_of};
 ghost use Rattle.fmt_string.specs.declared.kind.DataType.TheVariants.{Decimal, Int};
 
 use crate::Item::{Bits, Bytes, Null, Truth, Whole};
 use crate::PushFault::{NotText, OutOfRange, WrongKind};
-use crate::{Builder, Built, Item, PushFault};
+use crate::{Builder, Built, Item, Laid, PushFault, Spares};
 use buf_block::{BufView, let_go_all};
 use fmt_string::{DataType, Tick};
 use std::alloc::Global;
@@ -25,12 +25,25 @@ use unit_pass::{Name, Pass, SUPPLY, open_desk};
 fn expect_buffer(rt: &impl Abort, view: &Option<BufView>, bytes: Option<&[u8]>) {
     match (view, bytes) {
         (Some(view), Some(bytes)) => {
-            assert_eq!(rt; view.start, 0);
-            assert_eq!(rt; view.bytes(), bytes);
-            assert_eq!(rt; view.hold.bytes(), bytes);
+            let found = (view.start, view.bytes(), view.hold.bytes());
+            assert_eq!(rt; found, (0, bytes, bytes));
         }
         (None, None) => {}
         _ => assert!(rt; false, "a buffer is there or not"),
+    }
+}
+
+/// Expects these counts and these bytes in the buffers.
+fn expect_buffers(
+    rt: &impl Abort,
+    found: (i64, i64),
+    views: &[Option<BufView>],
+    counts: (i64, i64),
+    buffers: &[Option<&[u8]>],
+) {
+    assert_eq!(rt; (found, views.len()), (counts, buffers.len()));
+    for (view, bytes) in views.iter().zip(buffers.iter()) {
+        expect_buffer(rt, view, *bytes);
     }
 }
 
@@ -42,10 +55,12 @@ fn push_refused(rt: &impl Abort, builder: &mut Builder, items: &[(Item<'_>, Push
     let len = builder.len();
     for (item, want) in items {
         match builder.push(*item) {
-            Ok(()) => assert!(rt; false, "{item:?} is taken"),
-            Err(fault) => assert_eq!(rt; fault, *want, "fault of {item:?}"),
+            Ok(()) => panic!(rt; "{item:?} is taken"),
+            Err(fault) => {
+                let found = (*item, fault, builder.len());
+                assert_eq!(rt; found, (*item, *want, len));
+            }
         }
-        assert_eq!(rt; builder.len(), len, "length behind {item:?}");
     }
 }
 
@@ -55,10 +70,10 @@ pub(crate) fn push_one(rt: &impl Abort, builder: &mut Builder, item: Item<'_>)
     ensures { Adds (value_of item.entry) builder.old builder.new }
 {
     if let Err(fault) = builder.push(item) {
-        assert_eq!(rt; fault, PushFault::NoMemory, "fault of {item:?}");
+        assert_eq!(rt; (item, fault), (item, PushFault::NoMemory));
         match builder.push(item) {
             Ok(()) => {}
-            Err(again) => assert!(rt; false, "{again:?} of {item:?}"),
+            Err(again) => panic!(rt; "{again:?} of {item:?}"),
         }
     }
 }
@@ -91,11 +106,27 @@ fn expect_built(
         null_count,
         buffers: views,
     } = built;
-    assert_eq!(rt; (length, null_count), counts);
-    assert_eq!(rt; views.len(), buffers.len());
-    for (view, bytes) in views.iter().zip(buffers.iter()) {
-        expect_buffer(rt, view, *bytes);
-    }
+    expect_buffers(rt, (length, null_count), &views, counts, buffers);
+    let_go_all(views, pass);
+}
+
+/// The same of a column without its type.
+fn expect_laid(
+    rt: &impl Abort,
+    laid: Laid,
+    pass: &mut Pass,
+    counts: (i64, i64),
+    buffers: &[Option<&[u8]>],
+)
+    requires { (kind : DataType) × (values : List Value) × IsLaidOut laid kind values × (pass.old.units + blocks_of kind values ≡ SUPPLY) }
+    ensures { pass.new.units ≡ SUPPLY }
+{
+    let Laid {
+        length,
+        null_count,
+        buffers: views,
+    } = laid;
+    expect_buffers(rt, (length, null_count), &views, counts, buffers);
     let_go_all(views, pass);
 }
 
@@ -166,11 +197,10 @@ pub(crate) fn decimal() -> DataType
     }
 }
 
-#[test]
-fn items_in_place_are_those_written_by_hand(rt: HostRuntime) {
-    let alloc = rt.alloc();
+/// Bits, of which the ninth begins a byte.
+fn truths_in_place(rt: &impl Abort, alloc: Global) {
     expect_column(
-        &rt,
+        rt,
         alloc,
         DataType::Bool,
         &[Truth(true), Truth(false), Null, Truth(true)],
@@ -179,7 +209,7 @@ fn items_in_place_are_those_written_by_hand(rt: HostRuntime) {
         &[Some(&[0b1011]), Some(&[0b1001])],
     );
     expect_column(
-        &rt,
+        rt,
         alloc,
         DataType::Bool,
         &[
@@ -197,8 +227,12 @@ fn items_in_place_are_those_written_by_hand(rt: HostRuntime) {
         0,
         &[None, Some(&[255, 1])],
     );
+}
+
+/// Whole numbers and decimals.
+fn wholes_in_place(rt: &impl Abort, alloc: Global) {
     expect_column(
-        &rt,
+        rt,
         alloc,
         int(16, true),
         &[Whole(513), Null, Whole(-1)],
@@ -207,7 +241,26 @@ fn items_in_place_are_those_written_by_hand(rt: HostRuntime) {
         &[Some(&[0b101]), Some(&[1, 2, 0, 0, 255, 255])],
     );
     expect_column(
-        &rt,
+        rt,
+        alloc,
+        decimal(),
+        &[Whole(-1), Null],
+        &[],
+        1,
+        &[
+            Some(&[1]),
+            Some(&[
+                255, 255, 255, 255, 255, 255, 255, 255, 255, 255, 255, 255, 255, 255, 255, 255, 0,
+                0, 0, 0, 0, 0, 0, 0, 0, 0, 0, 0, 0, 0, 0, 0,
+            ]),
+        ],
+    );
+}
+
+/// Floats.
+fn floats_in_place(rt: &impl Abort, alloc: Global) {
+    expect_column(
+        rt,
         alloc,
         DataType::Float { bits: 16 },
         &[Bits(0x3c00)],
@@ -216,7 +269,7 @@ fn items_in_place_are_those_written_by_hand(rt: HostRuntime) {
         &[None, Some(&[0, 0x3c])],
     );
     expect_column(
-        &rt,
+        rt,
         alloc,
         DataType::Float { bits: 64 },
         &[Bits(0x3ff0_0000_0000_0000), Null],
@@ -227,6 +280,14 @@ fn items_in_place_are_those_written_by_hand(rt: HostRuntime) {
             Some(&[0, 0, 0, 0, 0, 0, 0xf0, 0x3f, 0, 0, 0, 0, 0, 0, 0, 0]),
         ],
     );
+}
+
+#[test]
+fn items_in_place_are_those_written_by_hand(rt: HostRuntime) {
+    let alloc = rt.alloc();
+    truths_in_place(&rt, alloc);
+    wholes_in_place(&rt, alloc);
+    floats_in_place(&rt, alloc);
     expect_column(
         &rt,
         alloc,
@@ -245,28 +306,12 @@ fn items_in_place_are_those_written_by_hand(rt: HostRuntime) {
         0,
         &[None, None],
     );
-    expect_column(
-        &rt,
-        alloc,
-        decimal(),
-        &[Whole(-1), Null],
-        &[],
-        1,
-        &[
-            Some(&[1]),
-            Some(&[
-                255, 255, 255, 255, 255, 255, 255, 255, 255, 255, 255, 255, 255, 255, 255, 255, 0,
-                0, 0, 0, 0, 0, 0, 0, 0, 0, 0, 0, 0, 0, 0, 0,
-            ]),
-        ],
-    );
 }
 
-#[test]
-fn items_between_offsets_are_those_written_by_hand(rt: HostRuntime) {
-    let alloc = rt.alloc();
+/// Texts with narrow and with wide offsets.
+fn texts_between_offsets(rt: &impl Abort, alloc: Global) {
     expect_column(
-        &rt,
+        rt,
         alloc,
         DataType::Utf8 { wide: false },
         &[Bytes(b"ab"), Null, Bytes(b"c")],
@@ -279,7 +324,7 @@ fn items_between_offsets_are_those_written_by_hand(rt: HostRuntime) {
         ],
     );
     expect_column(
-        &rt,
+        rt,
         alloc,
         DataType::Utf8 { wide: true },
         &[Bytes("\u{e9}".as_bytes())],
@@ -291,6 +336,12 @@ fn items_between_offsets_are_those_written_by_hand(rt: HostRuntime) {
             Some(&[0xc3, 0xa9]),
         ],
     );
+}
+
+#[test]
+fn items_between_offsets_are_those_written_by_hand(rt: HostRuntime) {
+    let alloc = rt.alloc();
+    texts_between_offsets(&rt, alloc);
     expect_column(
         &rt,
         alloc,
@@ -319,273 +370,194 @@ fn items_between_offsets_are_those_written_by_hand(rt: HostRuntime) {
     );
 }
 
-#[test]
-fn items_of_another_form_leave_a_column_without_items(rt: HostRuntime) {
-    let alloc = rt.alloc();
+/// Items that aren't truth values, and so on.
+static NO_TRUTHS: [(Item<'static>, PushFault); 3] = [
+    (Whole(1), WrongKind),
+    (Bits(1), WrongKind),
+    (Bytes(b""), WrongKind),
+];
+
+static NO_WHOLES: [(Item<'static>, PushFault); 3] = [
+    (Truth(true), WrongKind),
+    (Bits(1), WrongKind),
+    (Bytes(b"1"), WrongKind),
+];
+
+static NO_FLOATS: [(Item<'static>, PushFault); 3] = [
+    (Truth(true), WrongKind),
+    (Whole(1), WrongKind),
+    (Bytes(b"1"), WrongKind),
+];
+
+static NO_BYTES: [(Item<'static>, PushFault); 3] = [
+    (Truth(true), WrongKind),
+    (Whole(1), WrongKind),
+    (Bits(1), WrongKind),
+];
+
+/// A column takes none of these items, and has no buffers then.
+fn takes_none(rt: &impl Abort, alloc: Global, kind: DataType, refused: &[(Item<'_>, PushFault)])
+    requires kind { KindOk kind }
+    requires flat { HasForm (form_of kind) }
+{
+    expect_column(rt, alloc, kind, &[], refused, 0, &[None, None]);
+}
+
+/// Columns between offsets take none of the items without bytes, and have their first offset then.
+fn offsets_without_items(rt: &impl Abort, alloc: Global) {
     expect_column(
-        &rt,
-        alloc,
-        DataType::Bool,
-        &[],
-        &[
-            (Whole(1), WrongKind),
-            (Bits(1), WrongKind),
-            (Bytes(b""), WrongKind),
-        ],
-        0,
-        &[None, None],
-    );
-    expect_column(
-        &rt,
-        alloc,
-        int(8, false),
-        &[],
-        &[
-            (Truth(true), WrongKind),
-            (Bits(1), WrongKind),
-            (Bytes(b"1"), WrongKind),
-        ],
-        0,
-        &[None, None],
-    );
-    expect_column(
-        &rt,
-        alloc,
-        DataType::Float { bits: 32 },
-        &[],
-        &[
-            (Truth(true), WrongKind),
-            (Whole(1), WrongKind),
-            (Bytes(b"1"), WrongKind),
-        ],
-        0,
-        &[None, None],
-    );
-    expect_column(
-        &rt,
-        alloc,
-        DataType::FixedBinary { size: 1 },
-        &[],
-        &[
-            (Truth(true), WrongKind),
-            (Whole(1), WrongKind),
-            (Bits(1), WrongKind),
-        ],
-        0,
-        &[None, None],
-    );
-    expect_column(
-        &rt,
+        rt,
         alloc,
         DataType::Utf8 { wide: false },
         &[],
-        &[
-            (Truth(true), WrongKind),
-            (Whole(1), WrongKind),
-            (Bits(1), WrongKind),
-        ],
+        &NO_BYTES,
         0,
         &[None, Some(&[0, 0, 0, 0]), None],
     );
     expect_column(
-        &rt,
+        rt,
         alloc,
         DataType::Binary { wide: true },
         &[],
-        &[
-            (Truth(true), WrongKind),
-            (Whole(1), WrongKind),
-            (Bits(1), WrongKind),
-        ],
+        &NO_BYTES,
         0,
         &[None, Some(&[0, 0, 0, 0, 0, 0, 0, 0]), None],
     );
-    expect_column(
-        &rt,
-        alloc,
-        decimal(),
-        &[],
-        &[
-            (Truth(true), WrongKind),
-            (Bits(1), WrongKind),
-            (Bytes(b"1"), WrongKind),
-        ],
-        0,
-        &[None, None],
-    );
+}
+
+#[test]
+fn items_of_another_form_leave_a_column_without_items(rt: HostRuntime) {
+    let alloc = rt.alloc();
+    takes_none(&rt, alloc, DataType::Bool, &NO_TRUTHS);
+    takes_none(&rt, alloc, int(8, false), &NO_WHOLES);
+    takes_none(&rt, alloc, DataType::Float { bits: 32 }, &NO_FLOATS);
+    takes_none(&rt, alloc, DataType::FixedBinary { size: 1 }, &NO_BYTES);
+    offsets_without_items(&rt, alloc);
+    takes_none(&rt, alloc, decimal(), &NO_WHOLES);
+}
+
+/// Nine ones, a null and a one.
+static ONES: [Item<'static>; 11] = [
+    Whole(1),
+    Whole(1),
+    Whole(1),
+    Whole(1),
+    Whole(1),
+    Whole(1),
+    Whole(1),
+    Whole(1),
+    Whole(1),
+    Null,
+    Whole(1),
+];
+
+/// The last of these items, with this validity bitmap and these data.
+fn one_null(rt: &impl Abort, alloc: Global, items: &[Item<'_>], validity: &[u8], data: &[u8]) {
+    assert!(rt; items.len() <= 1000);
+    let buffers: [Option<&[u8]>; 2] = [Some(validity), Some(data)];
+    expect_column(rt, alloc, int(8, false), items, &[], 1, &buffers);
 }
 
 #[test]
 fn validity_begins_with_the_first_null(rt: HostRuntime) {
     let alloc = rt.alloc();
-    expect_column(
-        &rt,
+    one_null(&rt, alloc, &ONES[9..], &[0b10], &[0, 1]);
+    let data = [1, 1, 1, 1, 1, 1, 1, 1, 1, 0, 1];
+    one_null(&rt, alloc, &ONES[2..], &[0b0111_1111, 1], &data[2..]);
+    one_null(&rt, alloc, &ONES[1..], &[255, 0b10], &data[1..]);
+    one_null(&rt, alloc, &ONES, &[255, 0b101], &data);
+}
+
+/// A column takes these two numbers, and neither of the others.
+fn borders(
+    rt: &impl Abort,
+    alloc: Global,
+    kind: DataType,
+    taken: (i128, i128),
+    refused: (i128, i128),
+    data: &[u8],
+)
+    requires kind { KindOk kind }
+    requires flat { HasForm (form_of kind) }
+{
+    let items = [Whole(taken.0), Whole(taken.1)];
+    let others = [
+        (Whole(refused.0), OutOfRange),
+        (Whole(refused.1), OutOfRange),
+    ];
+    expect_column(rt, alloc, kind, &items, &others, 0, &[None, Some(data)]);
+}
+
+/// Columns of numbers of one and of two bytes.
+fn narrow_borders(rt: &impl Abort, alloc: Global) {
+    borders(
+        rt,
         alloc,
-        int(8, false),
-        &[Null, Whole(1)],
-        &[],
-        1,
-        &[Some(&[0b10]), Some(&[0, 1])],
+        int(8, true),
+        (-128, 127),
+        (-129, 128),
+        &[128, 127],
     );
-    expect_column(
-        &rt,
+    borders(rt, alloc, int(8, false), (0, 255), (-1, 256), &[0, 255]);
+    let signed = [0, 128, 255, 127];
+    borders(
+        rt,
         alloc,
-        int(8, false),
-        &[
-            Whole(1),
-            Whole(1),
-            Whole(1),
-            Whole(1),
-            Whole(1),
-            Whole(1),
-            Whole(1),
-            Null,
-            Whole(1),
-        ],
-        &[],
-        1,
-        &[Some(&[0b0111_1111, 1]), Some(&[1, 1, 1, 1, 1, 1, 1, 0, 1])],
+        int(16, true),
+        (-32768, 32767),
+        (-32769, 32768),
+        &signed,
     );
-    expect_column(
-        &rt,
+    borders(
+        rt,
         alloc,
-        int(8, false),
-        &[
-            Whole(1),
-            Whole(1),
-            Whole(1),
-            Whole(1),
-            Whole(1),
-            Whole(1),
-            Whole(1),
-            Whole(1),
-            Null,
-            Whole(1),
-        ],
-        &[],
-        1,
-        &[Some(&[255, 0b10]), Some(&[1, 1, 1, 1, 1, 1, 1, 1, 0, 1])],
+        int(16, false),
+        (0, 65535),
+        (-1, 65536),
+        &[0, 0, 255, 255],
     );
-    expect_column(
-        &rt,
+}
+
+/// Columns of numbers of four and of eight bytes.
+fn wide_borders(rt: &impl Abort, alloc: Global) {
+    let signed = [0, 0, 0, 128, 255, 255, 255, 127];
+    let taken = (-2147483648, 2147483647);
+    borders(
+        rt,
         alloc,
-        int(8, false),
-        &[
-            Whole(1),
-            Whole(1),
-            Whole(1),
-            Whole(1),
-            Whole(1),
-            Whole(1),
-            Whole(1),
-            Whole(1),
-            Whole(1),
-            Null,
-            Whole(1),
-        ],
-        &[],
-        1,
-        &[
-            Some(&[255, 0b101]),
-            Some(&[1, 1, 1, 1, 1, 1, 1, 1, 1, 0, 1]),
-        ],
+        int(32, true),
+        taken,
+        (-2147483649, 2147483648),
+        &signed,
     );
+    let unsigned = [0, 0, 0, 0, 255, 255, 255, 255];
+    borders(
+        rt,
+        alloc,
+        int(32, false),
+        (0, 4294967295),
+        (-1, 4294967296),
+        &unsigned,
+    );
+    let signed = [
+        0, 0, 0, 0, 0, 0, 0, 128, 255, 255, 255, 255, 255, 255, 255, 127,
+    ];
+    let taken = (-9223372036854775808, 9223372036854775807);
+    let refused = (-9223372036854775809, 9223372036854775808);
+    borders(rt, alloc, int(64, true), taken, refused, &signed);
+    let unsigned = [
+        0, 0, 0, 0, 0, 0, 0, 0, 255, 255, 255, 255, 255, 255, 255, 255,
+    ];
+    let taken = (0, 18446744073709551615);
+    let refused = (-1, 18446744073709551616);
+    borders(rt, alloc, int(64, false), taken, refused, &unsigned);
 }
 
 #[test]
 fn whole_numbers_are_taken_to_the_borders_of_their_width(rt: HostRuntime) {
     let alloc = rt.alloc();
-    expect_column(
-        &rt,
-        alloc,
-        int(8, true),
-        &[Whole(-128), Whole(127)],
-        &[(Whole(-129), OutOfRange), (Whole(128), OutOfRange)],
-        0,
-        &[None, Some(&[128, 127])],
-    );
-    expect_column(
-        &rt,
-        alloc,
-        int(8, false),
-        &[Whole(0), Whole(255)],
-        &[(Whole(-1), OutOfRange), (Whole(256), OutOfRange)],
-        0,
-        &[None, Some(&[0, 255])],
-    );
-    expect_column(
-        &rt,
-        alloc,
-        int(16, true),
-        &[Whole(-32768), Whole(32767)],
-        &[(Whole(-32769), OutOfRange), (Whole(32768), OutOfRange)],
-        0,
-        &[None, Some(&[0, 128, 255, 127])],
-    );
-    expect_column(
-        &rt,
-        alloc,
-        int(16, false),
-        &[Whole(0), Whole(65535)],
-        &[(Whole(-1), OutOfRange), (Whole(65536), OutOfRange)],
-        0,
-        &[None, Some(&[0, 0, 255, 255])],
-    );
-    expect_column(
-        &rt,
-        alloc,
-        int(32, true),
-        &[Whole(-2147483648), Whole(2147483647)],
-        &[
-            (Whole(-2147483649), OutOfRange),
-            (Whole(2147483648), OutOfRange),
-        ],
-        0,
-        &[None, Some(&[0, 0, 0, 128, 255, 255, 255, 127])],
-    );
-    expect_column(
-        &rt,
-        alloc,
-        int(32, false),
-        &[Whole(0), Whole(4294967295)],
-        &[(Whole(-1), OutOfRange), (Whole(4294967296), OutOfRange)],
-        0,
-        &[None, Some(&[0, 0, 0, 0, 255, 255, 255, 255])],
-    );
-    expect_column(
-        &rt,
-        alloc,
-        int(64, true),
-        &[Whole(-9223372036854775808), Whole(9223372036854775807)],
-        &[
-            (Whole(-9223372036854775809), OutOfRange),
-            (Whole(9223372036854775808), OutOfRange),
-        ],
-        0,
-        &[
-            None,
-            Some(&[
-                0, 0, 0, 0, 0, 0, 0, 128, 255, 255, 255, 255, 255, 255, 255, 127,
-            ]),
-        ],
-    );
-    expect_column(
-        &rt,
-        alloc,
-        int(64, false),
-        &[Whole(0), Whole(18446744073709551615)],
-        &[
-            (Whole(-1), OutOfRange),
-            (Whole(18446744073709551616), OutOfRange),
-        ],
-        0,
-        &[
-            None,
-            Some(&[
-                0, 0, 0, 0, 0, 0, 0, 0, 255, 255, 255, 255, 255, 255, 255, 255,
-            ]),
-        ],
-    );
+    narrow_borders(&rt, alloc);
+    wide_borders(&rt, alloc);
     expect_column(
         &rt,
         alloc,
@@ -603,11 +575,10 @@ fn whole_numbers_are_taken_to_the_borders_of_their_width(rt: HostRuntime) {
     );
 }
 
-#[test]
-fn items_outside_the_type_are_refused(rt: HostRuntime) {
-    let alloc = rt.alloc();
+/// Bits that floats have no room for.
+fn floats_outside(rt: &impl Abort, alloc: Global) {
     expect_column(
-        &rt,
+        rt,
         alloc,
         DataType::Float { bits: 16 },
         &[Bits(65535), Null],
@@ -616,7 +587,7 @@ fn items_outside_the_type_are_refused(rt: HostRuntime) {
         &[Some(&[1]), Some(&[255, 255, 0, 0])],
     );
     expect_column(
-        &rt,
+        rt,
         alloc,
         DataType::Float { bits: 32 },
         &[Bits(4294967295), Null],
@@ -625,7 +596,7 @@ fn items_outside_the_type_are_refused(rt: HostRuntime) {
         &[Some(&[1]), Some(&[255, 255, 255, 255, 0, 0, 0, 0])],
     );
     expect_column(
-        &rt,
+        rt,
         alloc,
         DataType::Float { bits: 64 },
         &[Bits(u64::MAX)],
@@ -633,6 +604,12 @@ fn items_outside_the_type_are_refused(rt: HostRuntime) {
         0,
         &[None, Some(&[255, 255, 255, 255, 255, 255, 255, 255])],
     );
+}
+
+#[test]
+fn items_outside_the_type_are_refused(rt: HostRuntime) {
+    let alloc = rt.alloc();
+    floats_outside(&rt, alloc);
     expect_column(
         &rt,
         alloc,
@@ -653,108 +630,89 @@ fn items_outside_the_type_are_refused(rt: HostRuntime) {
     );
 }
 
+/// A column of four bytes each, which takes neither a number above them nor a truth value.
+fn has_four(rt: &impl Abort, alloc: Global, kind: DataType)
+    requires kind { KindOk kind }
+    requires flat { HasForm (form_of kind) }
+{
+    let others = [(Whole(2147483648), OutOfRange), (Truth(true), WrongKind)];
+    let buffers: [Option<&[u8]>; 2] = [None, Some(&[254, 255, 255, 255])];
+    expect_column(rt, alloc, kind, &[Whole(-2)], &others, 0, &buffers);
+}
+
+/// The same of eight bytes.
+fn has_eight(rt: &impl Abort, alloc: Global, kind: DataType)
+    requires kind { KindOk kind }
+    requires flat { HasForm (form_of kind) }
+{
+    let others = [
+        (Whole(9223372036854775808), OutOfRange),
+        (Truth(true), WrongKind),
+    ];
+    let data = [254, 255, 255, 255, 255, 255, 255, 255];
+    let buffers: [Option<&[u8]>; 2] = [None, Some(&data)];
+    expect_column(rt, alloc, kind, &[Whole(-2)], &others, 0, &buffers);
+}
+
+fn times_of_day(rt: &impl Abort, alloc: Global) {
+    has_four(rt, alloc, DataType::TimeOfDay { tick: Tick::Second });
+    has_four(rt, alloc, DataType::TimeOfDay { tick: Tick::Milli });
+    has_eight(rt, alloc, DataType::TimeOfDay { tick: Tick::Micro });
+    has_eight(rt, alloc, DataType::TimeOfDay { tick: Tick::Nano });
+}
+
 #[test]
 fn dates_times_and_durations_have_their_widths(rt: HostRuntime) {
     let alloc = rt.alloc();
-    expect_column(
-        &rt,
-        alloc,
-        DataType::DateDay,
-        &[Whole(-2)],
-        &[(Whole(2147483648), OutOfRange), (Truth(true), WrongKind)],
-        0,
-        &[None, Some(&[254, 255, 255, 255])],
-    );
-    expect_column(
-        &rt,
-        alloc,
-        DataType::DateMilli,
-        &[Whole(-2)],
-        &[
-            (Whole(9223372036854775808), OutOfRange),
-            (Truth(true), WrongKind),
-        ],
-        0,
-        &[None, Some(&[254, 255, 255, 255, 255, 255, 255, 255])],
-    );
-    expect_column(
-        &rt,
-        alloc,
-        DataType::TimeOfDay { tick: Tick::Second },
-        &[Whole(-2)],
-        &[(Whole(2147483648), OutOfRange), (Truth(true), WrongKind)],
-        0,
-        &[None, Some(&[254, 255, 255, 255])],
-    );
-    expect_column(
-        &rt,
-        alloc,
-        DataType::TimeOfDay { tick: Tick::Milli },
-        &[Whole(-2)],
-        &[(Whole(2147483648), OutOfRange), (Truth(true), WrongKind)],
-        0,
-        &[None, Some(&[254, 255, 255, 255])],
-    );
-    expect_column(
-        &rt,
-        alloc,
-        DataType::TimeOfDay { tick: Tick::Micro },
-        &[Whole(-2)],
-        &[
-            (Whole(9223372036854775808), OutOfRange),
-            (Truth(true), WrongKind),
-        ],
-        0,
-        &[None, Some(&[254, 255, 255, 255, 255, 255, 255, 255])],
-    );
-    expect_column(
-        &rt,
-        alloc,
-        DataType::TimeOfDay { tick: Tick::Nano },
-        &[Whole(-2)],
-        &[
-            (Whole(9223372036854775808), OutOfRange),
-            (Truth(true), WrongKind),
-        ],
-        0,
-        &[None, Some(&[254, 255, 255, 255, 255, 255, 255, 255])],
-    );
-    expect_column(
-        &rt,
-        alloc,
-        DataType::Timestamp {
-            tick: Tick::Nano,
-            zone: Name::from_vec(Vec::new(alloc)),
-        },
-        &[Whole(-2)],
-        &[
-            (Whole(9223372036854775808), OutOfRange),
-            (Truth(true), WrongKind),
-        ],
-        0,
-        &[None, Some(&[254, 255, 255, 255, 255, 255, 255, 255])],
-    );
-    expect_column(
-        &rt,
-        alloc,
-        DataType::Duration { tick: Tick::Second },
-        &[Whole(-2)],
-        &[
-            (Whole(9223372036854775808), OutOfRange),
-            (Truth(true), WrongKind),
-        ],
-        0,
-        &[None, Some(&[254, 255, 255, 255, 255, 255, 255, 255])],
-    );
-    expect_column(
-        &rt,
-        alloc,
-        DataType::IntervalMonths,
-        &[Whole(-2)],
-        &[(Whole(2147483648), OutOfRange), (Truth(true), WrongKind)],
-        0,
-        &[None, Some(&[254, 255, 255, 255])],
-    );
+    has_four(&rt, alloc, DataType::DateDay);
+    has_eight(&rt, alloc, DataType::DateMilli);
+    times_of_day(&rt, alloc);
+    let zone = Name::from_vec(Vec::new(alloc));
+    let tick = Tick::Nano;
+    has_eight(&rt, alloc, DataType::Timestamp { tick, zone });
+    has_eight(&rt, alloc, DataType::Duration { tick: Tick::Second });
+    has_four(&rt, alloc, DataType::IntervalMonths);
+}
+
+/// Expects these counts and buffers of a column that was finished where it stands, and begins it anew.
+fn expect_here(
+    rt: &impl Abort,
+    alloc: Global,
+    builder: &mut Builder,
+    pass: &mut Pass,
+    counts: (i64, i64),
+    buffers: &[Option<&[u8]>],
+)
+    requires holds { HoldsSome builder.old }
+    requires units { pass.old.units ≡ SUPPLY }
+    ensures empty { (kind : DataType) × Holds builder.new kind [] }
+    ensures units { pass.new.units ≡ SUPPLY }
+{
+    let mut spares = Spares::new(alloc);
+    let Ok(laid) = builder.finish_here(alloc, &mut spares, pass) else {
+        panic!(rt; "memory")
+    };
+    expect_laid(rt, laid, pass, counts, buffers);
+    let Ok(()) = builder.begin_anew(alloc, 3, 3) else {
+        panic!(rt; "memory")
+    };
+}
+
+/// The same items are finished where they stand, and then with the builder.
+#[test]
+fn a_builder_that_stays_begins_anew(rt: HostRuntime) {
+    let alloc = rt.alloc();
+    let (desk, mut pass) = open_desk();
+    let items = [Whole(7), Null, Whole(9)];
+    let buffers: [Option<&[u8]>; 2] = [Some(&[0b101]), Some(&[7, 0, 9])];
+    let mut builder = Builder::new(alloc, int(8, false));
+    push_taken(&rt, &mut builder, &items);
+    expect_here(&rt, alloc, &mut builder, &mut pass, (3, 1), &buffers);
+    let _audit = desk.close(pass);
+    let (desk, mut pass) = open_desk();
+    push_taken(&rt, &mut builder, &items);
+    expect_finish(&rt, alloc, builder, &mut pass, (3, 1), &buffers);
+    let _audit = desk.close(pass);
 }
 
 #[test]

@@ -23,7 +23,7 @@ fn push_text(rt: &impl Abort, builder: &mut Builder, text: &str)
     ensures { Adds (Bytes text.now) builder.old builder.new }
 {
     if let Err(fault) = builder.push_text(text.as_bytes()) {
-        assert_eq!(rt; fault, PushFault::NoMemory, "fault of {text}");
+        assert_eq!(rt; (text, fault), (text, PushFault::NoMemory));
         match builder.push_text(text.as_bytes()) {
             Ok(()) => {}
             Err(again) => assert!(rt; false, "{again:?} of {text}"),
@@ -73,8 +73,7 @@ fn expect_refused(rt: &impl Abort, alloc: Global, kind: DataType, text: &str, wa
     match builder.push_text(text.as_bytes()) {
         Ok(()) => assert!(rt; false, "{text} is taken"),
         Err(fault) => {
-            assert_eq!(rt; fault, want, "fault of {text}");
-            assert_eq!(rt; builder.len(), 0, "length behind {text}");
+            assert_eq!(rt; (text, fault, builder.len()), (text, want, 0));
         }
     }
 }
