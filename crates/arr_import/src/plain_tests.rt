@@ -1,9 +1,12 @@
 //! Tests of columns in a common way, and of indices with their dictionary: each with the window's own items.
+ghost use Rattle.std.specs.Prelude.{◌≤ℤ◌, ◌<ℤ◌, pos};
 ghost use Rattle.arr_import.specs.Window.{IsStruct};
 ghost use Rattle.arr_import.specs.Cols.{window_of};
+ghost use Rattle.arr_import.specs.Indexing.{shown_by};
 
 use crate::col::Col;
 use crate::imported::import;
+use crate::indexed::Indexed;
 use crate::tests::closed;
 use crate::trees::{Span, encoded, ended, flat, holding, indexing, leaf, over};
 use crate::value_ref::ValueRef;
@@ -158,11 +161,6 @@ fn doubles<'w>(span: Span, buffers: &'w [Option<&'w [u8]>], want: &'w [u64]) -> 
     read_as(b"g", span, buffers, Plain::Doubles(want))
 }
 
-/// Two items that are read in no common way.
-fn other<'w>(format: &'w [u8], buffers: &'w [Option<&'w [u8]>]) -> Case<'w> {
-    read_as(format, (2, 0), buffers, Plain::Other)
-}
-
 fn are_plain(rt: &impl Abort, alloc: Global, cases: &[Case<'_>]) {
     for case in cases {
         let (desk, mut pass) = open_desk();
@@ -177,6 +175,19 @@ fn are_plain(rt: &impl Abort, alloc: Global, cases: &[Case<'_>]) {
             Err(_refused) => panic!(rt; "refused"),
         }
         closed(rt, desk, pass);
+    }
+}
+
+/// Two items of each format are read in no common way.
+fn are_other<'w>(
+    rt: &impl Abort,
+    alloc: Global,
+    formats: &[&'w [u8]],
+    buffers: &'w [Option<&'w [u8]>],
+) {
+    for format in formats {
+        let case = read_as(*format, (2, 0), buffers, Plain::Other);
+        are_plain(rt, alloc, &[case]);
     }
 }
 
@@ -239,15 +250,9 @@ fn columns_with_a_validity_bitmap_are_read_in_no_common_way(rt: HostRuntime) {
     for validity in [[0xffu8], [0xfe]] {
         let stored: [Option<&[u8]>; 2] = [Some(&validity), Some(&EIGHTS)];
         let between: [Option<&[u8]>; 3] = [Some(&validity), Some(&OFFSETS), Some(b"xyz")];
-        let cases = [
-            other(b"i", &stored),
-            other(b"l", &stored),
-            other(b"d:38,2", &stored),
-            other(b"b", &stored),
-            other(b"g", &stored),
-            other(b"u", &between),
-        ];
-        are_plain(&rt, rt.alloc(), &cases);
+        let formats: [&[u8]; 5] = [b"i", b"l", b"d:38,2", b"b", b"g"];
+        are_other(&rt, rt.alloc(), &formats, &stored);
+        are_other(&rt, rt.alloc(), &[b"u"], &between);
     }
 }
 
@@ -256,22 +261,21 @@ fn columns_of_other_types_are_read_in_no_common_way(rt: HostRuntime) {
     let bytes = [0u8; 64];
     let stored: [Option<&[u8]>; 2] = [None, Some(&bytes)];
     let wide: [Option<&[u8]>; 3] = [None, Some(&bytes), Some(b"")];
-    let cases = [
-        other(b"c", &stored),
-        other(b"s", &stored),
-        other(b"I", &stored),
-        other(b"L", &stored),
-        other(b"e", &stored),
-        other(b"f", &stored),
-        other(b"w:4", &stored),
-        other(b"w:8", &stored),
-        other(b"d:76,2,256", &stored),
-        other(b"tin", &stored),
-        other(b"U", &wide),
-        other(b"Z", &wide),
-        other(b"n", &[]),
+    let formats: [&[u8]; 10] = [
+        b"c",
+        b"s",
+        b"I",
+        b"L",
+        b"e",
+        b"f",
+        b"w:4",
+        b"w:8",
+        b"d:76,2,256",
+        b"tin",
     ];
-    are_plain(&rt, rt.alloc(), &cases);
+    are_other(&rt, rt.alloc(), &formats, &stored);
+    are_other(&rt, rt.alloc(), &[b"U", b"Z"], &wide);
+    are_other(&rt, rt.alloc(), &[b"n"], &[]);
 }
 
 /// The one child of a struct is read in this way.
@@ -338,15 +342,23 @@ fn shows_indexed(rt: &impl Abort, col: &Col<'_>, entries: i64, want: &[Entry<'_>
     let Some(indexed) = col.indexed() else {
         panic!(rt; "no dictionary")
     };
-    assert_eq!(rt; indexed.entries().len(), entries);
+    let found = (indexed.entries().len(), col.len());
+    assert_eq!(rt; found, (entries, want.len() as i64));
     assert!(rt; indexed.entries().indexed().is_none());
-    assert_eq!(rt; col.len(), want.len() as i64);
     for (i, want) in want.iter().enumerate() {
         let place = i as i64;
         assert!(rt; place < col.len());
-        let found = (indexed.index(place), indexed.bytes(place));
-        assert_eq!(rt; (i, found), (i, *want));
+        shows_entry(rt, &indexed, place, *want);
     }
+}
+
+/// An item of a column of indices has this index and these bytes.
+fn shows_entry(rt: &impl Abort, indexed: &Indexed<'_>, i: i64, want: Entry<'_>)
+    requires from { pos 0 ≤ℤ i }
+    requires below { i <ℤ pos (shown_by indexed.now).count }
+{
+    let found = (indexed.index(i), indexed.bytes(i));
+    assert_eq!(rt; (i, found), (i, want));
 }
 
 /// Indices of a format, of which the items behind the first are read, into a null, `zz` and `x`.

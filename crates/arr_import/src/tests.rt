@@ -198,12 +198,16 @@ fn shows_flat(rt: &impl Abort, alloc: Global, flats: &[Flat<'_>]) {
     }
 }
 
-fn number<'w>(format: &'w [u8], stored: &'w [u8], want: i128) -> Flat<'w> {
-    Flat {
-        format,
-        stored,
-        text: None,
-        want: Want::Whole(want),
+/// Whole numbers: the format, the stored bytes, and the number at place 1.
+fn shows_numbers<'w>(rt: &impl Abort, alloc: Global, rows: &[(&'w [u8], &'w [u8], i128)]) {
+    for (format, stored, want) in rows {
+        let case = Flat {
+            format: *format,
+            stored: *stored,
+            text: None,
+            want: Want::Whole(*want),
+        };
+        shows_flat(rt, alloc, &[case]);
     }
 }
 
@@ -234,22 +238,26 @@ fn text<'w>(format: &'w [u8], offsets: &'w [u8], text: &'w [u8], want: &'w [u8])
     }
 }
 
+/// The smallest or the largest number of each type, at place 1.
+static BORDERS: [(&[u8], &[u8], i128); 8] = [
+    (b"c", &[1, 0x80], -128),
+    (b"C", &[1, 255], 255),
+    (b"s", &[1, 1, 0, 0x80], -32_768),
+    (b"S", &[1, 1, 255, 255], 65_535),
+    (b"i", &[1, 1, 1, 1, 0, 0, 0, 0x80], -2_147_483_648),
+    (b"I", &[255; 8], 4_294_967_295),
+    (
+        b"l",
+        &[0, 0, 0, 0, 0, 0, 0, 0, 0, 0, 0, 0, 0, 0, 0, 0x80],
+        -9_223_372_036_854_775_808,
+    ),
+    (b"L", &[255; 16], 18_446_744_073_709_551_615),
+];
+
 /// The smallest and the largest number of each width.
 #[test]
 fn whole_numbers_are_read_at_their_borders(rt: HostRuntime) {
-    let low = [0u8, 0, 0, 0, 0, 0, 0, 0, 0, 0, 0, 0, 0, 0, 0, 0x80];
-    let high = [255u8; 16];
-    let numbers = [
-        number(b"c", &[1, 0x80], -128),
-        number(b"C", &[1, 255], 255),
-        number(b"s", &[1, 1, 0, 0x80], -32_768),
-        number(b"S", &[1, 1, 255, 255], 65_535),
-        number(b"i", &[1, 1, 1, 1, 0, 0, 0, 0x80], -2_147_483_648),
-        number(b"I", &high[..8], 4_294_967_295),
-        number(b"l", &low, -9_223_372_036_854_775_808),
-        number(b"L", &high, 18_446_744_073_709_551_615),
-    ];
-    shows_flat(&rt, rt.alloc(), &numbers);
+    shows_numbers(&rt, rt.alloc(), &BORDERS);
 }
 
 /// Dates, times, spans of time and decimals are whole numbers.
@@ -261,20 +269,20 @@ fn times_and_decimals_are_whole_numbers(rt: HostRuntime) {
     ];
     let eight = &minus_two[8..24];
     let four = &minus_two[12..20];
-    let numbers = [
-        number(b"tdD", four, -2),
-        number(b"tdm", eight, -2),
-        number(b"tts", four, -2),
-        number(b"ttm", four, -2),
-        number(b"ttu", eight, -2),
-        number(b"ttn", eight, -2),
-        number(b"tss:UTC", eight, -2),
-        number(b"tsn:", eight, -2),
-        number(b"tDm", eight, -2),
-        number(b"tiM", four, -2),
-        number(b"d:38,2", &minus_two, -2),
+    let numbers: [(&[u8], &[u8], i128); 11] = [
+        (b"tdD", four, -2),
+        (b"tdm", eight, -2),
+        (b"tts", four, -2),
+        (b"ttm", four, -2),
+        (b"ttu", eight, -2),
+        (b"ttn", eight, -2),
+        (b"tss:UTC", eight, -2),
+        (b"tsn:", eight, -2),
+        (b"tDm", eight, -2),
+        (b"tiM", four, -2),
+        (b"d:38,2", &minus_two, -2),
     ];
-    shows_flat(&rt, rt.alloc(), &numbers);
+    shows_numbers(&rt, rt.alloc(), &numbers);
 }
 
 /// Floats are their bits, and truth values are bits of a byte.
@@ -374,6 +382,22 @@ fn a_list_shows_its_window_of_its_child(rt: HostRuntime) {
     closed(&rt, desk, pass);
 }
 
+/// A list of one pair, and one of a null and a pair.
+fn lists_of_pairs(rt: &impl Abort, alloc: Global, pass: &mut Pass) -> RawArray {
+    let stored: [Option<&[u8]>; 2] = [None, Some(&[1, 2, 3, 4, 5, 6, 7, 8])];
+    let numbers = leaf(rt, alloc, (8, 0), &stored, pass);
+    let pairs = holding(rt, alloc, (3, 1), &[Some(&[0b1011])], numbers, pass);
+    let offsets = [
+        0u8, 0, 0, 0, 0, 0, 0, 0, 1, 0, 0, 0, 0, 0, 0, 0, 3, 0, 0, 0, 0, 0, 0, 0,
+    ];
+    holding(rt, alloc, (2, 0), &[None, Some(&offsets)], pairs, pass)
+}
+
+static PAIRS: [Want<'static>; 2] = [
+    Want::Items(&[Want::Items(&[Want::Whole(3), Want::Whole(4)])]),
+    Want::Items(&[Want::Null, Want::Items(&[Want::Whole(7), Want::Whole(8)])]),
+];
+
 /// Wide lists of fixed lists of two.
 #[test]
 fn lists_lie_within_lists(rt: HostRuntime) {
@@ -382,67 +406,41 @@ fn lists_lie_within_lists(rt: HostRuntime) {
     let numbers = flat(&rt, alloc, b"c", &mut pass);
     let pairs = over(&rt, alloc, b"+w:2", numbers, &mut pass);
     let schema = over(&rt, alloc, b"+L", pairs, &mut pass);
-    let numbers = leaf(
-        &rt,
-        alloc,
-        (8, 0),
-        &[None, Some(&[1, 2, 3, 4, 5, 6, 7, 8])],
-        &mut pass,
-    );
-    let pairs = holding(&rt, alloc, (3, 1), &[Some(&[0b1011])], numbers, &mut pass);
-    let offsets = [
-        0u8, 0, 0, 0, 0, 0, 0, 0, 1, 0, 0, 0, 0, 0, 0, 0, 3, 0, 0, 0, 0, 0, 0, 0,
-    ];
-    let array = holding(
-        &rt,
-        alloc,
-        (2, 0),
-        &[None, Some(&offsets)],
-        pairs,
-        &mut pass,
-    );
-    let first = [Want::Whole(3), Want::Whole(4)];
-    let last = [Want::Whole(7), Want::Whole(8)];
-    let one = [Want::Items(&first)];
-    let two = [Want::Null, Want::Items(&last)];
-    let want = [Want::Items(&one), Want::Items(&two)];
-    reads(&rt, alloc, schema, array, &want, &mut pass);
+    let array = lists_of_pairs(&rt, alloc, &mut pass);
+    reads(&rt, alloc, schema, array, &PAIRS, &mut pass);
     closed(&rt, desk, pass);
 }
+
+fn map_schema(rt: &impl Abort, alloc: Global, pass: &mut Pass) -> RawSchema {
+    let keys = flat(rt, alloc, b"S", pass);
+    let values = flat(rt, alloc, b"C", pass);
+    let entries = pair(rt, alloc, keys, values, pass);
+    over(rt, alloc, b"+m", entries, pass)
+}
+
+/// Two maps of one entry each.
+fn map_array(rt: &impl Abort, alloc: Global, pass: &mut Pass) -> RawArray {
+    let keys = leaf(rt, alloc, (2, 0), &[None, Some(&[1, 1, 2, 1])], pass);
+    let stored: [Option<&[u8]>; 2] = [Some(&[1]), Some(&[200, 201])];
+    let values = leaf(rt, alloc, (2, 0), &stored, pass);
+    let entries = holding_two(rt, alloc, (2, 0), &[None], (keys, values), pass);
+    let offsets = [0u8, 0, 0, 0, 1, 0, 0, 0, 2, 0, 0, 0];
+    holding(rt, alloc, (2, 0), &[None, Some(&offsets)], entries, pass)
+}
+
+static MAPS: [Want<'static>; 2] = [
+    Want::Items(&[Want::Fields(&[Want::Whole(257), Want::Whole(200)])]),
+    Want::Items(&[Want::Fields(&[Want::Whole(258), Want::Null])]),
+];
 
 /// The entries of a map are structs of a key and a value.
 #[test]
 fn a_map_is_a_list_of_entries(rt: HostRuntime) {
     let alloc = rt.alloc();
     let (desk, mut pass) = open_desk();
-    let keys = flat(&rt, alloc, b"S", &mut pass);
-    let values = flat(&rt, alloc, b"C", &mut pass);
-    let entries = pair(&rt, alloc, keys, values, &mut pass);
-    let schema = over(&rt, alloc, b"+m", entries, &mut pass);
-    let keys = leaf(&rt, alloc, (2, 0), &[None, Some(&[1, 1, 2, 1])], &mut pass);
-    let values = leaf(
-        &rt,
-        alloc,
-        (2, 0),
-        &[Some(&[1]), Some(&[200, 201])],
-        &mut pass,
-    );
-    let entries = holding_two(&rt, alloc, (2, 0), &[None], (keys, values), &mut pass);
-    let offsets = [0u8, 0, 0, 0, 1, 0, 0, 0, 2, 0, 0, 0];
-    let array = holding(
-        &rt,
-        alloc,
-        (2, 0),
-        &[None, Some(&offsets)],
-        entries,
-        &mut pass,
-    );
-    let first = [Want::Whole(257), Want::Whole(200)];
-    let second = [Want::Whole(258), Want::Null];
-    let one = [Want::Fields(&first)];
-    let two = [Want::Fields(&second)];
-    let want = [Want::Items(&one), Want::Items(&two)];
-    reads(&rt, alloc, schema, array, &want, &mut pass);
+    let schema = map_schema(&rt, alloc, &mut pass);
+    let array = map_array(&rt, alloc, &mut pass);
+    reads(&rt, alloc, schema, array, &MAPS, &mut pass);
     closed(&rt, desk, pass);
 }
 
@@ -492,6 +490,21 @@ fn an_index_shows_the_dictionary(rt: HostRuntime) {
     closed(&rt, desk, pass);
 }
 
+/// The indices 1, 0 and 1 into the indices 1 and 0 into two structs.
+fn indexed_twice(rt: &impl Abort, alloc: Global, pass: &mut Pass) -> RawArray {
+    let child = leaf(rt, alloc, (2, 0), &[None, Some(&[41, 42])], pass);
+    let structs = holding(rt, alloc, (2, 0), &[None], child, pass);
+    let indices = [1u8, 0, 0, 0, 0, 0, 0, 0];
+    let inner = indexing(rt, alloc, (2, 0), &[None, Some(&indices)], structs, pass);
+    indexing(rt, alloc, (3, 0), &[None, Some(&[1, 0, 1])], inner, pass)
+}
+
+static STRUCTS: [Want<'static>; 3] = [
+    Want::Fields(&[Want::Whole(41)]),
+    Want::Fields(&[Want::Whole(42)]),
+    Want::Fields(&[Want::Whole(41)]),
+];
+
 /// Indices into indices into structs: index 1 stands for index 0 of the structs.
 #[test]
 fn home_follows_two_dictionaries(rt: HostRuntime) {
@@ -501,31 +514,8 @@ fn home_follows_two_dictionaries(rt: HostRuntime) {
     let structs = over(&rt, alloc, b"+s", child, &mut pass);
     let inner = encoded(&rt, alloc, b"i", structs, &mut pass);
     let schema = encoded(&rt, alloc, b"c", inner, &mut pass);
-    let child = leaf(&rt, alloc, (2, 0), &[None, Some(&[41, 42])], &mut pass);
-    let structs = holding(&rt, alloc, (2, 0), &[None], child, &mut pass);
-    let indices = [1u8, 0, 0, 0, 0, 0, 0, 0];
-    let inner = indexing(
-        &rt,
-        alloc,
-        (2, 0),
-        &[None, Some(&indices)],
-        structs,
-        &mut pass,
-    );
-    let array = indexing(
-        &rt,
-        alloc,
-        (3, 0),
-        &[None, Some(&[1, 0, 1])],
-        inner,
-        &mut pass,
-    );
-    let want = [
-        Want::Fields(&[Want::Whole(41)]),
-        Want::Fields(&[Want::Whole(42)]),
-        Want::Fields(&[Want::Whole(41)]),
-    ];
-    reads(&rt, alloc, schema, array, &want, &mut pass);
+    let array = indexed_twice(&rt, alloc, &mut pass);
+    reads(&rt, alloc, schema, array, &STRUCTS, &mut pass);
     closed(&rt, desk, pass);
 }
 
@@ -562,10 +552,8 @@ fn a_refused_array_is_handed_back(rt: HostRuntime) {
     );
     match refused(&rt, alloc, schema, array, &mut pass) {
         ImportFault::Layout(fault) => {
-            assert_eq!(&rt; fault.rule, LayoutRule::BufferShort);
-            assert_eq!(&rt; fault.place, 1);
-            assert_eq!(&rt; fault.left, 5);
-            assert_eq!(&rt; fault.right, 8);
+            let found = (fault.rule, fault.place, fault.left, fault.right);
+            assert_eq!(&rt; found, (LayoutRule::BufferShort, 1, 5, 8));
         }
         ImportFault::Schema(_fault) => panic!(&rt; "another fault"),
     }
@@ -581,12 +569,11 @@ fn a_refused_schema_is_handed_back(rt: HostRuntime) {
     let array = leaf(&rt, alloc, (2, 0), &[], &mut pass);
     match refused(&rt, alloc, schema, array, &mut pass) {
         ImportFault::Schema(SchemaFault::At { path, rule }) => {
-            assert_eq!(&rt; path.depth, 0);
             let want = FormatFault::At {
                 rule: FormatRule::Unknown,
                 place: 2,
             };
-            assert_eq!(&rt; rule, SchemaRule::Format(want));
+            assert_eq!(&rt; (path.depth, rule), (0, SchemaRule::Format(want)));
         }
         _ => panic!(&rt; "another fault"),
     }

@@ -24,8 +24,7 @@ fn short_and_long_views_show_their_bytes(rt: HostRuntime) {
     let schema = flat(&rt, alloc, b"vu", &mut pass);
     let buffers: [Option<&[u8]>; 4] = [None, Some(&VIEWS), Some(b"hello, world!"), Some(&THIRTEEN)];
     let array = leaf(&rt, alloc, (2, 0), &buffers, &mut pass);
-    assert_eq!(&rt; pass.blocks(), 3);
-    assert_eq!(&rt; pass.nodes(), 2);
+    assert_eq!(&rt; (pass.blocks(), pass.nodes()), (3, 2));
     let want = [Want::Bytes(b"hi"), Want::Bytes(b"hello, world!")];
     reads(&rt, alloc, schema, array, &want, &mut pass);
     closed(&rt, desk, pass);
@@ -41,10 +40,8 @@ fn is_refused(rt: &impl Abort, alloc: Global, case: Refused<'_>) {
     let array = leaf(rt, alloc, (2, 0), &buffers, &mut pass);
     match refused(rt, alloc, schema, array, &mut pass) {
         ImportFault::Layout(fault) => {
-            assert_eq!(rt; fault.rule, case.2);
-            assert_eq!(rt; fault.place, 1, "place of {:?}", case.2);
-            assert_eq!(rt; fault.left, case.3, "left of {:?}", case.2);
-            assert_eq!(rt; fault.right, case.4, "right of {:?}", case.2);
+            let found = (fault.rule, fault.place, fault.left, fault.right);
+            assert_eq!(rt; found, (case.2, 1, case.3, case.4));
         }
         ImportFault::Schema(_fault) => panic!(rt; "another fault"),
     }
