@@ -1,6 +1,6 @@
 //! Trees that are checked, as texts, through the top call: their reports, their faults and what was made of them.
-use crate::tests::{sink_with_room, source_of, words_of};
-use crate::{Outcome, RunFault, TreeFault, WordsFault, run};
+use crate::tests::{Ends, Ran, has_told, run_over, words_of};
+use crate::{Outcome, RunFault, TreeFault, WordsFault};
 use edge_io::{MemSink, OpenGate};
 use record_tap::RecordTap;
 use std::alloc::Global;
@@ -8,14 +8,6 @@ use std::process::Abort;
 use std::str::from_utf8;
 use std::test::Fail;
 use std::thread::Threads;
-
-/// What a run came to, what it wrote and what it told.
-#[derive(Drop)]
-struct Ran {
-    outcome: Outcome,
-    sink: MemSink,
-    errs: MemSink,
-}
 
 /// Runs with the words of a line over a text, whose tap is shown nothing.
 fn check<R: Threads + Sync + Abort>(
@@ -25,35 +17,31 @@ fn check<R: Threads + Sync + Abort>(
     bytes: &[u8],
 ) -> Result<Ran, Fail> {
     let words = words_of(alloc, line)?;
-    let mut source = source_of(alloc, bytes, 4096, &[])?;
-    let mut sink = sink_with_room(alloc, 20_000, 4096, &[])?;
-    let mut errs = sink_with_room(alloc, 1000, 7, &[])?;
+    let ends = Ends {
+        read_step: 4096,
+        room: 20_000,
+        write_step: 4096,
+        line_room: 1000,
+        line_step: 7,
+    };
     let mut tap = RecordTap::new(alloc);
-    let outcome = run(
+    let ran = run_over(
         rt,
         alloc,
         &words,
-        &mut source,
-        &mut sink,
-        &mut errs,
+        bytes,
+        ends,
+        (&[], &[], &[]),
         &mut tap,
         &OpenGate,
-    );
+    )?;
+    let rest = (tap.seen().len(), ran.outcome.audit.left);
     assert_eq!(rt;
-        tap.seen().len(),
-        0,
-        "what is shown of {line} over {bytes:?}"
+        rest,
+        (0, 0),
+        "what is shown and left of {line} over {bytes:?}"
     );
-    assert_eq!(rt;
-        outcome.audit.left,
-        0,
-        "what is left of {line} over {bytes:?}"
-    );
-    Ok(Ran {
-        outcome,
-        sink,
-        errs,
-    })
+    Ok(ran)
 }
 
 /// The first line of a text, and then these lines.
@@ -78,9 +66,9 @@ fn expect_fault<R: Threads + Sync + Abort>(
 ) -> Result<(), Fail> {
     let ran = check(rt, alloc, "--check", bytes)?;
     let line = format!(in alloc; "arrowpipe: {wanted}\n")?;
-    assert_eq!(rt; told(&ran.errs), line.as_str(), "what is told of {bytes:?}");
-    assert_eq!(rt; ran.outcome.status, status, "the status of {bytes:?}");
-    assert_eq!(rt; ran.sink.taken().len(), 0, "the text of {bytes:?}");
+    let came = (ran.outcome.status, ran.sink.taken().len(), told(&ran.errs));
+    let wanted = (status, 0, line.as_str());
+    assert_eq!(rt; came, wanted, "what {bytes:?} comes to");
     Ok(())
 }
 
@@ -92,9 +80,8 @@ fn expect_report<R: Threads + Sync + Abort>(
     wanted: &str,
 ) -> Result<Outcome, Fail> {
     let ran = check(rt, alloc, "--check", bytes)?;
-    assert_eq!(rt; told(&ran.errs), "", "what is told of {bytes:?}");
-    assert_eq!(rt; told(&ran.sink), wanted, "the report of {bytes:?}");
-    assert_eq!(rt; ran.outcome.status, 0, "the status of {bytes:?}");
+    let came = (ran.outcome.status, ran.errs.taken().len(), told(&ran.sink));
+    assert_eq!(rt; came, (0, 0, wanted), "what {bytes:?} comes to");
     Ok(ran.outcome)
 }
 
@@ -285,19 +272,24 @@ static LAYOUT_ROWS: [(&str, &str); 35] = [
     ),
 ];
 
-#[test]
-fn the_first_rule_that_fails_is_told_with_its_node(rt: HostRuntime) -> Result<(), Fail> {
-    for (lines, wanted) in &SCHEMA_ROWS {
-        let text = tree_of(rt.alloc(), lines)?;
-        let line = format!(in rt.alloc(); "tree {wanted}")?;
-        expect_fault(&rt, rt.alloc(), &text, 8, line.as_str())?;
-    }
-    for (lines, wanted) in &LAYOUT_ROWS {
-        let text = tree_of(rt.alloc(), lines)?;
-        let line = format!(in rt.alloc(); "tree {wanted}")?;
-        expect_fault(&rt, rt.alloc(), &text, 8, line.as_str())?;
+/// Checks the tree of each row, and expects this rule that fails and its node.
+fn expect_rules<R: Threads + Sync + Abort>(
+    rt: &R,
+    alloc: Global,
+    rows: &[(&str, &str)],
+) -> Result<(), Fail> {
+    for (lines, wanted) in rows {
+        let text = tree_of(alloc, *lines)?;
+        let line = format!(in alloc; "tree {wanted}")?;
+        expect_fault(rt, alloc, &text, 8, line.as_str())?;
     }
     Ok(())
+}
+
+#[test]
+fn the_first_rule_that_fails_is_told_with_its_node(rt: HostRuntime) -> Result<(), Fail> {
+    expect_rules(&rt, rt.alloc(), &SCHEMA_ROWS)?;
+    expect_rules(&rt, rt.alloc(), &LAYOUT_ROWS)
 }
 
 #[test]
@@ -488,13 +480,9 @@ fn words_beside_a_check_change_no_report(rt: HostRuntime) -> Result<(), Fail> {
     ];
     for (line, wanted) in rows {
         let ran = check(&rt, rt.alloc(), line, SMALL.as_bytes())?;
-        assert_eq!(rt; ran.outcome.status, 0, "the status of {line}");
-        assert_eq!(rt;
-            told(&ran.sink),
-            "ok\n/ =+s 2 0\n/0 =i 2 1\n",
-            "the report of {line}"
-        );
-        assert_eq!(rt; told(&ran.errs), wanted, "what is told of {line}");
+        let came = (ran.outcome.status, told(&ran.sink), told(&ran.errs));
+        let report = "ok\n/ =+s 2 0\n/0 =i 2 1\n";
+        assert_eq!(rt; came, (0, report, wanted), "what {line} comes to");
     }
     Ok(())
 }
@@ -509,16 +497,13 @@ fn a_check_takes_no_stage_and_no_schema(rt: HostRuntime) -> Result<(), Fail> {
     ];
     for (line, audit) in rows {
         let ran = check(&rt, rt.alloc(), line, SMALL.as_bytes())?;
-        assert_eq!(rt;
-            ran.outcome.fault,
-            Some(RunFault::Words(WordsFault::UsedWithCheck)),
-            "the fault of {line}"
-        );
-        assert_eq!(rt; ran.outcome.status, 2, "the status of {line}");
+        let fault = Some(RunFault::Words(WordsFault::UsedWithCheck));
+        let came = (ran.outcome.fault, ran.outcome.status);
+        assert_eq!(rt; came, (fault, 2), "the fault of {line}");
         let wanted = format!(in rt.alloc();
             "arrowpipe: words: --check takes no stage and no --schema\n{audit}"
         )?;
-        assert_eq!(rt; told(&ran.errs), wanted.as_str(), "what is told of {line}");
+        has_told(&rt, line, &ran, wanted.as_bytes());
     }
     Ok(())
 }
@@ -539,23 +524,27 @@ fn a_fault_of_a_tree_has_its_path_and_numbers(rt: HostRuntime) -> Result<(), Fai
 fn a_tree_that_is_not_read_or_not_written_is_no_tree_fault(rt: HostRuntime) -> Result<(), Fail> {
     let alloc = rt.alloc();
     let words = words_of(alloc, "--check")?;
+    let ends = Ends {
+        read_step: 8,
+        room: 1000,
+        write_step: 8,
+        line_room: 1000,
+        line_step: 8,
+    };
     for (fails, refuses, status) in [(1_u64, 99_u64, 6_u8), (99, 1, 7)] {
-        let mut source = source_of(alloc, SMALL.as_bytes(), 8, &[fails])?;
-        let mut sink = sink_with_room(alloc, 1000, 8, &[refuses])?;
-        let mut errs = sink_with_room(alloc, 1000, 8, &[])?;
         let mut tap = RecordTap::new(alloc);
-        let outcome = run(
+        let ran = run_over(
             &rt,
             alloc,
             &words,
-            &mut source,
-            &mut sink,
-            &mut errs,
+            SMALL.as_bytes(),
+            ends,
+            (&[fails], &[refuses], &[]),
             &mut tap,
             &OpenGate,
-        );
-        assert_eq!(rt; outcome.status, status);
-        assert_eq!(rt; sink.taken().len(), 0);
+        )?;
+        let came = (ran.outcome.status, ran.sink.taken().len());
+        assert_eq!(rt; came, (status, 0));
     }
     Ok(())
 }

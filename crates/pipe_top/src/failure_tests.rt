@@ -1,7 +1,6 @@
 //! Sources and sinks that fail at one call, at each in turn: what the run comes to, and that nothing is left.
 use crate::RunFault;
-use crate::stage_tests::Ran;
-use crate::tests::{Ends, run_over, words_of};
+use crate::tests::{Ends, Ran, came_to, has_told, run_over, words_of};
 use edge_io::OpenGate;
 use std::alloc::Global;
 use std::process::Abort;
@@ -17,7 +16,7 @@ const BYTES: &[u8] = b"n\n1\n2\n3\n4\n5\n";
 const TEXT: &[u8] = b"n\n2\n3\n4\n";
 
 /// Runs over a source and with sinks that take one byte a call, whose calls with these numbers fail.
-fn run_failing<R: Threads + Sync + Abort>(
+fn run_failing<R: Threads + Sync>(
     rt: &R,
     alloc: Global,
     line: &str,
@@ -32,58 +31,55 @@ fn run_failing<R: Threads + Sync + Abort>(
         line_room: 100,
         line_step: 1,
     };
-    let ran = run_over(rt, alloc, &words, bytes, ends, fails, &mut NoTap, &OpenGate)?;
-    assert_eq!(rt; ran.outcome.audit.left, 0, "what is left, calls {fails:?}");
+    run_over(rt, alloc, &words, bytes, ends, fails, &mut NoTap, &OpenGate)
+}
+
+/// Runs over a source and a sink whose calls with these numbers fail, and expects this fault and status, and this text.
+fn expect_failing<R: Threads + Sync + Abort>(
+    rt: &R,
+    alloc: Global,
+    fails: (&[u64], &[u64]),
+    wanted: (Option<RunFault>, u8),
+    text: &[u8],
+) -> Result<Ran, Fail> {
+    let (reads, writes) = fails;
+    let ran = run_failing(rt, alloc, LINE, BYTES, (reads, writes, &[]))?;
+    let row = format!(in alloc; "calls {reads:?} and {writes:?} that fail")?;
+    came_to(rt, row.as_str(), BYTES, &ran, wanted, text);
     Ok(ran)
 }
 
 #[test]
 fn a_source_that_fails_at_any_call_is_a_read_fault(rt: HostRuntime) -> Result<(), Fail> {
+    let fault = (Some(RunFault::ReadFault), 6);
     for call in 1..14_u64 {
-        let ran = run_failing(&rt, rt.alloc(), LINE, BYTES, (&[call], &[], &[]))?;
-        assert_eq!(rt;
-            ran.outcome.fault,
-            Some(RunFault::ReadFault),
-            "a read that fails at call {call}"
-        );
-        assert_eq!(rt; ran.outcome.status, 6, "a read that fails at call {call}");
-        assert_eq!(rt;
-            ran.sink.taken().len(),
-            0,
-            "a read that fails at call {call}"
-        );
+        let ran = expect_failing(&rt, rt.alloc(), (&[call], &[]), fault, b"")?;
         assert_eq!(rt;
             ran.errs.taken(),
             b"arrowpipe: read failed\n".as_slice(),
-            "a read that fails at call {call}"
+            "what is told of a read that fails at call {call}"
         );
     }
-    let ran = run_failing(&rt, rt.alloc(), LINE, BYTES, (&[14], &[], &[]))?;
-    assert_eq!(rt; ran.outcome.status, 0, "there is no call 14");
-    assert_eq!(rt; ran.sink.taken(), TEXT, "there is no call 14");
+    // There is no call 14.
+    expect_failing(&rt, rt.alloc(), (&[14], &[]), (None, 0), TEXT)?;
     Ok(())
 }
 
 #[test]
 fn a_sink_that_fails_at_any_call_has_the_bytes_before_it(rt: HostRuntime) -> Result<(), Fail> {
     for call in 1..9_u64 {
-        let ran = run_failing(&rt, rt.alloc(), LINE, BYTES, (&[], &[call], &[]))?;
         let taken = call - 1;
-        assert_eq!(rt;
-            ran.outcome.fault,
-            Some(RunFault::WriteFault { taken }),
-            "a write that fails at call {call}"
-        );
-        assert_eq!(rt; ran.outcome.status, 7, "a write that fails at call {call}");
-        assert_eq!(rt;
-            ran.sink.taken(),
+        let fault = (Some(RunFault::WriteFault { taken }), 7);
+        expect_failing(
+            &rt,
+            rt.alloc(),
+            (&[], &[call]),
+            fault,
             &TEXT[..taken as usize],
-            "a write that fails at call {call}"
-        );
+        )?;
     }
-    let ran = run_failing(&rt, rt.alloc(), LINE, BYTES, (&[], &[9], &[]))?;
-    assert_eq!(rt; ran.outcome.status, 0, "there is no call 9");
-    assert_eq!(rt; ran.sink.taken(), TEXT, "there is no call 9");
+    // There is no call 9.
+    expect_failing(&rt, rt.alloc(), (&[], &[9]), (None, 0), TEXT)?;
     Ok(())
 }
 
@@ -99,10 +95,8 @@ fn diagnostics_that_fail_change_no_status(rt: HostRuntime) -> Result<(), Fail> {
     ];
     for (line, bytes, fault) in rows {
         let ran = run_failing(&rt, rt.alloc(), line, bytes, (&[], &[], &[1]))?;
-        assert_eq!(rt; ran.outcome.fault, Some(fault), "the fault of {line}");
-        assert_eq!(rt; ran.outcome.status, 4, "the status of {line}");
-        assert_eq!(rt; ran.errs.taken().len(), 0, "what is told of {line}");
-        assert_eq!(rt; ran.sink.taken().len(), 0, "the text of {line}");
+        came_to(&rt, line, bytes, &ran, (Some(fault), 4), b"");
+        has_told(&rt, line, &ran, b"");
     }
     Ok(())
 }

@@ -1,14 +1,24 @@
 //! Runs that are made from a number: what the chain gives over the same bytes from a source, while the source is left alone.
 use crate::payment_tests::{CHAIN, TOTALS, payments};
-use crate::stage_tests::{Ran, run_line};
-use crate::tests::{sink_of, sink_with_room, source_of, words_of};
-use crate::{RunFault, WordsFault, run};
-use edge_io::{Got, OpenGate, Source};
+use crate::stage_tests::run_line;
+use crate::tests::{
+    Ran, came_to, has_made, has_told, run_into, sink_of, sink_with_room, source_of, words_of,
+};
+use crate::{RunFault, WordsFault};
+use edge_io::{Got, MemSource, OpenGate, Source};
 use std::alloc::Global;
 use std::process::Abort;
 use std::test::Fail;
 use std::thread::Threads;
 use stream_face::NoTap;
+
+/// The source of six bytes whose first call fails was never called.
+fn is_unread(rt: &impl Abort, line: &str, source: &mut MemSource) {
+    let mut room = [0; 9];
+    let first = matches!(source.read(&mut room), Got::Failed);
+    let second = matches!(source.read(&mut room), Got::Bytes(6));
+    assert_eq!(rt; (first, second), (true, true), "the source of {line}");
+}
 
 /// Runs with the words of a line over a source whose first call fails, and expects that it was never called.
 fn run_made<R: Threads + Sync + Abort>(rt: &R, alloc: Global, line: &str) -> Result<Ran, Fail> {
@@ -16,7 +26,7 @@ fn run_made<R: Threads + Sync + Abort>(rt: &R, alloc: Global, line: &str) -> Res
     let mut source = source_of(alloc, b"a\n1,2\n", 4096, &[1])?;
     let mut sink = sink_with_room(alloc, 20_000, 4096, &[])?;
     let mut errs = sink_of(alloc, 100, &[])?;
-    let outcome = run(
+    let outcome = run_into(
         rt,
         alloc,
         &words,
@@ -26,16 +36,7 @@ fn run_made<R: Threads + Sync + Abort>(rt: &R, alloc: Global, line: &str) -> Res
         &mut NoTap,
         &OpenGate,
     );
-    let mut room = [0; 9];
-    assert!(rt;
-        matches!(source.read(&mut room), Got::Failed),
-        "the first call of the source of {line}"
-    );
-    assert!(rt;
-        matches!(source.read(&mut room), Got::Bytes(6)),
-        "the bytes of the source of {line}"
-    );
-    assert_eq!(rt; outcome.audit.left, 0, "what is left of {line}");
+    is_unread(rt, line, &mut source);
     Ok(Ran {
         outcome,
         sink,
@@ -54,11 +55,8 @@ fn expect_totals<R: Threads + Sync + Abort>(
     let mut text = TOTALS.to_vec(alloc)?;
     text.extend_from_slice(totals)?;
     let ran = run_made(rt, alloc, line)?;
-    assert_eq!(rt; ran.outcome.fault, None, "the fault of {line}");
-    assert_eq!(rt; ran.outcome.status, 0, "the status of {line}");
-    assert_eq!(rt; ran.sink.taken(), text.as_slice(), "the text of {line}");
-    let made = (ran.outcome.audit.blocks, ran.outcome.audit.nodes);
-    assert_eq!(rt; made, traffic, "the blocks and nodes of {line}");
+    came_to(rt, line, b"", &ran, (None, 0), &text);
+    has_made(rt, line, &ran, traffic);
     Ok(())
 }
 
@@ -90,9 +88,23 @@ static MADE: [(&str, &[u8], (u64, u64)); 5] = [
 
 #[test]
 fn rows_that_are_made_from_a_number_are_totalled(rt: HostRuntime) -> Result<(), Fail> {
-    for (line, totals, traffic) in MADE {
-        expect_totals(&rt, rt.alloc(), line, totals, traffic)?;
+    for (line, totals, traffic) in &MADE {
+        expect_totals(&rt, rt.alloc(), *line, *totals, *traffic)?;
     }
+    Ok(())
+}
+
+/// Expects that the rows that are made by the words of a line come to what this run came to.
+fn expect_made<R: Threads + Sync + Abort>(
+    rt: &R,
+    alloc: Global,
+    line: &str,
+    read: &Ran,
+) -> Result<(), Fail> {
+    let made = run_made(rt, alloc, line)?;
+    came_to(rt, line, b"", &made, (None, 0), read.sink.taken());
+    let audit = read.outcome.audit;
+    has_made(rt, line, &made, (audit.blocks, audit.nodes));
     Ok(())
 }
 
@@ -104,21 +116,15 @@ fn rows_that_are_made_are_those_of_the_same_bytes_from_a_source(
     let line = format!(in alloc; "--batch 7 --workers 4 {CHAIN}")?;
     let bytes = payments(alloc, 1000)?;
     let read = run_line(&rt, alloc, line.as_str(), &bytes)?;
-    let made = run_made(&rt, alloc, "--selftest 1000 --batch 7 --workers 4")?;
-    assert_eq!(rt; made.outcome.status, 0);
-    assert_eq!(rt; made.sink.taken(), read.sink.taken());
-    assert_eq!(rt; made.outcome.audit.blocks, read.outcome.audit.blocks);
-    assert_eq!(rt; made.outcome.audit.nodes, read.outcome.audit.nodes);
-    Ok(())
+    expect_made(&rt, alloc, "--selftest 1000 --batch 7 --workers 4", &read)
 }
 
 #[test]
 fn the_audit_of_rows_that_are_made_is_told(rt: HostRuntime) -> Result<(), Fail> {
-    let ran = run_made(&rt, rt.alloc(), "--audit --selftest 3")?;
-    assert_eq!(rt;
-        ran.errs.taken(),
-        b"audit blocks=22 nodes=69 left=0\n".as_slice()
-    );
+    let line = "--audit --selftest 3";
+    let ran = run_made(&rt, rt.alloc(), line)?;
+    assert_eq!(rt; ran.outcome.audit.left, 0);
+    has_told(&rt, line, &ran, b"audit blocks=22 nodes=69 left=0\n");
     Ok(())
 }
 
@@ -159,16 +165,11 @@ static REFUSED: [(&str, WordsFault, &[u8]); 6] = [
 
 #[test]
 fn a_number_of_rows_takes_nothing_that_asks_for_another_table(rt: HostRuntime) -> Result<(), Fail> {
-    for (line, fault, told) in REFUSED {
-        let ran = run_made(&rt, rt.alloc(), line)?;
-        assert_eq!(rt;
-            ran.outcome.fault,
-            Some(RunFault::Words(fault)),
-            "the fault of {line}"
-        );
-        assert_eq!(rt; ran.outcome.status, 2, "the status of {line}");
-        assert_eq!(rt; ran.errs.taken(), told, "what is told of {line}");
-        assert_eq!(rt; ran.sink.taken().len(), 0, "the text of {line}");
+    for (line, fault, told) in &REFUSED {
+        let ran = run_made(&rt, rt.alloc(), *line)?;
+        let fault = Some(RunFault::Words(*fault));
+        came_to(&rt, *line, b"", &ran, (fault, 2), b"");
+        has_told(&rt, *line, &ran, *told);
     }
     Ok(())
 }

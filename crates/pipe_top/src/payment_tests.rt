@@ -1,7 +1,10 @@
 //! Runs with stages of each kind over made tables of payments.
 use crate::stage_tests::run_line;
+use crate::tests::{came_to, has_made, has_told};
 use std::alloc::Global;
+use std::process::Abort;
 use std::test::Fail;
+use std::thread::Threads;
 
 /// So many payments, every second of which is paid: the lines `i,itemD,i.25,P`, where D is the last digit of i.
 pub(crate) fn payments(alloc: Global, rows: u32) -> Result<Vec<u8>, Fail> {
@@ -36,12 +39,8 @@ fn names_of_a_thousand_payments_get_a_dictionary(rt: HostRuntime) -> Result<(), 
     let bytes = payments(alloc, 1000)?;
     let text = paid_names(alloc, 1000)?;
     let ran = run_line(&rt, alloc, line, &bytes)?;
-    assert_eq!(rt; ran.outcome.status, 0);
-    assert_eq!(rt; ran.sink.taken(), text.as_slice());
-    assert_eq!(rt;
-        ran.errs.taken(),
-        b"audit blocks=12 nodes=31 left=0\n".as_slice()
-    );
+    came_to(&rt, line, b"", &ran, (None, 0), &text);
+    has_told(&rt, line, &ran, b"audit blocks=12 nodes=31 left=0\n");
     Ok(())
 }
 
@@ -60,23 +59,27 @@ static PAID: [(u32, &[u8]); 2] = [
     (1000, b"500,250000,1,999,500,250125.00,1.25,999.25\n"),
 ];
 
+/// Runs the stages of each kind over so many payments, and expects these totals.
+fn expect_paid<R: Threads + Sync + Abort>(
+    rt: &R,
+    alloc: Global,
+    rows: u32,
+    totals: &[u8],
+) -> Result<(), Fail> {
+    let bytes = payments(alloc, rows)?;
+    let mut text = TOTALS.to_vec(alloc)?;
+    text.extend_from_slice(totals)?;
+    let ran = run_line(rt, alloc, CHAIN, &bytes)?;
+    let row = format!(in alloc; "{rows} payments")?;
+    came_to(rt, row.as_str(), b"", &ran, (None, 0), &text);
+    has_made(rt, row.as_str(), &ran, (22, 69));
+    Ok(())
+}
+
 #[test]
 fn stages_of_each_kind_run_over_payments(rt: HostRuntime) -> Result<(), Fail> {
-    let alloc = rt.alloc();
-    for (rows, totals) in PAID {
-        let bytes = payments(alloc, rows)?;
-        let mut text = TOTALS.to_vec(alloc)?;
-        text.extend_from_slice(totals)?;
-        let ran = run_line(&rt, alloc, CHAIN, &bytes)?;
-        assert_eq!(rt; ran.outcome.status, 0, "the status of {rows} rows");
-        assert_eq!(rt;
-            ran.sink.taken(),
-            text.as_slice(),
-            "the text of {rows} rows"
-        );
-        let made = (ran.outcome.audit.blocks, ran.outcome.audit.nodes);
-        assert_eq!(rt; made, (22, 69), "the blocks and nodes of {rows} rows");
-        assert_eq!(rt; ran.outcome.audit.left, 0, "what is left of {rows} rows");
+    for (rows, totals) in &PAID {
+        expect_paid(&rt, rt.alloc(), *rows, *totals)?;
     }
     Ok(())
 }

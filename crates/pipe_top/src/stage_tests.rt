@@ -1,21 +1,15 @@
 //! Runs with stages: the texts and the blocks and nodes, the faults and their order, and the chunks that a tap is shown.
-use crate::tests::{Ends, run_over, sink_of, source_of, words_of};
-use crate::{Outcome, PlanRule, RunFault, StageFault, TypesRule, WordsFault, run};
-use edge_io::{MemSink, OpenGate};
+use crate::tests::{
+    Ends, Ran, came_to, has_made, has_told, run_into, run_over, sink_of, source_of, words_of,
+};
+use crate::{PlanRule, RunFault, StageFault, TypesRule, WordsFault};
+use edge_io::OpenGate;
 use record_tap::{OwnedValue, RecordTap, SeenChunk};
 use std::alloc::Global;
 use std::process::Abort;
 use std::test::Fail;
 use std::thread::Threads;
 use stream_face::{NoTap, Tap};
-
-/// What a run came to, what it wrote and what it told.
-#[derive(Drop)]
-pub(crate) struct Ran {
-    pub(crate) outcome: Outcome,
-    pub(crate) sink: MemSink,
-    pub(crate) errs: MemSink,
-}
 
 /// Runs with these words over a text, and shows each chunk to a tap.
 fn run_shown<R: Threads + Sync, T: Tap>(
@@ -208,14 +202,10 @@ static TABLES: [(&str, &[u8], (u64, u64), &[u8]); 24] = [
 
 #[test]
 fn stages_make_their_tables(rt: HostRuntime) -> Result<(), Fail> {
-    for (line, bytes, traffic, text) in TABLES {
-        let ran = run_line(&rt, rt.alloc(), line, bytes)?;
-        assert_eq!(rt; ran.outcome.fault, None, "the fault of {line}");
-        assert_eq!(rt; ran.outcome.status, 0, "the status of {line}");
-        assert_eq!(rt; ran.sink.taken(), text, "the text of {line}");
-        let made = (ran.outcome.audit.blocks, ran.outcome.audit.nodes);
-        assert_eq!(rt; made, traffic, "the blocks and nodes of {line}");
-        assert_eq!(rt; ran.outcome.audit.left, 0, "what is left of {line}");
+    for (line, bytes, traffic, text) in &TABLES {
+        let ran = run_line(&rt, rt.alloc(), *line, *bytes)?;
+        came_to(&rt, *line, *bytes, &ran, (None, 0), *text);
+        has_made(&rt, *line, &ran, *traffic);
     }
     Ok(())
 }
@@ -225,12 +215,10 @@ fn sixteen_stages_run(rt: HostRuntime) -> Result<(), Fail> {
     let words = selects(rt.alloc(), 16)?;
     let mut tap = RecordTap::new(rt.alloc());
     let ran = run_shown(&rt, rt.alloc(), &words, b"a\n7\n8\n", &mut tap)?;
-    assert_eq!(rt; ran.outcome.fault, None);
-    assert_eq!(rt; ran.sink.taken(), b"a\n7\n8\n".as_slice());
+    let row = "sixteen stages";
+    came_to(&rt, row, b"", &ran, (None, 0), b"a\n7\n8\n");
     // 17 schemas of 2 nodes, a chunk of 2, and 16 chunks of 1.
-    let made = (ran.outcome.audit.blocks, ran.outcome.audit.nodes);
-    assert_eq!(rt; made, (1, 52));
-    assert_eq!(rt; ran.outcome.audit.left, 0);
+    has_made(&rt, row, &ran, (1, 52));
     let seen = tap.seen();
     assert_eq!(rt; seen.len(), 17, "the chunks that are shown");
     for link in 0..17_u32 {
@@ -399,18 +387,28 @@ static REFUSED: [(&str, &[u8], RunFault, &[u8]); 17] = [
     ),
 ];
 
+/// Runs with the words of a line over a text, and expects this fault of the words, its line, and that no chunk is shown.
+fn expect_refused<R: Threads + Sync + Abort>(
+    rt: &R,
+    alloc: Global,
+    line: &str,
+    bytes: &[u8],
+    fault: RunFault,
+    told: &[u8],
+) -> Result<(), Fail> {
+    let words = words_of(alloc, line)?;
+    let mut tap = RecordTap::new(alloc);
+    let ran = run_shown(rt, alloc, &words, bytes, &mut tap)?;
+    came_to(rt, line, bytes, &ran, (Some(fault), 3), b"");
+    has_told(rt, line, &ran, told);
+    assert_eq!(rt; tap.seen().len(), 0, "what is shown of {line}");
+    Ok(())
+}
+
 #[test]
 fn stages_are_refused_by_their_rules(rt: HostRuntime) -> Result<(), Fail> {
-    for (line, bytes, fault, told) in REFUSED {
-        let words = words_of(rt.alloc(), line)?;
-        let mut tap = RecordTap::new(rt.alloc());
-        let ran = run_shown(&rt, rt.alloc(), &words, bytes, &mut tap)?;
-        assert_eq!(rt; ran.outcome.fault, Some(fault), "the fault of {line}");
-        assert_eq!(rt; ran.outcome.status, 3, "the status of {line}");
-        assert_eq!(rt; ran.sink.taken().len(), 0, "the text of {line}");
-        assert_eq!(rt; ran.errs.taken(), told, "what is told of {line}");
-        assert_eq!(rt; tap.seen().len(), 0, "what is shown of {line}");
-        assert_eq!(rt; ran.outcome.audit.left, 0, "what is left of {line}");
+    for (line, bytes, fault, told) in &REFUSED {
+        expect_refused(&rt, rt.alloc(), *line, *bytes, *fault, *told)?;
     }
     Ok(())
 }
@@ -420,13 +418,9 @@ fn seventeen_stages_are_refused(rt: HostRuntime) -> Result<(), Fail> {
     let words = selects(rt.alloc(), 17)?;
     let ran = run_shown(&rt, rt.alloc(), &words, b"a\n1\n", &mut NoTap)?;
     let fault = RunFault::Words(WordsFault::TooManyStages);
-    assert_eq!(rt; ran.outcome.fault, Some(fault));
-    assert_eq!(rt; ran.outcome.status, 2);
-    assert_eq!(rt; ran.sink.taken().len(), 0);
-    assert_eq!(rt;
-        ran.errs.taken(),
-        b"arrowpipe: words: more than 16 stages\n".as_slice()
-    );
+    let row = "seventeen stages";
+    came_to(&rt, row, b"", &ran, (Some(fault), 2), b"");
+    has_told(&rt, row, &ran, b"arrowpipe: words: more than 16 stages\n");
     Ok(())
 }
 
@@ -489,23 +483,9 @@ static ORDER: [(&str, &[u8], RunFault, u8); 7] = [
 
 #[test]
 fn the_first_fault_is_told(rt: HostRuntime) -> Result<(), Fail> {
-    for (line, bytes, fault, status) in ORDER {
-        let ran = run_line(&rt, rt.alloc(), line, bytes)?;
-        assert_eq!(rt;
-            ran.outcome.fault,
-            Some(fault),
-            "the fault of {line} over {bytes:?}"
-        );
-        assert_eq!(rt;
-            ran.outcome.status,
-            status,
-            "the status of {line} over {bytes:?}"
-        );
-        assert_eq!(rt;
-            ran.sink.taken().len(),
-            0,
-            "the text of {line} over {bytes:?}"
-        );
+    for (line, bytes, fault, status) in &ORDER {
+        let ran = run_line(&rt, rt.alloc(), *line, *bytes)?;
+        came_to(&rt, *line, *bytes, &ran, (Some(*fault), *status), b"");
     }
     Ok(())
 }
@@ -531,26 +511,37 @@ static UNREAD: [(&str, RunFault); 4] = [
     ("select=z", RunFault::ReadFault),
 ];
 
+/// Runs with the words of a line over a source whose first call fails, and expects this fault.
+fn expect_unread<R: Threads + Sync + Abort>(
+    rt: &R,
+    alloc: Global,
+    line: &str,
+    fault: RunFault,
+) -> Result<(), Fail> {
+    let words = words_of(alloc, line)?;
+    let mut source = source_of(alloc, b"a\n1\n", 7, &[1])?;
+    let mut sink = sink_of(alloc, 5, &[])?;
+    let mut errs = sink_of(alloc, 5, &[])?;
+    let outcome = run_into(
+        rt,
+        alloc,
+        &words,
+        &mut source,
+        &mut sink,
+        &mut errs,
+        &mut NoTap,
+        &OpenGate,
+    );
+    let came = (outcome.fault, sink.taken().len());
+    assert_eq!(rt; came, (Some(fault), 0), "the fault and the text of {line}");
+    Ok(())
+}
+
 #[test]
 fn texts_among_the_words_are_refused_before_reading(rt: HostRuntime) -> Result<(), Fail> {
     let alloc = rt.alloc();
-    for (line, fault) in UNREAD {
-        let words = words_of(alloc, line)?;
-        let mut source = source_of(alloc, b"a\n1\n", 7, &[1])?;
-        let mut sink = sink_of(alloc, 5, &[])?;
-        let mut errs = sink_of(alloc, 5, &[])?;
-        let outcome = run(
-            &rt,
-            alloc,
-            &words,
-            &mut source,
-            &mut sink,
-            &mut errs,
-            &mut NoTap,
-            &OpenGate,
-        );
-        assert_eq!(rt; outcome.fault, Some(fault), "the fault of {line}");
-        assert_eq!(rt; sink.taken().len(), 0, "the text of {line}");
+    for (line, fault) in &UNREAD {
+        expect_unread(&rt, alloc, *line, *fault)?;
     }
     Ok(())
 }
@@ -628,18 +619,31 @@ static SHOWN: [(&str, &[u8], usize, [&[&[i128]]; 3]); 4] = [
     ),
 ];
 
+/// Runs with the words of a line over a text, and expects that so many chunks are shown, those of three links.
+fn expect_shown<R: Threads + Sync + Abort>(
+    rt: &R,
+    alloc: Global,
+    line: &str,
+    bytes: &[u8],
+    count: usize,
+    links: &[&[&[i128]]; 3],
+) -> Result<(), Fail> {
+    let words = words_of(alloc, line)?;
+    let mut tap = RecordTap::new(alloc);
+    let ran = run_shown(rt, alloc, &words, bytes, &mut tap)?;
+    let seen = tap.seen();
+    let came = (ran.outcome.fault, seen.len());
+    assert_eq!(rt; came, (None, count), "the chunks that are shown of {line}");
+    link_is(rt, seen, 0, links[0]);
+    link_is(rt, seen, 1, links[1]);
+    link_is(rt, seen, 2, links[2]);
+    Ok(())
+}
+
 #[test]
 fn a_tap_is_shown_the_chunks_of_each_link(rt: HostRuntime) -> Result<(), Fail> {
-    for (line, bytes, count, links) in SHOWN {
-        let words = words_of(rt.alloc(), line)?;
-        let mut tap = RecordTap::new(rt.alloc());
-        let ran = run_shown(&rt, rt.alloc(), &words, bytes, &mut tap)?;
-        assert_eq!(rt; ran.outcome.fault, None, "the fault of {line}");
-        let seen = tap.seen();
-        assert_eq!(rt; seen.len(), count, "the chunks that are shown of {line}");
-        link_is(&rt, seen, 0, links[0]);
-        link_is(&rt, seen, 1, links[1]);
-        link_is(&rt, seen, 2, links[2]);
+    for (line, bytes, count, links) in &SHOWN {
+        expect_shown(&rt, rt.alloc(), *line, *bytes, *count, links)?;
     }
     Ok(())
 }
@@ -650,13 +654,13 @@ fn a_late_bad_record_behind_a_window_is_refused(rt: HostRuntime) -> Result<(), F
     let mut tap = RecordTap::new(rt.alloc());
     let ran = run_shown(&rt, rt.alloc(), &words, b"n\n1\n2\n3\n4\nx\n", &mut tap)?;
     let fault = RunFault::Field { row: 5, column: 1 };
-    assert_eq!(rt; ran.outcome.fault, Some(fault));
-    assert_eq!(rt; ran.outcome.status, 4);
-    assert_eq!(rt; ran.outcome.audit.left, 0);
-    assert_eq!(rt; ran.sink.taken().len(), 0);
-    assert_eq!(rt;
-        ran.errs.taken(),
-        b"arrowpipe: record 5, column 1: not a value of its type\n".as_slice()
+    let row = "a late bad record";
+    came_to(&rt, row, b"", &ran, (Some(fault), 4), b"");
+    has_told(
+        &rt,
+        row,
+        &ran,
+        b"arrowpipe: record 5, column 1: not a value of its type\n",
     );
     // Which of the first chunks were shown by then is left open.
     link_begins(&rt, tap.seen(), 0, &[&[1, 2], &[3, 4]]);
@@ -725,30 +729,28 @@ static MANY: [(&str, u32, u32); 6] = [
     ("--audit", 3000, 1900),
 ];
 
+/// Runs over so many records, and expects so many of them behind the stages.
+fn expect_window<R: Threads + Sync + Abort>(
+    rt: &R,
+    alloc: Global,
+    front: &str,
+    rows: u32,
+    count: u32,
+) -> Result<(), Fail> {
+    let line = format!(in alloc; "{front} --schema d:l select=d,n filter=d,ge,3 slice=7,{count}")?;
+    let bytes = numbers(alloc, rows)?;
+    let ran = run_line(rt, alloc, &line, &bytes)?;
+    let text = wanted(alloc, rows, count)?;
+    let came = (ran.outcome.fault, ran.outcome.audit.left);
+    let is_so = came == (None, 0) && ran.sink.taken() == text.as_slice();
+    assert!(rt; is_so, "the end and the text of {front} over {rows} rows");
+    Ok(())
+}
+
 #[test]
 fn the_text_is_the_same_whatever_the_batch(rt: HostRuntime) -> Result<(), Fail> {
-    let alloc = rt.alloc();
-    for (front, rows, count) in MANY {
-        let line = format!(in alloc;
-            "{front} --schema d:l select=d,n filter=d,ge,3 slice=7,{count}"
-        )?;
-        let bytes = numbers(alloc, rows)?;
-        let ran = run_line(&rt, alloc, &line, &bytes)?;
-        let text = wanted(alloc, rows, count)?;
-        assert_eq!(rt;
-            ran.outcome.fault,
-            None,
-            "the fault of {front} over {rows} rows"
-        );
-        assert!(rt;
-            ran.sink.taken() == text.as_slice(),
-            "the text of {front} over {rows} rows"
-        );
-        assert_eq!(rt;
-            ran.outcome.audit.left,
-            0,
-            "what is left of {front} over {rows} rows"
-        );
+    for (front, rows, count) in &MANY {
+        expect_window(&rt, rt.alloc(), *front, *rows, *count)?;
     }
     Ok(())
 }

@@ -1,7 +1,7 @@
 //! Runs over sources and sinks in memory, with answers from outside.
 ghost use Rattle.std.specs.Prelude.{◌≤◌};
 
-use crate::stage_tests::Ran;
+use crate::stage_tests::run_line;
 use crate::told::tell;
 use crate::{Outcome, PlanRule, RunFault, StageFault, TypesRule, WordsFault, run};
 use edge_io::{CountSource, Gate, MemSink, MemSource, OpenGate, Source};
@@ -44,6 +44,14 @@ pub(crate) fn sink_of(alloc: Global, step: usize, fails: &[u64]) -> Result<MemSi
     requires { 1 ≤ step }
 {
     sink_with_room(alloc, 100, step, fails)
+}
+
+/// What a run came to, what it wrote and what it told.
+#[derive(Drop)]
+pub(crate) struct Ran {
+    pub(crate) outcome: Outcome,
+    pub(crate) sink: MemSink,
+    pub(crate) errs: MemSink,
 }
 
 /// How many bytes a call of the source, of the sink and of the sink of lines moves at most, and how many the sinks have room for.
@@ -120,13 +128,13 @@ pub(crate) fn came_to(
         ran.outcome.fault,
         ran.outcome.status,
         ran.outcome.audit.left,
+        ran.sink.taken(),
     );
     assert_eq!(rt;
         came,
-        (fault, status, 0),
-        "the end of {line} over {bytes:?}"
+        (fault, status, 0, text),
+        "what {line} over {bytes:?} comes to"
     );
-    assert_eq!(rt; ran.sink.taken(), text, "the text of {line} over {bytes:?}");
 }
 
 /// Expects that the run of a row, named by its words, told this.
@@ -381,27 +389,9 @@ fn digits(alloc: Global, rows: u32) -> Result<Vec<u8>, Fail> {
 fn a_table_of_thousands_of_rows_comes_back(rt: HostRuntime) -> Result<(), Fail> {
     let alloc = rt.alloc();
     let bytes = digits(alloc, 3000)?;
-    let words = words_of(alloc, "--schema a:l")?;
-    let ends = Ends {
-        read_step: 4096,
-        room: 20_000,
-        write_step: 4096,
-        line_room: 100,
-        line_step: 5,
-    };
-    let ran = run_over(
-        &rt,
-        alloc,
-        &words,
-        &bytes,
-        ends,
-        (&[], &[], &[]),
-        &mut NoTap,
-        &OpenGate,
-    )?;
-    let came = (ran.outcome.status, ran.outcome.audit.left);
-    assert_eq!(rt; came, (0, 0));
-    assert_eq!(rt; ran.sink.taken(), bytes.as_slice());
+    let line = "--schema a:l";
+    let ran = run_line(&rt, alloc, line, &bytes)?;
+    came_to(&rt, line, b"", &ran, (None, 0), &bytes);
     Ok(())
 }
 
@@ -457,42 +447,45 @@ fn expect_typed<R: Threads + Sync + Abort>(
     Ok(())
 }
 
+// Each row has the words, an input, the blocks and the nodes that are made, and the text.
+
+static TYPED: [(&str, &[u8], u64, u64, &[u8]); 6] = [
+    ("--null NA", b"a,b\nNA,\n", 3, 6, b"a,b\nNA,\n"),
+    (
+        "--null NA --schema a:l",
+        b"a\nNA\n+7\n",
+        2,
+        4,
+        b"a\nNA\n7\n",
+    ),
+    (
+        "--schema a:d:5,2",
+        b"a\n7.5\n-0.05\n",
+        1,
+        4,
+        b"a\n7.50\n-0.05\n",
+    ),
+    (
+        "--schema id:l;amount:d:10,2;paid:b",
+        b"id,name,amount,paid\n+1,x,2,TRUE\n,,,\n",
+        9,
+        10,
+        b"id,name,amount,paid\n1,x,2.00,true\n,,,\n",
+    ),
+    (
+        "--schema a:z;b:w:2;c:e",
+        b"a,b,c\n0aFF,00ff,3C0F\n",
+        4,
+        8,
+        b"a,b,c\n0aff,00ff,3c0f\n",
+    ),
+    ("--schema a:l", b"a\n", 0, 2, b"a\n"),
+];
+
 #[test]
 fn typed_columns_come_back_in_the_texts_of_their_types(rt: HostRuntime) -> Result<(), Fail> {
-    let cases: [(&str, &[u8], u64, u64, &[u8]); 6] = [
-        ("--null NA", b"a,b\nNA,\n", 3, 6, b"a,b\nNA,\n"),
-        (
-            "--null NA --schema a:l",
-            b"a\nNA\n+7\n",
-            2,
-            4,
-            b"a\nNA\n7\n",
-        ),
-        (
-            "--schema a:d:5,2",
-            b"a\n7.5\n-0.05\n",
-            1,
-            4,
-            b"a\n7.50\n-0.05\n",
-        ),
-        (
-            "--schema id:l;amount:d:10,2;paid:b",
-            b"id,name,amount,paid\n+1,x,2,TRUE\n,,,\n",
-            9,
-            10,
-            b"id,name,amount,paid\n1,x,2.00,true\n,,,\n",
-        ),
-        (
-            "--schema a:z;b:w:2;c:e",
-            b"a,b,c\n0aFF,00ff,3C0F\n",
-            4,
-            8,
-            b"a,b,c\n0aff,00ff,3c0f\n",
-        ),
-        ("--schema a:l", b"a\n", 0, 2, b"a\n"),
-    ];
-    for (line, bytes, blocks, nodes, text) in cases {
-        expect_typed(&rt, rt.alloc(), line, bytes, (blocks, nodes), text)?;
+    for (line, bytes, blocks, nodes, text) in &TYPED {
+        expect_typed(&rt, rt.alloc(), *line, *bytes, (*blocks, *nodes), *text)?;
     }
     Ok(())
 }
@@ -532,38 +525,54 @@ fn fields_outside_their_types_are_refused_with_their_places(rt: HostRuntime) -> 
     Ok(())
 }
 
+// Each row has the words, an input, the calls of the sink of lines that fail, the status, and the lines.
+
+static TOLD: [(&str, &[u8], &[u64], u8, &[u8]); 6] = [
+    (
+        "--schema a:u --audit",
+        b"a,b\n1,\n",
+        &[],
+        0,
+        b"audit blocks=4 nodes=6 left=0\n",
+    ),
+    ("--schema a:u", b"a,b\n1,\n", &[], 0, b""),
+    ("--schema=a:u", b"", &[], 4, b"arrowpipe: no header\n"),
+    (
+        "--audit",
+        b"",
+        &[],
+        4,
+        b"arrowpipe: no header\naudit blocks=0 nodes=0 left=0\n",
+    ),
+    (
+        "--audit --audit",
+        b"a\n",
+        &[],
+        2,
+        b"arrowpipe: words refused\n",
+    ),
+    ("--audit", b"", &[1], 4, b""),
+];
+
+/// Runs with the words of a line over a short text, whose lines fail at these calls, and expects this status and these lines.
+fn expect_told<R: Threads + Sync + Abort>(
+    rt: &R,
+    alloc: Global,
+    line: &str,
+    bytes: &[u8],
+    fails: &[u64],
+    wanted: (u8, &[u8]),
+) -> Result<(), Fail> {
+    let ran = run_words(rt, alloc, line, bytes, fails)?;
+    let came = (ran.outcome.status, ran.errs.taken());
+    assert_eq!(rt; came, wanted, "what is told of {line} over {bytes:?}");
+    Ok(())
+}
+
 #[test]
 fn fault_and_audit_are_told_line_by_line(rt: HostRuntime) -> Result<(), Fail> {
-    let cases: [(&str, &[u8], &[u64], u8, &[u8]); 6] = [
-        (
-            "--schema a:u --audit",
-            b"a,b\n1,\n",
-            &[],
-            0,
-            b"audit blocks=4 nodes=6 left=0\n",
-        ),
-        ("--schema a:u", b"a,b\n1,\n", &[], 0, b""),
-        ("--schema=a:u", b"", &[], 4, b"arrowpipe: no header\n"),
-        (
-            "--audit",
-            b"",
-            &[],
-            4,
-            b"arrowpipe: no header\naudit blocks=0 nodes=0 left=0\n",
-        ),
-        (
-            "--audit --audit",
-            b"a\n",
-            &[],
-            2,
-            b"arrowpipe: words refused\n",
-        ),
-        ("--audit", b"", &[1], 4, b""),
-    ];
-    for (line, bytes, fails, expected, told) in cases {
-        let ran = run_words(&rt, rt.alloc(), line, bytes, fails)?;
-        assert_eq!(rt; ran.outcome.status, expected, "the status of {line}");
-        has_told(&rt, line, &ran, told);
+    for (line, bytes, fails, status, told) in &TOLD {
+        expect_told(&rt, rt.alloc(), *line, *bytes, *fails, (*status, *told))?;
     }
     Ok(())
 }
@@ -583,139 +592,142 @@ fn expect_line(rt: &impl Abort, alloc: Global, fault: RunFault, line: &[u8]) -> 
     Ok(())
 }
 
+// Each row has a fault, and its line.
+
+static LINES: [(RunFault, &[u8]); 25] = [
+    (
+        RunFault::Words(WordsFault::Refused),
+        b"arrowpipe: words refused\n",
+    ),
+    (
+        RunFault::Words(WordsFault::TooManyStages),
+        b"arrowpipe: words: more than 16 stages\n",
+    ),
+    (
+        RunFault::Stage {
+            stage: 1,
+            rule: StageFault::UnknownStage,
+        },
+        b"arrowpipe: stage 1: unknown stage\n",
+    ),
+    (
+        RunFault::Stage {
+            stage: 16,
+            rule: StageFault::BadArguments,
+        },
+        b"arrowpipe: stage 16: bad arguments\n",
+    ),
+    (
+        RunFault::Stage {
+            stage: 2,
+            rule: StageFault::NoMemory,
+        },
+        b"arrowpipe: stage 2: out of memory\n",
+    ),
+    (
+        RunFault::Plan {
+            stage: 1,
+            rule: PlanRule::NoColumn,
+        },
+        b"arrowpipe: stage 1: no such column\n",
+    ),
+    (
+        RunFault::Plan {
+            stage: 2,
+            rule: PlanRule::SameName,
+        },
+        b"arrowpipe: stage 2: same name twice\n",
+    ),
+    (
+        RunFault::Plan {
+            stage: 3,
+            rule: PlanRule::WrongType,
+        },
+        b"arrowpipe: stage 3: wrong column type\n",
+    ),
+    (
+        RunFault::Plan {
+            stage: 4,
+            rule: PlanRule::BadConstant,
+        },
+        b"arrowpipe: stage 4: bad constant\n",
+    ),
+    (
+        RunFault::Plan {
+            stage: 17,
+            rule: PlanRule::NestedOutput,
+        },
+        b"arrowpipe: stage 17: nested column in the output\n",
+    ),
+    (
+        RunFault::Plan {
+            stage: 5,
+            rule: PlanRule::NoColumns,
+        },
+        b"arrowpipe: stage 5: no column left\n",
+    ),
+    (
+        RunFault::Plan {
+            stage: 6,
+            rule: PlanRule::TooWide,
+        },
+        b"arrowpipe: stage 6: too many columns\n",
+    ),
+    (
+        RunFault::Schema {
+            entry: 1,
+            rule: TypesRule::BadEntry,
+        },
+        b"arrowpipe: schema entry 1: not a column type\n",
+    ),
+    (
+        RunFault::Schema {
+            entry: 12,
+            rule: TypesRule::Twice,
+        },
+        b"arrowpipe: schema entry 12: named before\n",
+    ),
+    (RunFault::NoHeader, b"arrowpipe: no header\n"),
+    (
+        RunFault::TooManyColumns { count: 1025 },
+        b"arrowpipe: header has 1025 columns\n",
+    ),
+    (
+        RunFault::HeaderText { column: 3 },
+        b"arrowpipe: header column 3: not UTF-8\n",
+    ),
+    (
+        RunFault::HeaderTwice { column: 2 },
+        b"arrowpipe: header column 2: named before\n",
+    ),
+    (
+        RunFault::HeaderUnknown { entry: 1 },
+        b"arrowpipe: schema entry 1: no such column\n",
+    ),
+    (
+        RunFault::Ragged { row: 10, found: 0 },
+        b"arrowpipe: record 10: 0 fields\n",
+    ),
+    (
+        RunFault::Field { row: 5, column: 2 },
+        b"arrowpipe: record 5, column 2: not a value of its type\n",
+    ),
+    (
+        RunFault::InputTooLong,
+        b"arrowpipe: input longer than 1073741824 bytes\n",
+    ),
+    (RunFault::ReadFault, b"arrowpipe: read failed\n"),
+    (
+        RunFault::WriteFault { taken: 4 },
+        b"arrowpipe: write failed after 4 bytes\n",
+    ),
+    (RunFault::NoMemory, b"arrowpipe: out of memory\n"),
+];
+
 #[test]
 fn each_fault_has_its_line(rt: HostRuntime) -> Result<(), Fail> {
-    let cases: [(RunFault, &[u8]); 25] = [
-        (
-            RunFault::Words(WordsFault::Refused),
-            b"arrowpipe: words refused\n",
-        ),
-        (
-            RunFault::Words(WordsFault::TooManyStages),
-            b"arrowpipe: words: more than 16 stages\n",
-        ),
-        (
-            RunFault::Stage {
-                stage: 1,
-                rule: StageFault::UnknownStage,
-            },
-            b"arrowpipe: stage 1: unknown stage\n",
-        ),
-        (
-            RunFault::Stage {
-                stage: 16,
-                rule: StageFault::BadArguments,
-            },
-            b"arrowpipe: stage 16: bad arguments\n",
-        ),
-        (
-            RunFault::Stage {
-                stage: 2,
-                rule: StageFault::NoMemory,
-            },
-            b"arrowpipe: stage 2: out of memory\n",
-        ),
-        (
-            RunFault::Plan {
-                stage: 1,
-                rule: PlanRule::NoColumn,
-            },
-            b"arrowpipe: stage 1: no such column\n",
-        ),
-        (
-            RunFault::Plan {
-                stage: 2,
-                rule: PlanRule::SameName,
-            },
-            b"arrowpipe: stage 2: same name twice\n",
-        ),
-        (
-            RunFault::Plan {
-                stage: 3,
-                rule: PlanRule::WrongType,
-            },
-            b"arrowpipe: stage 3: wrong column type\n",
-        ),
-        (
-            RunFault::Plan {
-                stage: 4,
-                rule: PlanRule::BadConstant,
-            },
-            b"arrowpipe: stage 4: bad constant\n",
-        ),
-        (
-            RunFault::Plan {
-                stage: 17,
-                rule: PlanRule::NestedOutput,
-            },
-            b"arrowpipe: stage 17: nested column in the output\n",
-        ),
-        (
-            RunFault::Plan {
-                stage: 5,
-                rule: PlanRule::NoColumns,
-            },
-            b"arrowpipe: stage 5: no column left\n",
-        ),
-        (
-            RunFault::Plan {
-                stage: 6,
-                rule: PlanRule::TooWide,
-            },
-            b"arrowpipe: stage 6: too many columns\n",
-        ),
-        (
-            RunFault::Schema {
-                entry: 1,
-                rule: TypesRule::BadEntry,
-            },
-            b"arrowpipe: schema entry 1: not a column type\n",
-        ),
-        (
-            RunFault::Schema {
-                entry: 12,
-                rule: TypesRule::Twice,
-            },
-            b"arrowpipe: schema entry 12: named before\n",
-        ),
-        (RunFault::NoHeader, b"arrowpipe: no header\n"),
-        (
-            RunFault::TooManyColumns { count: 1025 },
-            b"arrowpipe: header has 1025 columns\n",
-        ),
-        (
-            RunFault::HeaderText { column: 3 },
-            b"arrowpipe: header column 3: not UTF-8\n",
-        ),
-        (
-            RunFault::HeaderTwice { column: 2 },
-            b"arrowpipe: header column 2: named before\n",
-        ),
-        (
-            RunFault::HeaderUnknown { entry: 1 },
-            b"arrowpipe: schema entry 1: no such column\n",
-        ),
-        (
-            RunFault::Ragged { row: 10, found: 0 },
-            b"arrowpipe: record 10: 0 fields\n",
-        ),
-        (
-            RunFault::Field { row: 5, column: 2 },
-            b"arrowpipe: record 5, column 2: not a value of its type\n",
-        ),
-        (
-            RunFault::InputTooLong,
-            b"arrowpipe: input longer than 1073741824 bytes\n",
-        ),
-        (RunFault::ReadFault, b"arrowpipe: read failed\n"),
-        (
-            RunFault::WriteFault { taken: 4 },
-            b"arrowpipe: write failed after 4 bytes\n",
-        ),
-        (RunFault::NoMemory, b"arrowpipe: out of memory\n"),
-    ];
-    for (fault, line) in cases {
-        expect_line(&rt, rt.alloc(), fault, line)?;
+    for (fault, line) in &LINES {
+        expect_line(&rt, rt.alloc(), *fault, *line)?;
     }
     Ok(())
 }

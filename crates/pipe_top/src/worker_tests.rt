@@ -1,9 +1,9 @@
 //! Runs with several workers: texts, blocks and nodes are those of one worker, and two workers are seen side by side.
 use crate::payment_tests::{CHAIN, TOTALS, payments};
-use crate::stage_tests::Ran;
-use crate::tests::{Ends, run_over, words_of};
+use crate::tests::{Ends, Ran, came_to, has_made, run_over, words_of};
 use edge_io::{Gate, OpenGate};
 use std::alloc::Global;
+use std::process::Abort;
 use std::sync::atomic::{AtomicU64, Ordering};
 use std::test::Fail;
 use std::thread;
@@ -65,6 +65,22 @@ fn run_by<R: Threads + Sync>(
     )
 }
 
+/// Runs with so many workers and the words of a line over a text, and expects this text, made with so many blocks and nodes.
+fn expect_by<R: Threads + Sync + Abort>(
+    rt: &R,
+    alloc: Global,
+    workers: u32,
+    row: &(&str, &[u8], &[u8], (u64, u64)),
+    gate: &(dyn Gate + Sync),
+) -> Result<(), Fail> {
+    let (line, bytes, text, traffic) = row;
+    let ran = run_by(rt, alloc, workers, *line, *bytes, gate)?;
+    let by = format!(in alloc; "{line} by {workers}")?;
+    came_to(rt, by.as_str(), *bytes, &ran, (None, 0), *text);
+    has_made(rt, by.as_str(), &ran, *traffic);
+    Ok(())
+}
+
 // Each row has the words, an input, the text, and the blocks and nodes that are made, by however many workers.
 
 static ROWS: [(&str, &[u8], &[u8], (u64, u64)); 2] = [
@@ -84,42 +100,23 @@ static ROWS: [(&str, &[u8], &[u8], (u64, u64)); 2] = [
 
 #[test]
 fn two_of_four_workers_are_seen_side_by_side(rt: HostRuntime) -> Result<(), Fail> {
-    for (line, bytes, text, traffic) in ROWS {
+    for row in &ROWS {
         let meet = Meet {
             came: AtomicU64::new(0),
             seen: AtomicU64::new(0),
         };
-        let ran = run_by(&rt, rt.alloc(), 4, line, bytes, &meet)?;
-        assert_eq!(rt; ran.sink.taken(), text, "the text of {line}");
-        let made = (ran.outcome.audit.blocks, ran.outcome.audit.nodes);
-        assert_eq!(rt; made, traffic, "the blocks and nodes of {line}");
-        assert_eq!(rt;
-            meet.seen.load(Ordering::SeqCst),
-            1,
-            "the workers of {line}"
-        );
+        expect_by(&rt, rt.alloc(), 4, row, &meet)?;
+        let seen = meet.seen.load(Ordering::SeqCst);
+        assert_eq!(rt; seen, 1, "the workers of {row:?}");
     }
     Ok(())
 }
 
 #[test]
 fn any_number_of_workers_gives_the_same(rt: HostRuntime) -> Result<(), Fail> {
-    for (line, bytes, text, traffic) in ROWS {
+    for row in &ROWS {
         for workers in [1u32, 2, 3, 64] {
-            let ran = run_by(&rt, rt.alloc(), workers, line, bytes, &OpenGate)?;
-            assert_eq!(rt; ran.outcome.status, 0, "the status of {line} by {workers}");
-            assert_eq!(rt; ran.sink.taken(), text, "the text of {line} by {workers}");
-            let made = (ran.outcome.audit.blocks, ran.outcome.audit.nodes);
-            assert_eq!(rt;
-                made,
-                traffic,
-                "the blocks and nodes of {line} by {workers}"
-            );
-            assert_eq!(rt;
-                ran.outcome.audit.left,
-                0,
-                "what is left of {line} by {workers}"
-            );
+            expect_by(&rt, rt.alloc(), workers, row, &OpenGate)?;
         }
     }
     Ok(())
@@ -133,8 +130,8 @@ fn four_workers_total_a_thousand_payments_in_chunks_of_seven(rt: HostRuntime) ->
     let mut text = TOTALS.to_vec(alloc)?;
     text.extend_from_slice(b"500,250000,1,999,500,250125.00,1.25,999.25\n")?;
     let ran = run_by(&rt, alloc, 4, line.as_str(), &bytes, &OpenGate)?;
-    assert_eq!(rt; ran.outcome.status, 0);
+    let came = (ran.outcome.status, ran.outcome.audit.left);
+    assert_eq!(rt; came, (0, 0));
     assert_eq!(rt; ran.sink.taken(), text.as_slice());
-    assert_eq!(rt; ran.outcome.audit.left, 0);
     Ok(())
 }
