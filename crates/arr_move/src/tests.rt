@@ -1,4 +1,8 @@
 //! Columns and fields picked out of order, and a slice, against what their parents held.
+ghost use Rattle.std.specs.Prelude.{◌≡◌, pos};
+ghost use Rattle.tree_model.specs.Tree.{IsLive};
+ghost use Rattle.raw_array.specs.Members.{members_of};
+
 use crate::columns::{self, slice, take_columns};
 use crate::fields::{self, take_fields};
 use buf_block::{BufView, make};
@@ -124,6 +128,17 @@ fn shown(rt: &impl Abort, array: &RawArray, i: i64) -> (i64, i64, i64, u8) {
     (child.length(), child.null_count(), child.offset(), first)
 }
 
+/// An array of three items from the front on.
+fn three_long(rt: &impl Abort, array: &RawArray)
+    ensures live { IsLive array.now }
+    ensures length { (members_of array.now).length ≡ pos 3 }
+    ensures offset { (members_of array.now).offset ≡ pos 0 }
+{
+    assert!(rt; !array.is_released());
+    assert!(rt; array.length() == 3);
+    assert!(rt; array.offset() == 0);
+}
+
 /// The columns 2 and 0 of a struct array of offset 1 and length 2 over three columns.
 #[tactic(auto, using(crate::proofs::Picked::picked))]
 fn last_and_first(rt: &impl Abort, alloc: Global, array: RawArray, pass: &mut Pass) -> RawArray {
@@ -131,12 +146,8 @@ fn last_and_first(rt: &impl Abort, alloc: Global, array: RawArray, pass: &mut Pa
     assert!(rt; array.offset() == 1);
     assert!(rt; array.length() == 2);
     assert!(rt; array.n_children() == 3);
-    assert!(rt; !array.child(0).is_released());
-    assert!(rt; array.child(0).length() == 3);
-    assert!(rt; array.child(0).offset() == 0);
-    assert!(rt; !array.child(2).is_released());
-    assert!(rt; array.child(2).length() == 3);
-    assert!(rt; array.child(2).offset() == 0);
+    three_long(rt, array.child(0));
+    three_long(rt, array.child(2));
     assert!(rt; array.cost() <= 99);
     assert!(rt; pass.units() >= 1);
     assert!(rt; pass.units() + array.cost() <= SUPPLY);
@@ -259,74 +270,104 @@ fn end_schema(rt: &impl Abort, schema: RawSchema, pass: &mut Pass) {
     schema.discard();
 }
 
+/// A struct array of offset 1 and length 2 over three columns, of which the last has a null.
+fn three_columns(rt: &impl Abort, alloc: Global, pass: &mut Pass) -> RawArray {
+    let mut parent = structure(rt, alloc, (2, -1, 1), 3, pass);
+    let data: [u8; 12] = [7, 0, 0, 0, 8, 0, 0, 0, 9, 0, 0, 0];
+    for i in 0..2 {
+        let child = column(rt, alloc, None, &data, (3, 0, 0), pass);
+        put(rt, &mut parent, i, child);
+    }
+    let nulls: [u8; 12] = [4, 0, 0, 0, 0, 0, 0, 0, 6, 0, 0, 0];
+    let last = column(rt, alloc, Some(&[5]), &nulls, (3, 1, 0), pass);
+    put(rt, &mut parent, 2, last);
+    parent
+}
+
+/// The structure over the picked columns, and what each of them shows.
+fn picked(rt: &impl Abort, columns: &RawArray) {
+    assert!(rt; !columns.is_released());
+    let numbers = (columns.length(), columns.null_count(), columns.offset());
+    let parts = (columns.n_children(), columns.n_buffers());
+    let kind = columns.release_kind();
+    assert!(rt; (numbers, parts, kind) == ((2, 0, 0), (2, 1), Some(ReleaseKind::Assembled)));
+    assert!(rt; shown(rt, columns, 0) == (2, -1, 1, 4));
+    assert!(rt; shown(rt, columns, 1) == (2, 0, 1, 7));
+}
+
 #[test]
-#[tactic(auto, using(crate::proofs::Picked::picked))]
 fn picked_columns_show_the_items_of_their_parent(rt: HostRuntime) {
     let alloc = rt.alloc();
     let (desk, mut pass) = open_desk();
-    let mut parent = structure(&rt, alloc, (2, -1, 1), 3, &mut pass);
-    let data: [u8; 12] = [7, 0, 0, 0, 8, 0, 0, 0, 9, 0, 0, 0];
-    let first = column(&rt, alloc, None, &data, (3, 0, 0), &mut pass);
-    put(&rt, &mut parent, 0, first);
-    let middle = column(&rt, alloc, None, &data, (3, 0, 0), &mut pass);
-    put(&rt, &mut parent, 1, middle);
-    let nulls: [u8; 12] = [4, 0, 0, 0, 0, 0, 0, 0, 6, 0, 0, 0];
-    let last = column(&rt, alloc, Some(&[5]), &nulls, (3, 1, 0), &mut pass);
-    put(&rt, &mut parent, 2, last);
+    let parent = three_columns(&rt, alloc, &mut pass);
     let (blocks, nodes) = (pass.blocks(), pass.nodes());
     let columns = last_and_first(&rt, alloc, parent, &mut pass);
-    assert!(&rt; pass.blocks() == blocks);
-    assert!(&rt; nodes == 4 && pass.nodes() == 5);
-    assert!(&rt; !columns.is_released());
-    let numbers = (columns.length(), columns.null_count(), columns.offset());
-    assert!(&rt; numbers == (2, 0, 0));
-    assert!(&rt; columns.n_children() == 2 && columns.n_buffers() == 1);
-    assert!(&rt; columns.release_kind() == Some(ReleaseKind::Assembled));
-    assert!(&rt; shown(&rt, &columns, 0) == (2, -1, 1, 4));
-    assert!(&rt; shown(&rt, &columns, 1) == (2, 0, 1, 7));
+    assert!(&rt; (pass.blocks(), nodes, pass.nodes()) == (blocks, 4, 5));
+    picked(&rt, &columns);
     end(&rt, columns, &mut pass);
     assert!(&rt; pass.units() == SUPPLY);
     let _audit = desk.close(pass);
 }
 
-#[test]
+/// A schema over three fields.
+fn three_fields(rt: &impl Abort, alloc: Global, pass: &mut Pass) -> RawSchema {
+    let mut parent = field(rt, alloc, b"+s", b"t", 3, pass);
+    let names: [&[u8]; 3] = [b"a", b"b", b"c"];
+    for i in 0..3 {
+        let child = field(rt, alloc, b"i", names[i], 0, pass);
+        put_field(rt, &mut parent, i, child);
+    }
+    parent
+}
+
+/// The schema over the picked fields, and the name of each.
 #[tactic(auto, using(crate::proofs::Picked::picked))]
+fn picked_fields(rt: &impl Abort, fields: &RawSchema) {
+    assert!(rt; name_of(rt, fields) == b't');
+    assert!(rt; !fields.is_released());
+    assert!(rt; fields.flags() == 2);
+    assert!(rt; fields.n_children() == 2);
+    assert!(rt; name_of(rt, fields.child(0)) == b'c');
+    assert!(rt; name_of(rt, fields.child(1)) == b'a');
+}
+
+#[test]
 fn picked_fields_keep_their_order(rt: HostRuntime) {
     let alloc = rt.alloc();
     let (desk, mut pass) = open_desk();
-    let mut parent = field(&rt, alloc, b"+s", b"t", 3, &mut pass);
-    let names: [&[u8]; 3] = [b"a", b"b", b"c"];
-    for i in 0..3 {
-        let child = field(&rt, alloc, b"i", names[i], 0, &mut pass);
-        put_field(&rt, &mut parent, i, child);
-    }
+    let parent = three_fields(&rt, alloc, &mut pass);
     let fields = last_and_first_field(&rt, alloc, parent, &mut pass);
-    assert!(&rt; pass.blocks() == 0 && pass.nodes() == 5);
-    assert!(&rt; name_of(&rt, &fields) == b't');
-    assert!(&rt; !fields.is_released());
-    assert!(&rt; fields.flags() == 2);
-    assert!(&rt; fields.n_children() == 2);
-    assert!(&rt; name_of(&rt, fields.child(0)) == b'c');
-    assert!(&rt; name_of(&rt, fields.child(1)) == b'a');
+    assert!(&rt; (pass.blocks(), pass.nodes()) == (0, 5));
+    picked_fields(&rt, &fields);
     end_schema(&rt, fields, &mut pass);
     assert!(&rt; pass.units() == SUPPLY);
     let _audit = desk.close(pass);
 }
 
+/// A struct array of two items over one column, whose first item is null.
+fn one_column(rt: &impl Abort, alloc: Global, pass: &mut Pass) -> RawArray {
+    let mut parent = structure(rt, alloc, (2, 0, 0), 1, pass);
+    let data: [u8; 8] = [0, 0, 0, 0, 5, 0, 0, 0];
+    let only = column(rt, alloc, Some(&[2]), &data, (2, 1, 0), pass);
+    put(rt, &mut parent, 0, only);
+    parent
+}
+
+/// A slice of one item, and its column as it was.
+fn sliced(rt: &impl Abort, second: &RawArray) {
+    assert!(rt; !second.is_released());
+    let numbers = (second.length(), second.null_count(), second.offset());
+    assert!(rt; numbers == (1, 0, 1));
+    assert!(rt; shown(rt, second, 0) == (2, 1, 0, 0));
+}
+
 #[test]
-#[tactic(auto, using(crate::proofs::Picked::picked))]
 fn slice_keeps_its_children(rt: HostRuntime) {
     let alloc = rt.alloc();
     let (desk, mut pass) = open_desk();
-    let mut parent = structure(&rt, alloc, (2, 0, 0), 1, &mut pass);
-    let data: [u8; 8] = [0, 0, 0, 0, 5, 0, 0, 0];
-    let only = column(&rt, alloc, Some(&[2]), &data, (2, 1, 0), &mut pass);
-    put(&rt, &mut parent, 0, only);
+    let parent = one_column(&rt, alloc, &mut pass);
     let second = second_item(&rt, parent);
-    assert!(&rt; !second.is_released());
-    let numbers = (second.length(), second.null_count(), second.offset());
-    assert!(&rt; numbers == (1, 0, 1));
-    assert!(&rt; shown(&rt, &second, 0) == (2, 1, 0, 0));
+    sliced(&rt, &second);
     end(&rt, second, &mut pass);
     assert!(&rt; pass.units() == SUPPLY);
     let _audit = desk.close(pass);
