@@ -3,12 +3,12 @@ ghost use Rattle.std.specs.Prelude.{◌≡◌, ◌≤ℤ◌, ◌++◌, pos, List
 ghost use Rattle.layout_check.specs.Layout.{natural};
 ghost use Rattle.fmt_string.specs.Value.{Value};
 ghost use Rattle.fmt_string.specs.declared.kind.DataType.{DataType};
-ghost use Rattle.col_build.specs.Finished.{IsMade};
+ghost use Rattle.col_build.specs.Finished.{IsMade, IsLaidOut};
 ghost use Rattle.arr_export.specs.ArrayTrees.{HasValues, IsColumn};
 
-use super::{export_column, export_table};
+use super::{export_column, export_laid, export_table};
 use buf_block::{BufView, make};
-use col_build::Built;
+use col_build::{Built, Laid};
 use fmt_string::DataType;
 use raw_array::RawArray;
 use std::alloc::Global;
@@ -109,6 +109,33 @@ fn numbers(rt: &impl Abort, alloc: Global, pass: &mut Pass) -> RawArray {
         buffers: two(rt, alloc, validity, data),
     };
     exported(rt, alloc, built, None, pass)
+}
+
+fn exported_laid(rt: &impl Abort, alloc: Global, laid: Laid, pass: &mut Pass) -> RawArray
+    requires { (kind : DataType) × (values : List Value) × IsLaidOut laid kind values }
+{
+    assert!(rt; pass.units() >= 1);
+    match export_laid(alloc, laid, pass) {
+        Ok(tree) => tree,
+        Err(_refused) => panic!(rt; "there is memory"),
+    }
+}
+
+/// The same numbers, as buffers without a type.
+fn laid_numbers(rt: &impl Abort, alloc: Global, pass: &mut Pass) -> RawArray {
+    let validity = block(rt, alloc, &[0b0001_1101], pass);
+    let data = block(
+        rt,
+        alloc,
+        &[1, 0, 0, 0, 0, 0, 0, 0, 2, 0, 0, 0, 4, 0, 0, 0, 8, 0, 0, 0],
+        pass,
+    );
+    let laid = Laid {
+        length: 5,
+        null_count: 1,
+        buffers: two(rt, alloc, validity, data),
+    };
+    exported_laid(rt, alloc, laid, pass)
 }
 
 /// The standard's "joe", null, null, "mark" ("Variable-size Binary Layout").
@@ -282,34 +309,41 @@ const NUMBERS: &str =
 const TEXTS: &str =
     "4 2 0 Some(Exported) Some([9]) Some([0, 0, 0, 0, 3, 0, 0, 0, 3, 0, 0, 0, 3, 0, 0, 0, 7, 0, 0, 0]) Some([106, 111, 101, 109, 97, 114, 107])";
 
-fn check_columns(rt: &impl Abort, alloc: Global, pass: &mut Pass) -> Result<(), Fail> {
+fn check_wholes(rt: &impl Abort, alloc: Global, pass: &mut Pass) -> Result<(), Fail> {
     let tree = numbers(rt, alloc, pass);
     check(rt, alloc, tree, NUMBERS, pass)?;
+    let tree = decimals(rt, alloc, pass);
+    let want =
+        "2 0 0 Some(Exported) None Some([0, 1, 0, 0, 0, 0, 0, 0, 0, 0, 0, 0, 0, 0, 0, 0, 255, 255, 255, 255, 255, 255, 255, 255, 255, 255, 255, 255, 255, 255, 255, 255])";
+    check(rt, alloc, tree, want, pass)
+}
+
+fn check_bytes(rt: &impl Abort, alloc: Global, pass: &mut Pass) -> Result<(), Fail> {
     let tree = texts(rt, alloc, pass);
     check(rt, alloc, tree, TEXTS, pass)?;
     let tree = binaries(rt, alloc, pass);
     let want =
         "3 0 0 Some(Exported) None Some([0, 0, 0, 0, 0, 0, 0, 0, 2, 0, 0, 0, 0, 0, 0, 0, 2, 0, 0, 0, 0, 0, 0, 0, 3, 0, 0, 0, 0, 0, 0, 0]) Some([1, 2, 3])";
     check(rt, alloc, tree, want, pass)?;
-    let tree = truths(rt, alloc, pass);
-    check(
-        rt,
-        alloc,
-        tree,
-        "4 1 0 Some(Exported) Some([11]) Some([9])",
-        pass,
-    )?;
-    let tree = floats(rt, alloc, pass);
-    let want =
-        "2 0 0 Some(Exported) None Some([0, 0, 0, 0, 0, 0, 248, 63, 0, 0, 0, 0, 0, 0, 0, 192])";
-    check(rt, alloc, tree, want, pass)?;
-    let tree = decimals(rt, alloc, pass);
-    let want =
-        "2 0 0 Some(Exported) None Some([0, 1, 0, 0, 0, 0, 0, 0, 0, 0, 0, 0, 0, 0, 0, 0, 255, 255, 255, 255, 255, 255, 255, 255, 255, 255, 255, 255, 255, 255, 255, 255])";
-    check(rt, alloc, tree, want, pass)?;
     let tree = triples(rt, alloc, pass);
     let want = "3 1 0 Some(Exported) Some([5]) Some([97, 98, 99, 0, 0, 0, 100, 101, 102])";
     check(rt, alloc, tree, want, pass)
+}
+
+fn check_bits(rt: &impl Abort, alloc: Global, pass: &mut Pass) -> Result<(), Fail> {
+    let tree = truths(rt, alloc, pass);
+    let want = "4 1 0 Some(Exported) Some([11]) Some([9])";
+    check(rt, alloc, tree, want, pass)?;
+    let tree = floats(rt, alloc, pass);
+    let want =
+        "2 0 0 Some(Exported) None Some([0, 0, 0, 0, 0, 0, 248, 63, 0, 0, 0, 0, 0, 0, 0, 192])";
+    check(rt, alloc, tree, want, pass)
+}
+
+fn check_columns(rt: &impl Abort, alloc: Global, pass: &mut Pass) -> Result<(), Fail> {
+    check_wholes(rt, alloc, pass)?;
+    check_bytes(rt, alloc, pass)?;
+    check_bits(rt, alloc, pass)
 }
 
 fn check_places(rt: &impl Abort, alloc: Global, tree: &RawArray) -> Result<(), Fail> {
@@ -335,8 +369,19 @@ fn columns_are_handed_out_as_they_are_laid_out(rt: HostRuntime) -> Result<(), Fa
     let checked = check_columns(&rt, alloc, &mut pass);
     assert_eq!(rt; pass.units(), SUPPLY);
     let audit = desk.close(pass);
-    assert_eq!(rt; audit.nodes, 7);
-    assert_eq!(rt; audit.blocks, 13);
+    assert_eq!(rt; (audit.nodes, audit.blocks), (7, 13));
+    checked
+}
+
+#[test]
+fn buffers_without_a_type_are_handed_out_as_their_column(rt: HostRuntime) -> Result<(), Fail> {
+    let alloc = rt.alloc();
+    let (desk, mut pass) = open_desk();
+    let tree = laid_numbers(&rt, alloc, &mut pass);
+    let checked = check(&rt, alloc, tree, NUMBERS, &mut pass);
+    assert_eq!(rt; pass.units(), SUPPLY);
+    let audit = desk.close(pass);
+    assert_eq!(rt; (audit.nodes, audit.blocks), (1, 2));
     checked
 }
 
@@ -350,8 +395,7 @@ fn indices_stand_before_their_dictionary(rt: HostRuntime) -> Result<(), Fail> {
     let_go(&rt, tree, &mut pass);
     assert_eq!(rt; pass.units(), SUPPLY);
     let audit = desk.close(pass);
-    assert_eq!(rt; audit.nodes, 2);
-    assert_eq!(rt; audit.blocks, 4);
+    assert_eq!(rt; (audit.nodes, audit.blocks), (2, 4));
     checked
 }
 
@@ -385,17 +429,19 @@ fn table(rt: &impl Abort, alloc: Global, rows: i64, pass: &mut Pass) -> RawArray
     }
 }
 
+/// An array is shown as it should be.
+fn is_shown(rt: &impl Abort, alloc: Global, tree: &RawArray, want: &str) -> Result<(), Fail> {
+    assert_eq!(rt; shown(rt, alloc, tree)?.as_str(), want);
+    Ok(())
+}
+
 fn check_table(rt: &impl Abort, alloc: Global, tree: &RawArray) -> Result<(), Fail> {
-    assert_eq!(rt;
-        shown(rt, alloc, tree)?.as_str(),
-        "3 0 0 Some(Assembled) None"
-    );
+    is_shown(rt, alloc, tree, "3 0 0 Some(Assembled) None")?;
     assert!(rt; !tree.is_released());
     assert!(rt; tree.dictionary().is_none());
     assert!(rt; tree.n_children() == 2);
-    assert_eq!(rt; shown(rt, alloc, tree.child(0))?.as_str(), NUMBERS);
-    assert_eq!(rt; shown(rt, alloc, tree.child(1))?.as_str(), TEXTS);
-    Ok(())
+    is_shown(rt, alloc, tree.child(0), NUMBERS)?;
+    is_shown(rt, alloc, tree.child(1), TEXTS)
 }
 
 #[test]
@@ -407,7 +453,6 @@ fn a_table_has_its_columns_as_they_are(rt: HostRuntime) -> Result<(), Fail> {
     let_go(&rt, tree, &mut pass);
     assert_eq!(rt; pass.units(), SUPPLY);
     let audit = desk.close(pass);
-    assert_eq!(rt; audit.nodes, 3);
-    assert_eq!(rt; audit.blocks, 5);
+    assert_eq!(rt; (audit.nodes, audit.blocks), (3, 5));
     checked
 }

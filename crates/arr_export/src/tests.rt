@@ -73,8 +73,7 @@ fn columns_are_children_of_a_struct(rt: HostRuntime) -> Result<(), Fail> {
             tree.release(&mut pass);
             tree.discard();
             let audit = desk.close(pass);
-            assert_eq!(rt; audit.nodes, 4);
-            assert_eq!(rt; audit.blocks, 0);
+            assert_eq!(rt; (audit.nodes, audit.blocks), (4, 0));
             checked
         }
         Err(_no_memory) => panic!(rt; "there is memory"),
