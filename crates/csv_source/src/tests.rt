@@ -1,5 +1,5 @@
 //! Tests of the source: its schema, its chunks behind a checked joint, how it ends, and what it says then.
-ghost use Rattle.std.specs.Prelude.{◌≡◌, ◌≤◌, ◌<◌, ◌^◌, IsTrue, IfOk, length};
+ghost use Rattle.std.specs.Prelude.{◌≡◌, ◌≤◌, ◌<◌, ◌^◌, IsTrue, length};
 ghost use Rattle.csv_source.specs.Sources.{source_state};
 ghost use Rattle.unit_pass.specs.declared.pass.TheConstants.{ROOM};
 
@@ -12,36 +12,44 @@ use raw_array::{Acted, RawArray};
 use raw_schema::RawSchema;
 use stage_plan::read_types;
 use std::alloc::Global;
+use std::fmt::Debug;
 use std::process::Abort;
-use std::test::Fail;
 use std::thread::Threads;
 use stream_face::{ArrayStream, NoTap, RawStream, Tap};
 use unit_pass::{Audit, Desk, NoMemory, Pass, ROOM, SUPPLY, open_desk};
+
+/// Expects what was wanted.
+fn same<T: PartialEq + Debug>(rt: &impl Abort, found: &T, wanted: &T) {
+    assert_eq!(rt; *found, *wanted);
+}
 
 // ---- a source
 
 /// The source of a text under the types that are asked for.
 fn source_of<'a>(
+    rt: &impl Abort,
     alloc: Global,
     text: &'a [u8],
     asked: &str,
     batch: u32,
-) -> Result<CsvSource<'a>, Fail>
+) -> CsvSource<'a>
     requires short { length text.now ≤ 2 ^ 30 }
     requires some { 1 ≤ batch }
     requires few { batch ≤ 1000000 }
-    ensures live { IfOk result (λ source. IsTrue (source_state source).live) }
+    ensures live { IsTrue (source_state result).live }
 {
     let Ok(entries) = read_types(alloc, asked) else {
-        return Err(Fail::from("the types are read"));
+        panic!(rt; "the types are read");
     };
-    let mut records = Records::start(alloc, text).ok().ok_or("there is memory")?;
+    let Ok(mut records) = Records::start(alloc, text) else {
+        panic!(rt; "there is memory");
+    };
     let Ok(columns) = read_header(alloc, &mut records, entries.as_slice()) else {
-        return Err(Fail::from("the header is read"));
+        panic!(rt; "the header is read");
     };
     match CsvSource::start(alloc, records, columns, b"", batch) {
-        Ok(source) => Ok(source),
-        Err(NoMemory) => Err(Fail::from("there is memory")),
+        Ok(source) => source,
+        Err(NoMemory) => panic!(rt; "there is memory"),
     }
 }
 
@@ -73,16 +81,25 @@ fn pull<R: Threads + Sync>(
 fn end(rt: &impl Abort, source: CsvSource<'_>, pass: &mut Pass) {
     let mut source = source;
     let _supply = pass.units();
-    assert!(rt; source.release(pass) == Acted::Acted);
-    assert!(rt; source.is_released());
-    assert!(rt; source.release(pass) == Acted::Was);
+    let first = source.release(pass);
+    let gone = source.is_released();
+    let again = source.release(pass);
     source.discard();
+    same(rt, &(first, gone, again), &(Acted::Acted, true, Acted::Was));
+}
+
+/// Closes the desk, to whose pass all units of this row are back.
+fn closed(rt: &impl Abort, row: u32, desk: Desk, pass: Pass) -> Audit {
+    assert!(rt; pass.units() == SUPPLY, "units under {row}");
+    desk.close(pass)
 }
 
 // ---- the ends
 
 /// A text, the size of a batch, how many rows the chunks have, and the record at fault with what is said of it.
-static CASES: [(&[u8], u32, &[i64], Option<(RowFault, &str)>); 7] = [
+type Case<'c> = (&'c [u8], u32, &'c [i64], Option<(RowFault, &'c str)>);
+
+static CASES: [Case<'static>; 7] = [
     (b"a,b\n1,x\n2,y\n3,z\n4,\n5,v\n", 5, &[5], None),
     (b"a,b\n1,x\n2,y\n3,z\n4,\n5,v\n", 1000000, &[5], None),
     (b"a,b\n", 2, &[], None),
@@ -110,6 +127,23 @@ static CASES: [(&[u8], u32, &[i64], Option<(RowFault, &str)>); 7] = [
     ),
 ];
 
+/// What a call answers: its code, how many rows its chunk has, what is said of it, and the record at fault.
+type Reply<'r> = (i32, Option<i64>, Option<&'r str>, Option<RowFault>);
+
+/// Expects this of the next call.
+fn expect_reply<R: Abort + Threads + Sync>(
+    rt: &R,
+    alloc: Global,
+    source: &mut CsvSource<'_>,
+    pass: &mut Pass,
+    wanted: Reply<'_>,
+) {
+    assert!(rt; !source.is_released() && pass.units() >= ROOM);
+    let (code, rows) = pull(rt, alloc, source, pass);
+    let reply = (code, rows, source.get_last_error(), source.fault());
+    same(rt, &reply, &wanted);
+}
+
 /// Expects chunks of so many rows.
 fn expect_chunks<R: Abort + Threads + Sync>(
     rt: &R,
@@ -119,12 +153,7 @@ fn expect_chunks<R: Abort + Threads + Sync>(
     lengths: &[i64],
 ) {
     for length in lengths {
-        assert!(rt; !source.is_released() && pass.units() >= ROOM);
-        let (code, rows) = pull(rt, alloc, source, pass);
-        assert_eq!(rt; code, 0, "a chunk of {length}");
-        assert_eq!(rt; rows, Some(*length));
-        assert_eq!(rt; source.get_last_error(), None);
-        assert_eq!(rt; source.fault(), None);
+        expect_reply(rt, alloc, source, pass, (0, Some(*length), None, None));
     }
 }
 
@@ -136,39 +165,31 @@ fn expect_end<R: Abort + Threads + Sync>(
     pass: &mut Pass,
     wanted: Option<(RowFault, &str)>,
 ) {
-    for _ in 0..2 {
-        assert!(rt; !source.is_released() && pass.units() >= ROOM);
-        let (code, rows) = pull(rt, alloc, source, pass);
-        assert_eq!(rt; rows, None);
-        match wanted {
-            None => {
-                assert_eq!(rt; code, 0);
-                assert_eq!(rt; source.get_last_error(), None);
-                assert_eq!(rt; source.fault(), None);
-            }
-            Some((fault, said)) => {
-                assert_eq!(rt; code, 22, "{said}");
-                assert_eq!(rt; source.get_last_error(), Some(said));
-                assert_eq!(rt; source.fault(), Some(fault));
-            }
-        }
-    }
+    let reply = match wanted {
+        None => (0, None, None, None),
+        Some((fault, said)) => (22, None, Some(said), Some(fault)),
+    };
+    expect_reply(rt, alloc, source, pass, reply);
+    expect_reply(rt, alloc, source, pass, reply);
+}
+
+/// Expects the chunks and the end of a case, behind which all units are back.
+fn expect_case<R: Abort + Threads + Sync>(rt: &R, alloc: Global, case: Case<'_>) {
+    let (text, batch, lengths, wanted) = case;
+    assert!(rt; text.len() <= 100 && batch >= 1 && batch <= 1000000);
+    let mut source = source_of(rt, alloc, text, "a:l", batch);
+    let (desk, mut pass) = open_desk();
+    expect_chunks(rt, alloc, &mut source, &mut pass, lengths);
+    expect_end(rt, alloc, &mut source, &mut pass, wanted);
+    end(rt, source, &mut pass);
+    closed(rt, batch, desk, pass);
 }
 
 #[test]
-fn a_record_that_spells_no_row_ends_the_stream(rt: HostRuntime) -> Result<(), Fail> {
-    let alloc = rt.alloc();
-    for (text, batch, lengths, wanted) in &CASES {
-        assert!(rt; text.len() <= 100 && *batch >= 1 && *batch <= 1000000);
-        let mut source = source_of(alloc, *text, "a:l", *batch)?;
-        let (desk, mut pass) = open_desk();
-        expect_chunks(&rt, alloc, &mut source, &mut pass, *lengths);
-        expect_end(&rt, alloc, &mut source, &mut pass, *wanted);
-        end(&rt, source, &mut pass);
-        assert_eq!(rt; pass.units(), SUPPLY, "under {batch}");
-        let _audit = desk.close(pass);
+fn a_record_that_spells_no_row_ends_the_stream(rt: HostRuntime) {
+    for case in &CASES {
+        expect_case(&rt, rt.alloc(), *case);
     }
-    Ok(())
 }
 
 // ---- the schema
@@ -176,8 +197,8 @@ fn a_record_that_spells_no_row_ends_the_stream(rt: HostRuntime) -> Result<(), Fa
 /// Expects a column of this name and format.
 fn expect_column(rt: &impl Abort, column: &RawSchema, name: &[u8], format: &[u8]) {
     assert!(rt; !column.is_released());
-    assert_eq!(rt; column.name(), Some(name));
-    assert_eq!(rt; column.format(), format);
+    let found = (column.name(), column.format());
+    same(rt, &found, &(Some(name), format));
 }
 
 /// Expects the schema of a column of whole numbers and one of texts.
@@ -185,9 +206,8 @@ fn expect_schema(rt: &impl Abort, alloc: Global, source: &mut CsvSource<'_>, pas
     assert!(rt; !source.is_released() && pass.units() >= ROOM);
     let _supply = pass.units();
     let mut schema = RawSchema::released();
-    assert_eq!(rt; source.get_schema(alloc, &mut schema, pass), 0);
-    assert!(rt; !schema.is_released());
-    assert!(rt; schema.n_children() == 2);
+    let code = source.get_schema(alloc, &mut schema, pass);
+    assert!(rt; code == 0 && !schema.is_released() && schema.n_children() == 2);
     expect_column(rt, schema.child(0), b"a", b"l");
     expect_column(rt, schema.child(1), b"b", b"u");
     schema.end(pass);
@@ -195,22 +215,19 @@ fn expect_schema(rt: &impl Abort, alloc: Global, source: &mut CsvSource<'_>, pas
 
 /// The schema is given before the first chunk, between chunks and behind the last one, and no chunk is lost by it.
 #[test]
-fn schema_is_given_at_each_call(rt: HostRuntime) -> Result<(), Fail> {
+fn schema_is_given_at_each_call(rt: HostRuntime) {
     let alloc = rt.alloc();
-    let mut source = source_of(alloc, b"a,b\n1,x\n2,y\n", "a:l", 1)?;
+    let mut source = source_of(&rt, alloc, b"a,b\n1,x\n2,y\n", "a:l", 1);
     let (desk, mut pass) = open_desk();
-    expect_schema(&rt, alloc, &mut source, &mut pass);
-    expect_schema(&rt, alloc, &mut source, &mut pass);
-    expect_chunks(&rt, alloc, &mut source, &mut pass, &[1]);
-    expect_schema(&rt, alloc, &mut source, &mut pass);
-    expect_chunks(&rt, alloc, &mut source, &mut pass, &[1]);
+    for lengths in [[].as_slice(), &[1], &[1]] {
+        expect_schema(&rt, alloc, &mut source, &mut pass);
+        expect_chunks(&rt, alloc, &mut source, &mut pass, lengths);
+    }
     expect_end(&rt, alloc, &mut source, &mut pass, None);
     expect_schema(&rt, alloc, &mut source, &mut pass);
     end(&rt, source, &mut pass);
-    assert_eq!(rt; pass.units(), SUPPLY);
-    let audit = desk.close(pass);
-    assert_eq!(rt; audit.nodes, 18);
-    Ok(())
+    let audit = closed(&rt, 1, desk, pass);
+    same(&rt, &audit.nodes, &18);
 }
 
 // ---- the chunks
@@ -400,79 +417,109 @@ fn joint<'a>(
     }
 }
 
-/// The code of the next call, and how many rows its chunk has, whose units are back then.
-fn next<R: Abort + Threads + Sync, T: Tap>(
+/// Expects this of the next call, whose units are back then: its code is 0, and its chunk has so many rows.
+fn expect_next<R: Abort + Threads + Sync>(
     rt: &R,
     alloc: Global,
     stream: &mut RawStream<CsvSource<'_>>,
     pass: &mut Pass,
-    tap: &mut T,
-) -> (i32, Option<i64>) {
+    sights: &mut Sights,
+    (batch, wanted): (u32, Option<i64>),
+) {
     assert!(rt; !stream.is_released() && pass.units() >= ROOM);
     let _supply = pass.units();
     let mut out = RawArray::released();
-    let code = stream.next(rt, alloc, &mut out, pass, tap, &OpenGate);
+    let code = stream.next(rt, alloc, &mut out, pass, sights, &OpenGate);
     let rows = if out.is_released() {
         None
     } else {
         Some(out.length())
     };
     out.end(pass);
-    (code, rows)
+    same(rt, &(batch, code, rows), &(batch, 0, wanted));
 }
 
-/// Releases the stream, which keeps the schema of two columns alone, and gives it up; then all units are back.
-fn ended(rt: &impl Abort, stream: RawStream<CsvSource<'_>>, desk: Desk, pass: Pass) -> Audit {
+/// Releases the stream, which keeps the schema of two columns alone, and gives it up.
+fn ended(rt: &impl Abort, stream: RawStream<CsvSource<'_>>, pass: &mut Pass) {
     let mut stream = stream;
-    let mut pass = pass;
-    assert_eq!(rt; stream.schema().cost(), 3);
-    assert_eq!(rt; pass.units(), SUPPLY - 3);
-    assert!(rt; stream.release(&mut pass) == Acted::Acted);
-    assert!(rt; stream.release(&mut pass) == Acted::Was);
+    assert!(rt; stream.schema().cost() == 3 && pass.units() == SUPPLY - 3);
+    let first = stream.release(pass);
+    let again = stream.release(pass);
     stream.discard();
-    assert_eq!(rt; pass.units(), SUPPLY);
-    desk.close(pass)
+    same(rt, &(first, again), &(Acted::Acted, Acted::Was));
+}
+
+/// What was shown of a chunk is what was wanted.
+fn expect_sight(rt: &impl Abort, i: usize, sight: &Sight, wanted: &Wanted<'_>) {
+    let rows = wanted.numbers.len() as i64;
+    same(
+        rt,
+        &(i, sight.link, sight.rows, sight.nulls),
+        &(i, 7, rows, wanted.nulls),
+    );
+    let buffers = [
+        sight.numbers.as_slice(),
+        sight.valid.as_slice(),
+        sight.offsets.as_slice(),
+        sight.text.as_slice(),
+    ];
+    same(
+        rt,
+        &(i, buffers),
+        &(
+            i,
+            [wanted.numbers, wanted.valid, wanted.offsets, wanted.text],
+        ),
+    );
 }
 
 /// What was shown is what was wanted.
 fn shows(rt: &impl Abort, sights: &[Sight], wanted: &[Wanted<'_>]) {
     assert_eq!(rt; sights.len(), wanted.len());
-    for (i, (sight, wanted)) in sights.iter().zip(wanted.iter()).enumerate() {
-        assert_eq!(rt; sight.link, 7);
-        assert_eq!(rt; sight.rows, wanted.numbers.len() as i64, "rows of {i}");
-        assert_eq!(rt; sight.nulls, wanted.nulls, "nulls of {i}");
-        assert!(rt;
-            sight.numbers.as_slice() == wanted.numbers,
-            "numbers of {i}"
-        );
-        assert!(rt; sight.valid.as_slice() == wanted.valid, "validity of {i}");
-        assert!(rt;
-            sight.offsets.as_slice() == wanted.offsets,
-            "offsets of {i}"
-        );
-        assert!(rt; sight.text.as_slice() == wanted.text, "text of {i}");
+    for i in 0..sights.len() {
+        expect_sight(rt, i, &sights[i], &wanted[i]);
     }
 }
 
-#[test]
-fn chunks_pass_the_check_and_are_shown(rt: HostRuntime) -> Result<(), Fail> {
-    let alloc = rt.alloc();
-    for (batch, wanted) in &BATCHES {
-        assert!(rt; *batch >= 1 && *batch <= 1000000);
-        let source = source_of(alloc, ROWS, "a:c", *batch)?;
-        let (desk, mut pass) = open_desk();
-        let mut stream = joint(&rt, alloc, source, 7, &mut pass);
-        let mut sights = Sights {
-            seen: Vec::new(alloc),
-        };
-        for chunk in *wanted {
-            let found = next(&rt, alloc, &mut stream, &mut pass, &mut sights);
-            assert_eq!(rt; found, (0, Some(chunk.numbers.len() as i64)));
-        }
-        let found = next(&rt, alloc, &mut stream, &mut pass, &mut sights);
-        assert_eq!(rt; found, (0, None), "behind the last of {batch}");
-        ended(&rt, stream, desk, pass);
-        shows(&rt, sights.seen.as_slice(), *wanted);
+/// Expects these chunks of batches of this size and none behind them, and that they are shown.
+fn expect_shown<R: Abort + Threads + Sync>(
+    rt: &R,
+    alloc: Global,
+    stream: &mut RawStream<CsvSource<'_>>,
+    pass: &mut Pass,
+    batch: u32,
+    wanted: &[Wanted<'_>],
+) {
+    let mut sights = Sights {
+        seen: Vec::new(alloc),
+    };
+    for chunk in wanted {
+        let rows = Some(chunk.numbers.len() as i64);
+        expect_next(rt, alloc, stream, pass, &mut sights, (batch, rows));
     }
-    Ok(())
+    expect_next(rt, alloc, stream, pass, &mut sights, (batch, None));
+    shows(rt, sights.seen.as_slice(), wanted);
+}
+
+/// Expects the chunks of batches of this size, behind which all units are back.
+fn expect_batches<R: Abort + Threads + Sync>(
+    rt: &R,
+    alloc: Global,
+    batch: u32,
+    wanted: &[Wanted<'_>],
+) {
+    assert!(rt; batch >= 1 && batch <= 1000000);
+    let source = source_of(rt, alloc, ROWS, "a:c", batch);
+    let (desk, mut pass) = open_desk();
+    let mut stream = joint(rt, alloc, source, 7, &mut pass);
+    expect_shown(rt, alloc, &mut stream, &mut pass, batch, wanted);
+    ended(rt, stream, &mut pass);
+    closed(rt, batch, desk, pass);
+}
+
+#[test]
+fn chunks_pass_the_check_and_are_shown(rt: HostRuntime) {
+    for (batch, wanted) in &BATCHES {
+        expect_batches(&rt, rt.alloc(), *batch, *wanted);
+    }
 }
