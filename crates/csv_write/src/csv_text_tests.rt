@@ -20,8 +20,14 @@ use layout_check::{Typed, check_array, check_schema};
 use raw_array::{ArrayParts, RawArray, ReleaseKind};
 use raw_schema::RawSchema;
 use std::alloc::Global;
+use std::fmt::Debug;
 use std::process::Abort;
-use unit_pass::{CHUNK, Name, Pass, SUPPLY, open_desk};
+use unit_pass::{CHUNK, Desk, Name, Pass, SUPPLY, open_desk};
+
+/// Expects what was wanted.
+fn same<T: PartialEq + Debug>(rt: &impl Abort, found: &T, wanted: &T) {
+    assert_eq!(rt; *found, *wanted);
+}
 
 // ---- arrays
 
@@ -137,6 +143,20 @@ fn chunk(
     array(rt, alloc, span, &[None], columns, None, pass)
 }
 
+/// The buffers of a chunk's columns, what the columns span, and what the chunk does.
+type Part<'p> = (&'p [&'p [Option<&'p [u8]>]], Span, Span);
+
+/// A chunk of each part.
+fn chunks_of(rt: &impl Abort, alloc: Global, parts: &[Part<'_>], pass: &mut Pass) -> Vec<RawArray> {
+    let mut chunks = Vec::new(alloc);
+    for (buffers, inner, outer) in parts {
+        let columns = columns_of(rt, alloc, *inner, *buffers, pass);
+        let chunk = chunk(rt, alloc, *outer, columns, pass);
+        listed(rt, &mut chunks, chunk);
+    }
+    chunks
+}
+
 fn ended(rt: &impl Abort, array: RawArray, pass: &mut Pass) {
     let mut array = array;
     let before = pass.units();
@@ -150,6 +170,12 @@ fn all_ended(rt: &impl Abort, mut arrays: Vec<RawArray>, pass: &mut Pass) {
         ended(rt, array, pass);
     }
     arrays.destroy_empty();
+}
+
+/// Closes the desk, to whose pass all units are back.
+fn closed(rt: &impl Abort, desk: Desk, pass: Pass) {
+    assert!(rt; pass.units() == SUPPLY);
+    desk.close(pass);
 }
 
 // ---- columns
@@ -242,10 +268,31 @@ fn shows(
 {
     let typed = typed_columns(rt, alloc, columns, pass);
     let text = written(rt, alloc, columns, &typed, &chunks, b"");
-    assert_eq!(rt; text.as_slice(), want);
+    same(rt, &("", text.as_slice()), &("", want));
     let text = written(rt, alloc, columns, &typed, &chunks, b"NULL");
-    assert_eq!(rt; text.as_slice(), marked);
+    same(rt, &("NULL", text.as_slice()), &("NULL", marked));
     all_ended(rt, chunks, pass);
+}
+
+/// The chunks of these parts have this text under the empty mark, and that text under the mark `NULL`.
+fn expect_text<const N: usize>(
+    rt: &impl Abort,
+    alloc: Global,
+    columns: [ColumnType; N],
+    parts: &[Part<'_>],
+    want: &[u8],
+    marked: &[u8],
+)
+    requires small { Nodes (SchemaOf (map column_of columns)) ≤ CHUNK }
+    requires not_deep { Depth (SchemaOf (map column_of columns)) ≤ 64 }
+    requires spelled { All (λ c. KindsOk (column_of c).kind) columns }
+    requires kinds { All (λ c. AreColumnKinds c.kind) (map column_of columns) }
+    requires texts { HaveTexts (map column_of columns) }
+{
+    let (desk, mut pass) = open_desk();
+    let chunks = chunks_of(rt, alloc, parts, &mut pass);
+    shows(rt, alloc, &columns, chunks, want, marked, &mut pass);
+    closed(rt, desk, pass);
 }
 
 /// Three rows: the second is null in the first and third column, the last in the second.
@@ -294,25 +341,17 @@ fn rows_of_chunks_are_written_behind_the_header(rt: HostRuntime) {
         ),
         column(&rt, alloc, b"d", ColKind::Flat(decimal)),
     ];
-    let (desk, mut pass) = open_desk();
-    let all = columns_of(&rt, alloc, (3, 0), &NUMBERS, &mut pass);
-    let part = columns_of(&rt, alloc, (2, 1), &NUMBERS, &mut pass);
-    let none = columns_of(&rt, alloc, (0, 0), &NUMBERS, &mut pass);
-    let mut chunks = Vec::new(alloc);
-    let first = chunk(&rt, alloc, (3, 0), all, &mut pass);
-    listed(&rt, &mut chunks, first);
-    let second = chunk(&rt, alloc, (0, 0), none, &mut pass);
-    listed(&rt, &mut chunks, second);
-    let third = chunk(&rt, alloc, (1, 1), part, &mut pass);
-    listed(&rt, &mut chunks, third);
+    let parts: [Part<'_>; 3] = [
+        (&NUMBERS, (3, 0), (3, 0)),
+        (&NUMBERS, (0, 0), (0, 0)),
+        (&NUMBERS, (2, 1), (1, 1)),
+    ];
     let want =
         b"l,C,g,d\n1,0,3ff8000000000000,-0.05\n,255,,123.45\n-9223372036854775808,,8000000000000000,0.00\n-9223372036854775808,,8000000000000000,0.00\n";
     let marked =
         b"l,C,g,d\n1,0,3ff8000000000000,-0.05\nNULL,255,NULL,123.45\n-9223372036854775808,NULL,8000000000000000,0.00\n\
         -9223372036854775808,NULL,8000000000000000,0.00\n";
-    shows(&rt, alloc, &columns, chunks, want, marked, &mut pass);
-    assert_eq!(rt; pass.units(), SUPPLY);
-    desk.close(pass);
+    expect_text(&rt, alloc, columns, &parts, want, marked);
 }
 
 /// An empty text, which is written as a null is, one with quotes, one with a line's end, and a null.
@@ -355,21 +394,43 @@ fn texts_are_quoted_and_bytes_are_written_by_their_digits(rt: HostRuntime) {
         ),
         column(&rt, alloc, b"b", ColKind::Flat(DataType::Bool)),
     ];
-    let (desk, mut pass) = open_desk();
-    let all = columns_of(&rt, alloc, (4, 0), &TEXTS, &mut pass);
-    let mut chunks = Vec::new(alloc);
-    let first = chunk(&rt, alloc, (4, 0), all, &mut pass);
-    listed(&rt, &mut chunks, first);
+    let parts: [Part<'_>; 1] = [(&TEXTS, (4, 0), (4, 0))];
     let want =
         b"u,\"z,\",w,b\n,0ff0,01ab,true\n\"a\"\"b,\",,,false\n\"x\nyz\",,ff00,\n,00,0010,true\n";
     let marked =
         b"u,\"z,\",w,b\n,0ff0,01ab,true\n\"a\"\"b,\",,NULL,false\n\"x\nyz\",,ff00,NULL\nNULL,00,0010,true\n";
-    shows(&rt, alloc, &columns, chunks, want, marked, &mut pass);
-    assert_eq!(rt; pass.units(), SUPPLY);
-    desk.close(pass);
+    expect_text(&rt, alloc, columns, &parts, want, marked);
 }
 
-/// A null index, and the entries 1 and 0, of which the first is null.
+/// A chunk of one column: a null index, and the entries 1 and 0, of which the first is null.
+fn indexed(rt: &impl Abort, alloc: Global, pass: &mut Pass) -> RawArray {
+    let entries = array(
+        rt,
+        alloc,
+        (2, 0),
+        &[
+            Some(b"\x02"),
+            Some(b"\0\0\0\0\0\0\0\0\x02\0\0\0"),
+            Some(b"hi"),
+        ],
+        Vec::new(alloc),
+        None,
+        pass,
+    );
+    let indices = array(
+        rt,
+        alloc,
+        (3, 1),
+        &[Some(b"\x0d"), Some(b"\0\0\0\0\x07\0\0\0\x01\0\0\0\0\0\0\0")],
+        Vec::new(alloc),
+        Some(entries),
+        pass,
+    );
+    let mut columns = Vec::new(alloc);
+    listed(rt, &mut columns, indices);
+    chunk(rt, alloc, (3, 0), columns, pass)
+}
+
 #[test]
 fn dictionary_is_written_by_its_values(rt: HostRuntime) {
     let alloc = rt.alloc();
@@ -380,38 +441,12 @@ fn dictionary_is_written_by_its_values(rt: HostRuntime) {
         ColKind::Dict(DataType::Utf8 { wide: false }),
     )];
     let (desk, mut pass) = open_desk();
-    let entries = array(
-        &rt,
-        alloc,
-        (2, 0),
-        &[
-            Some(b"\x02"),
-            Some(b"\0\0\0\0\0\0\0\0\x02\0\0\0"),
-            Some(b"hi"),
-        ],
-        Vec::new(alloc),
-        None,
-        &mut pass,
-    );
-    let indices = array(
-        &rt,
-        alloc,
-        (3, 1),
-        &[Some(b"\x0d"), Some(b"\0\0\0\0\x07\0\0\0\x01\0\0\0\0\0\0\0")],
-        Vec::new(alloc),
-        Some(entries),
-        &mut pass,
-    );
-    let mut indexed = Vec::new(alloc);
-    listed(&rt, &mut indexed, indices);
     let mut chunks = Vec::new(alloc);
-    let first = chunk(&rt, alloc, (3, 0), indexed, &mut pass);
-    listed(&rt, &mut chunks, first);
+    listed(&rt, &mut chunks, indexed(&rt, alloc, &mut pass));
     let want = b"t\n\"\"\nhi\n\"\"\n";
     let marked = b"t\nNULL\nhi\nNULL\n";
     shows(&rt, alloc, &columns, chunks, want, marked, &mut pass);
-    assert_eq!(rt; pass.units(), SUPPLY);
-    desk.close(pass);
+    closed(&rt, desk, pass);
 }
 
 /// A date of 32 bits and one of 64, a time of 32 bits and one of 64.
@@ -441,15 +476,9 @@ fn dates_and_times_are_written_as_numbers(rt: HostRuntime) {
             ColKind::Flat(DataType::TimeOfDay { tick: Tick::Micro }),
         ),
     ];
-    let (desk, mut pass) = open_desk();
-    let all = columns_of(&rt, alloc, (1, 0), &TIMES, &mut pass);
-    let mut chunks = Vec::new(alloc);
-    let first = chunk(&rt, alloc, (1, 0), all, &mut pass);
-    listed(&rt, &mut chunks, first);
+    let parts: [Part<'_>; 1] = [(&TIMES, (1, 0), (1, 0))];
     let want = b"day,milli,s,us\n-1,86400000,86399,86399999999\n";
-    shows(&rt, alloc, &columns, chunks, want, want, &mut pass);
-    assert_eq!(rt; pass.units(), SUPPLY);
-    desk.close(pass);
+    expect_text(&rt, alloc, columns, &parts, want, want);
 }
 
 /// Three items of each kind that is common.
@@ -541,20 +570,12 @@ fn common_kinds_are_written_with_nulls_and_without(rt: HostRuntime) {
             ColKind::Flat(DataType::Binary { wide: false }),
         ),
     ];
-    let (desk, mut pass) = open_desk();
-    let mut chunks = Vec::new(alloc);
-    let all = columns_of(&rt, alloc, (3, 0), &WITHOUT_NULLS, &mut pass);
-    let first = chunk(&rt, alloc, (3, 0), all, &mut pass);
-    listed(&rt, &mut chunks, first);
-    let part = columns_of(&rt, alloc, (2, 1), &WITHOUT_NULLS, &mut pass);
-    let second = chunk(&rt, alloc, (1, 1), part, &mut pass);
-    listed(&rt, &mut chunks, second);
-    let all = columns_of(&rt, alloc, (3, 0), &WITH_NULLS, &mut pass);
-    let third = chunk(&rt, alloc, (3, 0), all, &mut pass);
-    listed(&rt, &mut chunks, third);
-    let part = columns_of(&rt, alloc, (2, 1), &WITH_NULLS, &mut pass);
-    let fourth = chunk(&rt, alloc, (2, 0), part, &mut pass);
-    listed(&rt, &mut chunks, fourth);
+    let parts: [Part<'_>; 4] = [
+        (&WITHOUT_NULLS, (3, 0), (3, 0)),
+        (&WITHOUT_NULLS, (2, 1), (1, 1)),
+        (&WITH_NULLS, (3, 0), (3, 0)),
+        (&WITH_NULLS, (2, 1), (2, 0)),
+    ];
     let want =
         b"i,l,d,b,g,u,z\n7,1,-0.05,true,3ff8000000000000,\"a,\",0ff0\n-1,-9223372036854775808,123.45,false,0000000000000000,,00\n\
         -2147483648,5000000000,0.00,true,8000000000000000,xyz,\n-2147483648,5000000000,0.00,true,8000000000000000,xyz,\n\
@@ -565,7 +586,5 @@ fn common_kinds_are_written_with_nulls_and_without(rt: HostRuntime) {
         -2147483648,5000000000,0.00,true,8000000000000000,xyz,\n-2147483648,5000000000,0.00,true,8000000000000000,xyz,\n\
         7,1,-0.05,true,3ff8000000000000,\"a,\",0ff0\nNULL,NULL,NULL,NULL,NULL,NULL,NULL\n-2147483648,5000000000,0.00,true,8000000000000000,xyz,\n\
         NULL,NULL,NULL,NULL,NULL,NULL,NULL\n-2147483648,5000000000,0.00,true,8000000000000000,xyz,\n";
-    shows(&rt, alloc, &columns, chunks, want, marked, &mut pass);
-    assert_eq!(rt; pass.units(), SUPPLY);
-    desk.close(pass);
+    expect_text(&rt, alloc, columns, &parts, want, marked);
 }
