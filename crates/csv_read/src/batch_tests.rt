@@ -1,8 +1,8 @@
 //! Tests of reading in batches.
-ghost use Rattle.std.specs.Prelude.{◌≤◌};
+ghost use Rattle.std.specs.Prelude.{◌≤◌, length};
 
 use super::{BatchReader, BodyFault, Records};
-use crate::body_tests::{columns_of, expect_lengths};
+use crate::body_tests::{expect_lengths, header_of};
 use fmt_string::RowFault;
 use std::alloc::Global;
 use std::process::Abort;
@@ -61,38 +61,53 @@ fn expect_batches(
     }
 }
 
+/// Expects this fault where no batch is left, or the end, and nothing behind it.
+fn expect_end(
+    rt: &impl Abort,
+    alloc: Global,
+    batches: &mut BatchReader<'_>,
+    batch: u64,
+    fault: Option<RowFault>,
+)
+    requires { 1 ≤ batch }
+{
+    let end = match fault {
+        Some(fault) => Err(BodyFault::Row(fault)),
+        None => Ok(false),
+    };
+    let found = (batches.next(alloc, batch), batches.next(alloc, batch));
+    assert_eq!(rt; found, (end, Ok(false)), "the end under {batch}");
+}
+
+/// Stands before the rows of a text of two columns.
+fn reader(alloc: Global, text: &[u8]) -> Result<BatchReader<'_>, Fail>
+    requires { length text.now ≤ 100 }
+{
+    let named = header_of(alloc, b"a,b\n", "a:l")?;
+    let records = Records::behind_header(alloc, text)?;
+    Ok(BatchReader::start(alloc, records, named, b"")?)
+}
+
+/// Reads a text in batches, and expects them to have so many rows, and this fault or none behind them.
+fn expect_read(
+    rt: &impl Abort,
+    alloc: Global,
+    text: &[u8],
+    batch: u64,
+    lengths: &[i64],
+    fault: Option<RowFault>,
+) -> Result<(), Fail> {
+    assert!(rt; text.len() <= 100 && batch >= 1);
+    let mut batches = reader(alloc, text)?;
+    expect_batches(rt, alloc, &mut batches, batch, lengths);
+    expect_end(rt, alloc, &mut batches, batch, fault);
+    Ok(())
+}
+
 #[test]
 fn batches_have_their_rows(rt: HostRuntime) -> Result<(), Fail> {
-    let alloc = rt.alloc();
-    for (text, batch, lengths, wanted) in &BATCHES {
-        let mut header = Records::start(alloc, b"a,b\n")
-            .ok()
-            .ok_or("there is memory")?;
-        let named = columns_of(alloc, &mut header, "a:l")?;
-        assert!(rt; text.len() <= 100 && *batch >= 1);
-        let Ok(records) = Records::behind_header(alloc, *text) else {
-            return Err(Fail::from("the header is left out"));
-        };
-        match BatchReader::start(alloc, records, named, b"") {
-            Ok(batches) => {
-                let mut batches = batches;
-                expect_batches(&rt, alloc, &mut batches, *batch, *lengths);
-                match batches.next(alloc, *batch) {
-                    Ok(true) => assert!(rt; false, "one batch more under {batch}"),
-                    Ok(false) => assert_eq!(rt; None, *wanted, "the end under {batch}"),
-                    Err(fault) => {
-                        assert_eq!(rt;
-                            Some(fault),
-                            wanted.map(|fault| BodyFault::Row(fault)),
-                            "under {batch}"
-                        )
-                    }
-                }
-                let behind = batches.next(alloc, *batch);
-                assert!(rt; matches!(behind, Ok(false)), "behind the end under {batch}");
-            }
-            Err(_) => assert!(rt; false, "no reader under {batch}"),
-        }
+    for (text, batch, lengths, fault) in &BATCHES {
+        expect_read(&rt, rt.alloc(), *text, *batch, *lengths, *fault)?;
     }
     Ok(())
 }

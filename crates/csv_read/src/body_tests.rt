@@ -32,6 +32,61 @@ pub(crate) fn columns_of(
     }
 }
 
+/// The columns of the header of a text under the types that are asked for.
+pub(crate) fn header_of(alloc: Global, text: &[u8], asked: &str) -> Result<Vec<ColumnType>, Fail>
+    ensures proper { IfOk result (λ columns. AreProper (map column_of columns.items)) }
+    ensures allowed { IfOk result (λ columns. AreAllowed (map column_of columns.items)) }
+{
+    let mut records = Records::start(alloc, text)?;
+    columns_of(alloc, &mut records, asked)
+}
+
+/// Expects so many columns of so many values.
+pub(crate) fn expect_lengths(rt: &impl Abort, builders: &[Builder], columns: usize, rows: i64)
+    requires { (columns : List Column) × (rows : List Row) × HoldEach builders.now columns rows }
+{
+    assert_eq!(rt; builders.len(), columns);
+    for builder in builders {
+        assert_eq!(rt; builder.len(), rows);
+    }
+}
+
+/// The fault of the body of a text under the types that are asked for. Where there is none, so many columns of so many values
+/// are expected.
+fn fault_of(
+    rt: &impl Abort,
+    alloc: Global,
+    text: &[u8],
+    asked: &str,
+    wanted: Option<(usize, i64)>,
+) -> Result<Option<BodyFault>, Fail> {
+    assert!(rt; text.len() <= 1000);
+    let mut records = Records::start(alloc, text)?;
+    let named = columns_of(alloc, &mut records, asked)?;
+    match read_body(alloc, records, named.as_slice(), b"") {
+        Ok(builders) => {
+            if let Some((columns, rows)) = wanted {
+                expect_lengths(rt, builders.as_slice(), columns, rows);
+            }
+            Ok(None)
+        }
+        Err(fault) => Ok(Some(fault)),
+    }
+}
+
+/// Expects so many columns of so many values of the body of a text, or this fault.
+fn expect_body(
+    rt: &impl Abort,
+    alloc: Global,
+    text: &[u8],
+    asked: &str,
+    wanted: Result<(usize, i64), BodyFault>,
+) -> Result<(), Fail> {
+    let fault = fault_of(rt, alloc, text, asked, wanted.ok())?;
+    assert_eq!(rt; fault, wanted.err(), "the fault of {text:?} under {asked}");
+    Ok(())
+}
+
 /// A text, the types that are asked for, and the fault of the first record that spells no row.
 static FAULTS: [(&[u8], &str, RowFault); 16] = [
     // Another number of fields than the header's.
@@ -106,27 +161,11 @@ static FAULTS: [(&[u8], &str, RowFault); 16] = [
 
 #[test]
 fn first_record_that_spells_no_row_is_named(rt: HostRuntime) -> Result<(), Fail> {
-    let alloc = rt.alloc();
     for (text, asked, wanted) in &FAULTS {
-        let mut records = Records::start(alloc, *text).ok().ok_or("there is memory")?;
-        let named = columns_of(alloc, &mut records, *asked)?;
-        assert!(rt; text.len() <= 100);
-        match read_body(alloc, records, named.as_slice(), b"") {
-            Ok(_) => assert!(rt; false, "rows under {asked}"),
-            Err(fault) => assert_eq!(rt; fault, BodyFault::Row(*wanted), "fault under {asked}"),
-        }
+        let fault = BodyFault::Row(*wanted);
+        expect_body(&rt, rt.alloc(), *text, *asked, Err(fault))?;
     }
     Ok(())
-}
-
-/// Expects so many columns of so many values.
-pub(crate) fn expect_lengths(rt: &impl Abort, builders: &[Builder], columns: usize, rows: i64)
-    requires { (columns : List Column) × (rows : List Row) × HoldEach builders.now columns rows }
-{
-    assert_eq!(rt; builders.len(), columns);
-    for builder in builders {
-        assert_eq!(rt; builder.len(), rows);
-    }
 }
 
 /// A text, the types that are asked for, how many columns it has, and how many rows.
@@ -148,15 +187,8 @@ static BODIES: [(&[u8], &str, usize, i64); 8] = [
 
 #[test]
 fn each_column_holds_a_value_a_row(rt: HostRuntime) -> Result<(), Fail> {
-    let alloc = rt.alloc();
     for (text, asked, columns, rows) in &BODIES {
-        let mut records = Records::start(alloc, *text).ok().ok_or("there is memory")?;
-        let named = columns_of(alloc, &mut records, *asked)?;
-        assert!(rt; text.len() <= 1000);
-        match read_body(alloc, records, named.as_slice(), b"") {
-            Ok(builders) => expect_lengths(&rt, builders.as_slice(), *columns, *rows),
-            Err(fault) => assert!(rt; false, "{fault:?} under {asked}"),
-        }
+        expect_body(&rt, rt.alloc(), *text, *asked, Ok((*columns, *rows)))?;
     }
     Ok(())
 }
@@ -201,18 +233,12 @@ static UTF8: [(&[u8], Option<RowFault>); 10] = [
 
 #[test]
 fn a_text_beside_others_is_utf8(rt: HostRuntime) -> Result<(), Fail> {
-    let alloc = rt.alloc();
     for (text, wanted) in &UTF8 {
-        let mut records = Records::start(alloc, *text).ok().ok_or("there is memory")?;
-        let named = columns_of(alloc, &mut records, "b:l")?;
-        assert!(rt; text.len() <= 100);
-        match read_body(alloc, records, named.as_slice(), b"") {
-            Ok(builders) => {
-                expect_lengths(&rt, builders.as_slice(), 3, 2);
-                assert_eq!(rt; None, *wanted);
-            }
-            Err(fault) => assert_eq!(rt; Some(fault), wanted.map(|fault| BodyFault::Row(fault))),
-        }
+        let wanted = match wanted {
+            Some(fault) => Err(BodyFault::Row(*fault)),
+            None => Ok((3, 2)),
+        };
+        expect_body(&rt, rt.alloc(), *text, "b:l", wanted)?;
     }
     Ok(())
 }

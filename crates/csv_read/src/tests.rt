@@ -1,8 +1,28 @@
 //! Tests of headers: the columns that they name, and their first faults.
 use super::{HeaderFault, Records, read_header};
-use fmt_string::ColKind;
+use crate::body_tests::header_of;
+use fmt_string::{ColKind, ColumnType};
 use stage_plan::read_types;
+use std::alloc::{AllocError, Global};
+use std::process::Abort;
 use std::test::Fail;
+
+/// How many columns the header of a text has under the types that are asked for, or its fault.
+fn count_of(
+    alloc: Global,
+    text: &[u8],
+    asked: Option<&str>,
+) -> Result<Result<usize, HeaderFault>, Fail> {
+    let entries = match asked {
+        Some(asked) => read_types(alloc, asked)?,
+        None => Vec::new(alloc),
+    };
+    let mut records = Records::start(alloc, text)?;
+    match read_header(alloc, &mut records, entries.as_slice()) {
+        Ok(columns) => Ok(Ok(columns.len())),
+        Err(fault) => Ok(Err(fault)),
+    }
+}
 
 /// A text, the types that are asked for, and the fault of the header.
 static FAULTS: [(&[u8], Option<&str>, HeaderFault); 11] = [
@@ -29,20 +49,9 @@ static FAULTS: [(&[u8], Option<&str>, HeaderFault); 11] = [
 
 #[test]
 fn first_fault_of_a_header_is_named(rt: HostRuntime) -> Result<(), Fail> {
-    let alloc = rt.alloc();
     for (text, asked, wanted) in &FAULTS {
-        let entries = match asked {
-            Some(asked) => read_types(alloc, *asked).ok().ok_or("the types are read")?,
-            None => Vec::new(alloc),
-        };
-        match read_header(
-            alloc,
-            &mut Records::start(alloc, *text).ok().ok_or("there is memory")?,
-            entries.as_slice(),
-        ) {
-            Ok(_) => assert!(rt; false),
-            Err(fault) => assert_eq!(rt; fault, *wanted),
-        }
+        let found = count_of(rt.alloc(), *text, *asked)?;
+        assert_eq!(rt; found, Err(*wanted), "the header of {text:?}");
     }
     Ok(())
 }
@@ -74,69 +83,67 @@ static COLUMNS: [(&[u8], &str, usize, &[u8], &str); 5] = [
     (b"a,", ":tdD", 2, b"", "DateDay"),
 ];
 
+/// The type of a column of plain values.
+fn shown(alloc: Global, kind: &ColKind) -> Result<String, Fail> {
+    match kind {
+        ColKind::Flat(kind) => Ok(format!(in alloc; "{kind:?}")?),
+        _ => Err(Fail::from("the column has plain values")),
+    }
+}
+
+/// Expects so many columns, and this name and type of the last.
+fn expect_columns(
+    rt: &impl Abort,
+    alloc: Global,
+    columns: &[ColumnType],
+    wanted: (usize, &[u8], &str),
+) -> Result<(), Fail> {
+    let last = columns.last().ok_or("there is a column")?;
+    let kind = shown(alloc, &last.kind)?;
+    let found = (columns.len(), last.name.as_slice(), kind.as_str());
+    assert_eq!(rt; found, wanted);
+    Ok(())
+}
+
 #[test]
 fn columns_have_the_types_that_are_asked_for(rt: HostRuntime) -> Result<(), Fail> {
     let alloc = rt.alloc();
     for (text, asked, count, name, kind) in &COLUMNS {
-        let mut records = Records::start(alloc, *text).ok().ok_or("there is memory")?;
-        let entries = read_types(alloc, *asked).ok().ok_or("the types are read")?;
-        let columns = read_header(alloc, &mut records, entries.as_slice())
-            .ok()
-            .ok_or("the header is read")?;
-        assert_eq!(rt; columns.len(), *count);
-        let last = columns.last().ok_or("there is a column")?;
-        assert!(rt; last.name.as_slice() == *name);
-        match &last.kind {
-            ColKind::Flat(found) => {
-                let shown = format!(in alloc; "{:?}", found)?;
-                assert!(rt; shown.as_str() == *kind);
-            }
-            _ => assert!(rt; false),
-        }
+        let columns = header_of(alloc, *text, *asked)?;
+        expect_columns(&rt, alloc, &columns, (*count, *name, *kind))?;
     }
     Ok(())
 }
 
-/// The names 0, 1, .. of so many columns.
-fn long_header(rt: &HostRuntime, count: usize) -> Result<String, Fail> {
-    let alloc = rt.alloc();
-    let mut text = String::new(alloc);
-    for i in 0..count {
-        if i > 0 {
-            text.push(',')?;
-        }
-        let name = format!(in alloc; "{}", i)?;
+/// The names 0, 1, .. of so many columns, at least one.
+fn long_header(alloc: Global, count: usize) -> Result<String, AllocError> {
+    let mut text = String::from_str(alloc, "0")?;
+    for i in 1..count {
+        let name = format!(in alloc; ",{i}")?;
         text.push_str(name.as_str())?;
     }
     Ok(text)
 }
 
+/// Expects this of a header of so many columns.
+fn expect_count(
+    rt: &impl Abort,
+    alloc: Global,
+    count: usize,
+    wanted: Result<usize, HeaderFault>,
+) -> Result<(), Fail> {
+    let text = long_header(alloc, count)?;
+    let found = count_of(alloc, text.as_bytes(), None)?;
+    assert_eq!(rt; found, wanted, "a header of {count} columns");
+    Ok(())
+}
+
 #[test]
 fn a_header_has_at_most_1024_columns(rt: HostRuntime) -> Result<(), Fail> {
     let alloc = rt.alloc();
-    let most = long_header(&rt, 1024)?;
-    let columns = read_header(
-        alloc,
-        &mut Records::start(alloc, most.as_bytes())
-            .ok()
-            .ok_or("there is memory")?,
-        &[],
-    )
-    .ok()
-    .ok_or("the header is read")?;
-    assert_eq!(rt; columns.len(), 1024);
-    let more = long_header(&rt, 1025)?;
-    match read_header(
-        alloc,
-        &mut Records::start(alloc, more.as_bytes())
-            .ok()
-            .ok_or("there is memory")?,
-        &[],
-    ) {
-        Ok(_) => assert!(rt; false),
-        Err(fault) => assert_eq!(rt; fault, HeaderFault::TooManyColumns { count: 1025 }),
-    }
-    Ok(())
+    expect_count(&rt, alloc, 1024, Ok(1024))?;
+    let fault = HeaderFault::TooManyColumns { count: 1025 };
+    expect_count(&rt, alloc, 1025, Err(fault))
 }
 
 /// A fault, and its text.

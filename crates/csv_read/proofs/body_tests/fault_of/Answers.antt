@@ -2,7 +2,7 @@ use Rattle.std.proofs.Common.{List, map, subst, sym}
 use Rattle.fmt_string.specs.ColumnView.{column_of}
 use Rattle.fmt_string.specs.declared.kind.ColumnType.{ColumnType}
 use Rattle.field_codec.specs.TextColumns.{AreAllowed, AreProper}
-use Rattle.csv_read.proofs.body_tests.each_column_holds_a_value_a_row.Goals as goal
+use Rattle.csv_read.proofs.body_tests.fault_of.Goals as goal
 
 pub read_body-requires-clause-proper : goal.read_body-requires-clause-proper
 read_body-requires-clause-proper g c =
