@@ -9,7 +9,7 @@ use crate::{ArrayStream, NoTap, RawStream, StartFault, StreamFault, Tap};
 use buf_block::{BufView, make};
 use edge_io::OpenGate;
 use fmt_string::{FormatFault, FormatRule, RowFault};
-use layout_check::{LayoutRule, SchemaFault, SchemaRule, Typed, count_rows};
+use layout_check::{LayoutFault, LayoutRule, SchemaFault, SchemaRule, Typed, count_rows};
 use raw_array::{Acted, ArrayParts, RawArray, ReleaseKind};
 use raw_schema::{RawSchema, SchemaParts};
 use std::alloc::Global;
@@ -333,19 +333,42 @@ impl Tap for FullTap {
 }
 
 /// What is no chunk: its rule, place and numbers, and the way to the node.
-type Refusal = (Given, LayoutRule, u64, i128, i128, &'static [u32]);
+type Refusal = (Given, LayoutRule, (u64, i128, i128), &'static [u32]);
 
 /// What is no chunk of texts.
 static REFUSED: [Refusal; 5] = [
-    (Given::Falling, LayoutRule::OffsetsFall, 1, 2, 1, &[0]),
-    (Given::WrongNulls, LayoutRule::NullCount, 0, 1, 0, &[0]),
-    (Given::Gone, LayoutRule::Released, 0, 0, 0, &[0]),
-    (Given::Other, LayoutRule::ChildCount, 0, 2, 1, &[]),
-    (Given::NullRow, LayoutRule::TopNulls, 0, 1, 0, &[]),
+    (Given::Falling, LayoutRule::OffsetsFall, (1, 2, 1), &[0]),
+    (Given::WrongNulls, LayoutRule::NullCount, (0, 1, 0), &[0]),
+    (Given::Gone, LayoutRule::Released, (0, 0, 0), &[0]),
+    (Given::Other, LayoutRule::ChildCount, (0, 2, 1), &[]),
+    (Given::NullRow, LayoutRule::TopNulls, (0, 1, 0), &[]),
 ];
 
 /// What is lawful under its schema, and no chunk, since that is no struct's.
-static NO_STRUCT: Refusal = (Given::Numbers, LayoutRule::TopKind, 0, 0, 0, &[]);
+static NO_STRUCT: Refusal = (Given::Numbers, LayoutRule::TopKind, (0, 0, 0), &[]);
+
+/// A chunk is refused by this fault.
+fn is_fault(rt: &impl Abort, fault: &LayoutFault, refusal: &Refusal) {
+    let numbers = (fault.place, fault.left, fault.right);
+    let found = (refusal.0, fault.rule, numbers, fault.path.way());
+    assert_eq!(rt; found, *refusal);
+}
+
+/// The last call of a stream had this answer, and refused a chunk by this fault.
+fn tells_refusal(
+    rt: &impl Abort,
+    stream: &RawStream<Stranger>,
+    answer: (i32, bool),
+    refusal: &Refusal,
+) {
+    let given = refusal.0;
+    match stream.fault() {
+        Some(StreamFault::Chunk(fault)) => is_fault(rt, &fault, refusal),
+        _ => panic!(rt; "no refused chunk: {given:?}"),
+    }
+    let told = (given, answer, stream.row_fault(), stream.last_error());
+    assert_eq!(rt; told, (given, (22, false), None, Some("chunk refused")));
+}
 
 /// A call that refuses a chunk by this fault.
 fn refused<R: Threads + Sync + Abort, T: Tap>(
@@ -358,44 +381,43 @@ fn refused<R: Threads + Sync + Abort, T: Tap>(
 )
     ensures { (meaning ⟦<Stranger as ArrayStream>⟧.state stream.new).held ≡ (meaning ⟦<Stranger as ArrayStream>⟧.state stream.old).held }
 {
-    let (given, rule, place, left, right, way) = *refusal;
-    assert_eq!(rt;
-        next(rt, alloc, stream, pass, tap),
-        (22, false),
-        "{given:?}"
-    );
-    let Some(StreamFault::Chunk(fault)) = stream.fault() else {
-        panic!(rt; "no refused chunk: {given:?}");
+    let answer = next(rt, alloc, stream, pass, tap);
+    tells_refusal(rt, stream, answer, refusal);
+}
+
+/// A stream tells no fault and no error.
+fn is_silent(stream: &RawStream<Stranger>) -> bool {
+    stream.fault().is_none() && stream.last_error().is_none()
+}
+
+/// What is no chunk is refused behind a chunk, at each later call too, and isn't shown.
+fn is_refused<R: Threads + Sync + Abort>(rt: &R, alloc: Global, refusal: &Refusal) {
+    let (desk, mut pass) = open_desk();
+    let givens = [Given::Good, refusal.0, Given::Good];
+    let mut stream = joint(rt, alloc, b"+s", &givens, End::Ends, 3, &mut pass);
+    let mut sights = Sights {
+        seen: Vec::new(alloc),
     };
-    assert_eq!(rt; fault.rule, rule, "{given:?}");
-    assert_eq!(rt; fault.place, place, "place of {given:?}");
-    assert_eq!(rt; (fault.left, fault.right), (left, right), "{given:?}");
-    assert!(rt; fault.path.way() == way, "way of {given:?}");
-    assert!(rt; stream.row_fault().is_none());
-    assert!(rt; stream.last_error() == Some("chunk refused"));
+    let first = next(rt, alloc, &mut stream, &mut pass, &mut sights);
+    assert!(rt;
+        first == (0, true) && is_silent(&stream),
+        "before {:?}",
+        refusal.0
+    );
+    refused(rt, alloc, &mut stream, &mut pass, &mut sights, refusal);
+    refused(rt, alloc, &mut stream, &mut pass, &mut sights, refusal);
+    assert!(rt;
+        sights.seen.as_slice() == [(3u32, 2i64)].as_slice(),
+        "{:?}",
+        refusal.0
+    );
+    ended(rt, stream, desk, pass);
 }
 
 #[test]
 fn a_chunk_that_fails_the_check_is_refused(rt: HostRuntime) {
-    let alloc = rt.alloc();
     for refusal in &REFUSED {
-        let given = refusal.0;
-        let (desk, mut pass) = open_desk();
-        let givens = [Given::Good, given, Given::Good];
-        let mut stream = joint(&rt, alloc, b"+s", &givens, End::Ends, 3, &mut pass);
-        let mut sights = Sights {
-            seen: Vec::new(alloc),
-        };
-        let first = next(&rt, alloc, &mut stream, &mut pass, &mut sights);
-        assert_eq!(rt; first, (0, true), "before {given:?}");
-        assert!(rt; stream.fault().is_none() && stream.last_error().is_none());
-        refused(&rt, alloc, &mut stream, &mut pass, &mut sights, refusal);
-        refused(&rt, alloc, &mut stream, &mut pass, &mut sights, refusal);
-        assert!(rt;
-            sights.seen.as_slice() == [(3u32, 2i64)].as_slice(),
-            "{given:?}"
-        );
-        ended(&rt, stream, desk, pass);
+        is_refused(&rt, rt.alloc(), refusal);
     }
 }
 
@@ -437,26 +459,32 @@ fn at_end<R: Threads + Sync + Abort>(
 )
     ensures { (meaning ⟦<Stranger as ArrayStream>⟧.state stream.new).held ≡ (meaning ⟦<Stranger as ArrayStream>⟧.state stream.old).held }
 {
-    assert_eq!(rt; next(rt, alloc, stream, pass, &mut NoTap), (code, false));
-    assert_eq!(rt; stream.fault(), fault, "the fault at {code}");
-    assert_eq!(rt;
-        stream.last_error().is_some(),
-        code != 0,
-        "the text at {code}"
-    );
+    let answer = next(rt, alloc, stream, pass, &mut NoTap);
+    let told = (stream.fault(), stream.last_error().is_some());
+    assert_eq!(rt; (answer, told), ((code, false), (fault, code != 0)));
+}
+
+/// Behind a chunk the stream ends so, at each later call too.
+fn ends_so<R: Threads + Sync + Abort>(
+    rt: &R,
+    alloc: Global,
+    end: End,
+    code: i32,
+    fault: Option<StreamFault>,
+) {
+    let (desk, mut pass) = open_desk();
+    let mut stream = joint(rt, alloc, b"+s", &[Given::Good], end, 0, &mut pass);
+    let first = next(rt, alloc, &mut stream, &mut pass, &mut NoTap);
+    assert_eq!(rt; first, (0, true), "before {end:?}");
+    at_end(rt, alloc, &mut stream, &mut pass, code, fault);
+    at_end(rt, alloc, &mut stream, &mut pass, code, fault);
+    ended(rt, stream, desk, pass);
 }
 
 #[test]
 fn an_end_and_a_code_stay(rt: HostRuntime) {
-    let alloc = rt.alloc();
     for (end, code, fault) in &ENDS {
-        let (desk, mut pass) = open_desk();
-        let mut stream = joint(&rt, alloc, b"+s", &[Given::Good], *end, 0, &mut pass);
-        let first = next(&rt, alloc, &mut stream, &mut pass, &mut NoTap);
-        assert_eq!(rt; first, (0, true), "before {end:?}");
-        at_end(&rt, alloc, &mut stream, &mut pass, *code, *fault);
-        at_end(&rt, alloc, &mut stream, &mut pass, *code, *fault);
-        ended(&rt, stream, desk, pass);
+        ends_so(&rt, rt.alloc(), *end, *code, *fault);
     }
 }
 
@@ -520,9 +548,9 @@ fn a_tap_without_memory_ends_the_stream(rt: HostRuntime) {
     let givens = [Given::Good, Given::Good];
     let mut stream = joint(&rt, alloc, b"+s", &givens, End::Ends, 0, &mut pass);
     let refused = next(&rt, alloc, &mut stream, &mut pass, &mut FullTap);
-    assert_eq!(rt; refused, (12, false));
-    assert_eq!(rt; stream.fault(), Some(StreamFault::NoMemory));
-    assert!(rt; stream.last_error() == Some("out of memory"));
+    let told = (stream.fault(), stream.last_error());
+    let wanted = (Some(StreamFault::NoMemory), Some("out of memory"));
+    assert_eq!(rt; (refused, told), ((12, false), wanted));
     let again = next(&rt, alloc, &mut stream, &mut pass, &mut NoTap);
     assert_eq!(rt; again, (12, false));
     ended(&rt, stream, desk, pass);
