@@ -3,21 +3,23 @@ ghost use Rattle.std.specs.Prelude.{◌≡◌, ◌≤◌, length};
 ghost use Rattle.tree_model.specs.Tree.{children_of, depth_of_all, trees};
 ghost use Rattle.layout_check.specs.Kinds.{TypedOk};
 ghost use Rattle.layout_check.specs.TypedView.{typed_of};
+ghost use Rattle.layout_check.specs.Values.{rows_of};
+ghost use Rattle.layout_check.specs.Walk.{ChunkOk};
+ghost use Rattle.raw_array.specs.Members.{Cost};
 ghost use Rattle.arr_import.specs.Window.{IsStruct};
 
 use crate::chunk::Asked;
 use crate::workers::kept_by_workers;
 use buf_block::{BufView, make};
-use edge_io::{Gate, OpenGate};
+use edge_io::OpenGate;
 use fmt_string::DataType;
-use layout_check::{Typed, check_chunk, count_rows};
+use layout_check::{Typed, check_chunk, chunk_passes, count_rows};
 use raw_array::{ArrayParts, RawArray, ReleaseKind};
 use stage_model::{Const, Test};
 use std::alloc::Global;
 use std::process::Abort;
-use std::test::Fail;
 use std::thread::Threads;
-use unit_pass::{NoMemory, Pass, SUPPLY, open_desk};
+use unit_pass::{Desk, Pass, SUPPLY, open_desk};
 
 // ---- a table of one column of numbers of 8 bits
 
@@ -126,136 +128,150 @@ fn table(
 
 // ---- what is found
 
+/// What is asked of a table, with a whole number or nothing as its constant, and the numbers of the rows that pass.
+struct Case {
+    length: i64,
+    validity: &'static [u8],
+    numbers: &'static [u8],
+    test: Test,
+    constant: Option<i128>,
+    passing: &'static [u32],
+}
+
+fn constant_of(case: &Case) -> Const {
+    match case.constant {
+        Some(number) => Const::Whole(number),
+        None => Const::None,
+    }
+}
+
+/// A chunk passes the check, and is small enough to be shared by 64 workers.
+fn is_small_chunk(rt: &impl Abort, typed: &Typed, chunk: &RawArray)
+    requires { TypedOk (typed_of typed.now) }
+    ensures chunk { ChunkOk (typed_of typed.now) chunk.now }
+    ensures cost { Cost chunk.now ≤ 1000 }
+    ensures rows { length (rows_of (typed_of typed.now) chunk.now) ≤ 1000 }
+{
+    assert!(rt; check_chunk(typed, chunk).is_ok());
+    assert!(rt; chunk.cost() <= 1000);
+    assert!(rt; count_rows(typed, chunk) <= 1000);
+}
+
 /// The numbers of the rows that pass, found by so many workers. The chunk stays a chunk, and all units are back.
 fn found<R: Threads + Abort + Sync>(
     rt: &R,
     alloc: Global,
     chunk: &mut RawArray,
     workers: u32,
-    test: Test,
-    constant: &Const,
+    case: &Case,
     pass: &mut Pass,
-    gate: &(dyn Gate + Sync),
 ) -> Vec<u32> {
     let typed = number_types(rt, alloc);
+    let constant = constant_of(case);
     assert!(rt; workers >= 1 && workers <= 64);
-    assert!(rt; check_chunk(&typed, chunk).is_ok());
-    assert!(rt; chunk.cost() <= 1000 && pass.units() >= 64000);
-    assert!(rt; count_rows(&typed, chunk) <= 1000);
+    is_small_chunk(rt, &typed, chunk);
     let units = pass.units();
+    assert!(rt; units >= 64000);
     let asked = Asked {
         column: 0,
-        test,
-        constant,
+        test: case.test,
+        constant: &constant,
     };
-    let kept = match kept_by_workers(rt, alloc, chunk, &typed, workers, asked, pass, gate) {
-        Ok(kept) => kept,
-        Err(NoMemory) => panic!(rt; "no memory"),
+    let Ok(kept) = kept_by_workers(rt, alloc, chunk, &typed, workers, asked, pass, &OpenGate) else {
+        panic!(rt; "no memory");
     };
     assert!(rt; pass.units() == units);
-    assert!(rt; check_chunk(&typed, chunk).is_ok());
+    assert!(rt; chunk_passes(&typed, chunk));
     kept
 }
 
-/// Releases a tree whose cost is out of the pass.
-fn end(rt: &impl Abort, tree: RawArray, pass: &mut Pass) {
+/// Releases a tree and closes the desk over two blocks and two nodes.
+fn ended(rt: &impl Abort, tree: RawArray, desk: Desk, pass: Pass) {
+    let mut pass = pass;
     let cost = tree.cost();
     assert!(rt; cost <= 1000 && pass.units() <= SUPPLY - cost);
-    tree.end(pass);
+    tree.end(&mut pass);
+    assert!(rt; pass.units() == SUPPLY);
+    let audit = desk.close(pass);
+    assert_eq!(rt; [audit.blocks, audit.nodes], [2, 2]);
 }
 
-/// What is asked of a table, and the numbers of the rows that pass.
-#[derive(Drop)]
-struct Case<'a> {
-    length: i64,
-    validity: &'a [u8],
-    numbers: &'a [u8],
-    test: Test,
-    constant: Const,
-    passing: &'a [u32],
-}
-
-fn is_found<R: Threads + Abort + Sync>(rt: &R, alloc: Global, name: usize, case: &Case<'_>) {
-    for workers in [1u32, 2, 3, 7, 64] {
-        let (desk, mut pass) = open_desk();
-        let mut chunk = table(
-            rt,
-            alloc,
-            case.length,
-            case.validity,
-            case.numbers,
-            &mut pass,
-        );
-        let kept = found(
-            rt,
-            alloc,
-            &mut chunk,
-            workers,
-            case.test,
-            &case.constant,
-            &mut pass,
-            &OpenGate,
-        );
-        assert_eq!(rt;
-            kept.as_slice(),
-            case.passing,
-            "case {name}, workers {workers}"
-        );
-        end(rt, chunk, &mut pass);
-        assert!(rt; pass.units() == SUPPLY);
-        let audit = desk.close(pass);
-        assert_eq!(rt; [audit.blocks, audit.nodes], [2, 2]);
-    }
+fn is_found<R: Threads + Abort + Sync>(
+    rt: &R,
+    alloc: Global,
+    name: usize,
+    case: &Case,
+    workers: u32,
+) {
+    let (desk, mut pass) = open_desk();
+    let mut chunk = table(
+        rt,
+        alloc,
+        case.length,
+        case.validity,
+        case.numbers,
+        &mut pass,
+    );
+    let kept = found(rt, alloc, &mut chunk, workers, case, &mut pass);
+    assert_eq!(rt;
+        kept.as_slice(),
+        case.passing,
+        "case {name}, workers {workers}"
+    );
+    ended(rt, chunk, desk, pass);
 }
 
 /// 5, -3, null, 7, 7, 0, 12, -8, 1 and 3.
-static TEN: [u8; 10] = [5, 253, 99, 7, 7, 0, 12, 248, 1, 3];
+const TEN: [u8; 10] = [5, 253, 99, 7, 7, 0, 12, 248, 1, 3];
+
+static CASES: [Case; 5] = [
+    Case {
+        length: 10,
+        validity: &[251, 3],
+        numbers: &TEN,
+        test: Test::Gt,
+        constant: Some(2),
+        passing: &[0, 3, 4, 6, 9],
+    },
+    Case {
+        length: 10,
+        validity: &[251, 3],
+        numbers: &TEN,
+        test: Test::Ne,
+        constant: Some(7),
+        passing: &[0, 1, 5, 6, 7, 8, 9],
+    },
+    Case {
+        length: 10,
+        validity: &[251, 3],
+        numbers: &TEN,
+        test: Test::Null,
+        constant: None,
+        passing: &[2],
+    },
+    Case {
+        length: 3,
+        validity: &[7],
+        numbers: &[5, 253, 9],
+        test: Test::Gt,
+        constant: Some(2),
+        passing: &[0, 2],
+    },
+    Case {
+        length: 0,
+        validity: &[],
+        numbers: &[],
+        test: Test::Valid,
+        constant: None,
+        passing: &[],
+    },
+];
 
 #[test]
 fn any_number_of_workers_finds_the_same_rows(rt: HostRuntime) {
-    let cases = [
-        Case {
-            length: 10,
-            validity: &[251, 3],
-            numbers: &TEN,
-            test: Test::Gt,
-            constant: Const::Whole(2),
-            passing: &[0, 3, 4, 6, 9],
-        },
-        Case {
-            length: 10,
-            validity: &[251, 3],
-            numbers: &TEN,
-            test: Test::Ne,
-            constant: Const::Whole(7),
-            passing: &[0, 1, 5, 6, 7, 8, 9],
-        },
-        Case {
-            length: 10,
-            validity: &[251, 3],
-            numbers: &TEN,
-            test: Test::Null,
-            constant: Const::None,
-            passing: &[2],
-        },
-        Case {
-            length: 3,
-            validity: &[7],
-            numbers: &[5, 253, 9],
-            test: Test::Gt,
-            constant: Const::Whole(2),
-            passing: &[0, 2],
-        },
-        Case {
-            length: 0,
-            validity: &[],
-            numbers: &[],
-            test: Test::Valid,
-            constant: Const::None,
-            passing: &[],
-        },
-    ];
-    for (name, case) in cases.iter().enumerate() {
-        is_found(&rt, rt.alloc(), name, case);
+    for (name, case) in CASES.iter().enumerate() {
+        for workers in [1u32, 2, 3, 7, 64] {
+            is_found(&rt, rt.alloc(), name, case, workers);
+        }
     }
 }
