@@ -67,19 +67,24 @@ fn another(rt: &impl Abort, hold: &mut Hold, pass: &mut Pass) -> Hold {
     }
 }
 
+/// The one hold of a new block of the bytes 1, 2 and 3.
+fn block(rt: &impl Abort, alloc: Global, pass: &mut Pass) -> Hold {
+    let Ok(bytes) = Vec::from_slice(alloc, &[1u8, 2, 3]) else {
+        panic!(rt; "no memory");
+    };
+    assert!(rt; pass.units() >= 1);
+    match make(alloc, bytes, pass) {
+        Ok(hold) => hold,
+        Err(_refused) => panic!(rt; "no memory"),
+    }
+}
+
 /// The holders of one block, each with its turn.
 fn three_holders(rt: &impl Abort, alloc: Global, turns: [u64; 3], pass: &mut Pass) -> Vec<Holder> {
     let Ok(mut holders) = Vec::with_capacity(alloc, 3) else {
         panic!(rt; "no memory");
     };
-    let Ok(bytes) = Vec::from_slice(alloc, &[1u8, 2, 3]) else {
-        panic!(rt; "no memory");
-    };
-    assert!(rt; pass.units() >= 1);
-    let mut first = match make(alloc, bytes, pass) {
-        Ok(hold) => hold,
-        Err(_refused) => panic!(rt; "no memory"),
-    };
+    let mut first = block(rt, alloc, pass);
     let second = another(rt, &mut first, pass);
     let third = another(rt, &mut first, pass);
     holders.push_reserved(waiting(first, pass, turns[0]));
@@ -109,6 +114,17 @@ fn ended(rt: &impl Abort, holder: Option<Holder>, pass: &mut Pass) -> Option<Tol
     told
 }
 
+/// Takes in what three holders have left, and answers what they told, by number.
+fn three_told(rt: &impl Abort, holders: Vec<Holder>, pass: &mut Pass) -> [Option<Told>; 3] {
+    let mut holders = holders;
+    let third = ended(rt, holders.pop(), pass);
+    let second = ended(rt, holders.pop(), pass);
+    let first = ended(rt, holders.pop(), pass);
+    assert!(rt; holders.is_empty());
+    holders.destroy_empty();
+    [first, second, third]
+}
+
 /// What the three holders of a block told, by number.
 fn told_by_turns<R: Threads + Abort + Sync>(
     rt: &R,
@@ -124,15 +140,11 @@ fn told_by_turns<R: Threads + Abort + Sync>(
         3,
         &|_, holder: &mut Holder| { let_go_in_turn(holder, &turn) },
     );
-    let third = ended(rt, holders.pop(), &mut pass);
-    let second = ended(rt, holders.pop(), &mut pass);
-    let first = ended(rt, holders.pop(), &mut pass);
-    assert!(rt; holders.is_empty());
-    holders.destroy_empty();
+    let told = three_told(rt, holders, &mut pass);
     assert!(rt; pass.units() == SUPPLY);
     let audit = desk.close(pass);
     assert_eq!(rt; audit.blocks, 1);
-    [first, second, third]
+    told
 }
 
 #[test]

@@ -7,7 +7,7 @@ use crate::{Job, fan_out};
 use buf_block::{BufView, make};
 use edge_io::{Gate, OpenGate};
 use fmt_string::DataType;
-use layout_check::{Typed, check_chunk};
+use layout_check::{Typed, check_chunk, chunk_passes};
 use raw_array::{ArrayParts, RawArray, ReleaseKind};
 use std::alloc::Global;
 use std::process::Abort;
@@ -80,24 +80,28 @@ fn no_columns(alloc: Global) -> Typed
     }
 }
 
-/// A table of two rows and no column, over a block of its own.
-fn two_rows(rt: &impl Abort, alloc: Global, pass: &mut Pass) -> RawArray {
-    assert!(rt; pass.units() >= 2);
+/// A view of a new block of one byte.
+fn view(rt: &impl Abort, alloc: Global, pass: &mut Pass) -> BufView {
+    assert!(rt; pass.units() >= 1);
     let Ok(bytes) = Vec::from_slice(alloc, &[3u8]) else {
         panic!(rt; "no memory");
     };
+    match make(alloc, bytes, pass) {
+        Ok(hold) => BufView {
+            hold,
+            start: 0,
+            len: 1,
+        },
+        Err(_refused) => panic!(rt; "no memory"),
+    }
+}
+
+/// A table of two rows and no column, over a block of its own.
+fn two_rows(rt: &impl Abort, alloc: Global, pass: &mut Pass) -> RawArray {
     let Ok(mut buffers) = Vec::with_capacity(alloc, 1) else {
         panic!(rt; "no memory");
     };
-    let hold = match make(alloc, bytes, pass) {
-        Ok(hold) => hold,
-        Err(_refused) => panic!(rt; "no memory"),
-    };
-    buffers.push_reserved(Some(BufView {
-        hold,
-        start: 0,
-        len: 1,
-    }));
+    buffers.push_reserved(Some(view(rt, alloc, pass)));
     let parts = ArrayParts {
         length: 2,
         null_count: 0,
@@ -138,7 +142,7 @@ fn windows<R: Threads + Abort + Sync>(
     let units = pass.units();
     let answers = fan_out(rt, alloc, chunk, &typed, workers, pass, job, gate);
     assert!(rt; pass.units() == units);
-    assert!(rt; check_chunk(&typed, chunk).is_ok());
+    assert!(rt; chunk_passes(&typed, chunk));
     Told {
         windows: answers.ok(),
         least: chunk.least_amount(),
@@ -208,17 +212,22 @@ fn one_worker_takes_no_share(rt: HostRuntime) -> Result<(), Fail> {
     Ok(())
 }
 
+/// A share of a chunk without columns.
+fn share_of(rt: &impl Abort, alloc: Global, chunk: &mut RawArray, pass: &mut Pass) -> RawArray {
+    assert!(rt; check_chunk(&no_columns(alloc), chunk).is_ok());
+    assert!(rt; chunk.cost() <= 1000 && pass.units() >= 1000 && chunk.least_amount() >= 2);
+    assert!(rt; !chunk.is_released());
+    match chunk.share(alloc, pass) {
+        Ok(share) => share,
+        Err(_refused) => panic!(rt; "no memory"),
+    }
+}
+
 /// Workers on a share, whose holds have the amount 1, and then on the chunk.
 fn windows_on_a_share<R: Threads + Abort + Sync>(rt: &R, alloc: Global) -> [Told; 2] {
     let (desk, mut pass) = open_desk();
     let mut chunk = two_rows(rt, alloc, &mut pass);
-    assert!(rt; check_chunk(&no_columns(alloc), &chunk).is_ok());
-    assert!(rt; chunk.cost() <= 1000 && pass.units() >= 1000 && chunk.least_amount() >= 2);
-    assert!(rt; !chunk.is_released());
-    let mut share = match chunk.share(alloc, &mut pass) {
-        Ok(share) => share,
-        Err(_refused) => panic!(rt; "no memory"),
-    };
+    let mut share = share_of(rt, alloc, &mut chunk, &mut pass);
     let job = Window { short_at: -1 };
     let of_share = windows(rt, alloc, &mut share, 3, &mut pass, &job, &OpenGate);
     let of_chunk = windows(rt, alloc, &mut chunk, 3, &mut pass, &job, &OpenGate);
