@@ -16,5 +16,4 @@ pub mod Parts
 pub mod Steady
 pub mod TableLaw
 pub mod IndexLaw
-pub mod TestColumns
 pub mod ValueTables

@@ -13,8 +13,6 @@
 //! Which columns there are, and how their values come into buffers, are left to others.
 #![tactic(auto)]
 
-#[cfg(test)]
-mod array_tests;
 mod built;
 mod column_array;
 mod columns;
@@ -22,8 +20,6 @@ mod laws;
 mod schema;
 mod size;
 mod table_array;
-#[cfg(test)]
-mod tests;
 mod types;
 mod worked;
 

@@ -28,19 +28,11 @@ mod indexed;
 mod item;
 mod one_kind;
 mod plain;
-#[cfg(test)]
-mod plain_tests;
 mod rows;
 mod stored;
-#[cfg(test)]
-mod tests;
-#[cfg(test)]
-mod trees;
 mod value;
 mod value_ref;
 mod view;
-#[cfg(test)]
-mod view_tests;
 
 pub use col::Col;
 pub use imported::{ImportFault, Imported, import};

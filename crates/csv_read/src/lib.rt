@@ -11,13 +11,9 @@
 #![tactic(auto)]
 
 mod batch_laws;
-#[cfg(test)]
-mod batch_tests;
 mod batches;
 mod body;
 mod body_columns;
-#[cfg(test)]
-mod body_tests;
 mod chunk;
 mod columns;
 mod field_push;
@@ -26,8 +22,6 @@ mod items;
 mod names;
 mod records;
 mod row;
-#[cfg(test)]
-mod tests;
 
 pub use batch_laws::batches_are_read_in_turn;
 pub use batches::BatchReader;

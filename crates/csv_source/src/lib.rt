@@ -16,7 +16,5 @@
 mod next_chunk;
 mod refused;
 mod source;
-#[cfg(test)]
-mod tests;
 
 pub use source::CsvSource;

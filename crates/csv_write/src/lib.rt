@@ -8,8 +8,6 @@
 mod chunk_text;
 mod column_form;
 mod csv_text;
-#[cfg(test)]
-mod csv_text_tests;
 mod reading;
 mod rows;
 mod writer;

@@ -21,8 +21,3 @@ mod share;
 pub use fan::fan_out;
 pub use job::Job;
 pub use laws::pieces_are_in_order;
-
-#[cfg(test)]
-mod hold_tests;
-#[cfg(test)]
-mod tests;

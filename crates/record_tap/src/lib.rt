@@ -13,8 +13,6 @@ mod kinds;
 mod names;
 mod rows;
 mod tap;
-#[cfg(test)]
-mod tests;
 mod value;
 
 pub use tap::{RecordTap, SeenChunk};

@@ -26,10 +26,3 @@ pub use stage_model::{PlanFault, PlanRule, StageFault, StageText};
 pub use stages::read_stage;
 pub use types::{TypeEntry, read_types};
 pub use typing::{Plan, type_plan};
-
-#[cfg(test)]
-mod plan_tests;
-#[cfg(test)]
-mod stage_tests;
-#[cfg(test)]
-mod tests;

@@ -22,12 +22,8 @@
 mod fault;
 mod known;
 mod raw;
-#[cfg(test)]
-mod stranger;
 mod stream;
 mod tap;
-#[cfg(test)]
-mod tests;
 
 pub use fault::{StartFault, StreamFault};
 pub use raw::RawStream;

@@ -12,8 +12,6 @@
 mod check;
 mod fault;
 mod laws;
-#[cfg(test)]
-mod tests;
 
 pub use check::check_tree;
 pub use fault::{CheckFault, TreeFault};

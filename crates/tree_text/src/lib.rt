@@ -25,8 +25,6 @@ mod reading;
 mod report_text;
 mod report_tree;
 mod schema_tree;
-#[cfg(test)]
-mod tests;
 mod tokens;
 mod worked;
 

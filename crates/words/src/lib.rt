@@ -357,6 +357,3 @@ fn flag(matches: &ArgMatches<'_>, id: &str) -> bool
         None => false,
     }
 }
-
-#[cfg(test)]
-mod tests;

@@ -1,0 +1,17 @@
+use Rattle.std.proofs.Common.{refl, arith, true, [], ◌∷◌}
+use Rattle.fmt_string.specs.Value.{Bytes}
+use Rattle.fmt_string.specs.declared.kind.DataType.TheVariants as kinds
+use Rattle.column_tests.proofs.TestColumns.{fitting}
+use Rattle.column_tests.proofs.arrays.binaries.Goals as goal
+
+pub exported-requires : goal.exported-requires
+exported-requires g c = (
+  kinds.Binary true,
+  Bytes (1 ∷ 2 ∷ []) ∷ Bytes [] ∷ Bytes (3 ∷ []) ∷ [],
+  record {
+    is_encoded =
+        record { is_kind = refl; length = refl; null_count = refl; buffers = rw c.three.ensures (tt, (c.block-offsets.ensures, (c.block-data.ensures, tt))) };
+    fits = fitting (kinds.Binary true) (Bytes (1 ∷ 2 ∷ []) ∷ Bytes [] ∷ Bytes (3 ∷ []) ∷ []) tt tt (omega arith) (refl, (refl, (refl, tt))) (omega arith);
+    indices = tt;
+  },
+)

@@ -1,0 +1,17 @@
+use Rattle.std.proofs.Common.{rules, refl, arith, pos, negsuc, false, [], ◌∷◌}
+use Rattle.fmt_string.specs.Value.{Whole}
+use Rattle.fmt_string.specs.declared.kind.DataType.TheVariants as kinds
+use Rattle.column_tests.proofs.TestColumns.{fitting}
+use Rattle.column_tests.proofs.arrays.decimals.Goals as goal
+
+pub exported-requires : goal.exported-requires
+exported-requires g c = (
+  kinds.Decimal 5 (pos 2) false,
+  Whole (pos 256) ∷ Whole (negsuc 0) ∷ [],
+  record {
+    is_encoded = record { is_kind = refl; length = refl; null_count = refl; buffers = rw c.two.ensures (tt, (c.block-data.ensures, tt)) };
+    fits = fitting (kinds.Decimal 5 (pos 2) false) (Whole (pos 256) ∷ Whole (negsuc 0) ∷ []) (omega arith, omega arith, search rules) tt (omega arith)
+        (refl, (refl, tt)) (omega arith);
+    indices = tt;
+  },
+)

@@ -1,0 +1,17 @@
+use Rattle.std.proofs.Common.{refl, arith, [], ◌∷◌}
+use Rattle.fmt_string.specs.Value.{Null, Bytes}
+use Rattle.fmt_string.specs.declared.kind.DataType.TheVariants as kinds
+use Rattle.column_tests.proofs.TestColumns.{fitting}
+use Rattle.column_tests.proofs.arrays.triples.Goals as goal
+
+pub exported-requires : goal.exported-requires
+exported-requires g c = (
+  kinds.FixedBinary 3,
+  Bytes (97 ∷ 98 ∷ 99 ∷ []) ∷ Null ∷ Bytes (100 ∷ 101 ∷ 102 ∷ []) ∷ [],
+  record {
+    is_encoded = record { is_kind = refl; length = refl; null_count = refl; buffers = rw c.two.ensures (c.block-validity.ensures, (c.block-data.ensures, tt)) };
+    fits = fitting (kinds.FixedBinary 3) (Bytes (97 ∷ 98 ∷ 99 ∷ []) ∷ Null ∷ Bytes (100 ∷ 101 ∷ 102 ∷ []) ∷ []) (omega arith) tt (omega arith)
+        (refl, (refl, (refl, tt))) (omega arith);
+    indices = tt;
+  },
+)

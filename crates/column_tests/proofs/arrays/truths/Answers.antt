@@ -1,0 +1,16 @@
+use Rattle.std.proofs.Common.{refl, arith, true, false, [], ◌∷◌}
+use Rattle.fmt_string.specs.Value.{Null, Truth}
+use Rattle.fmt_string.specs.declared.kind.DataType.TheVariants as kinds
+use Rattle.column_tests.proofs.TestColumns.{fitting}
+use Rattle.column_tests.proofs.arrays.truths.Goals as goal
+
+pub exported-requires : goal.exported-requires
+exported-requires g c = (
+  kinds.Bool,
+  Truth true ∷ Truth false ∷ Null ∷ Truth true ∷ [],
+  record {
+    is_encoded = record { is_kind = refl; length = refl; null_count = refl; buffers = rw c.two.ensures (c.block-validity.ensures, (c.block-data.ensures, tt)) };
+    fits = fitting (kinds.Bool) (Truth true ∷ Truth false ∷ Null ∷ Truth true ∷ []) tt tt (omega arith) (refl, (refl, (refl, (refl, tt)))) (omega arith);
+    indices = tt;
+  },
+)

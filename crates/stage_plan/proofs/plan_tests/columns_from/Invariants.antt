@@ -1,7 +1,0 @@
-use Rattle.std.specs.Prelude.{All}
-use Rattle.fmt_string.specs.ColumnForms.{KindsOk}
-use Rattle.fmt_string.specs.ColumnView.{kind_of}
-use Rattle.stage_plan.proofs.plan_tests.columns_from.Given as goal
-
-abbrev pub invariant-loop-entry : goal.invariant-loop-entry
-invariant-loop-entry l = All (λ c. KindsOk (kind_of c.kind)) l.columns.items

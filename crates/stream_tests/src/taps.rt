@@ -1,0 +1,302 @@
+//! A table is shown twice, and what was kept is compared value by value.
+ghost use Rattle.std.specs.Prelude.{◌≤◌};
+ghost use Rattle.tree_model.specs.Tree.{trees, depth_of_all};
+
+use buf_block::{BufView, make};
+use fmt_string::DataType;
+use layout_check::{check_chunk, check_schema};
+use raw_array::{ArrayParts, RawArray, ReleaseKind};
+use raw_schema::{RawSchema, SchemaParts};
+use record_tap::{OwnedValue, RecordTap, SeenChunk};
+use std::alloc::Global;
+use std::process::Abort;
+use stream_face::Tap;
+use unit_pass::{Name, Pass, SUPPLY, open_desk};
+
+// ---- small trees
+
+fn listed<T>(rt: &impl Abort, items: &mut Vec<T>, item: T) {
+    match items.push(item) {
+        Ok(()) => {}
+        Err(_failed) => panic!(rt; "no memory"),
+    }
+}
+
+fn copied(rt: &impl Abort, alloc: Global, bytes: &[u8]) -> Vec<u8> {
+    match Vec::from_slice(alloc, bytes) {
+        Ok(bytes) => bytes,
+        Err(_failed) => panic!(rt; "no memory"),
+    }
+}
+
+#[tactic(auto, using(tree_model::proofs::Measures::measures))]
+fn few_schema_levels(rt: &impl Abort, children: &[RawSchema])
+    ensures { depth_of_all (trees children.now) ≤ 9 }
+{
+    for child in children {
+        assert!(rt; child.depth() <= 9);
+    }
+}
+
+/// A schema of this format and name.
+fn field(
+    rt: &impl Abort,
+    alloc: Global,
+    format: &[u8],
+    name: Option<&[u8]>,
+    children: Vec<RawSchema>,
+    pass: &mut Pass,
+) -> RawSchema {
+    let name = match name {
+        Some(name) => Some(copied(rt, alloc, name)),
+        None => None,
+    };
+    few_schema_levels(rt, &children);
+    assert!(rt; pass.units() >= 1 && children.len() < 9);
+    let parts = SchemaParts {
+        format: copied(rt, alloc, format),
+        name,
+        metadata: None,
+        flags: 2,
+        children,
+        dictionary: None,
+    };
+    match RawSchema::build(alloc, parts, pass) {
+        Ok(tree) => tree,
+        Err(_refused) => panic!(rt; "no memory"),
+    }
+}
+
+/// A view of all bytes of a new block.
+fn view(rt: &impl Abort, alloc: Global, bytes: &[u8], pass: &mut Pass) -> BufView {
+    assert!(rt; pass.units() >= 1);
+    let bytes = copied(rt, alloc, bytes);
+    let len = bytes.len();
+    match make(alloc, bytes, pass) {
+        Ok(hold) => BufView {
+            hold,
+            start: 0,
+            len,
+        },
+        Err(_refused) => panic!(rt; "no memory"),
+    }
+}
+
+#[tactic(auto, using(tree_model::proofs::Measures::measures))]
+fn few_levels(rt: &impl Abort, children: &[RawArray])
+    ensures { depth_of_all (trees children.now) ≤ 9 }
+{
+    for child in children {
+        assert!(rt; child.depth() <= 9);
+    }
+}
+
+/// An array of so many items and nulls.
+fn array(
+    rt: &impl Abort,
+    alloc: Global,
+    items: (i64, i64),
+    bytes: &[Option<&[u8]>],
+    children: Vec<RawArray>,
+    pass: &mut Pass,
+) -> RawArray {
+    let mut buffers = Vec::new(alloc);
+    for buffer in bytes {
+        let buffer = match buffer {
+            Some(bytes) => Some(view(rt, alloc, bytes, pass)),
+            None => None,
+        };
+        listed(rt, &mut buffers, buffer);
+    }
+    few_levels(rt, &children);
+    assert!(rt; pass.units() >= 1 && children.len() < 9 && buffers.len() < 9);
+    let parts = ArrayParts {
+        length: items.0,
+        null_count: items.1,
+        offset: 0,
+        buffers,
+        children,
+        dictionary: None,
+        kind: ReleaseKind::Exported,
+    };
+    match RawArray::build(alloc, parts, pass) {
+        Ok(tree) => tree,
+        Err(_refused) => panic!(rt; "no memory"),
+    }
+}
+
+// ---- the table
+
+/// A column of whole numbers, and one of structs of a text and a list of truth values.
+fn table_schema(rt: &impl Abort, alloc: Global, pass: &mut Pass) -> RawSchema {
+    let mut items = Vec::new(alloc);
+    let item = field(rt, alloc, b"b", Some(b"item"), Vec::new(alloc), pass);
+    listed(rt, &mut items, item);
+    let mut fields = Vec::new(alloc);
+    let text = field(rt, alloc, b"u", Some(b"x"), Vec::new(alloc), pass);
+    listed(rt, &mut fields, text);
+    let list = field(rt, alloc, b"+l", Some(b"y"), items, pass);
+    listed(rt, &mut fields, list);
+    let mut columns = Vec::new(alloc);
+    let numbers = field(rt, alloc, b"c", Some(b"n"), Vec::new(alloc), pass);
+    listed(rt, &mut columns, numbers);
+    let structs = field(rt, alloc, b"+s", Some(b"s"), fields, pass);
+    listed(rt, &mut columns, structs);
+    field(rt, alloc, b"+s", None, columns, pass)
+}
+
+const ENDS: [u8; 16] = [0, 0, 0, 0, 2, 0, 0, 0, 2, 0, 0, 0, 3, 0, 0, 0];
+
+const LISTS: [u8; 16] = [0, 0, 0, 0, 1, 0, 0, 0, 1, 0, 0, 0, 3, 0, 0, 0];
+
+/// Three rows; the second number is null.
+fn table(rt: &impl Abort, alloc: Global, pass: &mut Pass) -> RawArray {
+    let mut items = Vec::new(alloc);
+    let truths = array(
+        rt,
+        alloc,
+        (3, 0),
+        &[None, Some(&[5])],
+        Vec::new(alloc),
+        pass,
+    );
+    listed(rt, &mut items, truths);
+    let mut fields = Vec::new(alloc);
+    let buffers: [Option<&[u8]>; 3] = [None, Some(&ENDS), Some(b"hi!")];
+    let texts = array(rt, alloc, (3, 0), &buffers, Vec::new(alloc), pass);
+    listed(rt, &mut fields, texts);
+    let lists = array(rt, alloc, (3, 0), &[None, Some(&LISTS)], items, pass);
+    listed(rt, &mut fields, lists);
+    let mut columns = Vec::new(alloc);
+    let buffers: [Option<&[u8]>; 2] = [Some(&[5]), Some(&[7, 0, 255])];
+    let numbers = array(rt, alloc, (3, 1), &buffers, Vec::new(alloc), pass);
+    listed(rt, &mut columns, numbers);
+    let structs = array(rt, alloc, (3, 0), &[None], fields, pass);
+    listed(rt, &mut columns, structs);
+    array(rt, alloc, (3, 0), &[None], columns, pass)
+}
+
+// ---- what is wanted
+
+/// What is to be kept.
+#[derive(Clone, Copy)]
+enum Want<'w> {
+    Null,
+    Truth(bool),
+    Whole(i128),
+    Bytes(&'w [u8]),
+    Items(&'w [Want<'w>]),
+    Fields(&'w [Want<'w>]),
+}
+
+static ROWS: [[Want<'static>; 2]; 3] = [
+    [
+        Want::Whole(7),
+        Want::Fields(&[Want::Bytes(b"hi"), Want::Items(&[Want::Truth(true)])]),
+    ],
+    [
+        Want::Null,
+        Want::Fields(&[Want::Bytes(b""), Want::Items(&[])]),
+    ],
+    [
+        Want::Whole(-1),
+        Want::Fields(&[
+            Want::Bytes(b"!"),
+            Want::Items(&[Want::Truth(false), Want::Truth(true)]),
+        ]),
+    ],
+];
+
+static NAMES: [Option<&[u8]>; 6] = [
+    None,
+    Some(b"n"),
+    Some(b"s"),
+    Some(b"x"),
+    Some(b"y"),
+    Some(b"item"),
+];
+
+#[cycle(same)]
+fn is_kept(rt: &impl Abort, value: &OwnedValue, want: &Want<'_>) {
+    match (value, want) {
+        (OwnedValue::Null, Want::Null) => {}
+        (OwnedValue::Truth(found), Want::Truth(want)) => assert_eq!(rt; *found, *want),
+        (OwnedValue::Whole(found), Want::Whole(want)) => assert_eq!(rt; *found, *want),
+        (OwnedValue::Bytes(found), Want::Bytes(want)) => assert_eq!(rt; found.as_slice(), *want),
+        (OwnedValue::Items(found), Want::Items(want)) => are_kept(rt, found.as_slice(), want),
+        (OwnedValue::Fields(found), Want::Fields(want)) => are_kept(rt, found.as_slice(), want),
+        _ => panic!(rt; "another kind of value"),
+    }
+}
+
+#[cycle(same)]
+fn are_kept(rt: &impl Abort, values: &[OwnedValue], wanted: &[Want<'_>]) {
+    assert_eq!(rt; values.len(), wanted.len());
+    for (value, want) in values.iter().zip(wanted.iter()) {
+        is_kept(rt, value, want);
+    }
+}
+
+fn name_is(rt: &impl Abort, name: &Option<Name>, want: Option<&[u8]>) {
+    let found = match name {
+        Some(name) => Some(name.as_slice()),
+        None => None,
+    };
+    assert_eq!(rt; found, want);
+}
+
+fn chunk_is(rt: &impl Abort, seen: &SeenChunk, link: u32) {
+    assert_eq!(rt; seen.link, link);
+    assert_eq!(rt; seen.names.len(), NAMES.len());
+    for (name, want) in seen.names.iter().zip(NAMES.iter()) {
+        name_is(rt, name, *want);
+    }
+    assert!(rt; matches!(&seen.typed.kind, DataType::Struct));
+    assert_eq!(rt; seen.typed.kids.len(), 2);
+    assert!(rt; matches!(&seen.typed.kids[1].kind, DataType::Struct));
+    assert_eq!(rt; seen.rows.len(), ROWS.len());
+    for (row, want) in seen.rows.iter().zip(ROWS.iter()) {
+        are_kept(rt, row.as_slice(), want.as_slice());
+    }
+}
+
+/// Shows a chunk under two links.
+fn show_twice(
+    rt: &impl Abort,
+    alloc: Global,
+    tap: &mut RecordTap,
+    schema: &RawSchema,
+    chunk: &RawArray,
+) {
+    let Ok(typed) = check_schema(alloc, schema) else {
+        panic!(rt; "the schema is refused");
+    };
+    if check_chunk(&typed, chunk).is_err() {
+        panic!(rt; "the chunk is refused");
+    }
+    assert!(rt; tap.see(alloc, 3, schema, &typed, chunk).is_ok());
+    assert!(rt; tap.see(alloc, 9, schema, &typed, chunk).is_ok());
+}
+
+#[test]
+fn what_is_shown_is_kept(rt: HostRuntime) {
+    let alloc = rt.alloc();
+    let (desk, mut pass) = open_desk();
+    let schema = table_schema(&rt, alloc, &mut pass);
+    let chunk = table(&rt, alloc, &mut pass);
+    let mut tap = RecordTap::new(alloc);
+    assert!(rt; tap.seen().is_empty());
+    show_twice(&rt, alloc, &mut tap, &schema, &chunk);
+    let seen = tap.seen();
+    assert_eq!(rt; seen.len(), 2);
+    chunk_is(&rt, &seen[0], 3);
+    chunk_is(&rt, &seen[1], 9);
+    let before = pass.units();
+    assert!(rt; chunk.cost() <= SUPPLY - before);
+    chunk.end(&mut pass);
+    let before = pass.units();
+    assert!(rt; schema.cost() <= SUPPLY - before);
+    schema.end(&mut pass);
+    assert_eq!(rt; pass.units(), SUPPLY);
+    desk.close(pass);
+}
