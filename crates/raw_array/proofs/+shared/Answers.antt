@@ -1,3 +1,4 @@
+use Rattle.raw_array.proofs.Shares.{shares}
 use Rattle.std.proofs.lemmas.Grind.{common_steps}
 use Rattle.std.proofs.Common.{rules, ◌≡◌, ◌+◌, ◌<◌, length, take, ap, sym, subst, ◌∙◌, arith}
 use Rattle.std.proofs.Math.Seq.{take-length}
@@ -6,8 +7,8 @@ use Rattle.tree_model.specs.Tree.{Depth, trees}
 use Rattle.tree_model.proofs.Measures.{Depth-get_or, cost_of_all-before, cost_of_all-take, Least-get_or}
 use Rattle.raw_array.specs.Members.{Bounded, Cost, cost_of_all, LeastAmount, holds, whole, least}
 use Rattle.raw_array.specs.View.{tree_of, tree_of_node}
-use Rattle.raw_array.proofs.Bounds.{Bounded-shared, Bounded-lowered, Bounded-one_lower}
-use Rattle.raw_array.proofs.Children.{same_length, same_child, all_one_lower, child_lowered, child_shared, all_lowered, all_one_lower_at_end, all_shared}
+use Rattle.raw_array.proofs.Bounds.{Bounded-shared, Bounded-lowered, Bounded-one_lower, bounds}
+use Rattle.raw_array.proofs.Children.{same_length, same_child, all_one_lower, child_lowered, child_shared, all_lowered, all_one_lower_at_end, all_shared, swaps}
 use Rattle.raw_array.proofs.Children.{cost_of_first}
 use Rattle.raw_array.proofs.+shared.Goals as goal
 use Rattle.raw_array.proofs.+shared.Goals.{array::RawArray::shared-in-Released, array::RawArray::shared-in-Live+in-Ok, array::RawArray::shared-in-Live+in-Err}
@@ -197,3 +198,18 @@ share::shared_node-returns-clause-blocks t c = grind (arith, common_steps)
 
 pub share::shared_node-returns-clause-nodes : goal.share::shared_node-returns-clause-nodes
 share::shared_node-returns-clause-nodes t c = grind (arith, common_steps)
+
+pub share::shared_behind-end-requires : goal.share::shared_behind-end-requires
+share::shared_behind-end-requires t c = grind (arith, shares, bounds, swaps)
+
+pub share::shared_child-returns-clause-lowered : goal.share::shared_child-returns-clause-lowered
+share::shared_child-returns-clause-lowered t c = grind (arith, shares, bounds, swaps)
+
+pub share::shared_child-returns-clause-rest : goal.share::shared_child-returns-clause-rest
+share::shared_child-returns-clause-rest t c = grind (arith, shares, bounds, swaps)
+
+pub share::shared_node-end_private-requires : goal.share::shared_node-end_private-requires
+share::shared_node-end_private-requires t c = grind (arith, shares, bounds, swaps)
+
+pub share::shared_node-end_all-requires : goal.share::shared_node-end_all-requires
+share::shared_node-end_all-requires t c = grind (arith, shares, bounds, swaps)

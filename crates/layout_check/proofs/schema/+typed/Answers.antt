@@ -5,7 +5,7 @@ use Rattle.layout_check.specs.declared.typed.Typed.{Typed}
 use Rattle.layout_check.specs.declared.typed.Typed.TheOpen.{Typed-F}
 use Rattle.layout_check.specs.TypedView.{typed_of}
 use Rattle.layout_check.specs.Found.{steps_of}
-use Rattle.layout_check.proofs.SchemaParts.{typed-node, fault-kid, fault-renamed, kids-step}
+use Rattle.layout_check.proofs.SchemaParts.{typed-node, fault-kid, fault-renamed, kids-step, parts}
 use Rattle.layout_check.proofs.schema.+typed.Goals as goal
 
 pub typed_from-returns-clause-found : goal.typed_from-returns-clause-found
@@ -42,3 +42,9 @@ typed_kids-loop-i-preserved t c =
 
 pub typed_kids-returns-clause-found : goal.typed_kids-returns-clause-found
 typed_kids-returns-clause-found t c = grind (arith, common_steps)
+
+pub typed_from-returns-in_err-kids-clause-fault : goal.typed_from-returns-in_err-kids-clause-fault
+typed_from-returns-in_err-kids-clause-fault t c = grind (arith, parts)
+
+pub typed_from-returns-in_err-dict-clause-fault : goal.typed_from-returns-in_err-dict-clause-fault
+typed_from-returns-in_err-dict-clause-fault t c = grind (arith, parts)

@@ -3,7 +3,7 @@ use Rattle.tree_model.specs.Tree.{trees, maybe_tree, children_of, dictionary_of}
 use Rattle.layout_check.specs.Found.{steps_of}
 use Rattle.layout_check.specs.Schemas.{ChildrenFit, IndexFits, MapFits}
 use Rattle.layout_check.specs.SchemaAnswers.{FaultHere}
-use Rattle.layout_check.proofs.SchemaFails.{refuted, granted, fails-children, fails-index, fails-map}
+use Rattle.layout_check.proofs.SchemaFails.{refuted, granted, fails-children, fails-index, fails-map, fails}
 use Rattle.layout_check.proofs.schema.check_parts.Goals as goal
 
 pub returns-then-not-children_fit-clause-fault : goal.returns-then-not-children_fit-clause-fault
@@ -44,3 +44,60 @@ returns-then-not-map_fits-clause-fault c =
     let unmet = refuted c.map_fits.result (MapFits kind (trees (children_of schema))) not_map c.map_fits.ensures.1 in
     subst (FaultHere level schema (steps_of c.args.path.now)) (sym c.at-then-not-map_fits.ensures)
     (refl, fails-map level schema c.requires.live low kind c.requires.format c.requires.meta children index unmet)
+
+pub children_fit-requires : goal.children_fit-requires
+children_fit-requires c = grind (arith, fails)
+
+pub at-requires : goal.at-requires
+at-requires c = grind (arith, fails)
+
+pub returns-then-not-children_fit-clause-index : goal.returns-then-not-children_fit-clause-index
+returns-then-not-children_fit-clause-index c = grind (arith, fails)
+
+pub returns-then-not-children_fit-clause-map : goal.returns-then-not-children_fit-clause-map
+returns-then-not-children_fit-clause-map c = grind (arith, fails)
+
+pub index_fits-requires : goal.index_fits-requires
+index_fits-requires c = grind (arith, fails)
+
+pub at-requires-then-not-index_fits : goal.at-requires-then-not-index_fits
+at-requires-then-not-index_fits c = grind (arith, fails)
+
+pub returns-then-not-index_fits-clause-children : goal.returns-then-not-index_fits-clause-children
+returns-then-not-index_fits-clause-children c = grind (arith, fails)
+
+pub returns-then-not-index_fits-clause-index : goal.returns-then-not-index_fits-clause-index
+returns-then-not-index_fits-clause-index c = grind (arith, fails)
+
+pub returns-then-not-index_fits-clause-map : goal.returns-then-not-index_fits-clause-map
+returns-then-not-index_fits-clause-map c = grind (arith, fails)
+
+pub map_fits-requires-clause-live : goal.map_fits-requires-clause-live
+map_fits-requires-clause-live c = grind (arith, fails)
+
+pub map_fits-requires-clause-children : goal.map_fits-requires-clause-children
+map_fits-requires-clause-children c = grind (arith, fails)
+
+pub at-requires-then-not-map_fits : goal.at-requires-then-not-map_fits
+at-requires-then-not-map_fits c = grind (arith, fails)
+
+pub returns-then-not-map_fits-clause-children : goal.returns-then-not-map_fits-clause-children
+returns-then-not-map_fits-clause-children c = grind (arith, fails)
+
+pub returns-then-not-map_fits-clause-index : goal.returns-then-not-map_fits-clause-index
+returns-then-not-map_fits-clause-index c = grind (arith, fails)
+
+pub returns-then-not-map_fits-clause-map : goal.returns-then-not-map_fits-clause-map
+returns-then-not-map_fits-clause-map c = grind (arith, fails)
+
+pub returns-clause-children : goal.returns-clause-children
+returns-clause-children c = grind (arith, fails)
+
+pub returns-clause-index : goal.returns-clause-index
+returns-clause-index c = grind (arith, fails)
+
+pub returns-clause-map : goal.returns-clause-map
+returns-clause-map c = grind (arith, fails)
+
+pub returns-clause-fault : goal.returns-clause-fault
+returns-clause-fault c = grind (arith, fails)

@@ -1,3 +1,4 @@
+use Rattle.layout_check.proofs.SchemaFails.{fails}
 use Rattle.std.proofs.Common.{arith}
 use Rattle.std.proofs.lemmas.Grind.{common_steps}
 use Rattle.layout_check.proofs.schema.node_kind.Goals as goal
@@ -103,3 +104,6 @@ returns-clause-level c = grind (arith, common_steps)
 
 pub returns-clause-fault : goal.returns-clause-fault
 returns-clause-fault c = grind (arith, common_steps)
+
+pub returns-in-Err-clause-fault : goal.returns-in-Err-clause-fault
+returns-in-Err-clause-fault c = grind (arith, fails)

@@ -1,4 +1,6 @@
-use Rattle.std.proofs.Common.{rules, ◌≡◌, ◌<◌, Some, sym}
+use Rattle.layout_check.proofs.Placed.{placed}
+use Rattle.layout_check.proofs.TextData.{items_lie}
+use Rattle.std.proofs.Common.{rules, ◌≡◌, ◌<◌, Some, sym, arith}
 use Rattle.raw_array.specs.Members.{members_of}
 use Rattle.layout_check.specs.Layout.{items}
 use Rattle.layout_check.specs.Rules.{view_not_text}
@@ -11,3 +13,6 @@ returns-in-Some c =
     let inside : c.loop-i.i < items own = search rules in
     let is : view_not_text own c.loop-i.i ≡ Some c.in-Some.numbers = search rules in
     sym (first_below-some (view_not_text own) (items own) c.loop-i.i c.in-Some.numbers inside c.loop-i.invariant is)
+
+pub view_not_text-requires-clause-within : goal.view_not_text-requires-clause-within
+view_not_text-requires-clause-within c = grind (arith, items_lie, placed)

@@ -3,7 +3,7 @@ use Rattle.std.proofs.Common.{rules, ◌≡◌, ◌<◌, length, get_or, arith}
 use Rattle.tree_model.specs.Tree.{children_of}
 use Rattle.layout_check.specs.Found.{steps_of}
 use Rattle.layout_check.proofs.Levels.{levels-kid, kid-ok}
-use Rattle.layout_check.proofs.Faults.{children_fault-step}
+use Rattle.layout_check.proofs.Faults.{children_fault-step, walks}
 use Rattle.layout_check.proofs.walk.+check.Goals as goal
 
 pub check_children-check_part-requires : goal.check_children-check_part-requires
@@ -39,3 +39,15 @@ check_children-loop-i-preserved t c =
 
 pub check_children-returns-clause-fault : goal.check_children-returns-clause-fault
 check_children-returns-clause-fault t c = grind (arith, common_steps)
+
+pub check_from-check_own-requires : goal.check_from-check_own-requires
+check_from-check_own-requires t c = grind (arith, walks)
+
+pub check_from-check_children-requires : goal.check_from-check_children-requires
+check_from-check_children-requires t c = grind (arith, walks)
+
+pub check_from-check_dictionary-requires : goal.check_from-check_dictionary-requires
+check_from-check_dictionary-requires t c = grind (arith, walks)
+
+pub check_from-returns-clause-fault : goal.check_from-returns-clause-fault
+check_from-returns-clause-fault t c = grind (arith, walks)

@@ -1,3 +1,4 @@
+use Rattle.layout_check.proofs.Faults.{walks}
 use Rattle.std.proofs.lemmas.Grind.{common_steps}
 use Rattle.std.proofs.Common.{rules, ◌≡◌, ◌<◌, ◌++◌, ◌∷◌, [], length, get_or, arith}
 use Rattle.tree_model.specs.Tree.{children_of}
@@ -42,3 +43,12 @@ children_pass-loop-i-preserved t c path =
 
 pub children_pass-returns : goal.children_pass-returns
 children_pass-returns t c = grind (arith, common_steps)
+
+pub passes-own_passes-requires : goal.passes-own_passes-requires
+passes-own_passes-requires t c = grind (arith, walks, walks)
+
+pub passes-children_pass-requires : goal.passes-children_pass-requires
+passes-children_pass-requires t c = grind (arith, walks, walks)
+
+pub passes-dictionary_passes-requires : goal.passes-dictionary_passes-requires
+passes-dictionary_passes-requires t c = grind (arith, walks, walks)

@@ -1,3 +1,4 @@
+use Rattle.layout_check.proofs.Lawful.{lawful}
 use Rattle.std.proofs.Common.{arith}
 use Rattle.std.proofs.lemmas.Grind.{common_steps}
 use Rattle.layout_check.proofs.walk.check_array.Goals as goal
@@ -19,3 +20,9 @@ returns-in-Ok-clause-fault c = grind (arith, common_steps)
 
 pub returns-in-Err-clause-fault : goal.returns-in-Err-clause-fault
 returns-in-Err-clause-fault c = grind (arith, common_steps)
+
+pub returns-in-Ok-clause-lawful : goal.returns-in-Ok-clause-lawful
+returns-in-Ok-clause-lawful c = grind (arith, lawful)
+
+pub returns-in-Err-clause-lawful : goal.returns-in-Err-clause-lawful
+returns-in-Err-clause-lawful c = grind (arith, lawful)

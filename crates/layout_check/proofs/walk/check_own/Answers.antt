@@ -5,7 +5,7 @@ use Rattle.layout_check.specs.Found.{found_at}
 use Rattle.layout_check.specs.Rules.{buffer_rules, item_rules}
 use Rattle.layout_check.specs.TypedView.{live_node}
 use Rattle.layout_check.specs.Walk.{rules_fault}
-use Rattle.layout_check.proofs.Faults.{own_fault-typed}
+use Rattle.layout_check.proofs.Faults.{own_fault-typed, own_rules}
 use Rattle.layout_check.proofs.walk.check_own.Goals as goal
 
 pub returns-in_err-check_buffers-clause-fault : goal.returns-in_err-check_buffers-clause-fault
@@ -98,3 +98,6 @@ returns-clause-children c = grind (arith, common_steps)
 
 pub returns-clause-few : goal.returns-clause-few
 returns-clause-few c = grind (arith, common_steps)
+
+pub returns-in_err-check_form-clause-fault : goal.returns-in_err-check_form-clause-fault
+returns-in_err-check_form-clause-fault c = grind (arith, own_rules)

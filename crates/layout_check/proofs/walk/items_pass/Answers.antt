@@ -5,7 +5,7 @@ use Rattle.std.specs.Prelude.{is_none}
 use Rattle.layout_check.specs.declared.rule.LayoutRule.TheVariants.{ChildShort, NullCount, ViewPlace, ViewPrefix, NotText, IndexRange, WindowTooLong}
 use Rattle.layout_check.specs.Rules.{fails, item_rules}
 use Rattle.layout_check.specs.TypedView.{live_node}
-use Rattle.layout_check.proofs.Passes.{none-rules, held, held-last}
+use Rattle.layout_check.proofs.Passes.{none-rules, held, held-last, node}
 use Rattle.layout_check.proofs.walk.items_pass.Goals.{then-is_none, else-is_none, then-is_none-2, else-is_none-2, then-views_pass, else-views_pass}
 use Rattle.layout_check.proofs.walk.items_pass.Goals.{then-texts_pass, else-texts_pass}
 use Rattle.layout_check.proofs.walk.items_pass.Goals as goal
@@ -62,3 +62,6 @@ indices_pass-requires-clause-dictionary c = grind (arith, common_steps)
 
 pub window_too_long-requires : goal.window_too_long-requires
 window_too_long-requires c = grind (arith, common_steps)
+
+pub returns-else-indices_pass : goal.returns-else-indices_pass
+returns-else-indices_pass c = grind (arith, node)

@@ -1,3 +1,4 @@
+use Rattle.raw_array.proofs.Shares.{shares}
 use Rattle.std.proofs.lemmas.Grind.{common_steps}
 use Rattle.std.proofs.Common.{rules, ◌≡◌, ◌+◌, ◌<◌, ◌∷◌, [], length, map, take, ap, ◌∙◌, arith}
 use Rattle.raw_array.specs.Members.{holds_of, least_of, shared_buffer, lowered_buffer}
@@ -135,3 +136,12 @@ returns-clause-blocks c = grind (arith, common_steps)
 
 pub returns-clause-nodes : goal.returns-clause-nodes
 returns-clause-nodes c = grind (arith, common_steps)
+
+pub returns-in_default-clause-one_lower : goal.returns-in_default-clause-one_lower
+returns-in_default-clause-one_lower c = grind (arith, shares)
+
+pub let_go_all-requires : goal.let_go_all-requires
+let_go_all-requires c = grind (arith, shares)
+
+pub returns-in-Err-clause-units : goal.returns-in-Err-clause-units
+returns-in-Err-clause-units c = grind (arith, shares)

@@ -12,7 +12,7 @@ use Rattle.tree_text.specs.Cursors.{left, ArrayRead, ArraysRead}
 use Rattle.tree_text.specs.LineView.{array_own, array_told}
 use Rattle.tree_text.proofs.LineBack.{ArrayLineIs, array_read}
 use Rattle.tree_text.proofs.ArraySteps.{buffers_stop}
-use Rattle.tree_text.proofs.ArrayNodes.{none_made, one_added, stops_inside, parts_measure, depth_parts, live_result, live_fault, released_is}
+use Rattle.tree_text.proofs.ArrayNodes.{none_made, one_added, stops_inside, parts_measure, depth_parts, live_result, live_fault, released_is, steps}
 use Rattle.tree_text.proofs.ArrayNodes.{nodes-append, holds-append}
 use Rattle.tree_text.proofs.array_tree.+array.Goals as goal
 
@@ -157,3 +157,15 @@ live-returns-in_err-views-clause-fault t c = grind (arith, common_steps)
 
 pub live-built-requires-clause-few_children : goal.live-built-requires-clause-few_children
 live-built-requires-clause-few_children t c = grind (arith, common_steps)
+
+pub arrays-array-requires : goal.arrays-array-requires
+arrays-array-requires t c = grind (arith, steps, steps)
+
+pub live-arrays-requires : goal.live-arrays-requires
+live-arrays-requires t c = grind (arith, steps, steps)
+
+pub live-let_go_all-requires : goal.live-let_go_all-requires
+live-let_go_all-requires t c = grind (arith, steps, steps)
+
+pub live-returns-in-Err-clause-units : goal.live-returns-in-Err-clause-units
+live-returns-in-Err-clause-units t c = grind (arith, steps, steps)

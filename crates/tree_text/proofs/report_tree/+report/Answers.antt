@@ -8,7 +8,7 @@ use Rattle.layout_check.specs.Kinds.{KindTree, AllNodesOk}
 use Rattle.layout_check.specs.TypedView.{typed_of}
 use Rattle.layout_check.specs.Walk.{LayoutOk}
 use Rattle.layout_check.proofs.Levels.{levels-kid, levels-typed, kid-ok, kids-ok, get_or-typed}
-use Rattle.tree_text.proofs.Reports.{child_more, children_end}
+use Rattle.tree_text.proofs.Reports.{child_more, children_end, tree_steps}
 use Rattle.tree_text.proofs.report_tree.+report.Goals as goal
 
 pub push_children-push_tree-requires : goal.push_children-push_tree-requires
@@ -121,3 +121,6 @@ push_tree-returns-in_err-push_node t c = grind (arith, common_steps)
 
 pub push_tree-returns-in_err-push_children : goal.push_tree-returns-in_err-push_children
 push_tree-returns-in_err-push_children t c = grind (arith, common_steps)
+
+pub push_tree-returns : goal.push_tree-returns
+push_tree-returns t c = grind (arith, tree_steps)

@@ -8,7 +8,7 @@ use Rattle.tree_text.specs.declared.node_line.SchemaLine.{SchemaLine}
 use Rattle.tree_text.specs.Cursors.{left, SchemaRead, SchemasRead}
 use Rattle.tree_text.specs.LineView.{schema_own, schema_told}
 use Rattle.tree_text.proofs.LineBack.{SchemaLineIs, schema_read}
-use Rattle.tree_text.proofs.SchemaSteps.{none_made, one_added, stops_inside, nodes-listed, depth_parts, live_result, live_fault, released_is}
+use Rattle.tree_text.proofs.SchemaSteps.{none_made, one_added, stops_inside, nodes-listed, depth_parts, live_result, live_fault, released_is, steps}
 use Rattle.tree_text.proofs.schema_tree.+schema.Goals as goal
 
 pub live-built-requires-clause-supply : goal.live-built-requires-clause-supply
@@ -122,3 +122,9 @@ schema-returns-in-Live-clause-fault t c =
 
 pub live-built-requires-clause-few_children : goal.live-built-requires-clause-few_children
 live-built-requires-clause-few_children t c = grind (arith, common_steps)
+
+pub live-built-requires-clause-units : goal.live-built-requires-clause-units
+live-built-requires-clause-units t c = grind (arith, steps, steps)
+
+pub schemas-schema-requires : goal.schemas-schema-requires
+schemas-schema-requires t c = grind (arith, steps, steps)

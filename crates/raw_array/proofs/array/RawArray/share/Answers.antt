@@ -1,3 +1,4 @@
+use Rattle.raw_array.proofs.Costs.{costs}
 use Rattle.std.proofs.Common.{arith}
 use Rattle.std.proofs.lemmas.Grind.{common_steps}
 use Rattle.raw_array.proofs.array.RawArray.share.Goals as goal
@@ -25,3 +26,12 @@ returns-clause-blocks c = grind (arith, common_steps)
 
 pub returns-clause-nodes : goal.returns-clause-nodes
 returns-clause-nodes c = grind (arith, common_steps)
+
+pub returns-clause-like : goal.returns-clause-like
+returns-clause-like c = grind (arith, costs)
+
+pub returns-clause-cost : goal.returns-clause-cost
+returns-clause-cost c = grind (arith, costs)
+
+pub returns-clause-cost_kept : goal.returns-clause-cost_kept
+returns-clause-cost_kept c = grind (arith, costs)

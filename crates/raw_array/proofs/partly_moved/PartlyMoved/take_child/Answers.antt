@@ -1,3 +1,4 @@
+use Rattle.tree_model.proofs.Parted.{parted}
 use Rattle.std.proofs.Common.{arith}
 use Rattle.std.proofs.lemmas.Grind.{common_steps}
 use Rattle.raw_array.proofs.partly_moved.PartlyMoved.take_child.Goals as goal
@@ -49,3 +50,9 @@ returns-clause-rest c = grind (arith, common_steps)
 
 pub returns-clause-kept : goal.returns-clause-kept
 returns-clause-kept c = grind (arith, common_steps)
+
+pub returns-clause-parted : goal.returns-clause-parted
+returns-clause-parted c = grind (arith, parted)
+
+pub returns-clause-places : goal.returns-clause-places
+returns-clause-places c = grind (arith, parted)

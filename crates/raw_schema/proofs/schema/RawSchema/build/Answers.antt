@@ -1,0 +1,6 @@
+use Rattle.std.proofs.Common.{arith}
+use Rattle.tree_model.proofs.Lists.{tree_lists}
+use Rattle.raw_schema.proofs.schema.RawSchema.build.Goals as goal
+
+pub invariant_of-result : goal.invariant_of-result
+invariant_of-result c = grind (arith, tree_lists)

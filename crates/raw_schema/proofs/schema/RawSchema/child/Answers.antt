@@ -1,0 +1,9 @@
+use Rattle.std.proofs.Common.{arith}
+use Rattle.tree_model.proofs.Lists.{tree_lists}
+use Rattle.raw_schema.proofs.schema.RawSchema.child.Goals as goal
+
+pub get-requires : goal.get-requires
+get-requires c = grind (arith, tree_lists)
+
+pub returns : goal.returns
+returns c = grind (arith, tree_lists)
