@@ -1,6 +1,6 @@
 //! Tests of columns as trees: the trees that columns are exported as, and the values that are read from imported trees.
 //!
-//! They stand apart from those crates, so that a check of the tests needn't prove the crates once more.
+//! They stand apart from the crates that they test, so that their check needn't prove these once more.
 #![tactic(auto)]
 
 #[cfg(test)]

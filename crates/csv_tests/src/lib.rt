@@ -1,7 +1,7 @@
 //! Tests of the crates between CSV and chunks: the header and the records that are read, the stream of their chunks, and
 //! the text that is written.
 //!
-//! They stand apart from those crates, so that a check of the tests needn't prove the crates once more.
+//! They stand apart from the crates that they test, so that their check needn't prove these once more.
 #![tactic(auto)]
 
 #[cfg(test)]

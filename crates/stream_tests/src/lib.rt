@@ -1,6 +1,6 @@
 //! Tests of streams: joints over a stream and over a stranger, a tap that keeps what it is shown, and the workers of a chunk.
 //!
-//! They stand apart from those crates, so that a check of the tests needn't prove the crates once more.
+//! They stand apart from the crates that they test, so that their check needn't prove these once more.
 #![tactic(auto)]
 
 #[cfg(test)]

@@ -1,7 +1,7 @@
 //! Tests of the crates that read and write texts: the words of a command line, format strings, metadata, the texts of types
 //! and of stages, and trees as lines.
 //!
-//! They stand apart from those crates, so that a check of the tests needn't prove the crates once more.
+//! They stand apart from the crates that they test, so that their check needn't prove these once more.
 #![tactic(auto)]
 
 #[cfg(test)]

@@ -1,6 +1,6 @@
 //! Tests of trees of raw structures: their making, shares, moves and releases.
 //!
-//! They stand apart from those crates, so that a check of the tests needn't prove the crates once more.
+//! They stand apart from the crates that they test, so that their check needn't prove these once more.
 #![tactic(auto)]
 
 #[cfg(test)]
