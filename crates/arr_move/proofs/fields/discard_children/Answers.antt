@@ -1,3 +1,4 @@
+use Rattle.tree_model.proofs.Measures.{measures}
 use Rattle.std.proofs.Common.{arith}
 use Rattle.std.proofs.lemmas.Grind.{common_steps}
 use Rattle.arr_move.proofs.fields.discard_children.Goals as goal
@@ -13,3 +14,9 @@ destroy_empty-requires c = grind (arith, common_steps)
 
 pub returns : goal.returns
 returns c = grind (arith, common_steps)
+
+pub discard_released-requires : goal.discard_released-requires
+discard_released-requires c = grind (arith, measures)
+
+pub loop-child-preserved : goal.loop-child-preserved
+loop-child-preserved c = grind (arith, measures)
