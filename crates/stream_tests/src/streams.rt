@@ -19,7 +19,7 @@ use unit_pass::{Desk, NoMemory, Pass, ROOM, SUPPLY, open_desk};
 
 // ---- small trees
 
-fn listed<T>(rt: &impl Abort, items: &mut Vec<T>, item: T) {
+pub(crate) fn listed<T>(rt: &impl Abort, items: &mut Vec<T>, item: T) {
     match items.push(item) {
         Ok(()) => {}
         Err(_failed) => panic!(rt; "no memory"),
@@ -53,7 +53,7 @@ fn few_levels(rt: &impl Abort, children: &[RawArray])
 }
 
 /// An array of so many items and nulls.
-fn array(
+pub(crate) fn array(
     rt: &impl Abort,
     alloc: Global,
     items: (i64, i64),
@@ -153,7 +153,7 @@ fn table(rt: &impl Abort, alloc: Global, given: Given, pass: &mut Pass) -> RawAr
 }
 
 #[tactic(auto, using(tree_model::proofs::Measures::measures))]
-fn few_schema_levels(rt: &impl Abort, children: &[RawSchema])
+pub(crate) fn few_schema_levels(rt: &impl Abort, children: &[RawSchema])
     ensures { depth_of_all (trees children.now) ≤ 9 }
 {
     for child in children {

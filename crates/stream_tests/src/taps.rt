@@ -1,11 +1,8 @@
 //! A table is shown twice, and what was kept is compared value by value.
-ghost use Rattle.std.specs.Prelude.{◌≤◌};
-ghost use Rattle.tree_model.specs.Tree.{trees, depth_of_all};
-
-use buf_block::{BufView, make};
+use crate::streams::{array, few_schema_levels, listed};
 use fmt_string::DataType;
 use layout_check::{check_chunk, check_schema};
-use raw_array::{ArrayParts, RawArray, ReleaseKind};
+use raw_array::RawArray;
 use raw_schema::{RawSchema, SchemaParts};
 use record_tap::{OwnedValue, RecordTap, SeenChunk};
 use std::alloc::Global;
@@ -15,26 +12,10 @@ use unit_pass::{Name, Pass, SUPPLY, open_desk};
 
 // ---- small trees
 
-fn listed<T>(rt: &impl Abort, items: &mut Vec<T>, item: T) {
-    match items.push(item) {
-        Ok(()) => {}
-        Err(_failed) => panic!(rt; "no memory"),
-    }
-}
-
 fn copied(rt: &impl Abort, alloc: Global, bytes: &[u8]) -> Vec<u8> {
     match Vec::from_slice(alloc, bytes) {
         Ok(bytes) => bytes,
         Err(_failed) => panic!(rt; "no memory"),
-    }
-}
-
-#[tactic(auto, using(tree_model::proofs::Measures::measures))]
-fn few_schema_levels(rt: &impl Abort, children: &[RawSchema])
-    ensures { depth_of_all (trees children.now) ≤ 9 }
-{
-    for child in children {
-        assert!(rt; child.depth() <= 9);
     }
 }
 
@@ -62,64 +43,6 @@ fn field(
         dictionary: None,
     };
     match RawSchema::build(alloc, parts, pass) {
-        Ok(tree) => tree,
-        Err(_refused) => panic!(rt; "no memory"),
-    }
-}
-
-/// A view of all bytes of a new block.
-fn view(rt: &impl Abort, alloc: Global, bytes: &[u8], pass: &mut Pass) -> BufView {
-    assert!(rt; pass.units() >= 1);
-    let bytes = copied(rt, alloc, bytes);
-    let len = bytes.len();
-    match make(alloc, bytes, pass) {
-        Ok(hold) => BufView {
-            hold,
-            start: 0,
-            len,
-        },
-        Err(_refused) => panic!(rt; "no memory"),
-    }
-}
-
-#[tactic(auto, using(tree_model::proofs::Measures::measures))]
-fn few_levels(rt: &impl Abort, children: &[RawArray])
-    ensures { depth_of_all (trees children.now) ≤ 9 }
-{
-    for child in children {
-        assert!(rt; child.depth() <= 9);
-    }
-}
-
-/// An array of so many items and nulls.
-fn array(
-    rt: &impl Abort,
-    alloc: Global,
-    items: (i64, i64),
-    bytes: &[Option<&[u8]>],
-    children: Vec<RawArray>,
-    pass: &mut Pass,
-) -> RawArray {
-    let mut buffers = Vec::new(alloc);
-    for buffer in bytes {
-        let buffer = match buffer {
-            Some(bytes) => Some(view(rt, alloc, bytes, pass)),
-            None => None,
-        };
-        listed(rt, &mut buffers, buffer);
-    }
-    few_levels(rt, &children);
-    assert!(rt; pass.units() >= 1 && children.len() < 9 && buffers.len() < 9);
-    let parts = ArrayParts {
-        length: items.0,
-        null_count: items.1,
-        offset: 0,
-        buffers,
-        children,
-        dictionary: None,
-        kind: ReleaseKind::Exported,
-    };
-    match RawArray::build(alloc, parts, pass) {
         Ok(tree) => tree,
         Err(_refused) => panic!(rt; "no memory"),
     }
