@@ -117,3 +117,69 @@ column_schemas-returns-clause-units t c = grind (arith, common_steps)
 
 pub column_schemas-returns-clause-nodes : goal.column_schemas-returns-clause-nodes
 column_schemas-returns-clause-nodes t c = grind (arith, common_steps)
+
+pub column_schema-returns-in-Dict-clause-tree : goal.column_schema-returns-in-Dict-clause-tree
+column_schema-returns-in-Dict-clause-tree t c = grind (arith, common_steps)
+
+pub column_schema-returns-in-Dict-clause-units : goal.column_schema-returns-in-Dict-clause-units
+column_schema-returns-in-Dict-clause-units t c = grind (arith, common_steps)
+
+pub column_schema-returns-in-Dict-clause-blocks : goal.column_schema-returns-in-Dict-clause-blocks
+column_schema-returns-in-Dict-clause-blocks t c = grind (arith, common_steps)
+
+pub column_schema-returns-in-Dict-clause-nodes : goal.column_schema-returns-in-Dict-clause-nodes
+column_schema-returns-in-Dict-clause-nodes t c = grind (arith, common_steps)
+
+pub column_schemas-loop-column-init : goal.column_schemas-loop-column-init
+column_schemas-loop-column-init t c = grind (arith, common_steps)
+
+pub column_schemas-bounds-columns-column-index : goal.column_schemas-bounds-columns-column-index
+column_schemas-bounds-columns-column-index t c = grind (arith, common_steps)
+
+pub column_schemas-as_slice-requires : goal.column_schemas-as_slice-requires
+column_schemas-as_slice-requires t c = grind (arith, common_steps)
+
+pub column_schemas-push_reserved-requires : goal.column_schemas-push_reserved-requires
+column_schemas-push_reserved-requires t c = grind (arith, common_steps)
+
+pub column_schemas-release_all-requires : goal.column_schemas-release_all-requires
+column_schemas-release_all-requires t c = grind (arith, common_steps)
+
+pub column_schemas-returns-in-Err-clause-trees : goal.column_schemas-returns-in-Err-clause-trees
+column_schemas-returns-in-Err-clause-trees t c = grind (arith, common_steps)
+
+pub column_schemas-returns-in-Err-clause-units : goal.column_schemas-returns-in-Err-clause-units
+column_schemas-returns-in-Err-clause-units t c = grind (arith, common_steps)
+
+pub column_schemas-returns-in-Err-clause-blocks : goal.column_schemas-returns-in-Err-clause-blocks
+column_schemas-returns-in-Err-clause-blocks t c = grind (arith, common_steps)
+
+pub column_schemas-returns-in-Err-clause-nodes : goal.column_schemas-returns-in-Err-clause-nodes
+column_schemas-returns-in-Err-clause-nodes t c = grind (arith, common_steps)
+
+pub column_schemas-loop-column-smaller : goal.column_schemas-loop-column-smaller
+column_schemas-loop-column-smaller t c = grind (arith, common_steps)
+
+pub column_schemas-returns-clause-blocks : goal.column_schemas-returns-clause-blocks
+column_schemas-returns-clause-blocks t c = grind (arith, common_steps)
+
+pub struct_schema-column_schemas-requires : goal.struct_schema-column_schemas-requires
+struct_schema-column_schemas-requires t c = grind (arith, common_steps)
+
+pub struct_schema-built-requires-clause-some : goal.struct_schema-built-requires-clause-some
+struct_schema-built-requires-clause-some t c = grind (arith, common_steps)
+
+pub struct_schema-built-requires-clause-units : goal.struct_schema-built-requires-clause-units
+struct_schema-built-requires-clause-units t c = grind (arith, common_steps)
+
+pub struct_schema-returns-clause-tree : goal.struct_schema-returns-clause-tree
+struct_schema-returns-clause-tree t c = grind (arith, common_steps)
+
+pub struct_schema-returns-clause-units : goal.struct_schema-returns-clause-units
+struct_schema-returns-clause-units t c = grind (arith, common_steps)
+
+pub struct_schema-returns-clause-blocks : goal.struct_schema-returns-clause-blocks
+struct_schema-returns-clause-blocks t c = grind (arith, common_steps)
+
+pub struct_schema-returns-clause-nodes : goal.struct_schema-returns-clause-nodes
+struct_schema-returns-clause-nodes t c = grind (arith, common_steps)

@@ -72,3 +72,159 @@ returns-in-Err-export-clause-short c =
 
 pub count_rows-rows-requires-clause-some : goal.count_rows-rows-requires-clause-some
 count_rows-rows-requires-clause-some c = grind (arith, common_steps)
+
+pub batches_are_read_in_turn-requires : goal.batches_are_read_in_turn-requires
+batches_are_read_in_turn-requires c = grind (arith, common_steps)
+
+pub chunks_have_their_rows-requires : goal.chunks_have_their_rows-requires
+chunks_have_their_rows-requires c = grind (arith, common_steps)
+
+pub held_rows_fit-requires : goal.held_rows_fit-requires
+held_rows_fit-requires c = grind (arith, common_steps)
+
+pub columns-columns-requires : goal.columns-columns-requires
+columns-columns-requires c = grind (arith, common_steps)
+
+pub next-requires : goal.next-requires
+next-requires c = grind (arith, common_steps)
+
+pub returns-in-Ok-false-clause-columns : goal.returns-in-Ok-false-clause-columns
+returns-in-Ok-false-clause-columns c = grind (arith, common_steps)
+
+pub returns-in-Ok-false-clause-chunk : goal.returns-in-Ok-false-clause-chunk
+returns-in-Ok-false-clause-chunk c = grind (arith, common_steps)
+
+pub returns-in-Ok-false-clause-units : goal.returns-in-Ok-false-clause-units
+returns-in-Ok-false-clause-units c = grind (arith, common_steps)
+
+pub returns-in-Ok-false-clause-end : goal.returns-in-Ok-false-clause-end
+returns-in-Ok-false-clause-end c = grind (arith, common_steps)
+
+pub returns-in-Ok-false-clause-end_stays : goal.returns-in-Ok-false-clause-end_stays
+returns-in-Ok-false-clause-end_stays c = grind (arith, common_steps)
+
+pub returns-in-Ok-false-clause-ending : goal.returns-in-Ok-false-clause-ending
+returns-in-Ok-false-clause-ending c = grind (arith, common_steps)
+
+pub returns-in-Ok-false-clause-end_counts : goal.returns-in-Ok-false-clause-end_counts
+returns-in-Ok-false-clause-end_counts c = grind (arith, common_steps)
+
+pub returns-in-Ok-false-clause-fault : goal.returns-in-Ok-false-clause-fault
+returns-in-Ok-false-clause-fault c = grind (arith, common_steps)
+
+pub returns-in-Ok-false-clause-refuses : goal.returns-in-Ok-false-clause-refuses
+returns-in-Ok-false-clause-refuses c = grind (arith, common_steps)
+
+pub returns-in-Ok-false-clause-units_back : goal.returns-in-Ok-false-clause-units_back
+returns-in-Ok-false-clause-units_back c = grind (arith, common_steps)
+
+pub returns-in-Ok-false-clause-short : goal.returns-in-Ok-false-clause-short
+returns-in-Ok-false-clause-short c = grind (arith, common_steps)
+
+pub of-requires : goal.of-requires
+of-requires c = grind (arith, common_steps)
+
+pub returns-in-Err-clause-columns : goal.returns-in-Err-clause-columns
+returns-in-Err-clause-columns c = grind (arith, common_steps)
+
+pub returns-in-Err-clause-chunk : goal.returns-in-Err-clause-chunk
+returns-in-Err-clause-chunk c = grind (arith, common_steps)
+
+pub returns-in-Err-clause-units : goal.returns-in-Err-clause-units
+returns-in-Err-clause-units c = grind (arith, common_steps)
+
+pub returns-in-Err-clause-end : goal.returns-in-Err-clause-end
+returns-in-Err-clause-end c = grind (arith, common_steps)
+
+pub returns-in-Err-clause-end_stays : goal.returns-in-Err-clause-end_stays
+returns-in-Err-clause-end_stays c = grind (arith, common_steps)
+
+pub returns-in-Err-clause-ending : goal.returns-in-Err-clause-ending
+returns-in-Err-clause-ending c = grind (arith, common_steps)
+
+pub returns-in-Err-clause-end_counts : goal.returns-in-Err-clause-end_counts
+returns-in-Err-clause-end_counts c = grind (arith, common_steps)
+
+pub returns-in-Err-clause-fault : goal.returns-in-Err-clause-fault
+returns-in-Err-clause-fault c = grind (arith, common_steps)
+
+pub returns-in-Err-clause-refuses : goal.returns-in-Err-clause-refuses
+returns-in-Err-clause-refuses c = grind (arith, common_steps)
+
+pub returns-in-Err-clause-units_back : goal.returns-in-Err-clause-units_back
+returns-in-Err-clause-units_back c = grind (arith, common_steps)
+
+pub returns-in-Err-clause-short : goal.returns-in-Err-clause-short
+returns-in-Err-clause-short c = grind (arith, common_steps)
+
+pub builders-requires : goal.builders-requires
+builders-requires c = grind (arith, common_steps)
+
+pub count_rows-rows-requires-clause-held : goal.count_rows-rows-requires-clause-held
+count_rows-rows-requires-clause-held c = grind (arith, common_steps)
+
+pub export-requires-clause-held : goal.export-requires-clause-held
+export-requires-clause-held c = grind (arith, common_steps)
+
+pub export-requires-clause-few : goal.export-requires-clause-few
+export-requires-clause-few c = grind (arith, common_steps)
+
+pub export-requires-clause-units : goal.export-requires-clause-units
+export-requires-clause-units c = grind (arith, common_steps)
+
+pub put-requires : goal.put-requires
+put-requires c = grind (arith, common_steps)
+
+pub returns-in-Ok-clause-columns : goal.returns-in-Ok-clause-columns
+returns-in-Ok-clause-columns c = grind (arith, common_steps)
+
+pub returns-in-Ok-clause-units : goal.returns-in-Ok-clause-units
+returns-in-Ok-clause-units c = grind (arith, common_steps)
+
+pub returns-in-Ok-clause-end : goal.returns-in-Ok-clause-end
+returns-in-Ok-clause-end c = grind (arith, common_steps)
+
+pub returns-in-Ok-clause-end_stays : goal.returns-in-Ok-clause-end_stays
+returns-in-Ok-clause-end_stays c = grind (arith, common_steps)
+
+pub returns-in-Ok-clause-end_counts : goal.returns-in-Ok-clause-end_counts
+returns-in-Ok-clause-end_counts c = grind (arith, common_steps)
+
+pub returns-in-Ok-clause-fault : goal.returns-in-Ok-clause-fault
+returns-in-Ok-clause-fault c = grind (arith, common_steps)
+
+pub returns-in-Ok-clause-refuses : goal.returns-in-Ok-clause-refuses
+returns-in-Ok-clause-refuses c = grind (arith, common_steps)
+
+pub returns-in-Ok-clause-units_back : goal.returns-in-Ok-clause-units_back
+returns-in-Ok-clause-units_back c = grind (arith, common_steps)
+
+pub returns-in-Err-export-clause-columns : goal.returns-in-Err-export-clause-columns
+returns-in-Err-export-clause-columns c = grind (arith, common_steps)
+
+pub returns-in-Err-export-clause-chunk : goal.returns-in-Err-export-clause-chunk
+returns-in-Err-export-clause-chunk c = grind (arith, common_steps)
+
+pub returns-in-Err-export-clause-units : goal.returns-in-Err-export-clause-units
+returns-in-Err-export-clause-units c = grind (arith, common_steps)
+
+pub returns-in-Err-export-clause-end : goal.returns-in-Err-export-clause-end
+returns-in-Err-export-clause-end c = grind (arith, common_steps)
+
+pub returns-in-Err-export-clause-end_stays : goal.returns-in-Err-export-clause-end_stays
+returns-in-Err-export-clause-end_stays c = grind (arith, common_steps)
+
+pub returns-in-Err-export-clause-ending : goal.returns-in-Err-export-clause-ending
+returns-in-Err-export-clause-ending c = grind (arith, common_steps)
+
+pub returns-in-Err-export-clause-end_counts : goal.returns-in-Err-export-clause-end_counts
+returns-in-Err-export-clause-end_counts c = grind (arith, common_steps)
+
+pub returns-in-Err-export-clause-fault : goal.returns-in-Err-export-clause-fault
+returns-in-Err-export-clause-fault c = grind (arith, common_steps)
+
+pub returns-in-Err-export-clause-refuses : goal.returns-in-Err-export-clause-refuses
+returns-in-Err-export-clause-refuses c = grind (arith, common_steps)
+
+pub returns-in-Err-export-clause-units_back : goal.returns-in-Err-export-clause-units_back
+returns-in-Err-export-clause-units_back c = grind (arith, common_steps)

@@ -48,3 +48,84 @@ typed_from-returns-in_err-kids-clause-fault t c = grind (arith, parts)
 
 pub typed_from-returns-in_err-dict-clause-fault : goal.typed_from-returns-in_err-dict-clause-fault
 typed_from-returns-in_err-dict-clause-fault t c = grind (arith, parts)
+
+pub typed_dictionary-dictionary-requires : goal.typed_dictionary-dictionary-requires
+typed_dictionary-dictionary-requires t c = grind (arith, parts)
+
+pub typed_dictionary-down-requires : goal.typed_dictionary-down-requires
+typed_dictionary-down-requires t c = grind (arith, parts)
+
+pub typed_dictionary-typed_from-requires : goal.typed_dictionary-typed_from-requires
+typed_dictionary-typed_from-requires t c = grind (arith, parts)
+
+pub typed_dictionary-returns-clause-found : goal.typed_dictionary-returns-clause-found
+typed_dictionary-returns-clause-found t c = grind (arith, parts)
+
+pub typed_dictionary-returns-clause-fault : goal.typed_dictionary-returns-clause-fault
+typed_dictionary-returns-clause-fault t c = grind (arith, parts)
+
+pub typed_from-node_kind-requires : goal.typed_from-node_kind-requires
+typed_from-node_kind-requires t c = grind (arith, parts)
+
+pub typed_from-returns-in_err-kind-clause-found : goal.typed_from-returns-in_err-kind-clause-found
+typed_from-returns-in_err-kind-clause-found t c = grind (arith, parts)
+
+pub typed_from-returns-in_err-kind-clause-fault : goal.typed_from-returns-in_err-kind-clause-fault
+typed_from-returns-in_err-kind-clause-fault t c = grind (arith, parts)
+
+pub typed_from-typed_kids-requires : goal.typed_from-typed_kids-requires
+typed_from-typed_kids-requires t c = grind (arith, parts)
+
+pub typed_from-returns-in_err-kids-clause-found : goal.typed_from-returns-in_err-kids-clause-found
+typed_from-returns-in_err-kids-clause-found t c = grind (arith, parts)
+
+pub typed_from-typed_dictionary-requires : goal.typed_from-typed_dictionary-requires
+typed_from-typed_dictionary-requires t c = grind (arith, parts)
+
+pub typed_from-returns-in_err-dict-clause-found : goal.typed_from-returns-in_err-dict-clause-found
+typed_from-returns-in_err-dict-clause-found t c = grind (arith, parts)
+
+pub typed_from-returns-clause-fault : goal.typed_from-returns-clause-fault
+typed_from-returns-clause-fault t c = grind (arith, parts)
+
+pub typed_kids-n_children-count-requires : goal.typed_kids-n_children-count-requires
+typed_kids-n_children-count-requires t c = grind (arith, parts)
+
+pub typed_kids-overflow_cast-count : goal.typed_kids-overflow_cast-count
+typed_kids-overflow_cast-count t c = grind (arith, parts)
+
+pub typed_kids-returns-in_err-kids-clause-found : goal.typed_kids-returns-in_err-kids-clause-found
+typed_kids-returns-in_err-kids-clause-found t c = grind (arith, parts)
+
+pub typed_kids-returns-in_err-kids-clause-fault : goal.typed_kids-returns-in_err-kids-clause-fault
+typed_kids-returns-in_err-kids-clause-fault t c = grind (arith, parts)
+
+pub typed_kids-loop-i-init : goal.typed_kids-loop-i-init
+typed_kids-loop-i-init t c = grind (arith, parts)
+
+pub typed_kids-child-requires : goal.typed_kids-child-requires
+typed_kids-child-requires t c = grind (arith, parts)
+
+pub typed_kids-overflow_cast-i : goal.typed_kids-overflow_cast-i
+typed_kids-overflow_cast-i t c = grind (arith, parts)
+
+pub typed_kids-down-requires : goal.typed_kids-down-requires
+typed_kids-down-requires t c = grind (arith, parts)
+
+pub typed_kids-typed_from-requires : goal.typed_kids-typed_from-requires
+typed_kids-typed_from-requires t c = grind (arith, parts)
+
+pub typed_kids-returns-in_err-kid-clause-found : goal.typed_kids-returns-in_err-kid-clause-found
+typed_kids-returns-in_err-kid-clause-found t c = grind (arith, parts)
+
+pub typed_kids-returns-in_err-push-clause-found : goal.typed_kids-returns-in_err-push-clause-found
+typed_kids-returns-in_err-push-clause-found t c = grind (arith, parts)
+
+pub typed_kids-returns-in_err-push-clause-fault : goal.typed_kids-returns-in_err-push-clause-fault
+typed_kids-returns-in_err-push-clause-fault t c = grind (arith, parts)
+
+pub typed_kids-loop-i-smaller : goal.typed_kids-loop-i-smaller
+typed_kids-loop-i-smaller t c = grind (arith, parts)
+
+pub typed_kids-returns-clause-fault : goal.typed_kids-returns-clause-fault
+typed_kids-returns-clause-fault t c = grind (arith, parts)

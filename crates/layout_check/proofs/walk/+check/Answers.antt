@@ -51,3 +51,60 @@ check_from-check_dictionary-requires t c = grind (arith, walks)
 
 pub check_from-returns-clause-fault : goal.check_from-returns-clause-fault
 check_from-returns-clause-fault t c = grind (arith, walks)
+
+pub check_children-loop-i-init : goal.check_children-loop-i-init
+check_children-loop-i-init t c = grind (arith, walks)
+
+pub check_children-offset_bounds-kids-i : goal.check_children-offset_bounds-kids-i
+check_children-offset_bounds-kids-i t c = grind (arith, walks)
+
+pub check_children-bounds-kids-i : goal.check_children-bounds-kids-i
+check_children-bounds-kids-i t c = grind (arith, walks)
+
+pub check_children-child-requires : goal.check_children-child-requires
+check_children-child-requires t c = grind (arith, walks)
+
+pub check_children-overflow_cast-i : goal.check_children-overflow_cast-i
+check_children-overflow_cast-i t c = grind (arith, walks)
+
+pub check_children-loop-i-smaller : goal.check_children-loop-i-smaller
+check_children-loop-i-smaller t c = grind (arith, walks)
+
+pub check_children-returns-clause-way : goal.check_children-returns-clause-way
+check_children-returns-clause-way t c = grind (arith, walks)
+
+pub check_children-returns-clause-depth : goal.check_children-returns-clause-depth
+check_children-returns-clause-depth t c = grind (arith, walks)
+
+pub check_dictionary-dictionary-requires : goal.check_dictionary-dictionary-requires
+check_dictionary-dictionary-requires t c = grind (arith, walks)
+
+pub check_dictionary-check_part-requires : goal.check_dictionary-check_part-requires
+check_dictionary-check_part-requires t c = grind (arith, walks)
+
+pub check_from-returns-clause-way : goal.check_from-returns-clause-way
+check_from-returns-clause-way t c = grind (arith, walks)
+
+pub check_from-returns-clause-depth : goal.check_from-returns-clause-depth
+check_from-returns-clause-depth t c = grind (arith, walks)
+
+pub check_part-push-requires : goal.check_part-push-requires
+check_part-push-requires t c = grind (arith, walks)
+
+pub check_part-check_from-requires : goal.check_part-check_from-requires
+check_part-check_from-requires t c = grind (arith, walks)
+
+pub check_part-pop-requires-clause-some : goal.check_part-pop-requires-clause-some
+check_part-pop-requires-clause-some t c = grind (arith, walks)
+
+pub check_part-pop-requires-clause-within : goal.check_part-pop-requires-clause-within
+check_part-pop-requires-clause-within t c = grind (arith, walks)
+
+pub check_part-returns-clause-fault : goal.check_part-returns-clause-fault
+check_part-returns-clause-fault t c = grind (arith, walks)
+
+pub check_part-returns-clause-way : goal.check_part-returns-clause-way
+check_part-returns-clause-way t c = grind (arith, walks)
+
+pub check_part-returns-clause-depth : goal.check_part-returns-clause-depth
+check_part-returns-clause-depth t c = grind (arith, walks)

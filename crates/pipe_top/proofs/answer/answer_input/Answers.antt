@@ -1,3 +1,4 @@
+use Rattle.std.proofs.lemmas.Grind.{common_steps}
 use Rattle.std.proofs.Common.{rules, arith, ◌≡◌, ◌∙◌, ◌⊎◌, ℕ, List, [], Some, None, Ok, Err, IfErr, OnErr, get_or, map, refl, sym, ap, subst, inl, inr}
 use Rattle.csv_model.specs.Batches.{batches_in}
 use Rattle.csv_model.specs.Text.{table_text}
@@ -186,3 +187,9 @@ returns-in-Err-drive-clause-shows_some g c =
     c.in_ok-source.ensures c.as_slice-mark.ensures first behind in
     subst (λ links. ShowsSome (link_shows links) (g.T.Tap.seen c.args.tap.now) (g.T.Tap.seen c.drive.new.tap))
     (chain-links-are request records cols found stages planned s is) c.in-Err-drive.ensures.shows_some
+
+pub source_of-requires-clause-some : goal.source_of-requires-clause-some
+source_of-requires-clause-some g c = grind (arith, common_steps)
+
+pub source_of-requires-clause-few : goal.source_of-requires-clause-few
+source_of-requires-clause-few g c = grind (arith, common_steps)

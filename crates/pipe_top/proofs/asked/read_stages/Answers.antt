@@ -1,3 +1,4 @@
+use Rattle.std.proofs.lemmas.Grind.{common_steps}
 use Rattle.std.proofs.Common.{rules, ◌≡◌, ◌⊎◌, ◌+◌, Err, arith, sym, subst}
 use Rattle.pipe_top.specs.Answer.{stages_from}
 use Rattle.pipe_top.specs.declared.fault.RunFault.TheVariants as run
@@ -17,3 +18,6 @@ loop-place-preserved c =
     let texts = c.args.texts.now in
     subst (ReadTo texts (c.loop-place.place + 1)) (sym c.in-Ok.ensures.items)
     (read-more texts c.loop-place.place c.loop-place.stages.items c.loop-place.invariant _ (omega arith) c.in_ok-stage.stage c.in_ok-stage.ensures.found)
+
+pub returns-clause-found : goal.returns-clause-found
+returns-clause-found c = grind (arith, common_steps)

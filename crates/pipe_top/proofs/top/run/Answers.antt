@@ -1,4 +1,5 @@
-use Rattle.std.proofs.Common.{rules}
+use Rattle.std.proofs.lemmas.Grind.{common_steps}
+use Rattle.std.proofs.Common.{rules, arith}
 use Rattle.pipe_top.proofs.Runs.{is-complete, is-complete-fault, made-keeps, prefix-of-answer, refused-by-answer}
 use Rattle.pipe_top.proofs.Runs.{shown-in-part, silent-audit, text-of-answer, told-all}
 use Rattle.pipe_top.proofs.top.run.Goals as goal
@@ -69,3 +70,9 @@ returns-clause-made_unread g c =
     let carried = c.carry_out-carried.ensures in
     made-keeps _ _ c.read_asked-wanted.result.made c.read_asked-wanted.result.task c.read_asked-wanted.ensures.made carried.refused_unread
     carried.made_unread
+
+pub returns-clause-shows : goal.returns-clause-shows
+returns-clause-shows g c = grind (arith, common_steps)
+
+pub returns-clause-audit_counts : goal.returns-clause-audit_counts
+returns-clause-audit_counts g c = grind (arith, common_steps)

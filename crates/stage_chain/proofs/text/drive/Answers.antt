@@ -121,3 +121,96 @@ returns-in-Ok-prepare-clause-shows_some g c =
 
 pub prepare-requires-clause-as_many : goal.prepare-requires-clause-as_many
 prepare-requires-clause-as_many g c = grind (arith, common_steps)
+
+pub chunks_give_the_whole-requires : goal.chunks_give_the_whole-requires
+chunks_give_the_whole-requires g c = grind (arith, common_steps)
+
+pub stages_keep_columns-requires : goal.stages_keep_columns-requires
+stages_keep_columns-requires g c = grind (arith, common_steps)
+
+pub lawful_facts-requires : goal.lawful_facts-requires
+lawful_facts-requires g c κs = grind (arith, common_steps)
+
+pub new-requires : goal.new-requires
+new-requires g c κs = grind (arith, common_steps)
+
+pub refuse-requires : goal.refuse-requires
+refuse-requires g c = grind (arith, common_steps)
+
+pub returns-in-Err-clause-text : goal.returns-in-Err-clause-text
+returns-in-Err-clause-text g c = grind (arith, common_steps)
+
+pub returns-in-Err-clause-ends : goal.returns-in-Err-clause-ends
+returns-in-Err-clause-ends g c = grind (arith, common_steps)
+
+pub returns-in-Err-clause-row : goal.returns-in-Err-clause-row
+returns-in-Err-clause-row g c = grind (arith, common_steps)
+
+pub returns-in-Err-clause-units : goal.returns-in-Err-clause-units
+returns-in-Err-clause-units g c = grind (arith, common_steps)
+
+pub returns-in-Err-clause-counts : goal.returns-in-Err-clause-counts
+returns-in-Err-clause-counts g c = grind (arith, common_steps)
+
+pub returns-in-Err-clause-shows : goal.returns-in-Err-clause-shows
+returns-in-Err-clause-shows g c = grind (arith, common_steps)
+
+pub returns-in-Err-clause-shows_some : goal.returns-in-Err-clause-shows_some
+returns-in-Err-clause-shows_some g c = grind (arith, common_steps)
+
+pub go-requires-clause-shared : goal.go-requires-clause-shared
+go-requires-clause-shared g c = grind (arith, common_steps)
+
+pub go-requires-clause-live : goal.go-requires-clause-live
+go-requires-clause-live g c = grind (arith, common_steps)
+
+pub go-requires-clause-lawful : goal.go-requires-clause-lawful
+go-requires-clause-lawful g c = grind (arith, common_steps)
+
+pub go-requires-clause-links : goal.go-requires-clause-links
+go-requires-clause-links g c = grind (arith, common_steps)
+
+pub go-requires-clause-structs : goal.go-requires-clause-structs
+go-requires-clause-structs g c = grind (arith, common_steps)
+
+pub go-requires-clause-workers : goal.go-requires-clause-workers
+go-requires-clause-workers g c = grind (arith, common_steps)
+
+pub go-requires-clause-supply : goal.go-requires-clause-supply
+go-requires-clause-supply g c = grind (arith, common_steps)
+
+pub refuse-requires-in-Err-prepare : goal.refuse-requires-in-Err-prepare
+refuse-requires-in-Err-prepare g c = grind (arith, common_steps)
+
+pub returns-in-Ok-prepare-clause-ends : goal.returns-in-Ok-prepare-clause-ends
+returns-in-Ok-prepare-clause-ends g c = grind (arith, common_steps)
+
+pub returns-in-Ok-prepare-clause-row : goal.returns-in-Ok-prepare-clause-row
+returns-in-Ok-prepare-clause-row g c = grind (arith, common_steps)
+
+pub returns-in-Ok-prepare-clause-units : goal.returns-in-Ok-prepare-clause-units
+returns-in-Ok-prepare-clause-units g c = grind (arith, common_steps)
+
+pub returns-in-Ok-prepare-clause-counts : goal.returns-in-Ok-prepare-clause-counts
+returns-in-Ok-prepare-clause-counts g c = grind (arith, common_steps)
+
+pub returns-in-Err-prepare-clause-text : goal.returns-in-Err-prepare-clause-text
+returns-in-Err-prepare-clause-text g c = grind (arith, common_steps)
+
+pub returns-in-Err-prepare-clause-ends : goal.returns-in-Err-prepare-clause-ends
+returns-in-Err-prepare-clause-ends g c = grind (arith, common_steps)
+
+pub returns-in-Err-prepare-clause-row : goal.returns-in-Err-prepare-clause-row
+returns-in-Err-prepare-clause-row g c = grind (arith, common_steps)
+
+pub returns-in-Err-prepare-clause-units : goal.returns-in-Err-prepare-clause-units
+returns-in-Err-prepare-clause-units g c = grind (arith, common_steps)
+
+pub returns-in-Err-prepare-clause-counts : goal.returns-in-Err-prepare-clause-counts
+returns-in-Err-prepare-clause-counts g c = grind (arith, common_steps)
+
+pub returns-in-Err-prepare-clause-shows : goal.returns-in-Err-prepare-clause-shows
+returns-in-Err-prepare-clause-shows g c = grind (arith, common_steps)
+
+pub returns-in-Err-prepare-clause-shows_some : goal.returns-in-Err-prepare-clause-shows_some
+returns-in-Err-prepare-clause-shows_some g c = grind (arith, common_steps)

@@ -183,3 +183,102 @@ moved_kind-returns-in-Columns-clause-moved t c =
 
 pub move_columns-returns-clause-moved : goal.move_columns-returns-clause-moved
 move_columns-returns-clause-moved t c = grind (arith, common_steps)
+
+pub move_columns-lawful_trees-requires : goal.move_columns-lawful_trees-requires
+move_columns-lawful_trees-requires t c = grind (arith, common_steps)
+
+pub move_columns-kinds_of_typed-requires : goal.move_columns-kinds_of_typed-requires
+move_columns-kinds_of_typed-requires t c = grind (arith, common_steps)
+
+pub move_columns-loop-k-init : goal.move_columns-loop-k-init
+move_columns-loop-k-init t c = grind (arith, common_steps)
+
+pub move_columns-offset_bounds-columns-k : goal.move_columns-offset_bounds-columns-k
+move_columns-offset_bounds-columns-k t c = grind (arith, common_steps)
+
+pub move_columns-bounds-columns-k : goal.move_columns-bounds-columns-k
+move_columns-bounds-columns-k t c = grind (arith, common_steps)
+
+pub move_columns-push_reserved-requires : goal.move_columns-push_reserved-requires
+move_columns-push_reserved-requires t c = grind (arith, common_steps)
+
+pub move_columns-returns-in-Err-clause-moved : goal.move_columns-returns-in-Err-clause-moved
+move_columns-returns-in-Err-clause-moved t c = grind (arith, common_steps)
+
+pub move_columns-returns-in-Err-clause-units : goal.move_columns-returns-in-Err-clause-units
+move_columns-returns-in-Err-clause-units t c = grind (arith, common_steps)
+
+pub move_columns-loop-k-smaller : goal.move_columns-loop-k-smaller
+move_columns-loop-k-smaller t c = grind (arith, common_steps)
+
+pub move_columns-returns-clause-units : goal.move_columns-returns-clause-units
+move_columns-returns-clause-units t c = grind (arith, common_steps)
+
+pub moved_child-lawful_trees-requires : goal.moved_child-lawful_trees-requires
+moved_child-lawful_trees-requires t c = grind (arith, common_steps)
+
+pub moved_child-take_child-requires : goal.moved_child-take_child-requires
+moved_child-take_child-requires t c = grind (arith, common_steps)
+
+pub moved_child-moved_kind-requires : goal.moved_child-moved_kind-requires
+moved_child-moved_kind-requires t c = grind (arith, common_steps)
+
+pub moved_child-unreachable-unreachable : goal.moved_child-unreachable-unreachable
+moved_child-unreachable-unreachable t c = grind (arith, common_steps)
+
+pub moved_child-returns-clause-moved : goal.moved_child-returns-clause-moved
+moved_child-returns-clause-moved t c = grind (arith, common_steps)
+
+pub moved_child-returns-clause-taken : goal.moved_child-returns-clause-taken
+moved_child-returns-clause-taken t c = grind (arith, common_steps)
+
+pub moved_child-returns-clause-cost : goal.moved_child-returns-clause-cost
+moved_child-returns-clause-cost t c = grind (arith, common_steps)
+
+pub moved_child-returns-clause-units_back : goal.moved_child-returns-clause-units_back
+moved_child-returns-clause-units_back t c = grind (arith, common_steps)
+
+pub moved_columns-lawful_trees-requires : goal.moved_columns-lawful_trees-requires
+moved_columns-lawful_trees-requires t c = grind (arith, common_steps)
+
+pub moved_columns-end-requires : goal.moved_columns-end-requires
+moved_columns-end-requires t c = grind (arith, common_steps)
+
+pub moved_columns-move_columns-filled-requires : goal.moved_columns-move_columns-filled-requires
+moved_columns-move_columns-filled-requires t c = grind (arith, common_steps)
+
+pub moved_columns-finish-requires : goal.moved_columns-finish-requires
+moved_columns-finish-requires t c = grind (arith, common_steps)
+
+pub moved_columns-release_all-requires : goal.moved_columns-release_all-requires
+moved_columns-release_all-requires t c = grind (arith, common_steps)
+
+pub moved_columns-returns-in-Err-clause-moved : goal.moved_columns-returns-in-Err-clause-moved
+moved_columns-returns-in-Err-clause-moved t c = grind (arith, common_steps)
+
+pub moved_columns-returns-in-Err-clause-units : goal.moved_columns-returns-in-Err-clause-units
+moved_columns-returns-in-Err-clause-units t c = grind (arith, common_steps)
+
+pub moved_kind-returns-in-Flat-clause-moved : goal.moved_kind-returns-in-Flat-clause-moved
+moved_kind-returns-in-Flat-clause-moved t c = grind (arith, common_steps)
+
+pub moved_kind-returns-in-Dict-clause-moved : goal.moved_kind-returns-in-Dict-clause-moved
+moved_kind-returns-in-Dict-clause-moved t c = grind (arith, common_steps)
+
+pub moved_struct-lawful_trees-requires : goal.moved_struct-lawful_trees-requires
+moved_struct-lawful_trees-requires t c = grind (arith, common_steps)
+
+pub moved_struct-moved_columns-requires : goal.moved_struct-moved_columns-requires
+moved_struct-moved_columns-requires t c = grind (arith, common_steps)
+
+pub moved_struct-overflow_cast-kept : goal.moved_struct-overflow_cast-kept
+moved_struct-overflow_cast-kept t c = grind (arith, common_steps)
+
+pub moved_struct-release_all-requires : goal.moved_struct-release_all-requires
+moved_struct-release_all-requires t c = grind (arith, common_steps)
+
+pub moved_struct-returns-in-Ok-clause-moved : goal.moved_struct-returns-in-Ok-clause-moved
+moved_struct-returns-in-Ok-clause-moved t c = grind (arith, common_steps)
+
+pub moved_struct-returns-in-Err-clause-moved : goal.moved_struct-returns-in-Err-clause-moved
+moved_struct-returns-in-Err-clause-moved t c = grind (arith, common_steps)

@@ -60,3 +60,78 @@ unreachable-requires c = grind (arith, common_steps)
 
 pub move_children-requires-2-clause-room : goal.move_children-requires-2-clause-room
 move_children-requires-2-clause-room c = grind (arith, common_steps)
+
+pub windows_keep_measures-requires : goal.windows_keep_measures-requires
+windows_keep_measures-requires c = grind (arith, common_steps)
+
+pub count_children-count-requires : goal.count_children-count-requires
+count_children-count-requires c = grind (arith, common_steps)
+
+pub offset-off-requires : goal.offset-off-requires
+offset-off-requires c = grind (arith, common_steps)
+
+pub length-len-requires : goal.length-len-requires
+length-len-requires c = grind (arith, common_steps)
+
+pub begin-moved-requires : goal.begin-moved-requires
+begin-moved-requires c = grind (arith, common_steps)
+
+pub move_children-requires-clause-off : goal.move_children-requires-clause-off
+move_children-requires-clause-off c = grind (arith, common_steps)
+
+pub move_children-requires-clause-len : goal.move_children-requires-clause-len
+move_children-requires-clause-len c = grind (arith, common_steps)
+
+pub move_children-requires-clause-order : goal.move_children-requires-clause-order
+move_children-requires-clause-order c = grind (arith, common_steps)
+
+pub move_children-requires-clause-inside : goal.move_children-requires-clause-inside
+move_children-requires-clause-inside c = grind (arith, common_steps)
+
+pub move_children-requires-clause-fit : goal.move_children-requires-clause-fit
+move_children-requires-clause-fit c = grind (arith, common_steps)
+
+pub move_children-requires-clause-room : goal.move_children-requires-clause-room
+move_children-requires-clause-room c = grind (arith, common_steps)
+
+pub take_child-requires : goal.take_child-requires
+take_child-requires c = grind (arith, common_steps)
+
+pub slice-requires-clause-off : goal.slice-requires-clause-off
+slice-requires-clause-off c = grind (arith, common_steps)
+
+pub slice-requires-clause-len : goal.slice-requires-clause-len
+slice-requires-clause-len c = grind (arith, common_steps)
+
+pub move_all_children-requires-clause-units : goal.move_all_children-requires-clause-units
+move_all_children-requires-clause-units c = grind (arith, common_steps)
+
+pub unreachable-unreachable : goal.unreachable-unreachable
+unreachable-unreachable c = grind (arith, common_steps)
+
+pub overflow_add-place : goal.overflow_add-place
+overflow_add-place c = grind (arith, common_steps)
+
+pub move_children-requires-2-clause-off : goal.move_children-requires-2-clause-off
+move_children-requires-2-clause-off c = grind (arith, common_steps)
+
+pub move_children-requires-2-clause-len : goal.move_children-requires-2-clause-len
+move_children-requires-2-clause-len c = grind (arith, common_steps)
+
+pub move_children-requires-2-clause-order : goal.move_children-requires-2-clause-order
+move_children-requires-2-clause-order c = grind (arith, common_steps)
+
+pub move_children-requires-2-clause-inside : goal.move_children-requires-2-clause-inside
+move_children-requires-2-clause-inside c = grind (arith, common_steps)
+
+pub finish-requires : goal.finish-requires
+finish-requires c = grind (arith, common_steps)
+
+pub returns-clause-more : goal.returns-clause-more
+returns-clause-more c = grind (arith, common_steps)
+
+pub returns-clause-nodes : goal.returns-clause-nodes
+returns-clause-nodes c = grind (arith, common_steps)
+
+pub returns-clause-blocks : goal.returns-clause-blocks
+returns-clause-blocks c = grind (arith, common_steps)

@@ -169,3 +169,132 @@ live-let_go_all-requires t c = grind (arith, steps, steps)
 
 pub live-returns-in-Err-clause-units : goal.live-returns-in-Err-clause-units
 live-returns-in-Err-clause-units t c = grind (arith, steps, steps)
+
+pub array-node_line-requires : goal.array-node_line-requires
+array-node_line-requires t c = grind (arith, common_steps)
+
+pub array-returns-in_err-told-clause-read : goal.array-returns-in_err-told-clause-read
+array-returns-in_err-told-clause-read t c = grind (arith, common_steps)
+
+pub array-returns-in_err-told-clause-fault : goal.array-returns-in_err-told-clause-fault
+array-returns-in_err-told-clause-fault t c = grind (arith, common_steps)
+
+pub array-returns-in_err-told-clause-units : goal.array-returns-in_err-told-clause-units
+array-returns-in_err-told-clause-units t c = grind (arith, common_steps)
+
+pub array-returns-in_err-told-clause-nodes : goal.array-returns-in_err-told-clause-nodes
+array-returns-in_err-told-clause-nodes t c = grind (arith, common_steps)
+
+pub array-returns-in_err-told-clause-blocks : goal.array-returns-in_err-told-clause-blocks
+array-returns-in_err-told-clause-blocks t c = grind (arith, common_steps)
+
+pub array-released-requires : goal.array-released-requires
+array-released-requires t c = grind (arith, common_steps)
+
+pub array-returns-in-Live-clause-units : goal.array-returns-in-Live-clause-units
+array-returns-in-Live-clause-units t c = grind (arith, common_steps)
+
+pub array-returns-in-Live-clause-nodes : goal.array-returns-in-Live-clause-nodes
+array-returns-in-Live-clause-nodes t c = grind (arith, common_steps)
+
+pub array-returns-in-Live-clause-blocks : goal.array-returns-in-Live-clause-blocks
+array-returns-in-Live-clause-blocks t c = grind (arith, common_steps)
+
+pub array-returns-in-Released-clause-fault : goal.array-returns-in-Released-clause-fault
+array-returns-in-Released-clause-fault t c = grind (arith, common_steps)
+
+pub array-returns-in-Released-clause-units : goal.array-returns-in-Released-clause-units
+array-returns-in-Released-clause-units t c = grind (arith, common_steps)
+
+pub array-returns-in-Released-clause-nodes : goal.array-returns-in-Released-clause-nodes
+array-returns-in-Released-clause-nodes t c = grind (arith, common_steps)
+
+pub array-returns-in-Released-clause-blocks : goal.array-returns-in-Released-clause-blocks
+array-returns-in-Released-clause-blocks t c = grind (arith, common_steps)
+
+pub arrays-added-requires : goal.arrays-added-requires
+arrays-added-requires t c = grind (arith, common_steps)
+
+pub arrays-release_all-requires : goal.arrays-release_all-requires
+arrays-release_all-requires t c = grind (arith, common_steps)
+
+pub arrays-returns-in-Err-clause-read : goal.arrays-returns-in-Err-clause-read
+arrays-returns-in-Err-clause-read t c = grind (arith, common_steps)
+
+pub arrays-returns-in-Err-clause-units : goal.arrays-returns-in-Err-clause-units
+arrays-returns-in-Err-clause-units t c = grind (arith, common_steps)
+
+pub arrays-returns-in-Err-clause-nodes : goal.arrays-returns-in-Err-clause-nodes
+arrays-returns-in-Err-clause-nodes t c = grind (arith, common_steps)
+
+pub arrays-returns-in-Err-clause-blocks : goal.arrays-returns-in-Err-clause-blocks
+arrays-returns-in-Err-clause-blocks t c = grind (arith, common_steps)
+
+pub arrays-loop-smaller : goal.arrays-loop-smaller
+arrays-loop-smaller t c = grind (arith, common_steps)
+
+pub arrays-returns-clause-read : goal.arrays-returns-clause-read
+arrays-returns-clause-read t c = grind (arith, common_steps)
+
+pub arrays-returns-clause-fault : goal.arrays-returns-clause-fault
+arrays-returns-clause-fault t c = grind (arith, common_steps)
+
+pub arrays-returns-clause-units : goal.arrays-returns-clause-units
+arrays-returns-clause-units t c = grind (arith, common_steps)
+
+pub arrays-returns-clause-nodes : goal.arrays-returns-clause-nodes
+arrays-returns-clause-nodes t c = grind (arith, common_steps)
+
+pub arrays-returns-clause-blocks : goal.arrays-returns-clause-blocks
+arrays-returns-clause-blocks t c = grind (arith, common_steps)
+
+pub live-buffers-requires-clause-cursor : goal.live-buffers-requires-clause-cursor
+live-buffers-requires-clause-cursor t c = grind (arith, common_steps)
+
+pub live-buffers-requires-clause-room : goal.live-buffers-requires-clause-room
+live-buffers-requires-clause-room t c = grind (arith, common_steps)
+
+pub live-returns-in_err-views-clause-read : goal.live-returns-in_err-views-clause-read
+live-returns-in_err-views-clause-read t c = grind (arith, common_steps)
+
+pub live-returns-in_err-views-clause-units : goal.live-returns-in_err-views-clause-units
+live-returns-in_err-views-clause-units t c = grind (arith, common_steps)
+
+pub live-returns-in_err-views-clause-nodes : goal.live-returns-in_err-views-clause-nodes
+live-returns-in_err-views-clause-nodes t c = grind (arith, common_steps)
+
+pub live-returns-in_err-views-clause-blocks : goal.live-returns-in_err-views-clause-blocks
+live-returns-in_err-views-clause-blocks t c = grind (arith, common_steps)
+
+pub live-overflow_add-count : goal.live-overflow_add-count
+live-overflow_add-count t c = grind (arith, common_steps)
+
+pub live-overflow_add-level : goal.live-overflow_add-level
+live-overflow_add-level t c = grind (arith, common_steps)
+
+pub live-returns-in-Ok-built-clause-read : goal.live-returns-in-Ok-built-clause-read
+live-returns-in-Ok-built-clause-read t c = grind (arith, common_steps)
+
+pub live-returns-in-Ok-built-clause-fault : goal.live-returns-in-Ok-built-clause-fault
+live-returns-in-Ok-built-clause-fault t c = grind (arith, common_steps)
+
+pub live-returns-in-Err-built-clause-read : goal.live-returns-in-Err-built-clause-read
+live-returns-in-Err-built-clause-read t c = grind (arith, common_steps)
+
+pub live-returns-in-Err-built-clause-fault : goal.live-returns-in-Err-built-clause-fault
+live-returns-in-Err-built-clause-fault t c = grind (arith, common_steps)
+
+pub live-returns-in-Err-built-clause-nodes : goal.live-returns-in-Err-built-clause-nodes
+live-returns-in-Err-built-clause-nodes t c = grind (arith, common_steps)
+
+pub live-returns-in-Err-built-clause-blocks : goal.live-returns-in-Err-built-clause-blocks
+live-returns-in-Err-built-clause-blocks t c = grind (arith, common_steps)
+
+pub live-returns-in-Err-clause-read : goal.live-returns-in-Err-clause-read
+live-returns-in-Err-clause-read t c = grind (arith, common_steps)
+
+pub live-returns-in-Err-clause-nodes : goal.live-returns-in-Err-clause-nodes
+live-returns-in-Err-clause-nodes t c = grind (arith, common_steps)
+
+pub live-returns-in-Err-clause-blocks : goal.live-returns-in-Err-clause-blocks
+live-returns-in-Err-clause-blocks t c = grind (arith, common_steps)

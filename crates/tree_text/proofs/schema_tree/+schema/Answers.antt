@@ -128,3 +128,126 @@ live-built-requires-clause-units t c = grind (arith, steps, steps)
 
 pub schemas-schema-requires : goal.schemas-schema-requires
 schemas-schema-requires t c = grind (arith, steps, steps)
+
+pub live-overflow_add-count : goal.live-overflow_add-count
+live-overflow_add-count t c = grind (arith, steps, steps)
+
+pub live-overflow_add-level : goal.live-overflow_add-level
+live-overflow_add-level t c = grind (arith, steps, steps)
+
+pub live-schemas-requires : goal.live-schemas-requires
+live-schemas-requires t c = grind (arith, steps, steps)
+
+pub live-returns-in_err-parts-clause-read : goal.live-returns-in_err-parts-clause-read
+live-returns-in_err-parts-clause-read t c = grind (arith, steps, steps)
+
+pub live-returns-in_err-parts-clause-fault : goal.live-returns-in_err-parts-clause-fault
+live-returns-in_err-parts-clause-fault t c = grind (arith, steps, steps)
+
+pub live-returns-in_err-parts-clause-units : goal.live-returns-in_err-parts-clause-units
+live-returns-in_err-parts-clause-units t c = grind (arith, steps, steps)
+
+pub live-returns-in_err-parts-clause-nodes : goal.live-returns-in_err-parts-clause-nodes
+live-returns-in_err-parts-clause-nodes t c = grind (arith, steps, steps)
+
+pub live-returns-in_err-parts-clause-blocks : goal.live-returns-in_err-parts-clause-blocks
+live-returns-in_err-parts-clause-blocks t c = grind (arith, steps, steps)
+
+pub live-returns-in-Ok-clause-read : goal.live-returns-in-Ok-clause-read
+live-returns-in-Ok-clause-read t c = grind (arith, steps, steps)
+
+pub live-returns-in-Ok-clause-fault : goal.live-returns-in-Ok-clause-fault
+live-returns-in-Ok-clause-fault t c = grind (arith, steps, steps)
+
+pub live-returns-in-Ok-clause-blocks : goal.live-returns-in-Ok-clause-blocks
+live-returns-in-Ok-clause-blocks t c = grind (arith, steps, steps)
+
+pub live-returns-in-Err-clause-read : goal.live-returns-in-Err-clause-read
+live-returns-in-Err-clause-read t c = grind (arith, steps, steps)
+
+pub live-returns-in-Err-clause-fault : goal.live-returns-in-Err-clause-fault
+live-returns-in-Err-clause-fault t c = grind (arith, steps, steps)
+
+pub live-returns-in-Err-clause-nodes : goal.live-returns-in-Err-clause-nodes
+live-returns-in-Err-clause-nodes t c = grind (arith, steps, steps)
+
+pub live-returns-in-Err-clause-blocks : goal.live-returns-in-Err-clause-blocks
+live-returns-in-Err-clause-blocks t c = grind (arith, steps, steps)
+
+pub schema-node_line-requires : goal.schema-node_line-requires
+schema-node_line-requires t c = grind (arith, steps, steps)
+
+pub schema-returns-in_err-told-clause-read : goal.schema-returns-in_err-told-clause-read
+schema-returns-in_err-told-clause-read t c = grind (arith, steps, steps)
+
+pub schema-returns-in_err-told-clause-fault : goal.schema-returns-in_err-told-clause-fault
+schema-returns-in_err-told-clause-fault t c = grind (arith, steps, steps)
+
+pub schema-returns-in_err-told-clause-units : goal.schema-returns-in_err-told-clause-units
+schema-returns-in_err-told-clause-units t c = grind (arith, steps, steps)
+
+pub schema-returns-in_err-told-clause-nodes : goal.schema-returns-in_err-told-clause-nodes
+schema-returns-in_err-told-clause-nodes t c = grind (arith, steps, steps)
+
+pub schema-returns-in_err-told-clause-blocks : goal.schema-returns-in_err-told-clause-blocks
+schema-returns-in_err-told-clause-blocks t c = grind (arith, steps, steps)
+
+pub schema-released-requires : goal.schema-released-requires
+schema-released-requires t c = grind (arith, steps, steps)
+
+pub schema-returns-in-Live-clause-units : goal.schema-returns-in-Live-clause-units
+schema-returns-in-Live-clause-units t c = grind (arith, steps, steps)
+
+pub schema-returns-in-Live-clause-nodes : goal.schema-returns-in-Live-clause-nodes
+schema-returns-in-Live-clause-nodes t c = grind (arith, steps, steps)
+
+pub schema-returns-in-Live-clause-blocks : goal.schema-returns-in-Live-clause-blocks
+schema-returns-in-Live-clause-blocks t c = grind (arith, steps, steps)
+
+pub schema-returns-in-Released-clause-fault : goal.schema-returns-in-Released-clause-fault
+schema-returns-in-Released-clause-fault t c = grind (arith, steps, steps)
+
+pub schema-returns-in-Released-clause-units : goal.schema-returns-in-Released-clause-units
+schema-returns-in-Released-clause-units t c = grind (arith, steps, steps)
+
+pub schema-returns-in-Released-clause-nodes : goal.schema-returns-in-Released-clause-nodes
+schema-returns-in-Released-clause-nodes t c = grind (arith, steps, steps)
+
+pub schema-returns-in-Released-clause-blocks : goal.schema-returns-in-Released-clause-blocks
+schema-returns-in-Released-clause-blocks t c = grind (arith, steps, steps)
+
+pub schemas-added-requires : goal.schemas-added-requires
+schemas-added-requires t c = grind (arith, steps, steps)
+
+pub schemas-release_all-requires : goal.schemas-release_all-requires
+schemas-release_all-requires t c = grind (arith, steps, steps)
+
+pub schemas-returns-in-Err-clause-read : goal.schemas-returns-in-Err-clause-read
+schemas-returns-in-Err-clause-read t c = grind (arith, steps, steps)
+
+pub schemas-returns-in-Err-clause-units : goal.schemas-returns-in-Err-clause-units
+schemas-returns-in-Err-clause-units t c = grind (arith, steps, steps)
+
+pub schemas-returns-in-Err-clause-nodes : goal.schemas-returns-in-Err-clause-nodes
+schemas-returns-in-Err-clause-nodes t c = grind (arith, steps, steps)
+
+pub schemas-returns-in-Err-clause-blocks : goal.schemas-returns-in-Err-clause-blocks
+schemas-returns-in-Err-clause-blocks t c = grind (arith, steps, steps)
+
+pub schemas-loop-smaller : goal.schemas-loop-smaller
+schemas-loop-smaller t c = grind (arith, steps, steps)
+
+pub schemas-returns-clause-read : goal.schemas-returns-clause-read
+schemas-returns-clause-read t c = grind (arith, steps, steps)
+
+pub schemas-returns-clause-fault : goal.schemas-returns-clause-fault
+schemas-returns-clause-fault t c = grind (arith, steps, steps)
+
+pub schemas-returns-clause-units : goal.schemas-returns-clause-units
+schemas-returns-clause-units t c = grind (arith, steps, steps)
+
+pub schemas-returns-clause-nodes : goal.schemas-returns-clause-nodes
+schemas-returns-clause-nodes t c = grind (arith, steps, steps)
+
+pub schemas-returns-clause-blocks : goal.schemas-returns-clause-blocks
+schemas-returns-clause-blocks t c = grind (arith, steps, steps)

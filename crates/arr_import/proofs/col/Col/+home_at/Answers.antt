@@ -1,3 +1,4 @@
+use Rattle.arr_import.proofs.Reading.{homes}
 use Rattle.std.proofs.Common.{arith}
 use Rattle.std.proofs.lemmas.Grind.{common_steps}
 use Rattle.arr_import.proofs.col.Col.+home_at.Goals as goal
@@ -67,3 +68,9 @@ returns-in-None-clause-value t c = grind (arith, common_steps)
 
 pub returns-in-None-clause-own : goal.returns-in-None-clause-own
 returns-in-None-clause-own t c = grind (arith, common_steps)
+
+pub returns-then-not-is_valid-clause-window : goal.returns-then-not-is_valid-clause-window
+returns-then-not-is_valid-clause-window t c = grind (arith, homes)
+
+pub returns-then-not-is_valid-clause-place : goal.returns-then-not-is_valid-clause-place
+returns-then-not-is_valid-clause-place t c = grind (arith, homes)

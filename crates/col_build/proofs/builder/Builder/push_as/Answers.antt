@@ -126,3 +126,6 @@ from-requires c = grind (arith, common_steps)
 
 pub returns-clause-kept : goal.returns-clause-kept
 returns-clause-kept c = grind (arith, common_steps)
+
+pub returns-in_err-make_room-clause-kept : goal.returns-in_err-make_room-clause-kept
+returns-in_err-make_room-clause-kept c = grind (arith, whole_holds)

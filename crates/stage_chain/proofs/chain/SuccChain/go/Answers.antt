@@ -132,3 +132,126 @@ write_rows-requires g c = grind (arith, common_steps)
 
 pub returns-in-None-clause-shows : goal.returns-in-None-clause-shows
 returns-in-None-clause-shows g c = grind (arith, common_steps)
+
+pub stages_keep_columns-requires : goal.stages_keep_columns-requires
+stages_keep_columns-requires g c = grind (arith, common_steps)
+
+pub schemas_are_small-requires : goal.schemas_are_small-requires
+schemas_are_small-requires g c = grind (arith, common_steps)
+
+pub start-requires-clause-live : goal.start-requires-clause-live
+start-requires-clause-live g c = grind (arith, common_steps)
+
+pub start-requires-clause-own_link : goal.start-requires-clause-own_link
+start-requires-clause-own_link g c = grind (arith, common_steps)
+
+pub start-requires-clause-room : goal.start-requires-clause-room
+start-requires-clause-room g c = grind (arith, common_steps)
+
+pub refuse-requires : goal.refuse-requires
+refuse-requires g c = grind (arith, common_steps)
+
+pub returns-in-Err-clause-text : goal.returns-in-Err-clause-text
+returns-in-Err-clause-text g c = grind (arith, common_steps)
+
+pub returns-in-Err-clause-ends : goal.returns-in-Err-clause-ends
+returns-in-Err-clause-ends g c = grind (arith, common_steps)
+
+pub returns-in-Err-clause-row : goal.returns-in-Err-clause-row
+returns-in-Err-clause-row g c = grind (arith, common_steps)
+
+pub returns-in-Err-clause-units : goal.returns-in-Err-clause-units
+returns-in-Err-clause-units g c = grind (arith, common_steps)
+
+pub returns-in-Err-clause-counts : goal.returns-in-Err-clause-counts
+returns-in-Err-clause-counts g c = grind (arith, common_steps)
+
+pub returns-in-Err-clause-shows : goal.returns-in-Err-clause-shows
+returns-in-Err-clause-shows g c = grind (arith, common_steps)
+
+pub start_stage-requires-clause-live : goal.start_stage-requires-clause-live
+start_stage-requires-clause-live g c = grind (arith, common_steps)
+
+pub start_stage-requires-clause-lawful : goal.start_stage-requires-clause-lawful
+start_stage-requires-clause-lawful g c = grind (arith, common_steps)
+
+pub start_stage-requires-clause-stage : goal.start_stage-requires-clause-stage
+start_stage-requires-clause-stage g c = grind (arith, common_steps)
+
+pub start_stage-requires-clause-workers : goal.start_stage-requires-clause-workers
+start_stage-requires-clause-workers g c = grind (arith, common_steps)
+
+pub start_stage-requires-clause-structs : goal.start_stage-requires-clause-structs
+start_stage-requires-clause-structs g c = grind (arith, common_steps)
+
+pub overflow_add-link : goal.overflow_add-link
+overflow_add-link g c = grind (arith, common_steps)
+
+pub go-requires-clause-shared : goal.go-requires-clause-shared
+go-requires-clause-shared g c = grind (arith, common_steps)
+
+pub go-requires-clause-live : goal.go-requires-clause-live
+go-requires-clause-live g c = grind (arith, common_steps)
+
+pub go-requires-clause-lawful : goal.go-requires-clause-lawful
+go-requires-clause-lawful g c = grind (arith, common_steps)
+
+pub go-requires-clause-stages : goal.go-requires-clause-stages
+go-requires-clause-stages g c = grind (arith, common_steps)
+
+pub go-requires-clause-workers : goal.go-requires-clause-workers
+go-requires-clause-workers g c = grind (arith, common_steps)
+
+pub go-requires-clause-numbers : goal.go-requires-clause-numbers
+go-requires-clause-numbers g c = grind (arith, common_steps)
+
+pub go-requires-clause-few : goal.go-requires-clause-few
+go-requires-clause-few g c = grind (arith, common_steps)
+
+pub go-requires-clause-room : goal.go-requires-clause-room
+go-requires-clause-room g c = grind (arith, common_steps)
+
+pub go-requires-clause-supply : goal.go-requires-clause-supply
+go-requires-clause-supply g c = grind (arith, common_steps)
+
+pub go-requires-clause-text : goal.go-requires-clause-text
+go-requires-clause-text g c = grind (arith, common_steps)
+
+pub refuse-requires-in-Err-new : goal.refuse-requires-in-Err-new
+refuse-requires-in-Err-new g c = grind (arith, common_steps)
+
+pub returns-in-None-clause-ends : goal.returns-in-None-clause-ends
+returns-in-None-clause-ends g c = grind (arith, common_steps)
+
+pub returns-in-None-clause-row : goal.returns-in-None-clause-row
+returns-in-None-clause-row g c = grind (arith, common_steps)
+
+pub returns-in-None-clause-units : goal.returns-in-None-clause-units
+returns-in-None-clause-units g c = grind (arith, common_steps)
+
+pub returns-in-Ok-new-clause-ends : goal.returns-in-Ok-new-clause-ends
+returns-in-Ok-new-clause-ends g c = grind (arith, common_steps)
+
+pub returns-in-Ok-new-clause-row : goal.returns-in-Ok-new-clause-row
+returns-in-Ok-new-clause-row g c = grind (arith, common_steps)
+
+pub returns-in-Ok-new-clause-units : goal.returns-in-Ok-new-clause-units
+returns-in-Ok-new-clause-units g c = grind (arith, common_steps)
+
+pub returns-in-Err-new-clause-text : goal.returns-in-Err-new-clause-text
+returns-in-Err-new-clause-text g c = grind (arith, common_steps)
+
+pub returns-in-Err-new-clause-ends : goal.returns-in-Err-new-clause-ends
+returns-in-Err-new-clause-ends g c = grind (arith, common_steps)
+
+pub returns-in-Err-new-clause-row : goal.returns-in-Err-new-clause-row
+returns-in-Err-new-clause-row g c = grind (arith, common_steps)
+
+pub returns-in-Err-new-clause-units : goal.returns-in-Err-new-clause-units
+returns-in-Err-new-clause-units g c = grind (arith, common_steps)
+
+pub returns-in-Err-new-clause-counts : goal.returns-in-Err-new-clause-counts
+returns-in-Err-new-clause-counts g c = grind (arith, common_steps)
+
+pub returns-in-Err-new-clause-shows : goal.returns-in-Err-new-clause-shows
+returns-in-Err-new-clause-shows g c = grind (arith, common_steps)

@@ -46,3 +46,45 @@ write_rows-requires g c = grind (arith, common_steps)
 
 pub returns-in-Ok-clause-shows : goal.returns-in-Ok-clause-shows
 returns-in-Ok-clause-shows g c = grind (arith, common_steps)
+
+pub schemas_are_small-requires : goal.schemas_are_small-requires
+schemas_are_small-requires g c = grind (arith, common_steps)
+
+pub start-requires-clause-live : goal.start-requires-clause-live
+start-requires-clause-live g c = grind (arith, common_steps)
+
+pub start-requires-clause-own_link : goal.start-requires-clause-own_link
+start-requires-clause-own_link g c = grind (arith, common_steps)
+
+pub start-requires-clause-room : goal.start-requires-clause-room
+start-requires-clause-room g c = grind (arith, common_steps)
+
+pub returns-in-Ok-clause-ends : goal.returns-in-Ok-clause-ends
+returns-in-Ok-clause-ends g c = grind (arith, common_steps)
+
+pub returns-in-Ok-clause-row : goal.returns-in-Ok-clause-row
+returns-in-Ok-clause-row g c = grind (arith, common_steps)
+
+pub returns-in-Ok-clause-units : goal.returns-in-Ok-clause-units
+returns-in-Ok-clause-units g c = grind (arith, common_steps)
+
+pub refuse-requires : goal.refuse-requires
+refuse-requires g c = grind (arith, common_steps)
+
+pub returns-clause-text : goal.returns-clause-text
+returns-clause-text g c = grind (arith, common_steps)
+
+pub returns-clause-ends : goal.returns-clause-ends
+returns-clause-ends g c = grind (arith, common_steps)
+
+pub returns-clause-row : goal.returns-clause-row
+returns-clause-row g c = grind (arith, common_steps)
+
+pub returns-clause-units : goal.returns-clause-units
+returns-clause-units g c = grind (arith, common_steps)
+
+pub returns-clause-counts : goal.returns-clause-counts
+returns-clause-counts g c = grind (arith, common_steps)
+
+pub returns-clause-shows : goal.returns-clause-shows
+returns-clause-shows g c = grind (arith, common_steps)

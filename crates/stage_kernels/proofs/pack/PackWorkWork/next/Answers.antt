@@ -1,3 +1,4 @@
+use Rattle.std.proofs.lemmas.Grind.{common_steps}
 use Rattle.std.proofs.Common.{rules, ◌≡◌, ◌≤◌, ◌∙◌, ◌++◌, pos, IsTrue, map, sym, subst, arith}
 use Rattle.tree_model.specs.Tree.{IsLive, Depth}
 use Rattle.fmt_string.specs.ColumnView.{column_of}
@@ -101,3 +102,171 @@ returns-in-Ok-clause-counts g c = λ fresh _.
     pack_counts up n work.out work.rest.items work.picks.items c.next-code.result out c.put.new.self c.args.pass.now c.next-code.new.pass c.packed.new.pass live
     (call.answers fresh) (call.counts fresh zero) (c.put.ensures ∙ taken)
     c.in-Ok.ensures.blocks c.in-Ok.ensures.nodes
+
+pub next-code-requires : goal.next-code-requires
+next-code-requires g c = grind (arith, common_steps)
+
+pub is_released-requires : goal.is_released-requires
+is_released-requires g c = grind (arith, common_steps)
+
+pub returns-then-code-ne0-clause-keeps : goal.returns-then-code-ne0-clause-keeps
+returns-then-code-ne0-clause-keeps g c = grind (arith, common_steps)
+
+pub returns-then-code-ne0-clause-columns : goal.returns-then-code-ne0-clause-columns
+returns-then-code-ne0-clause-columns g c = grind (arith, common_steps)
+
+pub returns-then-code-ne0-clause-fits : goal.returns-then-code-ne0-clause-fits
+returns-then-code-ne0-clause-fits g c = grind (arith, common_steps)
+
+pub returns-then-code-ne0-clause-code : goal.returns-then-code-ne0-clause-code
+returns-then-code-ne0-clause-code g c = grind (arith, common_steps)
+
+pub returns-then-code-ne0-clause-tells : goal.returns-then-code-ne0-clause-tells
+returns-then-code-ne0-clause-tells g c = grind (arith, common_steps)
+
+pub returns-then-code-ne0-clause-refuses : goal.returns-then-code-ne0-clause-refuses
+returns-then-code-ne0-clause-refuses g c = grind (arith, common_steps)
+
+pub returns-then-code-ne0-clause-gone : goal.returns-then-code-ne0-clause-gone
+returns-then-code-ne0-clause-gone g c = grind (arith, common_steps)
+
+pub returns-then-code-ne0-clause-units : goal.returns-then-code-ne0-clause-units
+returns-then-code-ne0-clause-units g c = grind (arith, common_steps)
+
+pub returns-then-code-ne0-clause-failure : goal.returns-then-code-ne0-clause-failure
+returns-then-code-ne0-clause-failure g c = grind (arith, common_steps)
+
+pub returns-then-code-ne0-clause-faulted : goal.returns-then-code-ne0-clause-faulted
+returns-then-code-ne0-clause-faulted g c = grind (arith, common_steps)
+
+pub returns-then-code-ne0-clause-worked : goal.returns-then-code-ne0-clause-worked
+returns-then-code-ne0-clause-worked g c = grind (arith, common_steps)
+
+pub returns-then-code-ne0-clause-repeats : goal.returns-then-code-ne0-clause-repeats
+returns-then-code-ne0-clause-repeats g c = grind (arith, common_steps)
+
+pub returns-then-code-ne0-clause-answers : goal.returns-then-code-ne0-clause-answers
+returns-then-code-ne0-clause-answers g c = grind (arith, common_steps)
+
+pub returns-then-code-ne0-clause-gives : goal.returns-then-code-ne0-clause-gives
+returns-then-code-ne0-clause-gives g c = grind (arith, common_steps)
+
+pub returns-then-code-ne0-clause-counts : goal.returns-then-code-ne0-clause-counts
+returns-then-code-ne0-clause-counts g c = grind (arith, common_steps)
+
+pub returns-then-code-ne0-clause-shows : goal.returns-then-code-ne0-clause-shows
+returns-then-code-ne0-clause-shows g c = grind (arith, common_steps)
+
+pub columns_of_a_table-requires : goal.columns_of_a_table-requires
+columns_of_a_table-requires g c = grind (arith, common_steps)
+
+pub lawful_arrays_are_not_deep-requires : goal.lawful_arrays_are_not_deep-requires
+lawful_arrays_are_not_deep-requires g c = grind (arith, common_steps)
+
+pub chunks_are_small-requires : goal.chunks_are_small-requires
+chunks_are_small-requires g c = grind (arith, common_steps)
+
+pub lawful_facts-requires : goal.lawful_facts-requires
+lawful_facts-requires g c κs = grind (arith, common_steps)
+
+pub typed-typed-requires : goal.typed-typed-requires
+typed-typed-requires g c = grind (arith, common_steps)
+
+pub move_out-requires : goal.move_out-requires
+move_out-requires g c = grind (arith, common_steps)
+
+pub packed-requires-clause-units : goal.packed-requires-clause-units
+packed-requires-clause-units g c = grind (arith, common_steps)
+
+pub packed-requires-clause-supply : goal.packed-requires-clause-supply
+packed-requires-clause-supply g c = grind (arith, common_steps)
+
+pub put-requires : goal.put-requires
+put-requires g c = grind (arith, common_steps)
+
+pub returns-in-Ok-clause-keeps : goal.returns-in-Ok-clause-keeps
+returns-in-Ok-clause-keeps g c = grind (arith, common_steps)
+
+pub returns-in-Ok-clause-columns : goal.returns-in-Ok-clause-columns
+returns-in-Ok-clause-columns g c = grind (arith, common_steps)
+
+pub returns-in-Ok-clause-fits : goal.returns-in-Ok-clause-fits
+returns-in-Ok-clause-fits g c = grind (arith, common_steps)
+
+pub returns-in-Ok-clause-code : goal.returns-in-Ok-clause-code
+returns-in-Ok-clause-code g c = grind (arith, common_steps)
+
+pub returns-in-Ok-clause-tells : goal.returns-in-Ok-clause-tells
+returns-in-Ok-clause-tells g c = grind (arith, common_steps)
+
+pub returns-in-Ok-clause-refuses : goal.returns-in-Ok-clause-refuses
+returns-in-Ok-clause-refuses g c = grind (arith, common_steps)
+
+pub returns-in-Ok-clause-gone : goal.returns-in-Ok-clause-gone
+returns-in-Ok-clause-gone g c = grind (arith, common_steps)
+
+pub returns-in-Ok-clause-units : goal.returns-in-Ok-clause-units
+returns-in-Ok-clause-units g c = grind (arith, common_steps)
+
+pub returns-in-Ok-clause-failure : goal.returns-in-Ok-clause-failure
+returns-in-Ok-clause-failure g c = grind (arith, common_steps)
+
+pub returns-in-Ok-clause-faulted : goal.returns-in-Ok-clause-faulted
+returns-in-Ok-clause-faulted g c = grind (arith, common_steps)
+
+pub returns-in-Ok-clause-worked : goal.returns-in-Ok-clause-worked
+returns-in-Ok-clause-worked g c = grind (arith, common_steps)
+
+pub returns-in-Ok-clause-gives : goal.returns-in-Ok-clause-gives
+returns-in-Ok-clause-gives g c = grind (arith, common_steps)
+
+pub returns-in-Ok-clause-shows : goal.returns-in-Ok-clause-shows
+returns-in-Ok-clause-shows g c = grind (arith, common_steps)
+
+pub returns-in-Err-clause-keeps : goal.returns-in-Err-clause-keeps
+returns-in-Err-clause-keeps g c = grind (arith, common_steps)
+
+pub returns-in-Err-clause-columns : goal.returns-in-Err-clause-columns
+returns-in-Err-clause-columns g c = grind (arith, common_steps)
+
+pub returns-in-Err-clause-fits : goal.returns-in-Err-clause-fits
+returns-in-Err-clause-fits g c = grind (arith, common_steps)
+
+pub returns-in-Err-clause-code : goal.returns-in-Err-clause-code
+returns-in-Err-clause-code g c = grind (arith, common_steps)
+
+pub returns-in-Err-clause-tells : goal.returns-in-Err-clause-tells
+returns-in-Err-clause-tells g c = grind (arith, common_steps)
+
+pub returns-in-Err-clause-refuses : goal.returns-in-Err-clause-refuses
+returns-in-Err-clause-refuses g c = grind (arith, common_steps)
+
+pub returns-in-Err-clause-gone : goal.returns-in-Err-clause-gone
+returns-in-Err-clause-gone g c = grind (arith, common_steps)
+
+pub returns-in-Err-clause-units : goal.returns-in-Err-clause-units
+returns-in-Err-clause-units g c = grind (arith, common_steps)
+
+pub returns-in-Err-clause-failure : goal.returns-in-Err-clause-failure
+returns-in-Err-clause-failure g c = grind (arith, common_steps)
+
+pub returns-in-Err-clause-faulted : goal.returns-in-Err-clause-faulted
+returns-in-Err-clause-faulted g c = grind (arith, common_steps)
+
+pub returns-in-Err-clause-worked : goal.returns-in-Err-clause-worked
+returns-in-Err-clause-worked g c = grind (arith, common_steps)
+
+pub returns-in-Err-clause-repeats : goal.returns-in-Err-clause-repeats
+returns-in-Err-clause-repeats g c = grind (arith, common_steps)
+
+pub returns-in-Err-clause-answers : goal.returns-in-Err-clause-answers
+returns-in-Err-clause-answers g c = grind (arith, common_steps)
+
+pub returns-in-Err-clause-gives : goal.returns-in-Err-clause-gives
+returns-in-Err-clause-gives g c = grind (arith, common_steps)
+
+pub returns-in-Err-clause-counts : goal.returns-in-Err-clause-counts
+returns-in-Err-clause-counts g c = grind (arith, common_steps)
+
+pub returns-in-Err-clause-shows : goal.returns-in-Err-clause-shows
+returns-in-Err-clause-shows g c = grind (arith, common_steps)

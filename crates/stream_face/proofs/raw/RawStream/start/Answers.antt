@@ -1,4 +1,5 @@
-use Rattle.std.proofs.Common.{◌∙◌, None, ap, of_z, refl, sym, subst, w32}
+use Rattle.std.proofs.lemmas.Grind.{common_steps}
+use Rattle.std.proofs.Common.{◌∙◌, None, ap, of_z, refl, sym, subst, w32, arith}
 use Rattle.layout_check.specs.Schemas.{TypedOf}
 use Rattle.layout_check.specs.ColumnKinds.{type_of_columns}
 use Rattle.stream_face.specs.Calls.{IsCode, Tells}
@@ -39,3 +40,123 @@ returns-in-Err-clause-refused g c =
             (subst (λ t. TypedOf t (type_of_columns s.columns)) (sym ((call.lawful lawful).given zero)) typed),
       ),
     )
+
+pub lawful_facts-requires : goal.lawful_facts-requires
+lawful_facts-requires g c κs = grind (arith, common_steps)
+
+pub released-schema-requires : goal.released-schema-requires
+released-schema-requires g c = grind (arith, common_steps)
+
+pub get_schema-code-requires-clause-live : goal.get_schema-code-requires-clause-live
+get_schema-code-requires-clause-live g c = grind (arith, common_steps)
+
+pub get_schema-code-requires-clause-empty : goal.get_schema-code-requires-clause-empty
+get_schema-code-requires-clause-empty g c = grind (arith, common_steps)
+
+pub get_schema-code-requires-clause-room : goal.get_schema-code-requires-clause-room
+get_schema-code-requires-clause-room g c = grind (arith, common_steps)
+
+pub discard-requires : goal.discard-requires
+discard-requires g c = grind (arith, common_steps)
+
+pub returns-then-code-ne0-clause-started : goal.returns-then-code-ne0-clause-started
+returns-then-code-ne0-clause-started g c = grind (arith, common_steps)
+
+pub returns-then-code-ne0-clause-link : goal.returns-then-code-ne0-clause-link
+returns-then-code-ne0-clause-link g c = grind (arith, common_steps)
+
+pub returns-then-code-ne0-clause-fault : goal.returns-then-code-ne0-clause-fault
+returns-then-code-ne0-clause-fault g c = grind (arith, common_steps)
+
+pub returns-then-code-ne0-clause-schema : goal.returns-then-code-ne0-clause-schema
+returns-then-code-ne0-clause-schema g c = grind (arith, common_steps)
+
+pub returns-then-code-ne0-clause-kinds : goal.returns-then-code-ne0-clause-kinds
+returns-then-code-ne0-clause-kinds g c = grind (arith, common_steps)
+
+pub returns-then-code-ne0-clause-lawful : goal.returns-then-code-ne0-clause-lawful
+returns-then-code-ne0-clause-lawful g c = grind (arith, common_steps)
+
+pub returns-then-code-ne0-clause-few : goal.returns-then-code-ne0-clause-few
+returns-then-code-ne0-clause-few g c = grind (arith, common_steps)
+
+pub returns-then-code-ne0-clause-units : goal.returns-then-code-ne0-clause-units
+returns-then-code-ne0-clause-units g c = grind (arith, common_steps)
+
+pub returns-then-code-ne0-clause-nodes : goal.returns-then-code-ne0-clause-nodes
+returns-then-code-ne0-clause-nodes g c = grind (arith, common_steps)
+
+pub returns-then-code-ne0-clause-blocks : goal.returns-then-code-ne0-clause-blocks
+returns-then-code-ne0-clause-blocks g c = grind (arith, common_steps)
+
+pub of-requires : goal.of-requires
+of-requires g c = grind (arith, common_steps)
+
+pub invariant_of-result : goal.invariant_of-result
+invariant_of-result g c = grind (arith, common_steps)
+
+pub end-requires : goal.end-requires
+end-requires g c = grind (arith, common_steps)
+
+pub returns-in-Ok-clause-started : goal.returns-in-Ok-clause-started
+returns-in-Ok-clause-started g c = grind (arith, common_steps)
+
+pub returns-in-Ok-clause-link : goal.returns-in-Ok-clause-link
+returns-in-Ok-clause-link g c = grind (arith, common_steps)
+
+pub returns-in-Ok-clause-fault : goal.returns-in-Ok-clause-fault
+returns-in-Ok-clause-fault g c = grind (arith, common_steps)
+
+pub returns-in-Ok-clause-schema : goal.returns-in-Ok-clause-schema
+returns-in-Ok-clause-schema g c = grind (arith, common_steps)
+
+pub returns-in-Ok-clause-kinds : goal.returns-in-Ok-clause-kinds
+returns-in-Ok-clause-kinds g c = grind (arith, common_steps)
+
+pub returns-in-Ok-clause-lawful : goal.returns-in-Ok-clause-lawful
+returns-in-Ok-clause-lawful g c = grind (arith, common_steps)
+
+pub returns-in-Ok-clause-few : goal.returns-in-Ok-clause-few
+returns-in-Ok-clause-few g c = grind (arith, common_steps)
+
+pub returns-in-Ok-clause-refused : goal.returns-in-Ok-clause-refused
+returns-in-Ok-clause-refused g c = grind (arith, common_steps)
+
+pub returns-in-Ok-clause-units : goal.returns-in-Ok-clause-units
+returns-in-Ok-clause-units g c = grind (arith, common_steps)
+
+pub returns-in-Ok-clause-nodes : goal.returns-in-Ok-clause-nodes
+returns-in-Ok-clause-nodes g c = grind (arith, common_steps)
+
+pub returns-in-Ok-clause-blocks : goal.returns-in-Ok-clause-blocks
+returns-in-Ok-clause-blocks g c = grind (arith, common_steps)
+
+pub returns-in-Err-clause-started : goal.returns-in-Err-clause-started
+returns-in-Err-clause-started g c = grind (arith, common_steps)
+
+pub returns-in-Err-clause-link : goal.returns-in-Err-clause-link
+returns-in-Err-clause-link g c = grind (arith, common_steps)
+
+pub returns-in-Err-clause-fault : goal.returns-in-Err-clause-fault
+returns-in-Err-clause-fault g c = grind (arith, common_steps)
+
+pub returns-in-Err-clause-schema : goal.returns-in-Err-clause-schema
+returns-in-Err-clause-schema g c = grind (arith, common_steps)
+
+pub returns-in-Err-clause-kinds : goal.returns-in-Err-clause-kinds
+returns-in-Err-clause-kinds g c = grind (arith, common_steps)
+
+pub returns-in-Err-clause-lawful : goal.returns-in-Err-clause-lawful
+returns-in-Err-clause-lawful g c = grind (arith, common_steps)
+
+pub returns-in-Err-clause-few : goal.returns-in-Err-clause-few
+returns-in-Err-clause-few g c = grind (arith, common_steps)
+
+pub returns-in-Err-clause-units : goal.returns-in-Err-clause-units
+returns-in-Err-clause-units g c = grind (arith, common_steps)
+
+pub returns-in-Err-clause-nodes : goal.returns-in-Err-clause-nodes
+returns-in-Err-clause-nodes g c = grind (arith, common_steps)
+
+pub returns-in-Err-clause-blocks : goal.returns-in-Err-clause-blocks
+returns-in-Err-clause-blocks g c = grind (arith, common_steps)
