@@ -31,7 +31,6 @@ mod tree_line;
 
 pub use fault::RunFault;
 pub use laws::one_answer;
-pub use record_tap::{OwnedValue, RecordTap, SeenChunk};
 pub use stage_chain::{DriveFault, drive};
 pub use stage_plan::{PlanRule, StageFault, TypesRule};
 pub use top::{Outcome, run};
@@ -52,18 +51,4 @@ pub fn worked_answers()
 {}
 
 #[cfg(test)]
-mod check_tests;
-#[cfg(test)]
-mod failure_tests;
-#[cfg(test)]
-mod field_tests;
-#[cfg(test)]
-mod made_tests;
-#[cfg(test)]
-mod payment_tests;
-#[cfg(test)]
-mod stage_tests;
-#[cfg(test)]
-mod tests;
-#[cfg(test)]
-mod worker_tests;
+mod line_tests;

@@ -1,11 +1,11 @@
 //! Runs that are made from a number: what the chain gives over the same bytes from a source, while the source is left alone.
-use crate::payment_tests::{CHAIN, TOTALS, payments};
-use crate::stage_tests::run_line;
-use crate::tests::{
+use crate::payments::{CHAIN, TOTALS, payments};
+use crate::runs::{
     Ran, came_to, has_made, has_told, run_into, sink_of, sink_with_room, source_of, words_of,
 };
-use crate::{RunFault, WordsFault};
+use crate::stages::run_line;
 use edge_io::{Got, MemSource, OpenGate, Source};
+use pipe_top::{RunFault, WordsFault};
 use std::alloc::Global;
 use std::process::Abort;
 use std::test::Fail;

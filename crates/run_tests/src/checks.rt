@@ -1,7 +1,7 @@
 //! Trees that are checked, as texts, through the top call: their reports, their faults and what was made of them.
-use crate::tests::{Ends, Ran, has_told, run_over, words_of};
-use crate::{Outcome, RunFault, TreeFault, WordsFault};
+use crate::runs::{Ends, Ran, has_told, run_over, words_of};
 use edge_io::{MemSink, OpenGate};
+use pipe_top::{Outcome, RunFault, TreeFault, WordsFault};
 use record_tap::RecordTap;
 use std::alloc::Global;
 use std::process::Abort;

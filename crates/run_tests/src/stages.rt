@@ -1,9 +1,9 @@
 //! Runs with stages: the texts and the blocks and nodes, the faults and their order, and the chunks that a tap is shown.
-use crate::tests::{
+use crate::runs::{
     Ends, Ran, came_to, has_made, has_told, run_into, run_over, sink_of, source_of, words_of,
 };
-use crate::{PlanRule, RunFault, StageFault, TypesRule, WordsFault};
 use edge_io::OpenGate;
+use pipe_top::{PlanRule, RunFault, StageFault, TypesRule, WordsFault};
 use record_tap::{OwnedValue, RecordTap, SeenChunk};
 use std::alloc::Global;
 use std::process::Abort;

@@ -1,6 +1,6 @@
 //! Fields of each type that go through a run: the text in which they come back, or none where they are refused.
-use crate::RunFault;
-use crate::tests::expect_outcome;
+use crate::runs::expect_outcome;
+use pipe_top::RunFault;
 use std::alloc::Global;
 use std::process::Abort;
 use std::test::Fail;

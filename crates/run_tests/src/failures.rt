@@ -1,7 +1,7 @@
 //! Sources and sinks that fail at one call, at each in turn: what the run comes to, and that nothing is left.
-use crate::RunFault;
-use crate::tests::{Ends, Ran, came_to, has_told, run_over, words_of};
+use crate::runs::{Ends, Ran, came_to, has_told, run_over, words_of};
 use edge_io::OpenGate;
+use pipe_top::RunFault;
 use std::alloc::Global;
 use std::process::Abort;
 use std::test::Fail;

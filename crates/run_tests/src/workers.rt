@@ -1,6 +1,6 @@
 //! Runs with several workers: texts, blocks and nodes are those of one worker, and two workers are seen side by side.
-use crate::payment_tests::{CHAIN, TOTALS, payments};
-use crate::tests::{Ends, Ran, came_to, has_made, run_over, words_of};
+use crate::payments::{CHAIN, TOTALS, payments};
+use crate::runs::{Ends, Ran, came_to, has_made, run_over, words_of};
 use edge_io::{Gate, OpenGate};
 use std::alloc::Global;
 use std::process::Abort;
