@@ -6,19 +6,19 @@ use Rattle.fmt_string.specs.Table.{Column, Row, Kind, Flat, Dict, Columns}
 use Rattle.fmt_string.specs.Value.{Value, Null}
 use Rattle.fmt_string.specs.declared.kind.DataType.{DataType}
 use Rattle.tree_model.specs.Tree.{Released, Live, children_of}
-use Rattle.tree_model.proofs.Lists.{tree_list-trees}
 use Rattle.raw_array.specs.Members.{ArrayTree, members_of}
-use Rattle.layout_check.specs.ColumnKinds.{type_of_column, type_of_columns, types_of_columns}
+use Rattle.layout_check.specs.ColumnKinds.{type_of_columns}
 use Rattle.layout_check.specs.Kinds.{KindTree}
 use Rattle.layout_check.specs.Layout.{natural}
 use Rattle.layout_check.specs.Values.{each, row_items, rows_of, tree_items, value_at}
 use Rattle.arr_export.specs.ArrayTrees.{IsColumn}
 use Rattle.arr_import.specs.Window.{Window, child_window, item_at, items_of, whole}
 use Rattle.stream_face.specs.Lawful.{AreValues}
+use Rattle.column_fill.proofs.Counts.{length-each}
 use Rattle.dict_stage.specs.Indices.{recoded_tree}
 use Rattle.dict_stage.specs.Recoded.{CanRecode, HoldsTexts, TextsOf}
 use Rattle.dict_stage.specs.Texts.{HasTexts}
-use Rattle.dict_stage.proofs.Codes.{count-of, length-each}
+use Rattle.dict_stage.proofs.Codes.{count-of}
 use Rattle.dict_stage.proofs.Recoded.{length-indices}
 
 from-zero : {X : Type 0} (f : ℕ → X) (from n : ℕ) → each f from n ≡ each (λ i. f (from + i)) 0 n
@@ -69,9 +69,6 @@ pub can-recode : (kind : Kind) (own : Window) (vs : List Value) → items_of own
 can-recode (Flat type) own vs is texts = texts-in type own vs is texts
 can-recode (Dict type) own vs is texts = texts-in type own vs is texts
 can-recode (Columns _) own vs is texts = absurd texts
-
-pub kids-long : (columns : List Column) → length (children_of (type_of_columns columns)) ≡ length columns
-kids-long columns = ap length (tree_list-trees (types_of_columns columns)) ∙ length-map columns type_of_column
 
 items-are : (chunk : ArrayTree) → tree_items chunk ≡ natural (members_of chunk).length
 items-are Released = refl

@@ -20,8 +20,9 @@ use Rattle.layout_check.specs.Values.{each, value_at}
 use Rattle.arr_import.specs.Window.{Window, item_at, items_of}
 use Rattle.stage_model.specs.Dictionary.{has_bytes}
 use Rattle.stream_face.specs.Lawful.{HasBytes}
-use Rattle.stage_filter.specs.Moving.{Takes}
-use Rattle.stage_filter.proofs.ValuesTaken.{before-small, value-taken}
+use Rattle.column_fill.proofs.Counts.{length-each}
+use Rattle.column_fill.specs.Takes.{Takes}
+use Rattle.column_fill.proofs.ValuesTaken.{before-small, value-taken}
 use Rattle.dict_stage.specs.Indices.{index_type}
 use Rattle.dict_stage.specs.Texts.{Codes, HasTexts, IsText, index_by, number_of, texts_after, texts_in, texts_with}
 use Rattle.dict_stage.specs.declared.coder.Coder.{Coder}
@@ -35,10 +36,6 @@ there f from (suc n) zero d small = let e : from ≡ from + 0 = omega arith in a
 there f from (suc n) (suc i) d small =
     let e : suc from + i ≡ from + suc i = omega arith in
     there f (suc from) n i d (omega (arith, small)) ∙ ap f e
-
-pub length-each : {X : Type 0} (f : ℕ → X) (from n : ℕ) → length (each f from n) ≡ n
-length-each f from zero = refl
-length-each f from (suc n) = ap suc (length-each f (suc from) n)
 
 pub count-of : (w : Window) → length (items_of w) ≡ w.count
 count-of w = length-each (value_at w.typed w.array) w.start w.count

@@ -21,9 +21,9 @@ use Rattle.arr_export.specs.ArrayTrees.{AreIndices, IsPlaceOf, column_tree, look
 use Rattle.stage_model.specs.Dictionary.{Dictionary, has_bytes}
 use Rattle.stage_model.specs.Traffic.{Made, flat_blocks, index_blocks, kind_blocks, row_blocks}
 use Rattle.stream_face.specs.Lawful.{AreValues, HasBytes}
-use Rattle.stage_filter.proofs.ColumnBlocks.{blocks-are}
-use Rattle.stage_filter.proofs.ColumnCosts.{few-blocks}
-use Rattle.stage_filter.proofs.ValuesTaken.{values-fit}
+use Rattle.column_fill.proofs.ColumnBlocks.{blocks-are}
+use Rattle.column_fill.proofs.ColumnCosts.{few-blocks}
+use Rattle.column_fill.proofs.ValuesTaken.{values-fit}
 use Rattle.dict_stage.specs.Indices.{Indices, index_type, recoded_tree}
 use Rattle.dict_stage.specs.Recoded.{IsRecoded}
 use Rattle.dict_stage.specs.Texts.{IsText, index_by, number_of, texts_after, texts_with}

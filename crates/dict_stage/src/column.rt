@@ -15,7 +15,7 @@ use arr_import::Col;
 use col_build::Builder;
 use fmt_string::{ColKind, DataType, clone_kind, storage_of};
 use raw_array::RawArray;
-use stage_filter::{built_column, push};
+use column_fill::{built_column, push};
 use std::alloc::Global;
 use unit_pass::{NoMemory, Pass, SUPPLY};
 

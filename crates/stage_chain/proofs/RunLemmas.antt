@@ -22,7 +22,7 @@ use Rattle.stream_face.specs.Calls.{Answers, Begins, Counts, Repeats, Shows, Tel
 use Rattle.stream_face.specs.Shown.{Seen, grown, of_link}
 use Rattle.stream_face.specs.Streams.{IsFresh, Keeps, Stream, Traffic}
 use Rattle.stream_face.specs.Texts.{Refusal}
-use Rattle.stream_face.proofs.Joints.{grown-append, of_link-append, tells_refusal, works_before}
+use Rattle.stream_face.proofs.Joints.{grown-append, of_link-append}
 use Rattle.stage_chain.specs.Runs.{Counted, Ran, ShowsAll, ShowsSome}
 
 pub grown-nil : (seen : Option (List Seen)) → seen ≡ grown seen []
@@ -31,14 +31,6 @@ grown-nil (Some before) = ap Some (sym (append-nil before))
 
 pub risen-add : (a b c m n : ℕ) → b ≡ risen a m → c ≡ risen b n → c ≡ risen a (m + n)
 risen-add a b c m n e f = omega (arith, e, f)
-
--- a stream that answers 0 is fresh
-pub fresh_at : (m n : Stream) (code : ℤ) (a b : Tally) (seen shown : Option (List Seen)) → IsTrue m.lawful → Repeats m n code a b seen shown
-    → Tells code n.said → code ≡ pos 0 → IsFresh m
-fresh_at m n code a b seen shown lawful repeats tells zero = record {
-  lawful = lawful;
-  no_failure = works_before m.failure code (λ refusal e. tells_refusal code n.said refusal tells (repeats.same refusal e).1) zero;
-}
 
 -- ---- calls that answer 0
 -- no call was made yet

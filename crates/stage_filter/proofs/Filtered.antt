@@ -71,18 +71,6 @@ most-columns (c ∷ cs) = omega (arith, most-kind c.kind, most-columns cs)
 
 -- ---- a call of a lawful stream that gives a chunk
 
--- a stream that has refused gives none
-fresh-by : (failure : Option Refusal) (s n : Stream) (code : ℤ) (before after : Tally) (seen shown : Option (List Seen)) → s.failure ≡ failure
-    → IsTrue s.lawful → Repeats s n code before after seen shown → Tells code n.said → code ≡ pos 0 → IsFresh s
-fresh-by None s n code before after seen shown e lawful repeats tells none = record { lawful = lawful; no_failure = e }
-fresh-by (Some refusal) s n code before after seen shown e lawful repeats tells none =
-    let told : Tells code (Some refusal) = subst (Tells code) (repeats.same refusal e).1 tells in
-    absurd (told.1 none)
-
-pub fresh : (s n : Stream) (code : ℤ) (before after : Tally) (seen shown : Option (List Seen)) → IsTrue s.lawful → Repeats s n code before after seen shown
-    → Tells code n.said → code ≡ pos 0 → IsFresh s
-fresh s n code before after seen shown lawful repeats tells none = fresh-by s.failure s n code before after seen shown refl lawful repeats tells none
-
 -- the table of a chunk, and its rows
 first-table : (columns : List Column) (ahead more : List (List Row)) (rows : List Row) → LawfulTables columns ahead → ahead ≡ rows ∷ more
     → IsTable columns rows × (length rows ≤ 2 ^ 30)

@@ -24,7 +24,7 @@ use Rattle.stage_model.specs.declared.stage.Const.{Const}
 use Rattle.stage_model.specs.declared.stage.Test.{Test}
 use Rattle.stage_filter.specs.Kept.{kept_numbers, numbers}
 use Rattle.stage_filter.specs.Workers.{AreFound, row_numbers}
-use Rattle.stage_filter.proofs.Passing.{count-is}
+use Rattle.column_fill.proofs.Counts.{count-is}
 
 -- ---- two tests that agree on some numbers
 

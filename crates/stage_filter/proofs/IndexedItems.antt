@@ -28,11 +28,11 @@ use Rattle.stream_face.specs.Lawful.{AreValues}
 use Rattle.stage_filter.specs.Kept.{index_in, values_at}
 use Rattle.stage_filter.specs.KeptTrees.{index_type, indices_at}
 use Rattle.stage_filter.specs.Moving.{CanMove}
-use Rattle.stage_filter.proofs.ColumnBlocks.{blocks-are}
+use Rattle.column_fill.proofs.ColumnBlocks.{blocks-are}
 use Rattle.stage_filter.proofs.LawTypes.{ItemsLaw, PartsLaw, RootLaw}
-use Rattle.stage_filter.proofs.Passing.{length-each}
+use Rattle.column_fill.proofs.Counts.{length-each}
 use Rattle.stage_filter.proofs.Sifted.{total-cons}
-use Rattle.stage_filter.proofs.ValuesTaken.{values-fit}
+use Rattle.column_fill.proofs.ValuesTaken.{values-fit}
 
 -- ---- one index
 

@@ -28,7 +28,7 @@ use Rattle.stage_filter.proofs.KeptShapes.{long-kept, same-at}
 use Rattle.stage_filter.proofs.LawTypes.{FlatLawful, FlatValued, IndexLawful, IndexValued, ItemsLaw, PartsLaw, RootLaw, TableLawful, TableValued}
 use Rattle.stage_filter.proofs.Steps.{kept-are, later-child, of-members, step}
 use Rattle.stage_filter.proofs.StructColumns.{columns-back, type-is}
-use Rattle.stage_filter.proofs.ValuesTaken.{values-fit}
+use Rattle.column_fill.proofs.ValuesTaken.{values-fit}
 
 -- ---- rows are as wide as the columns are many
 

@@ -1,7 +1,5 @@
 pub mod Sifted
 pub mod Numbers
-pub mod ValuesTaken
-pub mod ColumnBlocks
 pub mod LawTypes
 pub mod Passing
 pub mod IndexedItems
@@ -11,8 +9,7 @@ pub mod Steps
 pub mod KeptShapes
 pub mod OneMore
 pub mod Kids
-pub mod ColumnCosts
-pub mod ItemsMoved
+pub mod MovedColumns
 pub mod ChunkRows
 pub mod ChunkLaw
 pub mod KeptLaw

@@ -16,6 +16,7 @@ use Rattle.stage_model.specs.Stages.{passes}
 use Rattle.stage_model.specs.declared.stage.Const.{Const}
 use Rattle.stage_model.specs.declared.stage.Test.{Test}
 use Rattle.stream_face.specs.Lawful.{AreItems}
+use Rattle.column_fill.proofs.Counts.{count-is}
 use Rattle.stage_filter.specs.Filters.{CanFilter, passing_numbers, passing_rows}
 use Rattle.stage_filter.specs.Kept.{numbers, rows_at}
 use Rattle.stage_filter.specs.Moving.{CanMoveRows}
@@ -25,17 +26,10 @@ use Rattle.stage_filter.proofs.Sifted.{fewer, filter-sifted, table-filtered}
 use Rattle.stage_filter.proofs.Steps.{row-field}
 
 -- ---- how many rows are kept
-pub length-each : {X : Type 0} (f : ℕ → X) (from n : ℕ) → length (each f from n) ≡ n
-length-each f from zero = refl
-length-each f from (suc n) = ap suc (length-each f (suc from) n)
-
 each-agree : {X : Type 0} (f g : ℕ → X) (from n : ℕ) → ((i : ℕ) → f i ≡ g i) → each f from n ≡ each g from n
 each-agree f g from zero same = refl
 each-agree f g from (suc n) same =
     ap (λ x. x ∷ each f (suc from) n) (same from) ∙ ap (λ xs. g from ∷ xs) (each-agree f g (suc from) n same)
-
-pub count-is : (typed : KindTree) (chunk : ArrayTree) → length (rows_of typed chunk) ≡ tree_items chunk
-count-is typed chunk = length-each (row_items typed chunk) 0 (tree_items chunk)
 
 few-kept : (p : ℕ → Bool) (from n : ℕ) → length (filter p (numbers from n)) ≤ n
 few-kept p from n =

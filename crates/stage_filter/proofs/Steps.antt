@@ -2,7 +2,6 @@
 use Rattle.std.proofs.Common.{◌≡◌, ◌∙◌, ◌≤◌, ◌<◌, ◌+◌, ℕ, zero, suc, Bool, true, false, List, [], ◌∷◌, length, map, take, drop, get_or, All, refl, sym}
 use Rattle.std.proofs.Common.{Result, Ok, Err, IfOk, ap, subst, arith}
 use Rattle.std.specs.Prelude.{if◌then◌else◌}
-use Rattle.std.proofs.lemmas.List.{length-map}
 use Rattle.std.proofs.lemmas.List.Elements.{All-head, All-tail}
 use Rattle.fmt_string.specs.ColumnForms.{AreColumnKinds}
 use Rattle.fmt_string.specs.ColumnView.{members}
@@ -24,6 +23,7 @@ use Rattle.layout_check.specs.Values.{field_items, readers, row_items, tree_item
 use Rattle.layout_check.specs.Walk.{LayoutOk}
 use Rattle.stage_model.specs.Traffic.{Moved, table_blocks}
 use Rattle.stream_face.specs.Lawful.{AreItems, DictsAreFull, HasFields, MemberDictsAreFull}
+use Rattle.column_fill.proofs.Counts.{kids-long}
 use Rattle.stage_filter.specs.Kept.{rows_at, values_at}
 use Rattle.stage_filter.specs.KeptTrees.{kept_columns, kept_members, kept_tree}
 use Rattle.stage_filter.specs.Moving.{CanMove, CanMoveRows, IsMoved, IsMovedStruct}
@@ -33,9 +33,6 @@ use Rattle.stage_filter.proofs.LawTypes.{ItemsLaw, PartsLaw, RootLaw}
 use Rattle.stage_filter.proofs.StructColumns.{blocks-is, columns-back, items-are, kinds-are, most-is, nodes-are, type-is}
 
 -- ---- one column
-
-pub kids-long : (columns : List Column) → length (children_of (type_of_columns columns)) ≡ length columns
-kids-long columns = ap length (tree_list-trees (types_of_columns columns)) ∙ length-map columns type_of_column
 
 -- the field of a row is the item of a child
 

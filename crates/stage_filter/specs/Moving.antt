@@ -1,22 +1,13 @@
 -- The items of some numbers, moved from a column into a new one over the same dictionary.
-use Rattle.std.specs.Prelude.{◌≡◌, ◌+◌, ◌^◌, ◌<◌, ◌≤◌, ℕ, List, length, get_or, All, None}
+use Rattle.std.specs.Prelude.{◌≡◌, ◌+◌, ◌^◌, ◌<◌, ◌≤◌, ℕ, List, length, get_or, All}
 use Rattle.std.specs.List.{sum_by}
 use Rattle.fmt_string.specs.ColumnForms.{AreColumnKinds}
-use Rattle.fmt_string.specs.FieldText.{IsValueOf}
 use Rattle.fmt_string.specs.Parts.{column_values}
-use Rattle.fmt_string.specs.Storage.{storage_of}
 use Rattle.fmt_string.specs.Table.{Column, Kind, Row}
-use Rattle.fmt_string.specs.Value.{Value, Null, Truth, Whole, Bits, Bytes}
-use Rattle.fmt_string.specs.declared.kind.DataType.{DataType}
-use Rattle.fmt_string.specs.declared.storage.Storage.{Storage}
-use Rattle.fmt_string.specs.declared.storage.Storage.TheVariants as stored
 use Rattle.tree_model.specs.Tree.{Depth, child_at, children_of}
 use Rattle.unit_pass.specs.Tally.{Tally, risen}
 use Rattle.unit_pass.specs.declared.pass.TheConstants.{CHUNK}
 use Rattle.raw_array.specs.Members.{ArrayTree, Cost, members_of}
-use Rattle.col_build.specs.Encoding.{push_fault}
-use Rattle.col_build.specs.Holding.{Holds}
-use Rattle.col_build.specs.declared.builder.Builder.{Builder}
 use Rattle.layout_check.specs.ColumnKinds.{type_of_columns, type_of_kind}
 use Rattle.layout_check.specs.Layout.{first}
 use Rattle.layout_check.specs.Values.{tree_items}
@@ -28,26 +19,6 @@ use Rattle.stage_filter.specs.KeptTrees.{kept_columns, kept_struct, kept_tree}
 use Rattle.stage_filter.specs.Plain.{most_cost, most_of_columns}
 
 -- ---- what can be moved
--- null, or a value that is stored so
-abbrev pub IsStored : Storage → Value → Type 0
-IsStored storage Null = Unit {0}
-IsStored stored.Truths (Truth truth) = Unit {0}
-IsStored (stored.Wholes bits signed) (Whole number) = Unit {0}
-IsStored (stored.Floats bits) (Bits number) = Unit {0}
-IsStored (stored.Sized size) (Bytes bytes) = Unit {0}
-IsStored (stored.Between wide text) (Bytes bytes) = Unit {0}
-IsStored _ _ = ⊥
-
--- the builder takes this value of its type, which is stored so
-pub record Takes (builder : Builder) (storage : Storage) (value : Value) : Type 0 where
-  pub kind : DataType
-  pub values : List Value
-  pub holds : Holds builder kind values
-  pub few : length values < 2 ^ 40
-  pub stored : storage ≡ storage_of kind
-  pub of : IsValueOf kind value
-  pub taken : push_fault kind values value ≡ None
-
 -- items of a lawful array of a column, by numbers that are counted from one of them on
 pub record CanMove (kind : Kind) (array : ArrayTree) (start : ℕ) (kept : List ℕ) : Type 0 where
   pub kinds : AreColumnKinds kind

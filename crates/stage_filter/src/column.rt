@@ -10,10 +10,9 @@ ghost use Rattle.layout_check.specs.TypedView.{typed_of};
 ghost use Rattle.stage_filter.specs.Kept.{values_at};
 ghost use Rattle.stage_filter.specs.Moving.{CanMove, IsMoved};
 
-use crate::built::built_column;
-use crate::item::push_item;
 use arr_import::Col;
 use col_build::Builder;
+use column_fill::{built_column, push_item};
 use fmt_string::{DataType, clone_kind, storage_of};
 use layout_check::{Typed, lawful_trees};
 use raw_array::RawArray;

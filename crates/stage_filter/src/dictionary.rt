@@ -6,8 +6,8 @@ ghost use Rattle.unit_pass.specs.declared.pass.TheConstants.{SUPPLY};
 ghost use Rattle.raw_array.specs.Members.{Cost};
 ghost use Rattle.stage_filter.specs.Moving.{CanMove, IsMoved};
 
-use crate::built::built_column;
 use crate::indices::moved_indices;
+use column_fill::built_column;
 use fmt_string::DataType;
 use layout_check::lawful_trees;
 use raw_array::{Gone, PartlyMoved, RawArray};

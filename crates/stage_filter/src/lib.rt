@@ -8,26 +8,20 @@
 //! anew, with a node for each column at each depth, and the blocks of its own columns, while no dictionary is made or copied
 //! ([`kept_rows_make_a_chunk`]); a lawful stream stays lawful. What is left of the chunk that came is released.
 //!
-//! [`push`] and [`built_column`] are for other works that fill a builder and make an array of it.
-//!
 //! What it leaves to others: which column, test and constant a stage text names (`stage_plan`).
 #![tactic(auto)]
 
-mod built;
 mod chunk;
 mod column;
 mod columns;
 mod dictionary;
 mod filter;
 mod indices;
-mod item;
 mod kept;
 mod laws;
 #[cfg(test)]
 mod worker_tests;
 mod workers;
 
-pub use built::{built_column, give_up};
 pub use filter::FilterWork;
-pub use item::push;
 pub use laws::kept_rows_make_a_chunk;

@@ -24,8 +24,8 @@ use Rattle.layout_check.specs.Schemas.{TypedOf}
 use Rattle.raw_schema.specs.Members.{Nodes}
 use Rattle.tree_model.specs.Tree.{Depth}
 use Rattle.unit_pass.specs.declared.pass.TheConstants.{CHUNK}
-use Rattle.stage_filter.proofs.ColumnBlocks.{blocks-are}
-use Rattle.stage_filter.proofs.ValuesTaken.{values-fit}
+use Rattle.column_fill.proofs.ColumnBlocks.{blocks-are}
+use Rattle.column_fill.proofs.ValuesTaken.{values-fit}
 use Rattle.stage_kernels.proofs.ColumnSets.{same_columns}
 use Rattle.stage_model.specs.Stages.{at_end, numbers_at, totals_row}
 use Rattle.stage_model.specs.Traffic.{Made, blocks_from as made_from, kind_blocks, kind_nodes, table_blocks, table_nodes}

@@ -12,7 +12,7 @@ use Rattle.fmt_string.specs.Table.{Column, Kind, Flat, Row}
 use Rattle.fmt_string.specs.Value.{Value, Null}
 use Rattle.fmt_string.specs.declared.kind.ColumnType.{ColumnType}
 use Rattle.fmt_string.specs.declared.kind.DataType.{DataType}
-use Rattle.stage_filter.proofs.ValuesTaken.{value-taken}
+use Rattle.column_fill.proofs.ValuesTaken.{value-taken}
 use Rattle.stage_model.specs.Stages.{totals_row}
 use Rattle.total_stage.specs.Rows.{RowFits, Takes, ValueFits}
 use Rattle.total_stage.specs.Sums.{AreSums}

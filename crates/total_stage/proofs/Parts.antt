@@ -12,7 +12,7 @@ use Rattle.layout_check.specs.Values.{each, row_items, rows_of, tree_items}
 use Rattle.array_laws.specs.Pieces.{border, joined_pieces}
 use Rattle.array_laws.proofs.WindowItems.{part-each}
 use Rattle.arr_import.specs.Window.{Window, item_at}
-use Rattle.stage_filter.proofs.Passing.{count-is}
+use Rattle.column_fill.proofs.Counts.{count-is}
 use Rattle.stage_model.specs.Stages.{number_if, numbers_at}
 use Rattle.total_stage.specs.Sums.{AreParts, AreSums, CanSum, rows_between}
 use Rattle.total_stage.specs.Totals.{IsSmallItem, numbers_in}

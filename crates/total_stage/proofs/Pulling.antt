@@ -16,7 +16,7 @@ use Rattle.layout_check.specs.ColumnKinds.{type_of_columns}
 use Rattle.layout_check.specs.Kinds.{KindTree, TypedOk}
 use Rattle.layout_check.specs.Values.{rows_of}
 use Rattle.layout_check.specs.Walk.{ChunkOk}
-use Rattle.stage_filter.proofs.Steps.{kids-long}
+use Rattle.column_fill.proofs.Counts.{kids-long}
 use Rattle.stage_kernels.proofs.Runs.{Called, Ran, Ran-fresh}
 use Rattle.stage_model.specs.Typing.{is_summed, no_column}
 use Rattle.unit_pass.specs.Tally.{Tally}

@@ -9,8 +9,9 @@ use Rattle.layout_check.specs.Values.{rows_of}
 use Rattle.layout_check.specs.Walk.{LayoutOk}
 use Rattle.arr_import.specs.Cols.{window_of}
 use Rattle.arr_import.specs.Window.{IsStruct}
+use Rattle.column_fill.proofs.Counts.{kids-long}
 use Rattle.dict_stage.specs.Recoded.{IsRecoded}
-use Rattle.dict_stage.proofs.Chunks.{can-recode, kids-long, own-values}
+use Rattle.dict_stage.proofs.Chunks.{can-recode, own-values}
 use Rattle.dict_stage.proofs.chunk.new_column.Goals as goal
 
 pub of-rows-requires-clause-lawful : goal.of-rows-requires-clause-lawful

@@ -6,7 +6,7 @@ use Rattle.arr_import.specs.Cols.{window_of}
 use Rattle.arr_import.specs.Window.{items_of}
 use Rattle.dict_stage.specs.Indices.{index_type}
 use Rattle.dict_stage.specs.Texts.{Codes, IsText, index_by, texts_after}
-use Rattle.stage_filter.proofs.ItemsMoved.{holds-wholes}
+use Rattle.column_fill.proofs.ItemsMoved.{holds-wholes}
 use Rattle.dict_stage.proofs.Codes.{all-taken, indices-more, item-text, takes-entry, takes-index, texts-next}
 use Rattle.dict_stage.proofs.Texts.{dictionary-is, indices-are}
 use Rattle.dict_stage.proofs.coder.coded.Goals as goal

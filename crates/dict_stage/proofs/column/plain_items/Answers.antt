@@ -4,7 +4,7 @@ use Rattle.fmt_string.specs.Value.{Value}
 use Rattle.fmt_string.specs.declared.kind.DataType.{DataType}
 use Rattle.arr_import.specs.Cols.{window_of}
 use Rattle.arr_import.specs.Window.{items_of}
-use Rattle.stage_filter.specs.Moving.{Takes}
+use Rattle.column_fill.specs.Takes.{Takes}
 use Rattle.dict_stage.proofs.Codes.{all-taken, item-text, one-more, takes-item}
 use Rattle.dict_stage.proofs.column.plain_items.Goals as goal
 

@@ -14,7 +14,7 @@ use Rattle.stage_model.specs.declared.stage.Step.TheVariants as steps
 use Rattle.stage_filter.specs.Filters.{passing_numbers}
 use Rattle.stage_filter.proofs.LikeChunks.{LikeLaws, can-like}
 use Rattle.stage_filter.proofs.Passing.{passing}
-use Rattle.stage_filter.proofs.Steps.{kids-long}
+use Rattle.column_fill.proofs.Counts.{kids-long}
 use Rattle.stage_filter.proofs.chunk.filtered.Goals as goal
 
 pub kept_by_workers-requires-clause-column : goal.kept_by_workers-requires-clause-column

@@ -10,8 +10,8 @@ use Rattle.layout_check.specs.ColumnKinds.{type_of_kind}
 use Rattle.layout_check.specs.TypedView.{typed_of}
 use Rattle.layout_check.specs.Values.{value_at}
 use Rattle.stage_filter.specs.Kept.{values_at}
-use Rattle.stage_filter.specs.Moving.{Takes}
-use Rattle.stage_filter.proofs.ItemsMoved.{item-of, one-more, takes-next}
+use Rattle.column_fill.specs.Takes.{Takes}
+use Rattle.column_fill.proofs.ItemsMoved.{item-of, one-more, takes-next}
 use Rattle.stage_filter.proofs.column.moved_items.Goals as goal
 
 pub loop-i-init : goal.loop-i-init

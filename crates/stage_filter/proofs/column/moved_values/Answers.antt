@@ -3,7 +3,7 @@ use Rattle.std.proofs.lemmas.Grind.{common_steps}
 use Rattle.fmt_string.specs.Table.{Flat}
 use Rattle.layout_check.specs.ColumnKinds.{type_of_kind}
 use Rattle.stage_filter.specs.Kept.{values_at}
-use Rattle.stage_filter.proofs.ColumnCosts.{moved-flat}
+use Rattle.stage_filter.proofs.MovedColumns.{moved-flat}
 use Rattle.stage_filter.proofs.column.moved_values.Goals as goal
 
 pub built_column-requires-clause-holds : goal.built_column-requires-clause-holds

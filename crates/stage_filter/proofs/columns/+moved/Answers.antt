@@ -23,7 +23,8 @@ use Rattle.stage_filter.proofs.KeptColumns.{live-type}
 use Rattle.stage_filter.proofs.KeptShapes.{are-columns, long-columns}
 use Rattle.stage_filter.proofs.Kids.{kid-of, many-kids}
 use Rattle.stage_filter.proofs.OneMore.{moved-more}
-use Rattle.stage_filter.proofs.Steps.{few-columns, kids-long, moved-struct-if, step, struct-of}
+use Rattle.column_fill.proofs.Counts.{kids-long}
+use Rattle.stage_filter.proofs.Steps.{few-columns, moved-struct-if, step, struct-of}
 use Rattle.stage_filter.proofs.StructColumns.{struct-view}
 use Rattle.stage_filter.proofs.columns.+moved.Goals as goal
 

@@ -2,7 +2,7 @@ use Rattle.std.proofs.lemmas.Grind.{common_steps}
 use Rattle.std.proofs.Common.{sym, subst, arith}
 use Rattle.arr_export.specs.ArrayTrees.{AreIndices}
 use Rattle.stage_filter.specs.KeptTrees.{index_type, indices_at}
-use Rattle.stage_filter.proofs.ColumnCosts.{moved-dict}
+use Rattle.stage_filter.proofs.MovedColumns.{moved-dict}
 use Rattle.stage_filter.proofs.IndexedItems.{are-indices, has-dictionary}
 use Rattle.stage_filter.proofs.dictionary.moved_entries.Goals as goal
 

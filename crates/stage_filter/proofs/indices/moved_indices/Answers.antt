@@ -10,7 +10,7 @@ use Rattle.layout_check.specs.ColumnKinds.{type_of_kind}
 use Rattle.layout_check.specs.Values.{value_at}
 use Rattle.stage_filter.specs.KeptTrees.{index_type, indices_at}
 use Rattle.stage_filter.proofs.IndexedItems.{has-dictionary, index-kind, index-values, next-place}
-use Rattle.stage_filter.proofs.ItemsMoved.{holds-wholes, one-more, taken, takes-next}
+use Rattle.column_fill.proofs.ItemsMoved.{holds-wholes, one-more, taken, takes-next}
 use Rattle.stage_filter.proofs.indices.moved_indices.Goals as goal
 
 -- ---- the array

@@ -3,7 +3,7 @@ use Rattle.layout_check.specs.TypedView.{typed_of}
 use Rattle.arr_import.specs.Cols.{window_of}
 use Rattle.arr_import.specs.Window.{Window, child_window}
 use Rattle.stage_filter.proofs.Found.{fields-of, rows-are-items}
-use Rattle.stage_filter.proofs.Passing.{count-is}
+use Rattle.column_fill.proofs.Counts.{count-is}
 use Rattle.stage_filter.proofs.workers.found_rows.Goals as goal
 
 pub kept_rows-requires-clause-inside : goal.kept_rows-requires-clause-inside

@@ -6,7 +6,7 @@ use Rattle.arr_import.specs.Window.{child_window, whole}
 use Rattle.stage_filter.specs.Kept.{kept_numbers}
 use Rattle.stage_filter.specs.Workers.{row_numbers}
 use Rattle.stage_filter.proofs.Found.{all-found, column-of-whole, rows-are-items}
-use Rattle.stage_filter.proofs.Passing.{count-is}
+use Rattle.column_fill.proofs.Counts.{count-is}
 use Rattle.stage_filter.proofs.workers.kept_by_workers.Goals as goal
 
 pub returns-clause-numbers : goal.returns-clause-numbers

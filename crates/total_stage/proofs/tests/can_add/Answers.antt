@@ -10,7 +10,7 @@ use Rattle.layout_check.specs.Values.{row_items, rows_of, tree_items}
 use Rattle.layout_check.specs.Walk.{ChunkOk}
 use Rattle.arr_import.specs.Cols.{window_of}
 use Rattle.arr_import.specs.Window.{Window, child_window, item_at}
-use Rattle.stage_filter.proofs.Passing.{count-is}
+use Rattle.column_fill.proofs.Counts.{count-is}
 use Rattle.total_stage.specs.Totals.{IsSmallItem}
 use Rattle.total_stage.proofs.Joining.{fields-of}
 use Rattle.total_stage.proofs.Parts.{row-there}

@@ -17,7 +17,7 @@ use Rattle.stage_model.specs.Typing.{column_at}
 use Rattle.stream_face.specs.Lawful.{LawfulColumns}
 use Rattle.stream_face.specs.Meaning.{meaning}
 use Rattle.stream_face.proofs.Joints.{live_unless}
-use Rattle.stage_filter.proofs.Filtered.{fresh}
+use Rattle.stage_kernels.proofs.Runs.{fresh_at}
 use Rattle.dict_stage.specs.Indices.{recoded_tree}
 use Rattle.dict_stage.specs.Recoded.{CanRecodeChunk}
 use Rattle.dict_stage.proofs.Streams.{can, columns-after, kind-is, made-chunk, many, ready, recode-answers, recode-counts, recode-gives, told-dict}
@@ -44,7 +44,7 @@ recoded_chunk-requires-clause-chunk g c =
     let lawful = c.typed.ensures.lawful (subst IsTrue (sym call.keeps.lawful) c.requires.lawful) in
     let types : typed_of c.typed.result.now ≡ type_of_columns up.columns = c.typed.ensures.kinds ∙ lawful ∙ ap type_of_columns call.keeps.columns in
     let told = told-dict w.column w.out up.columns c.requires.fits in
-    let answers = call.answers (fresh up n c.next-code.result _ _ _ _ c.requires.lawful call.repeats call.tells none) in
+    let answers = call.answers (fresh_at up n c.next-code.result _ _ _ _ c.requires.lawful call.repeats call.tells none) in
     let is = ready true w.column w.out up n c.next-code.result out live answers told (c.lawful_facts.ensures.columns c.requires.lawful)
     (c.lawful_facts.ensures.tables c.requires.lawful) in
     let kind : kind_of c.kind_at-kind.result.now ≡ (column_at (map column_of w.out) w.column).kind =

@@ -10,9 +10,10 @@ use Rattle.raw_array.specs.Members.{ArrayTree, Cost, Like}
 use Rattle.stage_model.specs.Traffic.{Moved, table_blocks, table_nodes}
 use Rattle.stream_face.specs.Meaning.{meaning, raw_kinds}
 use Rattle.stream_face.proofs.Joints.{live_unless}
+use Rattle.stage_kernels.proofs.Runs.{fresh_at}
 use Rattle.stage_filter.specs.Filters.{CanFilter, passing_rows}
 use Rattle.stage_filter.specs.Plain.{most_of_columns}
-use Rattle.stage_filter.proofs.Filtered.{filter-answers, filter-counts, filtered_chunk, fresh, ready, ready-like, same, same-chunk}
+use Rattle.stage_filter.proofs.Filtered.{filter-answers, filter-counts, filtered_chunk, ready, ready-like, same, same-chunk}
 use Rattle.stage_filter.proofs.LikeChunks.{LikeLaws}
 use Rattle.stage_filter.proofs.filter.FilterWorkWork.next.Goals as goal
 
@@ -38,7 +39,7 @@ filtered-requires-clause-chunk g c = λ _ _.
     let types : raw_kinds c.next-code.new.self ≡ type_of_columns up.columns = lawful ∙ ap type_of_columns call.keeps.columns in
     let shallow : Depth (type_of_columns up.columns) ≤ 64 = let e = ap Depth types in omega (arith, e, c.typed.ensures.types.0) in
     let is = ready w.column w.out up n c.next-code.result c.next-code.new.out live
-    (call.answers (fresh up n c.next-code.result _ _ _ _ c.requires.lawful call.repeats call.tells none)) c.requires.fits
+    (call.answers (fresh_at up n c.next-code.result _ _ _ _ c.requires.lawful call.repeats call.tells none)) c.requires.fits
     (c.lawful_facts.ensures.columns c.requires.lawful) (c.lawful_facts.ensures.tables c.requires.lawful) shallow in
     subst (CanFilter w.column (map column_of c.as_slice-columns.result.now)) (sym c.move_out.ensures.moved)
     (subst (λ (cs : List ColumnType). CanFilter w.column (map column_of cs) c.next-code.new.out) (sym c.as_slice-columns.ensures) is.can)
@@ -55,7 +56,7 @@ filtered-requires-clause-units g c = λ _ _.
     let types : raw_kinds c.next-code.new.self ≡ type_of_columns up.columns = lawful ∙ ap type_of_columns call.keeps.columns in
     let shallow : Depth (type_of_columns up.columns) ≤ 64 = let e = ap Depth types in omega (arith, e, c.typed.ensures.types.0) in
     let is = ready w.column w.out up n c.next-code.result c.next-code.new.out live
-    (call.answers (fresh up n c.next-code.result _ _ _ _ c.requires.lawful call.repeats call.tells none)) c.requires.fits
+    (call.answers (fresh_at up n c.next-code.result _ _ _ _ c.requires.lawful call.repeats call.tells none)) c.requires.fits
     (c.lawful_facts.ensures.columns c.requires.lawful) (c.lawful_facts.ensures.tables c.requires.lawful) shallow in
     let most = ap (λ (cs : List ColumnType). most_of_columns (map column_of cs)) c.as_slice-columns.ensures in
     omega (arith, most, is.most, is.small, call.units, c.requires.room)
@@ -72,7 +73,7 @@ filtered-requires-clause-shares g c = λ _ _.
     let types : raw_kinds c.next-code.new.self ≡ type_of_columns up.columns = lawful ∙ ap type_of_columns call.keeps.columns in
     let shallow : Depth (type_of_columns up.columns) ≤ 64 = let e = ap Depth types in omega (arith, e, c.typed.ensures.types.0) in
     let is = ready w.column w.out up n c.next-code.result c.next-code.new.out live
-    (call.answers (fresh up n c.next-code.result _ _ _ _ c.requires.lawful call.repeats call.tells none)) c.requires.fits
+    (call.answers (fresh_at up n c.next-code.result _ _ _ _ c.requires.lawful call.repeats call.tells none)) c.requires.fits
     (c.lawful_facts.ensures.columns c.requires.lawful) (c.lawful_facts.ensures.tables c.requires.lawful) shallow in
     let cost = Cost c.next-code.new.out in
     let all : w.workers * cost ≤ 64 * cost = mul-le-mul_right cost w.few_workers in

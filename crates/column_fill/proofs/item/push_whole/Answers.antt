@@ -7,8 +7,8 @@ use Rattle.arr_import.specs.Window.{item_at}
 use Rattle.col_build.specs.Holding.{Adds}
 use Rattle.fmt_string.specs.Value.{Value, Whole}
 use Rattle.layout_check.specs.Layout.{natural}
-use Rattle.stage_filter.proofs.ItemsMoved.{no-whole}
-use Rattle.stage_filter.proofs.item.push_whole.Goals as goal
+use Rattle.column_fill.proofs.ItemsMoved.{no-whole}
+use Rattle.column_fill.proofs.item.push_whole.Goals as goal
 
 pub returns-in-Some : goal.returns-in-Some
 returns-in-Some c =

@@ -6,7 +6,7 @@ ghost use Rattle.col_build.specs.Holding.{Adds, Keeps};
 ghost use Rattle.col_build.specs.Items.{value_of};
 ghost use Rattle.arr_import.specs.Cols.{window_of};
 ghost use Rattle.arr_import.specs.Window.{item_at};
-ghost use Rattle.stage_filter.specs.Moving.{IsStored, Takes};
+ghost use Rattle.column_fill.specs.Takes.{IsStored, Takes};
 
 use arr_import::Col;
 use col_build::{Builder, Item, PushFault};
@@ -122,7 +122,7 @@ fn push_rare(
 
 /// Adds an item of a column, of the common ways to store it where it stands.
 #[inline(always)]
-pub(crate) fn push_item(
+pub fn push_item(
     builder: &mut Builder,
     storage: Storage,
     items: &Col<'_>,

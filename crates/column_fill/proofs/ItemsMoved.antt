@@ -18,8 +18,8 @@ use Rattle.layout_check.specs.Kinds.{KindTree}
 use Rattle.layout_check.specs.Values.{value_at}
 use Rattle.arr_import.specs.Window.{Window, item_at, whole}
 use Rattle.stream_face.specs.Lawful.{AreValues}
-use Rattle.stage_filter.specs.Moving.{IsStored, Takes}
-use Rattle.stage_filter.proofs.ValuesTaken.{before-small, value-stored, value-taken}
+use Rattle.column_fill.specs.Takes.{IsStored, Takes}
+use Rattle.column_fill.proofs.ValuesTaken.{before-small, value-stored, value-taken}
 
 -- an item of all items of an array of the kind
 pub item-of : (kind : Kind) (typed : KindTree) (array : ArrayTree) (w : Window) (j : ℕ) → w ≡ whole typed array → typed ≡ type_of_kind kind

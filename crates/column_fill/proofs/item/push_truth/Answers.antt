@@ -6,8 +6,8 @@ use Rattle.arr_import.specs.Window.{item_at}
 use Rattle.col_build.specs.Holding.{Adds}
 use Rattle.fmt_string.specs.Value.{Value, Truth}
 use Rattle.layout_check.specs.Layout.{natural}
-use Rattle.stage_filter.proofs.ItemsMoved.{no-truth}
-use Rattle.stage_filter.proofs.item.push_truth.Goals as goal
+use Rattle.column_fill.proofs.ItemsMoved.{no-truth}
+use Rattle.column_fill.proofs.item.push_truth.Goals as goal
 
 pub returns-in-None : goal.returns-in-None
 returns-in-None c =

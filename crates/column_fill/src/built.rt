@@ -33,7 +33,7 @@ fn end_dictionary(dictionary: Option<RawArray>, pass: &mut Pass)
 
 /// Lets the buffers of a finished column go, and releases its dictionary, where there is one: what is owed for a column that
 /// `arr_export::export_column` gave back.
-pub fn give_up(built: Built, dictionary: Option<RawArray>, pass: &mut Pass)
+fn give_up(built: Built, dictionary: Option<RawArray>, pass: &mut Pass)
     requires { pass.old.units + cost_of_maybe (maybe_tree dictionary) + count_by is_some built.buffers.items ≤ SUPPLY }
     ensures units { pass.new.units ≡ pass.old.units + cost_of_maybe (maybe_tree dictionary) + count_by is_some built.buffers.items }
     ensures blocks { pass.new.blocks ≡ pass.old.blocks }

@@ -1,6 +1,6 @@
 use Rattle.std.proofs.Common.{arith}
 use Rattle.std.proofs.lemmas.Grind.{common_steps}
-use Rattle.stage_filter.proofs.item.item_of.Goals as goal
+use Rattle.column_fill.proofs.item.item_of.Goals as goal
 
 pub overflow_cast-i : goal.overflow_cast-i
 overflow_cast-i c = grind (arith, common_steps)

@@ -1,6 +1,6 @@
 use Rattle.std.proofs.Common.{arith}
 use Rattle.std.proofs.lemmas.Grind.{common_steps}
-use Rattle.stage_filter.proofs.item.push_rare.Goals as goal
+use Rattle.column_fill.proofs.item.push_rare.Goals as goal
 
 pub item_of-requires-clause-inside : goal.item_of-requires-clause-inside
 item_of-requires-clause-inside c = grind (arith, common_steps)

@@ -19,7 +19,7 @@ use Rattle.fmt_string.specs.declared.storage.Storage.TheVariants as stored
 use Rattle.col_build.specs.Encoding.{Fits, are_bounded, are_within, fault_if, is_by_offsets, is_wide, is_within, push_fault}
 use Rattle.col_build.specs.declared.item.PushFault.TheVariants.{WrongKind, OutOfRange, NotText}
 use Rattle.stream_face.specs.Lawful.{AreValues}
-use Rattle.stage_filter.specs.Moving.{IsStored}
+use Rattle.column_fill.specs.Takes.{IsStored}
 
 -- ---- numbers and lengths in their ranges
 -- a decimal is stored in 128 bits

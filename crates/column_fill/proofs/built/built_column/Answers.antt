@@ -4,8 +4,8 @@ use Rattle.tree_model.specs.Tree.{maybe_tree}
 use Rattle.raw_array.specs.Members.{cost_of_maybe, holds_of}
 use Rattle.raw_array.specs.View.{buffers_of}
 use Rattle.raw_array.proofs.Buffers.{holds_of-count}
-use Rattle.stage_filter.proofs.ColumnCosts.{few-blocks, finished-holds}
-use Rattle.stage_filter.proofs.built.built_column.Goals as goal
+use Rattle.column_fill.proofs.ColumnCosts.{few-blocks, finished-holds}
+use Rattle.column_fill.proofs.built.built_column.Goals as goal
 
 pub export_column-requires-clause-units : goal.export_column-requires-clause-units
 export_column-requires-clause-units c =

@@ -1,6 +1,6 @@
 use Rattle.std.proofs.Common.{arith}
 use Rattle.std.proofs.lemmas.Grind.{common_steps}
-use Rattle.stage_filter.proofs.item.push_item.Goals as goal
+use Rattle.column_fill.proofs.item.push_item.Goals as goal
 
 pub push_bytes-requires-clause-inside : goal.push_bytes-requires-clause-inside
 push_bytes-requires-clause-inside c = grind (arith, common_steps)

@@ -1,0 +1,53 @@
+-- What a finished column costs: a node, and a hold for each buffer of its encoding.
+use Rattle.std.proofs.Common.{◌≡◌, ◌∙◌, ◌≤◌, ◌+◌, ℕ, Bool, List, [], ◌∷◌, length, Option, None, Some, refl, ap, arith}
+use Rattle.buf_block.specs.declared.hold.BufView.{BufView}
+use Rattle.fmt_string.specs.FieldText.{Form, Truths, Wholes, FloatBits, Text, HexBytes, SizedHex, Decimals, form_of}
+use Rattle.fmt_string.specs.Value.{Value}
+use Rattle.fmt_string.specs.declared.kind.DataType.{DataType}
+use Rattle.tree_model.specs.Tree.{maybe_tree}
+use Rattle.raw_array.specs.Members.{ArrayTree, Cost, cost_of_maybe, holds_of}
+use Rattle.raw_array.specs.View.{buffers_of}
+use Rattle.col_build.specs.Encoding.{buffers_by, buffers_if, encoded, is_wide}
+use Rattle.col_build.specs.Finished.{AreMade, blocks_of, present_count}
+use Rattle.arr_export.specs.ArrayTrees.{column_tree, made_buffers}
+
+made-holds : (buffers : List (Option (List ℕ))) → holds_of (made_buffers buffers) ≡ present_count buffers
+made-holds [] = refl
+made-holds (None ∷ buffers) = made-holds buffers
+made-holds (Some bytes ∷ buffers) = ap (λ n. 1 + n) (made-holds buffers)
+
+-- the holds of a finished column
+pub finished-holds : (views : List (Option BufView)) (buffers : List (Option (List ℕ))) → AreMade views buffers
+    → holds_of (buffers_of views) ≡ present_count buffers
+finished-holds [] [] made = refl
+finished-holds (None ∷ views) (None ∷ buffers) made = finished-holds views buffers made.1
+finished-holds (Some view ∷ views) (Some bytes ∷ buffers) made = ap (λ n. 1 + n) (finished-holds views buffers made.1)
+finished-holds (None ∷ views) (Some bytes ∷ buffers) made = absurd made.0
+finished-holds (Some view ∷ views) (None ∷ buffers) made = absurd made.0
+finished-holds [] (bytes ∷ buffers) made = absurd made
+finished-holds (view ∷ views) [] made = absurd made
+
+pub column-cost : (kind : DataType) (values : List Value) (dictionary : Option ArrayTree)
+    → Cost (column_tree kind values dictionary) ≡ 1 + blocks_of kind values + cost_of_maybe (maybe_tree dictionary)
+column-cost kind values dictionary = omega (arith, made-holds (encoded kind values).buffers)
+
+few-present : (buffers : List (Option (List ℕ))) → present_count buffers ≤ length buffers
+few-present [] = omega arith
+few-present (None ∷ buffers) = omega (arith, few-present buffers)
+few-present (Some bytes ∷ buffers) = omega (arith, few-present buffers)
+
+three-by : (wide : Bool) (form : Form) (values : List Value) → length (buffers_by wide form values) ≤ 3
+three-by wide Truths values = omega arith
+three-by wide (Wholes bits signed) values = omega arith
+three-by wide (FloatBits bits) values = omega arith
+three-by wide Text values = omega arith
+three-by wide HexBytes values = omega arith
+three-by wide (SizedHex size) values = omega arith
+three-by wide (Decimals precision places) values = omega arith
+
+three : (wide : Bool) (form : Option Form) (values : List Value) → length (buffers_if wide form values) ≤ 3
+three wide None values = omega arith
+three wide (Some form) values = three-by wide form values
+
+pub few-blocks : (kind : DataType) (values : List Value) → blocks_of kind values ≤ 3
+few-blocks kind values = omega (arith, few-present (encoded kind values).buffers, three (is_wide kind) (form_of kind) values)

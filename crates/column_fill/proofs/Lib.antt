@@ -1,0 +1,5 @@
+pub mod ValuesTaken
+pub mod ItemsMoved
+pub mod ColumnBlocks
+pub mod ColumnCosts
+pub mod Counts
