@@ -11,9 +11,9 @@ use Rattle.csv_source.specs.Sources.{stream_of}
 use Rattle.fmt_string.specs.Parts.{joined_rows}
 use Rattle.fmt_string.specs.Table.{Column, Row}
 use Rattle.fmt_string.specs.declared.row_fault.RowFault.{RowFault}
-use Rattle.stage_chain.specs.Faults.{IfRow}
-use Rattle.stage_chain.specs.declared.fault.DriveFault.{DriveFault}
-use Rattle.stage_chain.specs.declared.fault.DriveFault.TheVariants as chain
+use Rattle.stream_text.specs.Faults.{IfRow}
+use Rattle.stream_text.specs.declared.fault.DriveFault.{DriveFault}
+use Rattle.stream_text.specs.declared.fault.DriveFault.TheVariants as chain
 use Rattle.stage_model.specs.Links.{BatchesGiveTheWhole, Whole}
 use Rattle.stage_model.specs.Stages.{table}
 use Rattle.stage_model.specs.Typing.{Stage, plan_of}

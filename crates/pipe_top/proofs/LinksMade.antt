@@ -8,7 +8,7 @@ use Rattle.csv_read.specs.Entries.{entries_of}
 use Rattle.csv_source.specs.Sources.{chunks_traffic, stream_of}
 use Rattle.fmt_string.specs.Table.{Column}
 use Rattle.stage_chain.specs.Chains.{chain_links, chain_traffic, chunks_of}
-use Rattle.stage_chain.specs.Runs.{Counted}
+use Rattle.stream_text.specs.Runs.{Counted}
 use Rattle.stage_model.specs.Links.{Link, Links, links_behind}
 use Rattle.stage_model.specs.Traffic.{link_blocks, link_nodes, run_blocks, run_nodes}
 use Rattle.stage_model.specs.Typing.{Stage, plan_of}

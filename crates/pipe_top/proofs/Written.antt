@@ -3,7 +3,7 @@ use Rattle.std.proofs.Common.{◌≡◌, ◌≤◌, ℕ, false, List, Option, So
 use Rattle.std.proofs.lemmas.Bool.Decides.{nat_tests}
 use Rattle.std.specs.Io.KnownBytes.{Appends}
 use Rattle.stage_chain.specs.Chains.{link_shows}
-use Rattle.stage_chain.specs.Runs.{ShowsSome}
+use Rattle.stream_text.specs.Runs.{ShowsSome}
 use Rattle.stream_face.specs.Shown.{Seen}
 use Rattle.csv_model.specs.Reading.{records_of}
 use Rattle.pipe_top.specs.Answer.{Answer, AnswersBytes, AnswersTask, AnswersWithin, IsAnswerTo, Request, Table, Task, Text, input_limit}

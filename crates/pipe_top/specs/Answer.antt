@@ -10,8 +10,8 @@ use Rattle.fmt_string.specs.declared.row_fault.RowFault.{RowFault}
 use Rattle.fmt_string.specs.declared.row_fault.RowFault.TheVariants as row
 use Rattle.csv_model.specs.declared.fault.HeaderFault.{HeaderFault}
 use Rattle.csv_model.specs.declared.fault.HeaderFault.TheVariants as header
-use Rattle.stage_chain.specs.declared.fault.DriveFault.{DriveFault}
-use Rattle.stage_chain.specs.declared.fault.DriveFault.TheVariants as chain
+use Rattle.stream_text.specs.declared.fault.DriveFault.{DriveFault}
+use Rattle.stream_text.specs.declared.fault.DriveFault.TheVariants as chain
 use Rattle.stage_model.specs.Links.{Whole}
 use Rattle.stage_model.specs.StageGrammar.{stage_of}
 use Rattle.stage_model.specs.Stages.{table}

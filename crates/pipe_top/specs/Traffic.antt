@@ -7,7 +7,7 @@ use Rattle.csv_model.specs.declared.fault.HeaderFault.{HeaderFault}
 use Rattle.csv_read.specs.Entries.{entries_of}
 use Rattle.fmt_string.specs.Table.{Column}
 use Rattle.stage_chain.specs.Chains.{link_shows}
-use Rattle.stage_chain.specs.Runs.{ShowsAll, ShowsSome}
+use Rattle.stream_text.specs.Runs.{ShowsAll, ShowsSome}
 use Rattle.stage_model.specs.Links.{Link, Links}
 use Rattle.stage_model.specs.Traffic.{run_blocks, run_nodes}
 use Rattle.stage_model.specs.Typing.{Stage, plan_of}

@@ -11,7 +11,7 @@ ghost use Rattle.fmt_string.specs.ColumnView.{column_of};
 ghost use Rattle.fmt_string.specs.Kinds.{KindOk};
 ghost use Rattle.stage_chain.specs.Chains.{link_shows};
 ghost use Rattle.stage_chain.specs.Plans.{links_of as plan_links};
-ghost use Rattle.stage_chain.specs.Runs.{ShowsAll, ShowsSome};
+ghost use Rattle.stream_text.specs.Runs.{ShowsAll, ShowsSome};
 ghost use Rattle.stage_model.specs.Typing.{plan_of};
 ghost use Rattle.stage_plan.specs.PlanWords.{IsPlan, columns_in};
 ghost use Rattle.unit_pass.specs.declared.pass.TheConstants.{ROOM, SUPPLY};

@@ -16,8 +16,8 @@ use Rattle.stream_face.specs.Raw.{raw_joints, raw_state}
 use Rattle.stream_face.specs.Shown.{Seen, Shown}
 use Rattle.stream_face.specs.Streams.{Stream, Traffic, telling}
 use Rattle.stage_chain.specs.Chains.{chain_links, chain_traffic, chunks_of, joints_with, over_stream}
-use Rattle.stage_chain.specs.Runs.{Counted, ShowsAll, ShowsSome}
-use Rattle.stage_chain.proofs.RunLemmas.{grown-nil, risen-add}
+use Rattle.stream_text.specs.Runs.{Counted, ShowsAll, ShowsSome}
+use Rattle.stream_text.proofs.RunLemmas.{grown-nil, risen-add}
 
 pub on-err : {A E P Q : Type 0} (r : Result A E) → (P → Q) → OnErr r P → OnErr r Q
 on-err (Ok a) f p = tt

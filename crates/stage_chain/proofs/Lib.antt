@@ -1,4 +1,3 @@
-pub mod RunLemmas
 pub mod Starting
 pub mod Planning
 pub mod Chaining

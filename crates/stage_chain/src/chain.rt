@@ -11,13 +11,11 @@ ghost use Rattle.stage_kernels.specs.Structs.{column_structs};
 ghost use Rattle.stage_model.specs.Links.{last_columns};
 ghost use Rattle.stream_face.specs.Streams.{Stream, kept};
 ghost use Rattle.stage_chain.specs.Chains.{chain_links, chain_traffic, joints_with, last_rows};
-ghost use Rattle.stage_chain.specs.Faults.{IfRow};
+ghost use Rattle.stream_text.specs.Faults.{IfRow};
 ghost use Rattle.stage_chain.specs.Plans.{AreStages, stages_left};
-ghost use Rattle.stage_chain.specs.Runs.{Counted, ShowsAll, ShowsSome};
+ghost use Rattle.stream_text.specs.Runs.{Counted, ShowsAll, ShowsSome};
 
 use crate::boxed::Boxed;
-use crate::fault::DriveFault;
-use crate::gather::write_rows;
 use crate::planned::PlannedStage;
 use crate::stage_start::start_stage;
 use csv_write::CsvText;
@@ -27,6 +25,7 @@ use std::marker::PhantomData;
 use std::thread::Threads;
 use std::vec::IntoIter;
 use stream_face::{ArrayStream, RawStream, Tap};
+use stream_text::{DriveFault, write_rows};
 use unit_pass::{CHUNK, NoMemory, Pass, ROOM, SUPPLY};
 
 /// A number as a type: how many stages may be left.

@@ -14,12 +14,10 @@
 
 mod boxed;
 mod chain;
-mod fault;
-mod gather;
 mod planned;
 mod stage_start;
 mod step_work;
 mod text;
 
-pub use fault::DriveFault;
+pub use stream_text::DriveFault;
 pub use text::drive;

@@ -14,13 +14,12 @@ ghost use Rattle.stage_plan.specs.PlanWords.{IsPlan};
 ghost use Rattle.unit_pass.specs.declared.pass.TheConstants.{ROOM, SUPPLY};
 ghost use Rattle.stream_face.specs.Streams.{kept};
 ghost use Rattle.stage_chain.specs.Chains.{chain_links, chain_traffic, link_shows};
-ghost use Rattle.stage_chain.specs.Faults.{IfRow};
+ghost use Rattle.stream_text.specs.Faults.{IfRow};
 ghost use Rattle.stage_chain.specs.Plans.{links_of, plan_stages, stages_in};
-ghost use Rattle.stage_chain.specs.Runs.{Counted, ShowsAll, ShowsSome};
+ghost use Rattle.stream_text.specs.Runs.{Counted, ShowsAll, ShowsSome};
 
 use crate::boxed::Boxed;
 use crate::chain::{Chain, Sixteen, refuse};
-use crate::fault::DriveFault;
 use crate::planned::{PlannedStage, planned};
 use csv_write::CsvText;
 use edge_io::Gate;
@@ -28,6 +27,7 @@ use stage_plan::Plan;
 use std::alloc::Global;
 use std::thread::Threads;
 use stream_face::{ArrayStream, Tap};
+use stream_text::DriveFault;
 use unit_pass::{NoMemory, Pass, ROOM, SUPPLY};
 
 /// The text with its header, and the stages of a plan.

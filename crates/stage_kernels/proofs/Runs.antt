@@ -10,14 +10,6 @@ use Rattle.stream_face.specs.Streams.{IsFresh, Keeps, Stream, Traffic}
 use Rattle.stream_face.specs.Texts.{Refusal}
 use Rattle.stream_face.proofs.Joints.{grown-append, of_link-append, tells_nothing, tells_refusal, works_before}
 
--- a stream that answers 0 is fresh
-pub fresh_at : (m n : Stream) (code : ℤ) (a b : Tally) (seen shown : Option (List Seen)) → IsTrue m.lawful → Repeats m n code a b seen shown
-    → Tells code n.said → code ≡ pos 0 → IsFresh m
-fresh_at m n code a b seen shown lawful repeats tells zero = record {
-  lawful = lawful;
-  no_failure = works_before m.failure code (λ refusal e. tells_refusal code n.said refusal tells (repeats.same refusal e).1) zero;
-}
-
 -- ---- runs and calls
 -- what was shown and counted from one moment of a lawful stream to a later one
 pub record Went (old new : Stream) (seen later : Option (List Seen)) (before after : Tally) : Type 0 where

@@ -1,20 +1,21 @@
 -- What the links below a checked stream show.
 use Rattle.std.proofs.Common.{◌≡◌, ◌≢◌, ◌==◌, ◌++◌, ℕ, ℤ, pos, true, false, List, [], ◌∷◌, Option, Some, None, IsSomeAnd, refl, sym, ◌∙◌, ap, subst, if◌then◌else◌, inl}
-use Rattle.std.proofs.Common.{inr}
+use Rattle.std.proofs.Common.{inr, IsTrue}
 use Rattle.std.proofs.lemmas.Bool.Decides.{eqb_tells}
 use Rattle.std.proofs.lemmas.List.{append-nil, append_assoc}
 use Rattle.fmt_string.specs.Table.{Column, Row}
 use Rattle.tree_model.specs.Tree.{Tree, Released, Live, IsLive}
+use Rattle.unit_pass.specs.Tally.{Tally}
 use Rattle.raw_array.specs.Members.{ArrayTree}
 use Rattle.raw_schema.specs.Members.{SchemaTree}
 use Rattle.layout_check.specs.Kinds.{KindTree}
 use Rattle.layout_check.specs.ColumnKinds.{type_of_columns}
 use Rattle.layout_check.specs.ColumnSchema.{SchemaOf}
 use Rattle.layout_check.specs.Schemas.{TypedOf}
-use Rattle.stream_face.specs.Calls.{Answers, Begins, Shows, Tells}
+use Rattle.stream_face.specs.Calls.{Answers, Begins, Repeats, Shows, Tells}
 use Rattle.stream_face.specs.Raw.{raw_joints, raw_state, refusal_or}
 use Rattle.stream_face.specs.Shown.{Seen, Shown, grown, of_link, seen_of, shown_table, shown_tables}
-use Rattle.stream_face.specs.Streams.{Stream, is_nil}
+use Rattle.stream_face.specs.Streams.{IsFresh, Stream, is_nil}
 use Rattle.stream_face.specs.Texts.{Refusal}
 use Rattle.stream_face.specs.declared.fault.Failure.{Failure}
 use Rattle.stream_face.specs.declared.fault.StreamFault.{StreamFault}
@@ -172,3 +173,11 @@ raw_wants s n link nodes (Some fault) code r out is silent of same_code released
       wants = λ _. rw (is, silent) refl;
       codes = inr (inl twelve);
     }
+
+-- a stream that answers 0 is fresh
+pub fresh_at : (m n : Stream) (code : ℤ) (a b : Tally) (seen shown : Option (List Seen)) → IsTrue m.lawful → Repeats m n code a b seen shown
+    → Tells code n.said → code ≡ pos 0 → IsFresh m
+fresh_at m n code a b seen shown lawful repeats tells zero = record {
+  lawful = lawful;
+  no_failure = works_before m.failure code (λ refusal e. tells_refusal code n.said refusal tells (repeats.same refusal e).1) zero;
+}

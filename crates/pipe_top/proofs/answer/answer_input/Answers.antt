@@ -11,9 +11,9 @@ use Rattle.fmt_string.specs.ColumnView.{column_of}
 use Rattle.fmt_string.specs.Parts.{joined_rows}
 use Rattle.fmt_string.specs.Table.{Column}
 use Rattle.stage_chain.specs.Chains.{chain_links, link_shows}
-use Rattle.stage_chain.specs.Faults.{IfRow}
+use Rattle.stream_text.specs.Faults.{IfRow}
 use Rattle.stage_chain.specs.Plans.{plan_stages}
-use Rattle.stage_chain.specs.Runs.{ShowsAll, ShowsSome}
+use Rattle.stream_text.specs.Runs.{ShowsAll, ShowsSome}
 use Rattle.stage_chain.proofs.Planning.{plan-stages-are}
 use Rattle.stage_kernels.specs.Structs.{column_structs}
 use Rattle.stage_model.specs.Links.{Whole}

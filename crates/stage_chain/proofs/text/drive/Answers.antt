@@ -13,7 +13,7 @@ use Rattle.stage_model.specs.Typing.{Stage}
 use Rattle.stream_face.specs.Streams.{Stream}
 use Rattle.stage_chain.specs.Boxes.{boxed_state}
 use Rattle.stage_chain.specs.Chains.{chain_links, link_shows}
-use Rattle.stage_chain.specs.Runs.{ShowsAll, ShowsSome}
+use Rattle.stream_text.specs.Runs.{ShowsAll, ShowsSome}
 use Rattle.stage_chain.specs.Plans.{AreStages, links_of, plan_stages, stages_in, stages_left}
 use Rattle.stage_chain.proofs.Chaining.{on-err, on-ok}
 use Rattle.stage_chain.proofs.Driving.{shows-all, shows-some, text-is}

@@ -16,8 +16,7 @@ use Rattle.stage_model.specs.Traffic.{Made, kind_blocks, kind_nodes}
 use Rattle.stage_model.specs.Typing.{column_at}
 use Rattle.stream_face.specs.Lawful.{LawfulColumns}
 use Rattle.stream_face.specs.Meaning.{meaning}
-use Rattle.stream_face.proofs.Joints.{live_unless}
-use Rattle.stage_kernels.proofs.Runs.{fresh_at}
+use Rattle.stream_face.proofs.Joints.{fresh_at, live_unless}
 use Rattle.dict_stage.specs.Indices.{recoded_tree}
 use Rattle.dict_stage.specs.Recoded.{CanRecodeChunk}
 use Rattle.dict_stage.proofs.Streams.{can, columns-after, kind-is, made-chunk, many, ready, recode-answers, recode-counts, recode-gives, told-plain}

@@ -9,7 +9,7 @@ use Rattle.stages.specs.Stages.{stage_state}
 use Rattle.stage_chain.specs.Boxes.{boxed_state}
 use Rattle.stage_chain.specs.Chains.{chain_links, chain_traffic, joints_with, over_stream}
 use Rattle.stage_chain.specs.Plans.{AreStages, stage_in, stages_left}
-use Rattle.stage_chain.specs.Runs.{Counted, ShowsAll, ShowsSome}
+use Rattle.stream_text.specs.Runs.{Counted, ShowsAll, ShowsSome}
 use Rattle.stage_chain.specs.StepWorks.{work_ahead, work_columns, work_due}
 use Rattle.stage_chain.proofs.Planning.{no_stages}
 use Rattle.stage_chain.proofs.Chaining.{IsStarted, counted-last, counted-step, joints-above, joints-last, joints-step, on-err, on-ok, shows-nothing, whatever}

@@ -9,8 +9,7 @@ use Rattle.unit_pass.specs.Tally.{risen}
 use Rattle.raw_array.specs.Members.{ArrayTree, Cost, Like}
 use Rattle.stage_model.specs.Traffic.{Moved, table_blocks, table_nodes}
 use Rattle.stream_face.specs.Meaning.{meaning, raw_kinds}
-use Rattle.stream_face.proofs.Joints.{live_unless}
-use Rattle.stage_kernels.proofs.Runs.{fresh_at}
+use Rattle.stream_face.proofs.Joints.{fresh_at, live_unless}
 use Rattle.stage_filter.specs.Filters.{CanFilter, passing_rows}
 use Rattle.stage_filter.specs.Plain.{most_of_columns}
 use Rattle.stage_filter.proofs.Filtered.{filter-answers, filter-counts, filtered_chunk, ready, ready-like, same, same-chunk}

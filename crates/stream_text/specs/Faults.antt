@@ -1,7 +1,7 @@
--- Why a chain has no text.
+-- Why a stream has no text.
 use Rattle.fmt_string.specs.declared.row_fault.RowFault.{RowFault}
-use Rattle.stage_chain.specs.declared.fault.DriveFault.{DriveFault}
-use Rattle.stage_chain.specs.declared.fault.DriveFault.TheVariants.{Row, NoMemory}
+use Rattle.stream_text.specs.declared.fault.DriveFault.{DriveFault}
+use Rattle.stream_text.specs.declared.fault.DriveFault.TheVariants.{Row, NoMemory}
 
 -- a fact of the record at fault
 abbrev pub IfRow : DriveFault → (RowFault → Type 0) → Type 0

@@ -1,7 +1,7 @@
 use Rattle.layout_check.specs.TypedView.{typed_of}
 use Rattle.arr_import.specs.Cols.{window_of}
-use Rattle.stage_chain.proofs.RunLemmas.{add-text}
-use Rattle.stage_chain.proofs.gather.add_chunk.Goals as goal
+use Rattle.stream_text.proofs.RunLemmas.{add-text}
+use Rattle.stream_text.proofs.gather.add_chunk.Goals as goal
 
 pub returns : goal.returns
 returns c =

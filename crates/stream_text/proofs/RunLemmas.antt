@@ -23,7 +23,7 @@ use Rattle.stream_face.specs.Shown.{Seen, grown, of_link}
 use Rattle.stream_face.specs.Streams.{IsFresh, Keeps, Stream, Traffic}
 use Rattle.stream_face.specs.Texts.{Refusal}
 use Rattle.stream_face.proofs.Joints.{grown-append, of_link-append}
-use Rattle.stage_chain.specs.Runs.{Counted, Ran, ShowsAll, ShowsSome}
+use Rattle.stream_text.specs.Runs.{Counted, Ran, ShowsAll, ShowsSome}
 
 pub grown-nil : (seen : Option (List Seen)) → seen ≡ grown seen []
 grown-nil None = refl

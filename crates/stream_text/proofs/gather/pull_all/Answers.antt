@@ -9,11 +9,10 @@ use Rattle.csv_model.specs.Text.{rows_text}
 use Rattle.csv_write.specs.CsvTexts.{HasText}
 use Rattle.stream_face.specs.Meaning.{meaning}
 use Rattle.stream_face.specs.Streams.{IsFresh}
-use Rattle.stream_face.proofs.Joints.{live_unless}
-use Rattle.stage_kernels.proofs.Runs.{fresh_at}
-use Rattle.stage_chain.specs.Runs.{Ran}
-use Rattle.stage_chain.proofs.RunLemmas.{Ran-start, Ran-next, Ran-refused, Ran-ends, Ran-counted, Wrote-next, Wrote-ends}
-use Rattle.stage_chain.proofs.gather.pull_all.Goals as goal
+use Rattle.stream_face.proofs.Joints.{fresh_at, live_unless}
+use Rattle.stream_text.specs.Runs.{Ran}
+use Rattle.stream_text.proofs.RunLemmas.{Ran-start, Ran-next, Ran-refused, Ran-ends, Ran-counted, Wrote-next, Wrote-ends}
+use Rattle.stream_text.proofs.gather.pull_all.Goals as goal
 
 pub chunks-init : goal.chunks-init
 chunks-init g c = record {

@@ -15,8 +15,8 @@ ghost use Rattle.layout_check.specs.ColumnKinds.{type_of_columns};
 ghost use Rattle.unit_pass.specs.declared.pass.TheConstants.{ROOM, SUPPLY};
 ghost use Rattle.stream_face.specs.Meaning.{meaning};
 ghost use Rattle.stream_face.specs.Streams.{Keeps, Stream, kept};
-ghost use Rattle.stage_chain.specs.Runs.{Counted, ShowsAll, ShowsSome};
-ghost use Rattle.stage_chain.specs.Faults.{IfRow};
+ghost use Rattle.stream_text.specs.Runs.{Counted, ShowsAll, ShowsSome};
+ghost use Rattle.stream_text.specs.Faults.{IfRow};
 
 use crate::fault::DriveFault;
 use arr_import::Col;
@@ -115,7 +115,7 @@ fn pull_all<U: ArrayStream, R: Threads + Sync, T: Tap>(
 }
 
 /// Adds the rows of all chunks that a lawful stream still gives to a text, and gives the text. The stream is spent.
-pub(crate) fn write_rows<U: ArrayStream, R: Threads + Sync, T: Tap>(
+pub fn write_rows<U: ArrayStream, R: Threads + Sync, T: Tap>(
     stream: RawStream<U>,
     rt: &R,
     alloc: Global,

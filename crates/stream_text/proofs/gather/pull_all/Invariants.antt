@@ -2,9 +2,9 @@ use Rattle.std.proofs.Common.{◌≡◌, ℕ, List, length}
 use Rattle.tree_model.specs.Tree.{Released}
 use Rattle.csv_write.specs.CsvTexts.{HasText}
 use Rattle.stream_face.specs.Meaning.{meaning}
-use Rattle.stage_chain.specs.Runs.{Ran}
-use Rattle.stage_chain.proofs.RunLemmas.{Wrote}
-use Rattle.stage_chain.proofs.gather.pull_all.Given as goal
+use Rattle.stream_text.specs.Runs.{Ran}
+use Rattle.stream_text.proofs.RunLemmas.{Wrote}
+use Rattle.stream_text.proofs.gather.pull_all.Given as goal
 
 -- how far the run has come, and what was added to the text
 abbrev pub invariant-chunks : goal.invariant-chunks

@@ -1,4 +1,4 @@
-//! Why a chain of stages has no text.
+//! Why a stream has no text.
 use fmt_string::RowFault;
 use std::fmt;
 use unit_pass::NoMemory;
@@ -6,15 +6,15 @@ use unit_pass::NoMemory;
 /// Why there is no text.
 #[derive(Clone, Copy, PartialEq, Eq, Debug)]
 pub enum DriveFault {
-    /// The record at which the source ends.
+    /// The record at which the stream ends.
     Row(RowFault),
-    /// Memory ran out, which says nothing of the source.
+    /// Memory ran out, which says nothing of the stream.
     NoMemory,
 }
 
 impl From<NoMemory> for DriveFault {
     ghost use Rattle.std.specs.Prelude.{◌≡◌};
-    ghost use Rattle.stage_chain.specs.declared.fault.DriveFault.TheVariants as faults;
+    ghost use Rattle.stream_text.specs.declared.fault.DriveFault.TheVariants as faults;
 
     ghost from_gives = { λ _ fault. fault ≡ faults.NoMemory };
 
