@@ -28,7 +28,7 @@ Reads (readings.Decimals places numbers) column = (precision : ℕ) × IsShown (
 Reads (readings.Truths truths) column = IsShown Truths (ShowsTruths truths) column
 Reads (readings.Doubles doubles) column = IsShown (FloatBits 64) (ShowsDoubles doubles) column
 Reads (readings.Bytes texts) column = IsShown HexBytes (ShowsTexts texts) column
-Reads (readings.SomeTexts read) column = (form_in column.form ≡ Text) × (read.now ≡ column)
+Reads (readings.SomeTexts read) column = (form_in column.form ≡ Text) × (read.now ≡ column.items)
 Reads (readings.Entries indexed) column = (form_in column.form ≡ Text) × (shown_by indexed.now ≡ window_of column.items)
 Reads (readings.Any read) column = read.now ≡ column
 

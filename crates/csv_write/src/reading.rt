@@ -30,7 +30,7 @@ pub(crate) enum Reading<'b, 'a> {
     /// Bytes, which are written by their digits.
     Bytes(Texts<'a>),
     /// Texts, some of them null.
-    SomeTexts(&'b ChunkColumn<'a>),
+    SomeTexts(&'b Col<'a>),
     /// Texts through a dictionary.
     Entries(&'b Indexed<'a>),
     /// Any other.
@@ -71,7 +71,7 @@ fn rare_reading<'b, 'a>(column: &'b ChunkColumn<'a>) -> Reading<'b, 'a>
     match &column.entries {
         Some(indexed) => Reading::Entries(indexed),
         None => match column.form {
-            FieldForm::Text => Reading::SomeTexts(column),
+            FieldForm::Text => Reading::SomeTexts(&column.items),
             _ => Reading::Any(column),
         },
     }
@@ -143,7 +143,7 @@ pub(crate) fn item_text<'a: 'b, 'b>(
         Reading::Truths(truths) => Ok(truth_text(truths.get(i))),
         Reading::Doubles(doubles) => bits_text(64, doubles.get(i), room),
         Reading::Bytes(texts) => bytes_text(texts.get(i), room),
-        Reading::SomeTexts(column) => Ok(some_text(&column.items, i, mark)),
+        Reading::SomeTexts(items) => Ok(some_text(items, i, mark)),
         Reading::Entries(indexed) => Ok(entry_text(indexed, i, mark)),
         Reading::Any(column) => rare_text(column, i, mark, room),
     }

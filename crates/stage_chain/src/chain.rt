@@ -122,6 +122,8 @@ impl<N: Chain> Chain for Succ<N> {
 
     const LEFT: usize = if N::LEFT < 64 { N::LEFT + 1 } else { N::LEFT };
 
+    // Stands alone, so that no level holds the code of those behind it.
+    #[inline(never)]
     fn go<S: ArrayStream, R: Threads + Sync, T: Tap>(
         rt: &R,
         alloc: Global,

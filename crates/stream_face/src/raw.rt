@@ -150,6 +150,8 @@ impl<S: ArrayStream> RawStream<S> {
 
     /// Asks the inner stream for its schema, once, and checks it. On a refusal the inner stream is handed back, and all units
     /// are back.
+    // Stands alone, since a chain of streams has one for each of its levels.
+    #[inline(never)]
     pub fn start(
         alloc: Global,
         inner: S,

@@ -115,6 +115,8 @@ fn pull_all<U: ArrayStream, R: Threads + Sync, T: Tap>(
 }
 
 /// Adds the rows of all chunks that a lawful stream still gives to a text, and gives the text. The stream is spent.
+// Stands alone, since a chain of streams has one for each of its levels.
+#[inline(never)]
 pub fn write_rows<U: ArrayStream, R: Threads + Sync, T: Tap>(
     stream: RawStream<U>,
     rt: &R,
