@@ -2,18 +2,21 @@
 use Rattle.std.proofs.Common.{◌≡◌, ℕ, suc, ◌+◌, ◌<◌, ◌≤◌, pos, List, [], ◌∷◌, ◌++◌, length, map, Option, None, Some, refl, ap, ◌∙◌, sym, get_or, drop, arith}
 use Rattle.std.proofs.lemmas.List.{drop_more, drop_all, length-map}
 use Rattle.tree_model.proofs.Lists.{tree_list-trees}
-use Rattle.layout_check.specs.declared.typed.Typed.{Typed, out-Typed}
+use Rattle.schema_check.specs.declared.typed.Typed.{Typed, out-Typed}
 use Rattle.layout_check.specs.declared.rule.LayoutRule.TheVariants as rules
-use Rattle.layout_check.specs.TypedView.{live_node, typed_of, kids_of, kind_of, dict_in}
+use Rattle.schema_check.specs.TypedView.{typed_of, kids_of, kind_of, dict_in}
+use Rattle.layout_check.specs.NodeView.{live_node}
 use Rattle.layout_check.specs.Layout.{layout_of, buffer_count}
 use Rattle.layout_check.specs.Rules.{form_rules, buffer_rules, item_rules, in_order, one_if, count_wrong, fault_if, is_negative}
-use Rattle.layout_check.proofs.Levels.{typed_out, levels-typed, kind-ok, kids-ok, dict-ok, get_or-typed, one_if-dict}
+use Rattle.schema_check.proofs.Levels.{typed_out, levels-typed, kind-ok, kids-ok, dict-ok, get_or-typed}
+use Rattle.std.specs.Global.{Box}
 use Rattle.std.specs.Option.{option_or}
 use Rattle.fmt_string.specs.declared.kind.DataType.{DataType}
 use Rattle.tree_model.specs.Tree.{Tree, Live, Released, trees, maybe_tree, IsLive, children_of, dictionary_of, tree_list, option_tree}
 use Rattle.raw_array.specs.Members.{ArrayTree, members_of}
-use Rattle.layout_check.specs.Kinds.{KindTree}
-use Rattle.layout_check.specs.Walk.{rules_fault, fault_by, Steps, Fault, visits, walks_of, walk_of, walk_children, walk_dictionary, walk_below, first_some}
+use Rattle.schema_check.specs.Kinds.{KindTree}
+use Rattle.schema_check.specs.Ways.{Steps}
+use Rattle.layout_check.specs.Walk.{rules_fault, fault_by, Fault, visits, walks_of, walk_of, walk_children, walk_dictionary, walk_below, first_some}
 use Rattle.layout_check.specs.Walk.{visit_fault, fault_from, own_fault, children_fault, dictionary_fault, fault_at}
 
 option_or-assoc : {X : Type 0} → (a b c : Option X) → option_or (option_or a b) c ≡ option_or a (option_or b c)
@@ -115,6 +118,10 @@ own_fault-typed t path array live =
     own_fault-node t path array live
     ∙ first_some-append (fault_by path (live_node t array)) form_rules (buffer_rules ++ item_rules)
     ∙ ap (option_or (rules_fault form_rules path (live_node t array))) (first_some-append (fault_by path (live_node t array)) buffer_rules item_rules)
+
+one_if-dict : (d : Option (Box Typed)) → one_if (dict_in d) ≡ one_if d
+one_if-dict None = refl
+one_if-dict (Some b) = refl
 
 pub form_fault : (t : Typed) (path : Steps) (array : ArrayTree)
     → rules_fault form_rules path (live_node t array)

@@ -1,4 +1,3 @@
-pub mod Levels
 pub mod Faults
 pub mod Firsts
 pub mod Casts
@@ -8,10 +7,6 @@ pub mod LongViews
 pub mod Long
 pub mod Lawful
 pub mod NullSums
-pub mod SchemaFails
-pub mod SchemaParts
-pub mod SchemaOne
-pub mod SchemaValid
 pub mod TextData
 pub mod ChildSteps
 pub mod Roots
@@ -19,7 +14,6 @@ pub mod Chunks
 pub mod Scanned
 pub mod ReadWithin
 pub mod TreeLaws
-pub mod MadeTypes
 pub mod Named
 pub mod Placed
 pub mod ViewsScanned

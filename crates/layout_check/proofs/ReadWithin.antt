@@ -11,21 +11,22 @@ use Rattle.bit_pack.specs.Packed.{offset_width}
 use Rattle.tree_model.specs.Tree.{Released, Live, IsLive, Trees, no_trees, more_trees, MaybeTree, absent, present, tree_list, option_tree, children_of}
 use Rattle.tree_model.specs.Tree.{dictionary_of, child_at}
 use Rattle.raw_array.specs.Members.{ArrayMembers, ArrayTree, members_of}
-use Rattle.layout_check.specs.declared.typed.Typed.{Typed}
+use Rattle.schema_check.specs.declared.typed.Typed.{Typed}
 use Rattle.layout_check.specs.declared.layout.Layout.{Layout}
 use Rattle.layout_check.specs.declared.layout.Layout.TheVariants.{NoBuffers, FixedWidth, TruthBits, ByOffsets, ListOffsets, FixedItems, ByChildren, Views}
 use Rattle.layout_check.specs.declared.rule.LayoutRule.{LayoutRule}
 use Rattle.layout_check.specs.declared.rule.Numbers.{Numbers}
-use Rattle.layout_check.specs.Kinds.{KindTree}
-use Rattle.layout_check.specs.TypedView.{typed_of, dict_in}
+use Rattle.schema_check.specs.Kinds.{KindTree}
+use Rattle.schema_check.specs.TypedView.{typed_of, dict_in}
 use Rattle.layout_check.specs.Layout.{layout_of, buffer_count, items, first, end, natural, bytes, offset, offsets_need, is_valid, stored_number, view_width}
 use Rattle.layout_check.specs.Rules.{Node, fails, fault_if, in_order, first_below, buffer_absent, buffer_short, offsets_fall_if, is_behind_offsets, is_outside}
 use Rattle.layout_check.specs.Rules.{items_need, short_child, child_short, live_length, length_if, index_wrong, indices_wrong, views_misplaced}
-use Rattle.layout_check.specs.Walk.{Steps, LayoutOk, first_fault, fault_from, own_fault, children_fault, dictionary_fault, rules_fault, first_some, fault_by}
-use Rattle.layout_check.specs.Walk.{fault_at, node_fault, node_of, visit_fault, visits, walks_of, walk_of, walk_children, walk_dictionary, dictionary_step}
+use Rattle.schema_check.specs.Ways.{Steps, dictionary_step}
+use Rattle.layout_check.specs.Walk.{LayoutOk, first_fault, fault_from, own_fault, children_fault, dictionary_fault, rules_fault, first_some, fault_by}
+use Rattle.layout_check.specs.Walk.{fault_at, node_fault, node_of, visit_fault, visits, walks_of, walk_of, walk_children, walk_dictionary}
 use Rattle.layout_check.specs.Values.{tree_items}
 use Rattle.layout_check.specs.Within.{StoredWithin, ItemsWithin, IndexWithin, ViewWithin}
-use Rattle.layout_check.proofs.Levels.{typed_out}
+use Rattle.schema_check.proofs.Levels.{typed_out}
 use Rattle.layout_check.proofs.Firsts.{first_below-none_at}
 use Rattle.layout_check.proofs.Long.{long-bytes, long-data, long-list, long-fixed, long-truth, long-views, long-named}
 use Rattle.layout_check.proofs.Faults.{first_some-append, fault_from-live}
@@ -34,8 +35,6 @@ use Rattle.layout_check.proofs.TextData.{offsets-from, offsets-rise, offsets-nex
 use Rattle.layout_check.proofs.Placed.{view-within}
 use Rattle.layout_check.proofs.Roots.{Level, tree_in, level_in, lawful-level_in, root-live, root-end, root-children, root-short, root-absent, root-falls}
 use Rattle.layout_check.proofs.Roots.{root-child_short, root-indices, views-placed, tree_items-items}
-
-pub ruleset one_level = (typed_out)
 
 -- ---- lawful, and no fault
 

@@ -6,19 +6,20 @@ use Rattle.tree_model.specs.Tree.{Released, Live, IsLive, Trees, trees, MaybeTre
 use Rattle.tree_model.specs.Tree.{dictionary_of}
 use Rattle.tree_model.proofs.Lists.{tree_list-trees, trees-tree_list}
 use Rattle.raw_array.specs.Members.{ArrayMembers, ArrayTree, members_of}
-use Rattle.layout_check.specs.declared.typed.Typed.{Typed, out-Typed}
+use Rattle.schema_check.specs.declared.typed.Typed.{Typed, out-Typed}
 use Rattle.layout_check.specs.declared.rule.LayoutRule.{LayoutRule}
 use Rattle.layout_check.specs.declared.rule.LayoutRule.TheVariants as rules
 use Rattle.layout_check.specs.declared.rule.Numbers.{Numbers}
-use Rattle.layout_check.specs.Kinds.{KindTree}
-use Rattle.layout_check.specs.TypedView.{typed_of, kids_of, kind_of, dict_in}
+use Rattle.schema_check.specs.Kinds.{KindTree}
+use Rattle.schema_check.specs.TypedView.{typed_of, kids_of, kind_of, dict_in}
 use Rattle.layout_check.specs.Layout.{layout_of, buffer_count, items, end, IsLongIfPresent}
 use Rattle.layout_check.specs.Rules.{Node, fails, fault_if, count_wrong, is_negative, in_order, one_if, window_limit, first_below, buffer_absent, buffer_short}
 use Rattle.layout_check.specs.Rules.{offsets_fall_if, is_behind_offsets, items_need, child_short, length_if, indices_wrong, views_misplaced}
 use Rattle.layout_check.specs.Values.{tree_items}
-use Rattle.layout_check.specs.Walk.{Steps, LayoutOk, fault_from, own_fault, rules_fault, first_some, fault_by, fault_at, visit_fault, walk_below, walks_of}
+use Rattle.schema_check.specs.Ways.{Steps}
+use Rattle.layout_check.specs.Walk.{LayoutOk, fault_from, own_fault, rules_fault, first_some, fault_by, fault_at, visit_fault, walk_below, walks_of}
 use Rattle.layout_check.specs.Walk.{walk_of}
-use Rattle.layout_check.proofs.Levels.{typed_out}
+use Rattle.schema_check.proofs.Levels.{typed_out}
 use Rattle.layout_check.proofs.Long.{long-validity}
 use Rattle.layout_check.proofs.Lawful.{lawful-first_fault, left-none, right-none}
 

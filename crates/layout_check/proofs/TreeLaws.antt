@@ -5,7 +5,7 @@ use Rattle.fmt_string.specs.declared.kind.DataType.{DataType}
 use Rattle.fmt_string.specs.declared.kind.DataType.TheVariants as kinds
 use Rattle.tree_model.specs.Tree.{Tree, Released, Live, IsLive, MaybeTree, absent, present, option_tree, child_at}
 use Rattle.raw_array.specs.Members.{ArrayTree}
-use Rattle.layout_check.specs.Kinds.{KindTree}
+use Rattle.schema_check.specs.Kinds.{KindTree}
 use Rattle.layout_check.specs.Layout.{items, natural}
 use Rattle.layout_check.specs.Rules.{null_total}
 use Rattle.layout_check.specs.Walk.{LayoutOk, ChunkOk, root_fault, is_struct, is_absent}

@@ -1,10 +1,13 @@
 -- What clauses read of a checked node.
 use Rattle.std.specs.Prelude.{◌≡◌, length, None}
-use Rattle.raw_array.specs.Members.{ArrayMembers, members_of}
+use Rattle.tree_model.specs.Tree.{children_of, dictionary_of}
+use Rattle.raw_array.specs.Members.{ArrayMembers, ArrayTree, members_of}
 use Rattle.layout_check.specs.Layout.{buffer_count}
 use Rattle.layout_check.specs.declared.layout.Layout.{Layout}
-use Rattle.layout_check.specs.Rules.{buffer_absent, buffer_short, first_below}
+use Rattle.layout_check.specs.Rules.{Node, buffer_absent, buffer_short, first_below}
 use Rattle.layout_check.specs.declared.node.FormedNode.{FormedNode}
+use Rattle.schema_check.specs.declared.typed.Typed.{Typed, out-Typed}
+use Rattle.schema_check.specs.TypedView.{kind_of, kids_of, dict_in}
 
 abbrev pub own_of : FormedNode → ArrayMembers
 own_of node = members_of node.array.now
@@ -13,3 +16,15 @@ own_of node = members_of node.array.now
 pub record AreReadable (layout : Layout) (own : ArrayMembers) : Type 0 where
   pub there : first_below (buffer_absent layout own) (buffer_count layout (length own.buffers)) ≡ None
   pub enough : first_below (buffer_short layout own) (buffer_count layout (length own.buffers)) ≡ None
+
+-- a live array with the code's type
+abbrev pub live_node : Typed → ArrayTree → Node
+live_node t array =
+    record {
+      kind = kind_of t;
+      kids = kids_of t;
+      dict = dict_in (out-Typed t).dict;
+      own = members_of array;
+      children = children_of array;
+      dictionary = dictionary_of array;
+    }

@@ -8,7 +8,7 @@ use Rattle.fmt_string.specs.Value.{Value, values}
 use Rattle.fmt_string.specs.Value.Value.{Null, Truth, Whole, Bits, Bytes, Items, Fields}
 use Rattle.tree_model.specs.Tree.{Released, Live, Trees, no_trees, more_trees, MaybeTree, absent, present, tree_list, option_tree}
 use Rattle.raw_array.specs.Members.{ArrayMembers, ArrayTree}
-use Rattle.layout_check.specs.Kinds.{KindTree}
+use Rattle.schema_check.specs.Kinds.{KindTree}
 use Rattle.layout_check.specs.Layout.{first, items, bytes, is_valid, natural, offset, data_of, time_width, stored_bytes, stored_number}
 use Rattle.layout_check.specs.Views.{view_data}
 

@@ -1,5 +1,5 @@
 -- The nodes in preorder, and the first fault.
-use Rattle.std.specs.Prelude.{◌≡◌, ℕ, ℤ, suc, ◌-◌, ◌^◌, pos, Bool, true, false, not, ◌&&◌, nat_lt, if◌then◌else◌, List, [], ◌∷◌, ◌++◌, Option, Some, None, All}
+use Rattle.std.specs.Prelude.{◌≡◌, ℕ, ℤ, suc, pos, Bool, true, false, not, ◌&&◌, nat_lt, if◌then◌else◌, List, [], ◌∷◌, ◌++◌, Option, Some, None, All}
 use Rattle.std.specs.Option.{option_or}
 use Rattle.fmt_string.specs.declared.kind.DataType.{DataType}
 use Rattle.fmt_string.specs.declared.kind.DataType.TheVariants as kinds
@@ -8,15 +8,10 @@ use Rattle.raw_array.specs.Members.{ArrayTree}
 use Rattle.layout_check.specs.declared.rule.LayoutRule.{LayoutRule}
 use Rattle.layout_check.specs.declared.rule.LayoutRule.TheVariants as rules
 use Rattle.layout_check.specs.declared.rule.Numbers.{Numbers}
-use Rattle.layout_check.specs.Kinds.{KindTree}
+use Rattle.schema_check.specs.Kinds.{KindTree}
+use Rattle.schema_check.specs.Ways.{Steps, dictionary_step}
 use Rattle.layout_check.specs.Layout.{items, layout_of}
 use Rattle.layout_check.specs.Rules.{Node, fails, in_order, null_total, null_items}
-
-abbrev pub Steps : Type 0
-Steps = List ℕ
-
-abbrev pub dictionary_step : ℕ
-dictionary_step = 2 ^ 32 - 1
 
 -- a node that the walk comes to: released, or live
 pub record Visit : Type 0 where

@@ -6,8 +6,9 @@ use Rattle.tree_model.specs.Tree.{Live, no_trees, more_trees, absent, present}
 use Rattle.raw_array.specs.declared.array.ReleaseKind.TheVariants.{Exported}
 use Rattle.raw_array.specs.Members.{ArrayTree, ArrayMembers, Buffer}
 use Rattle.layout_check.specs.declared.rule.LayoutRule.{LayoutRule}
-use Rattle.layout_check.specs.Kinds.{KindTree}
-use Rattle.layout_check.specs.Walk.{Steps, Fault}
+use Rattle.schema_check.specs.Kinds.{KindTree}
+use Rattle.schema_check.specs.Ways.{Steps}
+use Rattle.layout_check.specs.Walk.{Fault}
 
 abbrev pub faulty : Steps → LayoutRule → ℕ → ℤ → ℤ → Option Fault
 faulty path rule place left right = Some (record { path = path; rule = rule; numbers = record { place = place; left = left; right = right } })

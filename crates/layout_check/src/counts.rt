@@ -8,8 +8,8 @@ ghost use Rattle.raw_array.specs.Members.{ArrayTree, members_of};
 
 use crate::layout::{Layout, buffer_count};
 use crate::rule::Numbers;
-use crate::typed::Typed;
 use raw_array::RawArray;
+use schema_check::Typed;
 
 /// The most places that a window may lie in.
 const MOST_PLACES: u64 = 1 << 40;

@@ -1,10 +1,10 @@
 //! What a lawful array promises to its reader, as laws over the definitions. The calls do nothing.
 ghost use Rattle.std.specs.Prelude.{◌≡◌, ◌↔◌, None, Some, IsTrue, is_none, ◌≤ℤ◌, pos, ℕ, ◌+◌, ◌^◌, ◌<◌, ◌≤◌, length, get_or};
-ghost use Rattle.tree_model.specs.Tree.{Live, Released, IsLive, trees, maybe_tree, child_at, children_of, dictionary_of};
+ghost use Rattle.tree_model.specs.Tree.{Released, IsLive, child_at, children_of, dictionary_of};
 ghost use Rattle.raw_array.specs.Members.{ArrayTree, members_of};
-ghost use Rattle.layout_check.specs.declared.typed.Typed.{out-Typed};
-ghost use Rattle.layout_check.specs.Kinds.{KindTree};
-ghost use Rattle.layout_check.specs.TypedView.{typed_of, kind_of, kids_of, dict_in};
+ghost use Rattle.schema_check.specs.declared.typed.Typed.{out-Typed};
+ghost use Rattle.schema_check.specs.Kinds.{KindTree};
+ghost use Rattle.schema_check.specs.TypedView.{typed_of, kind_of, kids_of, dict_in};
 ghost use Rattle.layout_check.specs.Layout.{layout_of, buffer_count, IsLongIfPresent, first, items, end};
 ghost use Rattle.layout_check.specs.Rules.{one_if, items_need};
 ghost use Rattle.layout_check.specs.Walk.{LayoutOk, ChunkOk, first_fault};
@@ -12,14 +12,8 @@ ghost use Rattle.layout_check.specs.Values.{tree_items, rows_of};
 ghost use Rattle.layout_check.specs.Lawful.{RootHolds, PartsHold, ItemsHold, ChunkHolds};
 ghost use Rattle.layout_check.specs.Within.{StoredWithin, ViewWithin, ItemsWithin, IndexWithin};
 
-use crate::typed::Typed;
 use raw_array::RawArray;
-
-/// A law: the tree of a [`Typed`] is its kind, and below it the trees of its kids and of its dictionary.
-#[tactic(auto, using(crate::proofs::ReadWithin::one_level))]
-pub fn kinds_of_typed(typed: &Typed)
-    ensures { typed_of typed.now ≡ Live (kind_of typed.now) (trees (kids_of typed.now)) (maybe_tree (dict_in (out-Typed typed.now).dict)) }
-{}
+use schema_check::Typed;
 
 /// A law: an array is lawful exactly where it has no first fault.
 pub fn lawful_has_no_fault(typed: &Typed, array: &RawArray)

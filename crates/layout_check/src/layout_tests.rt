@@ -2,22 +2,22 @@
 ghost use Rattle.std.specs.Prelude.{◌≡◌, ◌+◌, ◌≤◌, max};
 ghost use Rattle.fmt_string.specs.Kinds.{KindOk};
 ghost use Rattle.tree_model.specs.Tree.{more_trees, no_trees, Depth};
-ghost use Rattle.layout_check.specs.Kinds.{KidsOk, NodesOk};
-ghost use Rattle.layout_check.specs.TypedView.{typed_of};
+ghost use Rattle.schema_check.specs.Kinds.{KidsOk, NodesOk};
+ghost use Rattle.schema_check.specs.TypedView.{typed_of};
 
 use crate::buffers::{buffers_absent, buffers_short};
 use crate::chunk::{count_rows, nulls_of};
 use crate::indices::{first_bad_index, indices_wrong};
 use crate::layout::Layout;
-use crate::rule::{DICTIONARY_STEP, LayoutRule};
+use crate::rule::LayoutRule;
 use crate::tests::{
     Want, Window, array, before, closed, ended, flat, formed, found, found_at_each_place, indexed,
     int32, leaf, leaf_found, listed, node, parts_found, struct_of_two,
 };
-use crate::typed::Typed;
 use crate::walk::check_array;
 use fmt_string::DataType;
 use raw_array::RawArray;
+use schema_check::{DICTIONARY_STEP, Typed};
 use std::alloc::Global;
 use std::process::Abort;
 use unit_pass::open_desk;

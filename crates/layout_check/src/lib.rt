@@ -1,8 +1,6 @@
-//! What makes a stranger's tree safe to read: schemas and arrays of the C data interface against the rules of their nodes
+//! What makes a stranger's tree safe to read: arrays of the C data interface against the rules of their nodes
 //! ("The Arrow C Data Interface", "Structure definitions"; "Arrow Columnar Format", "Physical memory layout").
 //!
-//! - [`check_schema`] answers the tree of kinds of a schema that meets each rule at each node, and else the first rule that
-//!   fails at the first such node.
 //! - [`check_array`] walks the array and the tree of kinds together, in preorder: a node, its children by number, its
 //!   dictionary. Its answer is the first rule that fails at the first node at which one does, with the way to that node,
 //!   a place and two numbers; or `Ok` exactly where no rule fails at any node.
@@ -16,9 +14,9 @@
 //!   [`too_short`], [`first_short`] and [`window_too_long`], which take what is needed as a number.
 //!
 //! The calls on arrays take no memory, and none writes. Numbers of bytes and places are computed without bounds, so no sum
-//! wraps. What the rules say stands in `specs/Schemas.antt` and `specs/Rules.antt`, the walk over arrays in
-//! `specs/Walk.antt`, and what the values of a lawful array are in `specs/Values.antt`. Left to others: whether an array is
-//! released, moved or shared in the right order.
+//! wraps. What the rules say stands in `specs/Rules.antt`, the walk over arrays in `specs/Walk.antt`, and what the
+//! values of a lawful array are in `specs/Values.antt`. Left to others: the check of schemas and the kinds that it answers
+//! (`schema_check`, whose calls are named here too), and whether an array is released, moved or shared in the right order.
 #![tactic(auto)]
 
 mod buffers;
@@ -38,13 +36,9 @@ mod nulls;
 mod rule;
 mod runs;
 mod scans;
-mod schema;
-#[cfg(test)]
-mod schema_tests;
 #[cfg(test)]
 mod tests;
 mod texts;
-mod typed;
 #[cfg(test)]
 mod view_tests;
 mod view_texts;
@@ -57,12 +51,14 @@ pub use children::first_short;
 pub use chunk::{check_chunk, chunk_passes, count_rows, nulls_of};
 pub use counts::{negative, window_too_long, wrong_count};
 pub use laws::{
-    chunks_are_tables, kinds_of_typed, lawful_has_no_fault, lawful_items_lie_within, lawful_parts,
-    lawful_root, lawful_trees,
+    chunks_are_tables, lawful_has_no_fault, lawful_items_lie_within, lawful_parts, lawful_root,
+    lawful_trees,
 };
 pub use layout::Layout;
-pub use rule::{DICTIONARY_STEP, LayoutFault, LayoutRule, Numbers, Path, SchemaRule};
-pub use schema::{SchemaFault, check_schema, kinds_are_valid, one_schema_answer};
-pub use typed::Typed;
+pub use rule::{LayoutFault, LayoutRule, Numbers};
+pub use schema_check::{
+    DICTIONARY_STEP, Path, SchemaFault, SchemaRule, Typed, check_schema, kinds_are_valid,
+    kinds_of_typed, one_schema_answer,
+};
 pub use walk::check_array;
 pub use worked_arrays::small_arrays;

@@ -3,27 +3,27 @@ ghost use Rattle.std.specs.Prelude.{◌≡◌, ◌+◌, ◌≤◌, max, map, len
 ghost use Rattle.std.specs.Global.{Box};
 ghost use Rattle.fmt_string.specs.Kinds.{KindOk};
 ghost use Rattle.tree_model.specs.Tree.{IsLive, Live, trees, maybe_tree, no_trees, absent, present, more_trees, depth_of_all, depth_of_maybe, Depth};
-ghost use Rattle.layout_check.specs.Kinds.{KidsOk, DictOk, NodesOk, AllNodesOk, DictNodesOk, IsPairOfColumns};
-ghost use Rattle.layout_check.specs.TypedView.{typed_of, dict_in};
+ghost use Rattle.schema_check.specs.Kinds.{KidsOk, DictOk, NodesOk, AllNodesOk, DictNodesOk, IsPairOfColumns};
+ghost use Rattle.schema_check.specs.TypedView.{typed_of, dict_in};
 
 use crate::buffers::{buffers_absent, buffers_short, first_fall, layout_falls};
 use crate::chunk::{check_chunk, chunk_passes, nulls_of};
 use crate::layout::{Layout, buffer_count};
 use crate::node::FormedNode;
-use crate::rule::{DICTIONARY_STEP, LayoutFault, LayoutRule};
+use crate::rule::{LayoutFault, LayoutRule};
 use crate::texts::{first_bad_text, texts_wrong};
-use crate::typed::Typed;
 use crate::walk::check_array;
 use buf_block::{BufView, make};
 use fmt_string::DataType;
 use raw_array::{ArrayParts, RawArray, ReleaseKind};
+use schema_check::{DICTIONARY_STEP, Typed};
 use std::alloc::Global;
 use std::process::Abort;
 use unit_pass::{Desk, Pass, SUPPLY, open_desk};
 
 // ---- types
 
-#[tactic(auto, using(crate::proofs::MadeTypes::made))]
+#[tactic(auto, using(schema_check::proofs::MadeTypes::made))]
 pub(crate) fn node(kind: DataType, kids: Vec<Typed>, dict: Option<Box<Typed>>) -> Typed
     requires type_ok { KindOk kind }
     requires kids_ok { KidsOk kind (trees (map typed_of kids.items)) }

@@ -3,16 +3,18 @@ ghost use Rattle.std.specs.Prelude.{◌≡◌, IsOk, IsTrue, is_none, ◌↔◌,
 ghost use Rattle.std.specs.Global.{Box};
 ghost use Rattle.tree_model.specs.Tree.{IsLive, children_of, dictionary_of, trees, maybe_tree, Depth, depth_of_all, depth_of_maybe};
 ghost use Rattle.raw_array.specs.Members.{ArrayTree, members_of};
-ghost use Rattle.layout_check.specs.Kinds.{NodesOk, AllNodesOk, DictNodesOk, TypedOk};
+ghost use Rattle.schema_check.specs.Kinds.{NodesOk, AllNodesOk, DictNodesOk, TypedOk};
 ghost use Rattle.fmt_string.specs.Kinds.{KindOk};
 ghost use Rattle.layout_check.specs.Rules.{one_if, indices_wrong, length_if};
-ghost use Rattle.layout_check.specs.declared.typed.Typed.{out-Typed};
-ghost use Rattle.layout_check.specs.TypedView.{live_node, typed_of, kids_of, dict_in};
+ghost use Rattle.schema_check.specs.declared.typed.Typed.{out-Typed};
+ghost use Rattle.schema_check.specs.TypedView.{typed_of, kids_of, dict_in};
+ghost use Rattle.layout_check.specs.NodeView.{live_node};
 ghost use Rattle.layout_check.specs.Layout.{layout_of, buffer_count};
 ghost use Rattle.layout_check.specs.Rules.{buffer_rules, form_rules, item_rules, offsets_fall_if, is_behind_offsets};
 ghost use Rattle.layout_check.specs.NodeView.{AreReadable, own_of};
-ghost use Rattle.layout_check.specs.Found.{steps_of, found, found_at};
-ghost use Rattle.layout_check.specs.Walk.{LayoutOk, Steps, rules_fault, first_fault, fault_from, own_fault, children_fault, dictionary_fault};
+ghost use Rattle.schema_check.specs.Ways.{steps_of, Steps};
+ghost use Rattle.layout_check.specs.Found.{found, found_at};
+ghost use Rattle.layout_check.specs.Walk.{LayoutOk, rules_fault, first_fault, fault_from, own_fault, children_fault, dictionary_fault};
 
 use crate::buffers::{buffers_absent, buffers_pass, buffers_short, layout_falls, layout_passes};
 use crate::children::children_short;
@@ -21,12 +23,12 @@ use crate::indices::indices_wrong;
 use crate::layout::layout_of;
 use crate::node::FormedNode;
 use crate::nulls::nulls_wrong;
-use crate::rule::{DICTIONARY_STEP, Failing, LayoutFault, LayoutRule, Numbers, Path, ruled};
+use crate::rule::{Failing, LayoutFault, LayoutRule, Numbers, ruled};
 use crate::texts::{texts_pass, texts_wrong};
-use crate::typed::Typed;
 use crate::views::{prefixes_wrong, views_misplaced, views_pass};
 use fmt_string::DataType;
 use raw_array::RawArray;
+use schema_check::{DICTIONARY_STEP, Path, Typed};
 
 /// Checks an array against its kinds ("Arrow Columnar Format", "Physical memory layout"). The fault is the first rule of
 /// [`LayoutRule`] that fails at the first failing node in preorder: children by number, then the dictionary. Takes no

@@ -1,4 +1,4 @@
-use Rattle.layout_check.specs.TypedView.{typed_of}
+use Rattle.schema_check.specs.TypedView.{typed_of}
 use Rattle.layout_check.proofs.ReadWithin.{lawful-no_fault, no_fault-lawful}
 use Rattle.layout_check.proofs.laws.lawful_has_no_fault.Goals as goal
 

@@ -1,9 +1,9 @@
 use Rattle.std.proofs.Common.{ℕ, ◌<◌, ◌≡◌, length, Some, get_or}
 use Rattle.tree_model.specs.Tree.{Released, child_at, dictionary_of}
 use Rattle.raw_array.specs.Members.{ArrayTree}
-use Rattle.layout_check.specs.Kinds.{KindTree}
-use Rattle.layout_check.specs.declared.typed.Typed.{out-Typed}
-use Rattle.layout_check.specs.TypedView.{kids_of, dict_in}
+use Rattle.schema_check.specs.Kinds.{KindTree}
+use Rattle.schema_check.specs.declared.typed.Typed.{out-Typed}
+use Rattle.schema_check.specs.TypedView.{kids_of, dict_in}
 use Rattle.layout_check.specs.Values.{tree_items}
 use Rattle.layout_check.proofs.Roots.{level_of, lawful-level}
 use Rattle.layout_check.proofs.ReadWithin.{item-stored, child-needed, item-children, item-view, item-index, child-lawful, dictionary-lawful, kid-typed}

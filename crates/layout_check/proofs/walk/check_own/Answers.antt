@@ -3,7 +3,7 @@ use Rattle.std.proofs.Common.{◌≡◌, subst, arith}
 use Rattle.raw_array.specs.Members.{ArrayTree}
 use Rattle.layout_check.specs.Found.{found_at}
 use Rattle.layout_check.specs.Rules.{buffer_rules, item_rules}
-use Rattle.layout_check.specs.TypedView.{live_node}
+use Rattle.layout_check.specs.NodeView.{live_node}
 use Rattle.layout_check.specs.Walk.{rules_fault}
 use Rattle.layout_check.proofs.Faults.{own_fault-typed, own_rules}
 use Rattle.layout_check.proofs.walk.check_own.Goals as goal

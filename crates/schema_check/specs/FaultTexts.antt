@@ -1,0 +1,30 @@
+-- The texts of ways to nodes, and of faults of schemas: the way to the node, and the rule's name.
+use Rattle.std.specs.Prelude.{ℕ, ◌==◌, ◌++◌, if◌then◌else◌, List, [], ◌∷◌, flat_map, codes, decimal}
+use Rattle.schema_check.specs.declared.rule.SchemaRule.{SchemaRule}
+use Rattle.schema_check.specs.declared.rule.SchemaRule.TheVariants as schema
+use Rattle.schema_check.specs.declared.schema.SchemaFault.{SchemaFault}
+use Rattle.schema_check.specs.declared.schema.SchemaFault.TheVariants as faults
+use Rattle.schema_check.specs.Ways.{Steps, dictionary_step, steps_of}
+
+-- a step to a child or to the dictionary
+abbrev pub step_text : ℕ → List ℕ
+step_text step = if step == dictionary_step then codes "/d" else codes "/" ++ decimal step
+
+-- the way to a node
+abbrev pub way_text : Steps → List ℕ
+way_text [] = codes "/"
+way_text (step ∷ steps) = flat_map step_text (step ∷ steps)
+
+-- a rule's name, without the fault that it holds
+abbrev pub schema_rule_text : SchemaRule → List ℕ
+schema_rule_text schema.Released = codes "Released"
+schema_rule_text (schema.Format fault) = codes "Format"
+schema_rule_text (schema.Meta fault) = codes "Meta"
+schema_rule_text schema.ChildCount = codes "ChildCount"
+schema_rule_text schema.DictIndexType = codes "DictIndexType"
+schema_rule_text schema.MapShape = codes "MapShape"
+schema_rule_text schema.Deep = codes "Deep"
+
+abbrev pub schema_fault_text : SchemaFault → List ℕ
+schema_fault_text (faults.At path rule) = way_text (steps_of path) ++ codes ": schema: " ++ schema_rule_text rule
+schema_fault_text faults.NoMemory = codes "out of memory"
