@@ -8,10 +8,11 @@ use Rattle.tree_model.specs.Tree.{Live, absent, no_trees}
 use Rattle.fmt_string.specs.Value.{Value, Null, Truth}
 use Rattle.fmt_string.specs.declared.kind.DataType.{DataType}
 use Rattle.col_build.specs.Encoding.{Fits, is_null, null_total}
-use Rattle.layout_check.specs.Kinds.{KindTree}
+use Rattle.schema_check.specs.Kinds.{KindTree}
 use Rattle.layout_check.specs.Rules.{count_wrong, indices_wrong, length_if, one_if}
 use Rattle.layout_check.specs.Values.{item, value_at, values_of}
-use Rattle.layout_check.specs.Walk.{LayoutOk, Steps, node_fault, visit_fault}
+use Rattle.schema_check.specs.Ways.{Steps}
+use Rattle.layout_check.specs.Walk.{LayoutOk, node_fault, visit_fault}
 use Rattle.arr_export.specs.ArrayTrees.{column_members, column_tree, flat_type}
 use Rattle.arr_export.proofs.ColumnReads.{Reads, reads}
 use Rattle.arr_export.proofs.Each.{each-is}

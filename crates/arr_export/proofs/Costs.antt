@@ -6,7 +6,7 @@ use Rattle.fmt_string.specs.Table.{Kind, Flat, Dict, Columns}
 use Rattle.fmt_string.specs.declared.kind.ColumnType.{ColumnType}
 use Rattle.tree_model.specs.Tree.{Depth, depth_of_all, trees}
 use Rattle.raw_schema.specs.Members.{Nodes, SchemaTree, nodes_of_all}
-use Rattle.layout_check.specs.ColumnSchema.{column_schema, schema_of_column}
+use Rattle.schema_check.specs.ColumnSchema.{column_schema, schema_of_column}
 use Rattle.arr_export.specs.CodeSchema.{code_schema}
 
 -- the schemas of the columns that the code keeps

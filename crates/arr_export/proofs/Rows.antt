@@ -10,7 +10,7 @@ use Rattle.fmt_string.specs.declared.kind.ColumnType.{ColumnType}
 use Rattle.fmt_string.proofs.StructColumns.{row_is}
 use Rattle.tree_model.specs.Tree.{Trees, absent, more_trees, trees}
 use Rattle.raw_schema.specs.Members.{SchemaMembers}
-use Rattle.layout_check.specs.ColumnSchema.{KindsOk, MembersOk, column_schema, member_schemas, node, nullable, schema_of_column, struct_format}
+use Rattle.schema_check.specs.ColumnSchema.{KindsOk, MembersOk, column_schema, member_schemas, node, nullable, schema_of_column, struct_format}
 use Rattle.arr_export.specs.CodeSchema.{ColumnsOk, code_schemas}
 use Rattle.arr_export.proofs.Costs.{schemas-mapped}
 

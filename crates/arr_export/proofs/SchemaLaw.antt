@@ -9,9 +9,9 @@ use Rattle.fmt_string.specs.declared.kind.DataType.{DataType}
 use Rattle.fmt_string.specs.declared.kind.DataType.TheVariants as kinds
 use Rattle.tree_model.specs.Tree.{Live, no_trees, absent, trees, Depth, depth_of_all}
 use Rattle.col_build.specs.Encoding.{HasForm}
-use Rattle.layout_check.specs.Schemas.{ChildrenFit, MapFits, TypedFrom, KidsTyped, TypedOf}
-use Rattle.layout_check.specs.ColumnSchema.{SchemaOf, column_schema, member_schemas, schema_of_column, values_schema}
-use Rattle.layout_check.specs.ColumnKinds.{type_of_columns, type_of_kind, types_of_columns, types_of_members}
+use Rattle.schema_check.specs.Schemas.{ChildrenFit, MapFits, TypedFrom, KidsTyped, TypedOf}
+use Rattle.schema_check.specs.ColumnSchema.{SchemaOf, column_schema, member_schemas, schema_of_column, values_schema}
+use Rattle.schema_check.specs.ColumnKinds.{type_of_columns, type_of_kind, types_of_columns, types_of_members}
 use Rattle.fmt_string.specs.ColumnForms.{AreColumnKinds, IsColumnKind, MembersAreColumns}
 
 -- ---- the schema of a column

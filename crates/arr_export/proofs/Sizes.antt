@@ -3,7 +3,7 @@ use Rattle.std.proofs.Common.{◌≡◌, ◌+◌, ◌≤◌, ℕ, zero, suc, Lis
 use Rattle.fmt_string.specs.Table.{Column, Kind, Flat, Dict, Columns, Members, no_members, more_members}
 use Rattle.tree_model.specs.Tree.{Depth, depth_of_all, trees}
 use Rattle.raw_schema.specs.Members.{Nodes, nodes_of_all}
-use Rattle.layout_check.specs.ColumnSchema.{SchemaOf, column_schema, member_schemas, schema_of_column}
+use Rattle.schema_check.specs.ColumnSchema.{SchemaOf, column_schema, member_schemas, schema_of_column}
 use Rattle.arr_export.specs.SchemaSize.{AreFlat, nodes_of_columns, nodes_of_kind, nodes_of_members}
 
 mutual

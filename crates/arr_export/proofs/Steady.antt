@@ -3,9 +3,10 @@ use Rattle.std.proofs.Common.{◌≡◌, ℕ, suc, List, [], ◌∷◌, ◌++◌
 use Rattle.tree_model.specs.Tree.{Released, Live, Trees, no_trees, more_trees, MaybeTree, absent, present, tree_list, option_tree}
 use Rattle.raw_array.specs.Members.{ArrayTree}
 use Rattle.fmt_string.specs.declared.kind.DataType.{DataType}
-use Rattle.layout_check.specs.Kinds.{KindTree}
+use Rattle.schema_check.specs.Kinds.{KindTree}
 use Rattle.layout_check.specs.Rules.{Node, fails, in_order}
-use Rattle.layout_check.specs.Walk.{Steps, Walk, dictionary_step, fault_at, fault_by, first_some, node_fault, node_of, visit_fault, visits, walk_below}
+use Rattle.schema_check.specs.Ways.{Steps, dictionary_step}
+use Rattle.layout_check.specs.Walk.{Walk, fault_at, fault_by, first_some, node_fault, node_of, visit_fault, visits, walk_below}
 use Rattle.layout_check.specs.Walk.{walk_children, walk_dictionary, walk_of, walks_of}
 use Rattle.layout_check.specs.declared.rule.LayoutRule.{LayoutRule}
 use Rattle.layout_check.specs.declared.rule.Numbers.{Numbers}

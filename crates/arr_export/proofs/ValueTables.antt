@@ -7,7 +7,7 @@ use Rattle.fmt_string.specs.Value.{Value}
 use Rattle.layout_check.specs.Values.{rows_of, tree_items, values_of}
 use Rattle.layout_check.specs.Walk.{ChunkOk, LayoutOk}
 use Rattle.col_build.specs.Encoding.{Fits}
-use Rattle.layout_check.specs.ColumnKinds.{table_type}
+use Rattle.schema_check.specs.ColumnKinds.{table_type}
 use Rattle.arr_export.specs.ArrayTrees.{AreIndices, AreLawful, HaveValues, looked_up, rows_of_values, table_tree}
 use Rattle.arr_export.specs.ValueColumns.{HasEntries, IsValueColumn, TypedValues, ValueColumn, items_of, plain_tree, plain_type, tree_of, type_of, values_by}
 use Rattle.arr_export.proofs.ColumnLaw.{column-lawful, column-values}

@@ -11,7 +11,7 @@ use Rattle.raw_array.specs.declared.array.ReleaseKind.TheVariants.{Exported, Ass
 use Rattle.col_build.specs.Encoding.{Fits, encoded}
 use Rattle.col_build.specs.Finished.{IsEncoded}
 use Rattle.col_build.specs.declared.built.Built.{Built}
-use Rattle.layout_check.specs.Kinds.{KindTree}
+use Rattle.schema_check.specs.Kinds.{KindTree}
 use Rattle.layout_check.specs.Values.{each, field_items, tree_items, value_at, values_of}
 use Rattle.layout_check.specs.Walk.{LayoutOk}
 

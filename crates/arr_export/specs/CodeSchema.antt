@@ -4,7 +4,7 @@ use Rattle.fmt_string.specs.declared.kind.ColumnType.{ColumnType}
 use Rattle.fmt_string.specs.ColumnView.{kind_of}
 use Rattle.tree_model.specs.Tree.{Trees, trees}
 use Rattle.raw_schema.specs.Members.{SchemaMembers, SchemaTree}
-use Rattle.layout_check.specs.ColumnSchema.{KindsOk, column_schema}
+use Rattle.schema_check.specs.ColumnSchema.{KindsOk, column_schema}
 
 abbrev pub code_schema : ColumnType → SchemaTree
 code_schema c = column_schema c.name (kind_of c.kind)

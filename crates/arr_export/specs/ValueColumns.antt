@@ -5,7 +5,7 @@ use Rattle.fmt_string.specs.declared.kind.DataType.{DataType}
 use Rattle.fmt_string.specs.Value.{Value}
 use Rattle.raw_array.specs.Members.{ArrayTree}
 use Rattle.col_build.specs.Encoding.{Fits}
-use Rattle.layout_check.specs.Kinds.{KindTree}
+use Rattle.schema_check.specs.Kinds.{KindTree}
 use Rattle.arr_export.specs.ArrayTrees.{IsIndexKind, IsPlaceOf, column_tree, flat_type, looked_up}
 
 -- a type, and values of it

@@ -8,7 +8,7 @@ ghost use Rattle.fmt_string.specs.Table.{Dict};
 ghost use Rattle.tree_model.specs.Tree.{Depth, depth_of_all, absent};
 ghost use Rattle.raw_schema.specs.Members.{Nodes, nodes_of_all};
 ghost use Rattle.raw_schema.specs.View.{bytes_of};
-ghost use Rattle.layout_check.specs.ColumnSchema.{KindsOk, column_schema, node, struct_format, values_schema};
+ghost use Rattle.schema_check.specs.ColumnSchema.{KindsOk, column_schema, node, struct_format, values_schema};
 ghost use Rattle.arr_export.specs.CodeSchema.{ColumnsOk, code_schema, code_schemas};
 
 use crate::built::built;

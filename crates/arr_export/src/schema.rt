@@ -5,7 +5,7 @@ ghost use Rattle.unit_pass.specs.declared.pass.TheConstants.{CHUNK};
 ghost use Rattle.fmt_string.specs.ColumnView.{column_of};
 ghost use Rattle.tree_model.specs.Tree.{Depth};
 ghost use Rattle.raw_schema.specs.Members.{Nodes};
-ghost use Rattle.layout_check.specs.ColumnSchema.{KindsOk, SchemaOf};
+ghost use Rattle.schema_check.specs.ColumnSchema.{KindsOk, SchemaOf};
 
 use crate::columns::struct_schema;
 use fmt_string::ColumnType;

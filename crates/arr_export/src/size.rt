@@ -3,7 +3,7 @@ ghost use Rattle.std.specs.Prelude.{◌≡◌, ◌+◌, ◌≤◌, List, length}
 ghost use Rattle.fmt_string.specs.Table.{Column};
 ghost use Rattle.tree_model.specs.Tree.{Depth};
 ghost use Rattle.raw_schema.specs.Members.{Nodes};
-ghost use Rattle.layout_check.specs.ColumnSchema.{SchemaOf};
+ghost use Rattle.schema_check.specs.ColumnSchema.{SchemaOf};
 ghost use Rattle.arr_export.specs.SchemaSize.{AreFlat, nodes_of_columns};
 
 /// A law: how many structures the schema of columns has, and that one of plain values has a structure a column and two

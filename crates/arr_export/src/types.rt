@@ -2,10 +2,10 @@
 ghost use Rattle.std.specs.Prelude.{◌≤◌, List, All};
 ghost use Rattle.fmt_string.specs.Table.{Column};
 ghost use Rattle.tree_model.specs.Tree.{Depth};
-ghost use Rattle.layout_check.specs.Schemas.{TypedOf};
-ghost use Rattle.layout_check.specs.ColumnKinds.{type_of_columns};
+ghost use Rattle.schema_check.specs.Schemas.{TypedOf};
+ghost use Rattle.schema_check.specs.ColumnKinds.{type_of_columns};
 ghost use Rattle.fmt_string.specs.ColumnForms.{AreColumnKinds};
-ghost use Rattle.layout_check.specs.ColumnSchema.{SchemaOf};
+ghost use Rattle.schema_check.specs.ColumnSchema.{SchemaOf};
 
 use fmt_string::spelling_reads_back;
 

@@ -17,10 +17,10 @@ use Rattle.fmt_string.specs.Value.Value.{Null, Fields}
 use Rattle.bit_pack.specs.Packed.{IsWidth}
 use Rattle.tree_model.specs.Tree.{Released, Live, IsLive, absent, present, trees, maybe_tree, tree_list, children_of, child_at, dictionary_of, Depth}
 use Rattle.raw_array.specs.Members.{ArrayMembers, ArrayTree, members_of}
-use Rattle.layout_check.specs.declared.typed.Typed.{Typed, out-Typed}
+use Rattle.schema_check.specs.declared.typed.Typed.{Typed, out-Typed}
 use Rattle.layout_check.specs.declared.layout.Layout.TheVariants.{ByChildren}
-use Rattle.layout_check.specs.Kinds.{KindTree, NodesOk, AllNodesOk, DictNodesOk, KidsOk, DictOk, IsOneChild, IsPairOfColumns}
-use Rattle.layout_check.specs.TypedView.{typed_of, kind_of, kids_of, dict_in}
+use Rattle.schema_check.specs.Kinds.{KindTree, NodesOk, AllNodesOk, DictNodesOk, KidsOk, DictOk, IsOneChild, IsPairOfColumns}
+use Rattle.schema_check.specs.TypedView.{typed_of, kind_of, kids_of, dict_in}
 use Rattle.layout_check.specs.Layout.{layout_of, bytes, first, is_valid}
 use Rattle.layout_check.specs.Values.{Reader, each, child_item, field_items, row_items, item, item_or_entry, value_at, readers, reader_of, tree_items}
 use Rattle.layout_check.specs.Within.{StoredWithin, ItemsWithin, IndexWithin, ViewWithin, DataWithin}

@@ -1,6 +1,7 @@
 -- The texts of faults.
 use Rattle.std.specs.Prelude.{ℕ, List}
-use Rattle.layout_check.specs.FaultTexts.{layout_fault_text, schema_fault_text}
+use Rattle.schema_check.specs.FaultTexts.{schema_fault_text}
+use Rattle.layout_check.specs.FaultTexts.{layout_fault_text}
 use Rattle.arr_import.specs.declared.imported.ImportFault.{ImportFault}
 use Rattle.arr_import.specs.declared.imported.ImportFault.TheVariants as faults
 

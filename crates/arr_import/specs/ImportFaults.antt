@@ -2,9 +2,9 @@
 use Rattle.std.specs.Prelude.{◌≡◌, Some}
 use Rattle.raw_array.specs.Members.{ArrayTree}
 use Rattle.raw_schema.specs.Members.{SchemaTree}
-use Rattle.layout_check.specs.Kinds.{KindTree}
-use Rattle.layout_check.specs.Schemas.{TypedOf}
-use Rattle.layout_check.specs.SchemaAnswers.{IsFirstFault}
+use Rattle.schema_check.specs.Kinds.{KindTree}
+use Rattle.schema_check.specs.Schemas.{TypedOf}
+use Rattle.schema_check.specs.SchemaAnswers.{IsFirstFault}
 use Rattle.layout_check.specs.Found.{fault_of}
 use Rattle.layout_check.specs.Walk.{first_fault}
 use Rattle.arr_import.specs.declared.imported.ImportFault.{ImportFault}

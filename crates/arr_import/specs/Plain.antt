@@ -8,7 +8,7 @@ use Rattle.fmt_string.specs.Value.Value.{Truth, Whole, Bits, Bytes}
 use Rattle.bit_pack.specs.Packed.{IsWidth, bit, meant, number_at}
 use Rattle.tree_model.specs.Tree.{dictionary_of}
 use Rattle.raw_array.specs.Members.{members_of}
-use Rattle.layout_check.specs.Kinds.{kind_in}
+use Rattle.schema_check.specs.Kinds.{kind_in}
 use Rattle.layout_check.specs.Layout.{buffer, natural, offset_in}
 use Rattle.layout_check.specs.Within.{OffsetsRise}
 use Rattle.arr_import.specs.declared.plain.Texts.{Texts}

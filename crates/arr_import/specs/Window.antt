@@ -7,7 +7,7 @@ use Rattle.fmt_string.specs.Value.{Value, values}
 use Rattle.fmt_string.specs.Value.Value.{Fields}
 use Rattle.tree_model.specs.Tree.{Live, present, child_at}
 use Rattle.raw_array.specs.Members.{ArrayMembers, ArrayTree, members_of}
-use Rattle.layout_check.specs.Kinds.{KindTree}
+use Rattle.schema_check.specs.Kinds.{KindTree}
 use Rattle.layout_check.specs.Layout.{first, natural, is_valid, stored_number}
 use Rattle.layout_check.specs.Values.{each, value_at, row_items, tree_items}
 

@@ -2,9 +2,9 @@
 ghost use Rattle.std.specs.Prelude.{◌≡◌, IsTrue, is_none, is_some, ◌+◌, ◌<◌, ◌≤◌, ◌^◌};
 ghost use Rattle.tree_model.specs.Tree.{IsLive, dictionary_of};
 ghost use Rattle.raw_array.specs.Members.{members_of};
-ghost use Rattle.layout_check.specs.Kinds.{NodesOk, kind_in};
-ghost use Rattle.layout_check.specs.TypedView.{typed_of, kind_of, dict_in};
-ghost use Rattle.layout_check.specs.declared.typed.Typed.{out-Typed};
+ghost use Rattle.schema_check.specs.Kinds.{NodesOk, kind_in};
+ghost use Rattle.schema_check.specs.TypedView.{typed_of, kind_of, dict_in};
+ghost use Rattle.schema_check.specs.declared.typed.Typed.{out-Typed};
 ghost use Rattle.arr_import.specs.Accesses.{access_of};
 ghost use Rattle.layout_check.specs.Layout.{buffer, bytes, first};
 ghost use Rattle.layout_check.specs.Walk.{first_fault};
@@ -74,7 +74,7 @@ pub(crate) fn buffer_bytes(array: &RawArray, k: usize) -> &[u8]
 
 impl<'a> Col<'a> {
     ghost use Rattle.std.specs.Prelude.{pos};
-    ghost use Rattle.layout_check.specs.Kinds.{TypedOk};
+    ghost use Rattle.schema_check.specs.Kinds.{TypedOk};
     ghost use Rattle.layout_check.specs.Walk.{LayoutOk};
     ghost use Rattle.layout_check.specs.Values.{values_of};
     ghost use Rattle.arr_import.specs.Window.{whole, items_of};

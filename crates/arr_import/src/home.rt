@@ -3,8 +3,8 @@ ghost use Rattle.std.specs.Prelude.{◌≡◌, true, None, MatchOption, ◌+◌,
 ghost use Rattle.tree_model.specs.Tree.{dictionary_of};
 ghost use Rattle.raw_array.specs.Members.{members_of};
 ghost use Rattle.fmt_string.specs.declared.storage.Storage.TheVariants as storages;
-ghost use Rattle.layout_check.specs.declared.typed.Typed.{out-Typed};
-ghost use Rattle.layout_check.specs.TypedView.{kind_of, dict_in};
+ghost use Rattle.schema_check.specs.declared.typed.Typed.{out-Typed};
+ghost use Rattle.schema_check.specs.TypedView.{kind_of, dict_in};
 ghost use Rattle.layout_check.specs.Layout.{is_valid as is_valid_at, natural};
 ghost use Rattle.arr_import.specs.Window.{IsDictionary, home_of, index_at, item_at};
 ghost use Rattle.arr_import.specs.Cols.{window_of};

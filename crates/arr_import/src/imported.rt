@@ -1,9 +1,9 @@
 //! Two structures that both checks accepted, kept together.
 ghost use Rattle.std.specs.Prelude.{◌≡◌, IfOk, IfErr};
-ghost use Rattle.layout_check.specs.declared.schema.SchemaFault.TheVariants.{NoMemory};
-ghost use Rattle.layout_check.specs.Kinds.{KindTree, TypedOk};
-ghost use Rattle.layout_check.specs.Schemas.{TypedOf};
-ghost use Rattle.layout_check.specs.TypedView.{typed_of};
+ghost use Rattle.schema_check.specs.declared.schema.SchemaFault.TheVariants.{NoMemory};
+ghost use Rattle.schema_check.specs.Kinds.{KindTree, TypedOk};
+ghost use Rattle.schema_check.specs.Schemas.{TypedOf};
+ghost use Rattle.schema_check.specs.TypedView.{typed_of};
 ghost use Rattle.layout_check.specs.Values.{values_of};
 ghost use Rattle.layout_check.specs.Walk.{LayoutOk};
 ghost use Rattle.arr_import.specs.declared.imported.ImportFault.TheVariants.{Schema};
@@ -55,7 +55,7 @@ impl Model for Imported {
     ghost use Rattle.std.specs.Coded.{codes};
     ghost use Rattle.raw_schema.specs.Members.{coded_schema};
     ghost use Rattle.raw_array.specs.Members.{coded_array};
-    ghost use Rattle.layout_check.specs.contracts.typed.Typed as kinds;
+    ghost use Rattle.schema_check.specs.contracts.typed.Typed as kinds;
 
     ghost Value = { ImportedTrees };
 

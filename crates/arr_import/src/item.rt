@@ -3,7 +3,7 @@ ghost use Rattle.std.specs.Prelude.{◌≡◌, true, ◌==◌, ◌+◌, ◌*◌,
 ghost use Rattle.bit_pack.specs.Packed.{bit};
 ghost use Rattle.raw_array.specs.Members.{members_of};
 ghost use Rattle.tree_model.specs.Tree.{Released, children_of, child_at, trees};
-ghost use Rattle.layout_check.specs.TypedView.{kind_of, kids_of};
+ghost use Rattle.schema_check.specs.TypedView.{kind_of, kids_of};
 ghost use Rattle.layout_check.specs.Layout.{first, is_valid as is_valid_at};
 ghost use Rattle.layout_check.specs.Values.{each, child_item, listed, readers, tree_items};
 ghost use Rattle.arr_import.specs.StoredItems.{stored_item, IsThere, IsListStorage, AreItemsThere};

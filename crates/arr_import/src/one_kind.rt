@@ -7,8 +7,8 @@ ghost use Rattle.arr_import.specs.declared.access.Access.TheVariants as accesses
 ghost use Rattle.arr_import.specs.Accesses.{IsNumber};
 ghost use Rattle.tree_model.specs.Tree.{children_of, trees};
 ghost use Rattle.raw_array.specs.Members.{members_of};
-ghost use Rattle.layout_check.specs.TypedView.{dict_in, kids_of};
-ghost use Rattle.layout_check.specs.declared.typed.Typed.{out-Typed};
+ghost use Rattle.schema_check.specs.TypedView.{dict_in, kids_of};
+ghost use Rattle.schema_check.specs.declared.typed.Typed.{out-Typed};
 ghost use Rattle.layout_check.specs.Layout.{natural, is_valid as is_valid_at};
 ghost use Rattle.layout_check.specs.Values.{readers};
 ghost use Rattle.arr_import.specs.StoredItems.{stored_item, AreBetween, IsOwn, IsViewStorage};

@@ -4,8 +4,8 @@ use Rattle.fmt_string.specs.declared.kind.DataType.TheVariants as kinds
 use Rattle.tree_model.specs.Tree.{IsLive, Released, Live, Trees, MaybeTree, absent, trees, tree_list}
 use Rattle.tree_model.proofs.Lists.{tree_list-trees}
 use Rattle.raw_array.specs.Members.{ArrayMembers, ArrayTree}
-use Rattle.layout_check.specs.ColumnKinds.{table_type}
-use Rattle.layout_check.specs.Kinds.{KindTree}
+use Rattle.schema_check.specs.ColumnKinds.{table_type}
+use Rattle.schema_check.specs.Kinds.{KindTree}
 use Rattle.layout_check.specs.Layout.{end, first, items}
 use Rattle.layout_check.specs.Values.{tree_items}
 use Rattle.layout_check.specs.Walk.{LayoutOk}

@@ -5,7 +5,8 @@ use Rattle.layout_check.specs.declared.rule.LayoutRule.{LayoutRule}
 use Rattle.layout_check.specs.declared.rule.LayoutRule.TheVariants as rules
 use Rattle.layout_check.specs.declared.rule.Numbers.{Numbers}
 use Rattle.layout_check.specs.Rules.{Node, fails, fault_if, first_below, in_order}
-use Rattle.layout_check.specs.Walk.{Steps, fault_at, fault_by, first_some, node_fault}
+use Rattle.schema_check.specs.Ways.{Steps}
+use Rattle.layout_check.specs.Walk.{fault_at, fault_by, first_some, node_fault}
 use Rattle.layout_check.proofs.Firsts.{first_below-none_at}
 use Rattle.layout_check.proofs.Lawful.{left-none, right-none}
 

@@ -4,11 +4,11 @@ use Rattle.std.specs.Prelude.{◌≤ℤ◌}
 use Rattle.fmt_string.specs.declared.kind.DataType.TheVariants as kinds
 use Rattle.tree_model.specs.Tree.{IsLive, Released, Live, Trees, MaybeTree, absent, trees, child_at, children_of}
 use Rattle.raw_array.specs.Members.{ArrayMembers, ArrayTree, members_of}
-use Rattle.layout_check.specs.Kinds.{KindTree}
+use Rattle.schema_check.specs.Kinds.{KindTree}
 use Rattle.layout_check.specs.Layout.{end, natural}
 use Rattle.layout_check.specs.Values.{tree_items}
 use Rattle.layout_check.specs.Walk.{LayoutOk}
-use Rattle.layout_check.specs.ColumnKinds.{table_type}
+use Rattle.schema_check.specs.ColumnKinds.{table_type}
 use Rattle.array_laws.proofs.ChunkParts.{struct-facts}
 use Rattle.array_laws.proofs.LawfulNodes.{lawful-live}
 

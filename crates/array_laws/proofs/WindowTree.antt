@@ -10,7 +10,7 @@ use Rattle.fmt_string.specs.Value.{Null}
 use Rattle.tree_model.specs.Tree.{IsLive, Released, Live, Trees, MaybeTree}
 use Rattle.raw_array.specs.Members.{ArrayMembers, ArrayTree, members_of, windowed}
 use Rattle.raw_array.specs.Windows.{FitsWindow, Window}
-use Rattle.layout_check.specs.Kinds.{KindTree}
+use Rattle.schema_check.specs.Kinds.{KindTree}
 use Rattle.layout_check.specs.Layout.{first, items, natural}
 use Rattle.layout_check.specs.Rules.{null_total}
 use Rattle.layout_check.specs.Values.{each, row_items, rows_of, tree_items, value_at, values_of}

@@ -8,10 +8,10 @@ use Rattle.fmt_string.specs.Value.{Value, Bytes, Whole}
 use Rattle.tree_model.specs.Tree.{Live, no_trees, absent, trees}
 use Rattle.raw_array.specs.Members.{Buffer, ArrayTree}
 use Rattle.raw_array.specs.declared.array.ReleaseKind.TheVariants.{Assembled, Exported}
-use Rattle.layout_check.specs.Kinds.{KindTree}
+use Rattle.schema_check.specs.Kinds.{KindTree}
 use Rattle.layout_check.specs.Values.{rows_of}
 use Rattle.layout_check.specs.Walk.{first_chunk_fault}
-use Rattle.layout_check.specs.ColumnKinds.{table_type}
+use Rattle.schema_check.specs.ColumnKinds.{table_type}
 
 abbrev pub bytes : List ℕ → Option Buffer
 bytes bs = Some (record { bytes = bs; amount = 7 })

@@ -13,8 +13,8 @@ use Rattle.fmt_string.specs.declared.storage.Storage.TheVariants as stored
 use Rattle.col_build.specs.Holding.{Holds, HoldsWholes, Takes as IsTaken}
 use Rattle.col_build.specs.declared.builder.Builder.{Builder}
 use Rattle.raw_array.specs.Members.{ArrayTree}
-use Rattle.layout_check.specs.ColumnKinds.{type_of_kind}
-use Rattle.layout_check.specs.Kinds.{KindTree}
+use Rattle.schema_check.specs.ColumnKinds.{type_of_kind}
+use Rattle.schema_check.specs.Kinds.{KindTree}
 use Rattle.layout_check.specs.Values.{value_at}
 use Rattle.arr_import.specs.Window.{Window, item_at, whole}
 use Rattle.stream_face.specs.Lawful.{AreValues}

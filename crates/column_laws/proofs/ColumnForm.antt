@@ -3,10 +3,10 @@ use Rattle.std.proofs.Common.{◌≡◌, ℕ, List, length, map, arith}
 use Rattle.fmt_string.specs.Value.{Null}
 use Rattle.tree_model.specs.Tree.{Released}
 use Rattle.raw_array.specs.Members.{ArrayTree}
-use Rattle.layout_check.specs.Kinds.{KindTree}
+use Rattle.schema_check.specs.Kinds.{KindTree}
 use Rattle.layout_check.specs.Values.{rows_of}
 use Rattle.layout_check.specs.Walk.{ChunkOk, LayoutOk}
-use Rattle.layout_check.specs.ColumnKinds.{table_type}
+use Rattle.schema_check.specs.ColumnKinds.{table_type}
 use Rattle.arr_move.specs.TreeActs.{Columns, FitParentWindow, InRange}
 use Rattle.array_laws.proofs.StructParts.{children-are, of-struct}
 use Rattle.column_laws.proofs.PackedColumns.{pack-chunk, pack-rows}

@@ -5,8 +5,8 @@ use Rattle.fmt_string.specs.ColumnView.{members}
 use Rattle.fmt_string.specs.declared.kind.DataType.{DataType}
 use Rattle.fmt_string.specs.declared.kind.DataType.TheVariants as kinds
 use Rattle.tree_model.specs.Tree.{IsLive, Live, Released, absent, Trees, trees, more_trees}
-use Rattle.layout_check.specs.Kinds.{AllNodesOk, KindTree, NodesOk}
-use Rattle.layout_check.specs.ColumnKinds.{table_type, type_of_column, type_of_kind, types_of_columns, types_of_members}
+use Rattle.schema_check.specs.Kinds.{AllNodesOk, KindTree, NodesOk}
+use Rattle.schema_check.specs.ColumnKinds.{table_type, type_of_column, type_of_kind, types_of_columns, types_of_members}
 use Rattle.column_laws.proofs.PickedColumns.{head-within, tail-within}
 use Rattle.fmt_string.specs.Parts.{AreWithin, member_columns, picked}
 use Rattle.column_laws.specs.Picking.{AreLive}

@@ -7,11 +7,11 @@ use Rattle.fmt_string.specs.Value.{Value, Null, Fields, values}
 use Rattle.tree_model.specs.Tree.{Released, Live, Trees, MaybeTree, absent, trees, tree_list}
 use Rattle.tree_model.proofs.Lists.{tree_list-trees}
 use Rattle.raw_array.specs.Members.{ArrayMembers, ArrayTree, members_of}
-use Rattle.layout_check.specs.Kinds.{KindTree}
+use Rattle.schema_check.specs.Kinds.{KindTree}
 use Rattle.layout_check.specs.Layout.{first, items}
 use Rattle.layout_check.specs.Values.{each, field_items, readers, row_items, rows_of, tree_items, value_at}
 use Rattle.layout_check.specs.Walk.{ChunkOk, LayoutOk}
-use Rattle.layout_check.specs.ColumnKinds.{table_type}
+use Rattle.schema_check.specs.ColumnKinds.{table_type}
 use Rattle.raw_array.specs.Windows.{Window}
 use Rattle.arr_move.specs.TreeActs.{struct_members}
 use Rattle.array_laws.proofs.ChunkParts.{StructFacts, struct-facts}

@@ -4,10 +4,10 @@ use Rattle.std.proofs.lemmas.List.Elements.{All-cons}
 use Rattle.fmt_string.specs.Value.{Value, Null}
 use Rattle.tree_model.specs.Tree.{IsLive}
 use Rattle.raw_array.specs.Members.{ArrayTree}
-use Rattle.layout_check.specs.Kinds.{KindTree}
+use Rattle.schema_check.specs.Kinds.{KindTree}
 use Rattle.layout_check.specs.Values.{each, field_items, row_items, rows_of, tree_items, value_at, values_of}
 use Rattle.layout_check.specs.Walk.{ChunkOk, LayoutOk}
-use Rattle.layout_check.specs.ColumnKinds.{table_type}
+use Rattle.schema_check.specs.ColumnKinds.{table_type}
 use Rattle.column_laws.proofs.PackedColumns.{like-chunk, like-rows}
 use Rattle.column_laws.proofs.PickedColumns.{map-each}
 use Rattle.column_laws.proofs.StructRows.{CutFacts, all-append, all-drop, all-take, cut-facts, lawful-append, lawful-drop, lawful-take, row-append, row-drop}

@@ -9,8 +9,8 @@ use Rattle.tree_model.specs.Tree.{Released}
 use Rattle.raw_array.specs.Members.{ArrayTree}
 use Rattle.layout_check.specs.Values.{rows_of}
 use Rattle.layout_check.specs.Walk.{ChunkOk}
-use Rattle.layout_check.specs.Kinds.{KindTree}
-use Rattle.layout_check.specs.ColumnKinds.{table_type, type_of_column, type_of_columns, type_of_kind, types_of_columns}
+use Rattle.schema_check.specs.Kinds.{KindTree}
+use Rattle.schema_check.specs.ColumnKinds.{table_type, type_of_column, type_of_columns, type_of_kind, types_of_columns}
 use Rattle.arr_move.specs.TreeActs.{Columns, FitParentWindow, InRange}
 use Rattle.column_laws.proofs.ColumnForm.{chunk-of, chunk-packed, fit-of, range-of, rows-packed, rows-picked}
 use Rattle.column_laws.proofs.ColumnTypes.{struct-type, type-at, type-fields, types-live, types-picked}

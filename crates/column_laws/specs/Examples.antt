@@ -4,8 +4,8 @@ use Rattle.fmt_string.specs.declared.kind.DataType.TheVariants as kinds
 use Rattle.fmt_string.specs.Value.{Value, Fields, values}
 use Rattle.tree_model.specs.Tree.{Live, no_trees, absent}
 use Rattle.raw_array.specs.Members.{ArrayTree}
-use Rattle.layout_check.specs.Kinds.{KindTree}
-use Rattle.layout_check.specs.ColumnKinds.{table_type}
+use Rattle.schema_check.specs.Kinds.{KindTree}
+use Rattle.schema_check.specs.ColumnKinds.{table_type}
 use Rattle.array_laws.specs.Examples.{bytes, chunk, n, shorts, struct, types}
 use Rattle.column_laws.specs.Picking.{Packed, packed_types}
 

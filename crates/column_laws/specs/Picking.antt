@@ -5,8 +5,8 @@ use Rattle.fmt_string.specs.Parts.{picked, replaced}
 use Rattle.tree_model.specs.Tree.{IsLive, Released, Live, absent, trees, children_of}
 use Rattle.raw_array.specs.Members.{ArrayTree, members_of}
 use Rattle.raw_array.specs.Windows.{Window}
-use Rattle.layout_check.specs.Kinds.{KindTree}
-use Rattle.layout_check.specs.ColumnKinds.{table_type}
+use Rattle.schema_check.specs.Kinds.{KindTree}
+use Rattle.schema_check.specs.ColumnKinds.{table_type}
 use Rattle.arr_move.specs.TreeActs.{Columns, cut, struct_members}
 
 -- no type is released

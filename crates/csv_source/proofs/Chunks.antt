@@ -18,7 +18,7 @@ use Rattle.fmt_string.specs.Table.{Column, Kind, Flat, Dict, Columns, Row}
 use Rattle.fmt_string.specs.Value.{Value}
 use Rattle.fmt_string.specs.declared.kind.DataType.{DataType}
 use Rattle.fmt_string.specs.declared.row_fault.RowFault.{RowFault}
-use Rattle.layout_check.specs.ColumnKinds.{type_of_columns}
+use Rattle.schema_check.specs.ColumnKinds.{type_of_columns}
 use Rattle.layout_check.specs.Values.{rows_of}
 use Rattle.layout_check.specs.Walk.{ChunkOk}
 use Rattle.raw_array.specs.Members.{ArrayTree, Cost}

@@ -14,7 +14,7 @@ use Rattle.fmt_string.specs.declared.kind.DataType.TheVariants as kinds
 use Rattle.fmt_string.specs.declared.kind.Tick.TheVariants as ticks
 use Rattle.field_codec.specs.TextColumns.{AreAllowed, AreProper}
 use Rattle.arr_export.specs.SchemaSize.{AreFlat}
-use Rattle.layout_check.specs.ColumnSchema.{KindsOk}
+use Rattle.schema_check.specs.ColumnSchema.{KindsOk}
 use Rattle.stream_face.specs.Lawful.{DictsHaveBytes, column_leaves, leaves}
 
 -- ---- the forms of flat kinds

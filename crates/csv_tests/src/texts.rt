@@ -4,11 +4,11 @@ ghost use Rattle.fmt_string.specs.ColumnView.{column_of};
 ghost use Rattle.raw_schema.specs.Members.{Nodes};
 ghost use Rattle.tree_model.specs.Tree.{Depth, trees, maybe_tree, depth_of_all, depth_of_maybe};
 ghost use Rattle.unit_pass.specs.declared.pass.TheConstants.{CHUNK};
-ghost use Rattle.layout_check.specs.Kinds.{TypedOk};
-ghost use Rattle.layout_check.specs.TypedView.{typed_of};
+ghost use Rattle.schema_check.specs.Kinds.{TypedOk};
+ghost use Rattle.schema_check.specs.TypedView.{typed_of};
 ghost use Rattle.fmt_string.specs.ColumnForms.{AreColumnKinds};
-ghost use Rattle.layout_check.specs.ColumnKinds.{type_of_columns};
-ghost use Rattle.layout_check.specs.ColumnSchema.{KindsOk, SchemaOf};
+ghost use Rattle.schema_check.specs.ColumnKinds.{type_of_columns};
+ghost use Rattle.schema_check.specs.ColumnSchema.{KindsOk, SchemaOf};
 ghost use Rattle.field_codec.specs.TextColumns.{HaveTexts};
 
 use crate::sources::same;

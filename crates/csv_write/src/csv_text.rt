@@ -9,7 +9,7 @@ ghost use Rattle.std.specs.Prelude.{◌≡◌, ◌++◌, ℕ, List, map, IfOk, O
 ghost use Rattle.fmt_string.specs.ColumnView.{column_of};
 ghost use Rattle.fmt_string.specs.Table.{Column};
 ghost use Rattle.csv_model.specs.Text.{header_text, rows_text};
-ghost use Rattle.layout_check.specs.ColumnKinds.{type_of_columns};
+ghost use Rattle.schema_check.specs.ColumnKinds.{type_of_columns};
 ghost use Rattle.arr_import.specs.Cols.{window_of};
 ghost use Rattle.csv_write.specs.CsvTexts.{HasText, rows_in};
 ghost use Rattle.csv_write.specs.Readings.{ReadsChildren};

@@ -7,8 +7,8 @@ use Rattle.fmt_string.specs.Value.{Value, Null}
 use Rattle.fmt_string.specs.declared.kind.DataType.{DataType}
 use Rattle.tree_model.specs.Tree.{Released, Live, children_of}
 use Rattle.raw_array.specs.Members.{ArrayTree, members_of}
-use Rattle.layout_check.specs.ColumnKinds.{type_of_columns}
-use Rattle.layout_check.specs.Kinds.{KindTree}
+use Rattle.schema_check.specs.ColumnKinds.{type_of_columns}
+use Rattle.schema_check.specs.Kinds.{KindTree}
 use Rattle.layout_check.specs.Layout.{natural}
 use Rattle.layout_check.specs.Values.{each, row_items, rows_of, tree_items, value_at}
 use Rattle.arr_export.specs.ArrayTrees.{IsColumn}

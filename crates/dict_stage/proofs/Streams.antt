@@ -19,10 +19,10 @@ use Rattle.unit_pass.specs.Tally.{Tally, risen}
 use Rattle.unit_pass.specs.declared.pass.TheConstants.{CHUNK}
 use Rattle.raw_array.specs.Members.{ArrayTree}
 use Rattle.raw_schema.specs.Members.{Nodes}
-use Rattle.layout_check.specs.ColumnKinds.{type_of_columns}
-use Rattle.layout_check.specs.ColumnSchema.{SchemaOf}
-use Rattle.layout_check.specs.Kinds.{KindTree}
-use Rattle.layout_check.specs.Schemas.{TypedOf}
+use Rattle.schema_check.specs.ColumnKinds.{type_of_columns}
+use Rattle.schema_check.specs.ColumnSchema.{SchemaOf}
+use Rattle.schema_check.specs.Kinds.{KindTree}
+use Rattle.schema_check.specs.Schemas.{TypedOf}
 use Rattle.layout_check.specs.Values.{rows_of}
 use Rattle.column_laws.specs.Picking.{Replaced}
 use Rattle.stage_model.specs.Traffic.{Made, column_blocks, kind_blocks}

@@ -7,8 +7,8 @@ use Rattle.fmt_string.specs.declared.kind.DataType.{DataType}
 use Rattle.fmt_string.specs.Value.{Value}
 use Rattle.unit_pass.specs.Tally.{Tally, risen}
 use Rattle.raw_array.specs.Members.{ArrayTree, Cost}
-use Rattle.layout_check.specs.ColumnKinds.{type_of_columns}
-use Rattle.layout_check.specs.Kinds.{KindTree}
+use Rattle.schema_check.specs.ColumnKinds.{type_of_columns}
+use Rattle.schema_check.specs.Kinds.{KindTree}
 use Rattle.layout_check.specs.Values.{rows_of}
 use Rattle.layout_check.specs.Walk.{ChunkOk}
 use Rattle.arr_import.specs.Window.{Window}

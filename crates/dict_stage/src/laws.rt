@@ -6,7 +6,7 @@ ghost use Rattle.fmt_string.specs.Value.{Value, Null};
 ghost use Rattle.fmt_string.specs.declared.kind.DataType.{DataType as AType};
 ghost use Rattle.tree_model.specs.Tree.{dictionary_at};
 ghost use Rattle.raw_array.specs.Members.{ArrayTree};
-ghost use Rattle.layout_check.specs.ColumnKinds.{type_of_kind};
+ghost use Rattle.schema_check.specs.ColumnKinds.{type_of_kind};
 ghost use Rattle.layout_check.specs.Values.{values_of};
 ghost use Rattle.layout_check.specs.Walk.{LayoutOk};
 ghost use Rattle.column_laws.specs.Picking.{Replaced};

@@ -2,7 +2,7 @@
 use Rattle.std.specs.Prelude.{◌<◌, slice_index_or, ◌≡◌, ℕ, ℤ, pos, ◌+◌, List, length}
 use Rattle.fmt_string.specs.Table.{Row}
 use Rattle.raw_array.specs.Members.{ArrayTree, Cost}
-use Rattle.layout_check.specs.Kinds.{KindTree}
+use Rattle.schema_check.specs.Kinds.{KindTree}
 use Rattle.layout_check.specs.Values.{rows_of}
 use Rattle.layout_check.specs.Walk.{ChunkOk}
 use Rattle.array_laws.specs.Pieces.{border}

@@ -5,7 +5,7 @@ use Rattle.unit_pass.specs.declared.pass.TheConstants.{SUPPLY}
 use Rattle.fmt_string.specs.Table.{Row}
 use Rattle.tree_model.specs.Tree.{Released}
 use Rattle.raw_array.specs.Members.{Cost}
-use Rattle.layout_check.specs.Kinds.{KindTree}
+use Rattle.schema_check.specs.Kinds.{KindTree}
 use Rattle.layout_check.specs.Values.{rows_of}
 use Rattle.layout_check.specs.Walk.{ChunkOk}
 use Rattle.fan_out.specs.Pieces.{GivesPiece, IsChunk}

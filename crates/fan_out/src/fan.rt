@@ -1,8 +1,8 @@
 //! A chunk read by workers.
 ghost use Rattle.std.specs.Prelude.{◌≡◌, ◌-◌, ◌*◌, ◌<◌, ◌≤◌, length, IfOk, OnOk};
 ghost use Rattle.raw_array.specs.Members.{Cost, LeastAmount, Like, LoweredBy};
-ghost use Rattle.layout_check.specs.Kinds.{TypedOk};
-ghost use Rattle.layout_check.specs.TypedView.{typed_of};
+ghost use Rattle.schema_check.specs.Kinds.{TypedOk};
+ghost use Rattle.schema_check.specs.TypedView.{typed_of};
 ghost use Rattle.layout_check.specs.Values.{rows_of};
 ghost use Rattle.layout_check.specs.Walk.{ChunkOk};
 ghost use Rattle.fan_out.specs.Pieces.{GivesPieces};

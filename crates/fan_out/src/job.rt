@@ -1,8 +1,8 @@
 //! What is done on a window of a chunk's rows.
 ghost use Rattle.std.specs.Prelude.{◌≤ℤ◌, ℤ, pos, List, length, IfOk};
 ghost use Rattle.fmt_string.specs.Table.{Row};
-ghost use Rattle.layout_check.specs.Kinds.{KindTree, TypedOk};
-ghost use Rattle.layout_check.specs.TypedView.{typed_of};
+ghost use Rattle.schema_check.specs.Kinds.{KindTree, TypedOk};
+ghost use Rattle.schema_check.specs.TypedView.{typed_of};
 ghost use Rattle.layout_check.specs.Values.{rows_of};
 ghost use Rattle.layout_check.specs.Walk.{ChunkOk};
 

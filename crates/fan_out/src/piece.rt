@@ -1,8 +1,8 @@
 //! One worker's piece.
 ghost use Rattle.std.specs.Prelude.{◌≡◌, ℕ, pos, ◌+◌, ◌<◌, ◌≤◌, ◌≤ℤ◌, length, IfOk};
-ghost use Rattle.layout_check.specs.Kinds.{TypedOk};
+ghost use Rattle.schema_check.specs.Kinds.{TypedOk};
 ghost use Rattle.layout_check.specs.Layout.{natural};
-ghost use Rattle.layout_check.specs.TypedView.{typed_of};
+ghost use Rattle.schema_check.specs.TypedView.{typed_of};
 ghost use Rattle.layout_check.specs.Values.{rows_of};
 ghost use Rattle.layout_check.specs.Walk.{ChunkOk};
 ghost use Rattle.array_laws.specs.Pieces.{border};

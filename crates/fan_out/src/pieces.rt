@@ -5,7 +5,7 @@ ghost use Rattle.std.specs.List.{AllWithin};
 ghost use Rattle.unit_pass.specs.declared.pass.TheConstants.{SUPPLY};
 ghost use Rattle.tree_model.specs.Tree.{Released};
 ghost use Rattle.raw_array.specs.Members.{Cost, LeastAmount, Like, LoweredBy};
-ghost use Rattle.layout_check.specs.TypedView.{typed_of};
+ghost use Rattle.schema_check.specs.TypedView.{typed_of};
 ghost use Rattle.layout_check.specs.Values.{rows_of};
 ghost use Rattle.layout_check.specs.Walk.{ChunkOk};
 ghost use Rattle.fan_out.specs.Workers.{Collected, IsReady, IsReleased, IsUnspent, SameTrees};

@@ -1,8 +1,9 @@
 //! The line of the fault of a tree. The way to a node may be long, so the line is written piece by piece and takes no memory.
 ghost use Rattle.std.specs.Prelude.{◌≡◌, ◌++◌, codes, decimal, flat_map};
 ghost use Rattle.std.specs.Fmt.{signed_decimal};
-ghost use Rattle.layout_check.specs.FaultTexts.{layout_fault_text, rule_text, schema_rule_text, step_text, way_text};
-ghost use Rattle.layout_check.specs.Found.{steps_of};
+ghost use Rattle.schema_check.specs.FaultTexts.{schema_rule_text, step_text, way_text};
+ghost use Rattle.layout_check.specs.FaultTexts.{layout_fault_text, rule_text};
+ghost use Rattle.schema_check.specs.Ways.{steps_of};
 ghost use Rattle.tree_check.specs.FaultTexts.{tree_fault_text};
 ghost use Rattle.tree_text.specs.FaultTexts.{text_fault_text};
 ghost use Rattle.pipe_top.specs.Told.{Says, line_of};

@@ -5,7 +5,7 @@ use Rattle.std.proofs.lemmas.List.Sums.{sum_by-cons}
 use Rattle.fmt_string.specs.Table.{Column, Kind, Flat, Dict, Columns, Members, no_members, more_members}
 use Rattle.tree_model.specs.Tree.{Depth, depth_of_all, trees}
 use Rattle.raw_schema.specs.Members.{Nodes, nodes_of_all}
-use Rattle.layout_check.specs.ColumnSchema.{SchemaOf, column_schema, member_schemas, schema_of_column}
+use Rattle.schema_check.specs.ColumnSchema.{SchemaOf, column_schema, member_schemas, schema_of_column}
 use Rattle.stage_model.specs.Traffic.{Made, kind_nodes, member_nodes, table_nodes}
 use Rattle.stream_face.specs.Lawful.{column_leaves, leaves, member_leaves}
 use Rattle.stage_kernels.specs.Structs.{column_structs, member_structs, structs}

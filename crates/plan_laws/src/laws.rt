@@ -4,7 +4,7 @@ ghost use Rattle.fmt_string.specs.ColumnForms.{AreColumnKinds};
 ghost use Rattle.fmt_string.specs.Table.{Column};
 ghost use Rattle.tree_model.specs.Tree.{Depth};
 ghost use Rattle.raw_schema.specs.Members.{Nodes};
-ghost use Rattle.layout_check.specs.ColumnSchema.{SchemaOf};
+ghost use Rattle.schema_check.specs.ColumnSchema.{SchemaOf};
 ghost use Rattle.stage_model.specs.Traffic.{Made, table_nodes};
 ghost use Rattle.stage_model.specs.Typing.{IsStageOver, Stage, most_columns};
 ghost use Rattle.stream_face.specs.Lawful.{DictsHaveBytes, column_leaves};

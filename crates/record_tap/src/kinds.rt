@@ -1,8 +1,8 @@
 //! The kinds of a schema once more.
 ghost use Rattle.std.specs.Prelude.{◌≡◌, IfOk, map};
 ghost use Rattle.tree_model.specs.Tree.{trees};
-ghost use Rattle.layout_check.specs.Kinds.{AllNodesOk, NodesOk};
-ghost use Rattle.layout_check.specs.TypedView.{typed_of};
+ghost use Rattle.schema_check.specs.Kinds.{AllNodesOk, NodesOk};
+ghost use Rattle.schema_check.specs.TypedView.{typed_of};
 
 use fmt_string::clone_kind;
 use layout_check::{Typed, kinds_of_typed};

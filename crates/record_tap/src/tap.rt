@@ -1,7 +1,7 @@
 //! A tap that keeps what it is shown.
 ghost use Rattle.std.specs.Prelude.{◌≡◌, [], IfOk, map};
-ghost use Rattle.layout_check.specs.Schemas.{TypedOf};
-ghost use Rattle.layout_check.specs.TypedView.{typed_of};
+ghost use Rattle.schema_check.specs.Schemas.{TypedOf};
+ghost use Rattle.schema_check.specs.TypedView.{typed_of};
 ghost use Rattle.layout_check.specs.Walk.{ChunkOk};
 ghost use Rattle.stream_face.specs.Shown.{seen_of};
 ghost use Rattle.record_tap.specs.SeenChunks.{seen_by, seen_in};

@@ -6,7 +6,7 @@ use Rattle.std.proofs.lemmas.Bool.Decides.{eqb_tells}
 use Rattle.std.proofs.lemmas.List.Sums.{sum_by-cons}
 use Rattle.fmt_string.specs.Table.{Column, Row}
 use Rattle.raw_schema.specs.Members.{Nodes}
-use Rattle.layout_check.specs.ColumnSchema.{SchemaOf}
+use Rattle.schema_check.specs.ColumnSchema.{SchemaOf}
 use Rattle.unit_pass.specs.Tally.{Tally, risen}
 use Rattle.stage_model.specs.Links.{Link, links_behind}
 use Rattle.stage_model.specs.Stages.{chunks_after}

@@ -5,8 +5,8 @@ use Rattle.fmt_string.specs.Parts.{fields_of, value_list}
 use Rattle.fmt_string.specs.Table.{Row}
 use Rattle.fmt_string.specs.Value.{Value, Values, Fields, no_values, more_values, values}
 use Rattle.raw_array.specs.Members.{ArrayTree}
-use Rattle.layout_check.specs.ColumnKinds.{table_type}
-use Rattle.layout_check.specs.Kinds.{KindTree}
+use Rattle.schema_check.specs.ColumnKinds.{table_type}
+use Rattle.schema_check.specs.Kinds.{KindTree}
 use Rattle.layout_check.specs.Values.{each, row_items, rows_of, values_of}
 use Rattle.arr_export.specs.ArrayTrees.{table_tree}
 use Rattle.stream_face.specs.Lawful.{HasFields}

@@ -15,7 +15,7 @@ use Rattle.tree_model.specs.Tree.{Depth, Released, IsLive, child_at}
 use Rattle.unit_pass.specs.Tally.{Tally, risen}
 use Rattle.unit_pass.specs.declared.pass.TheConstants.{CHUNK}
 use Rattle.raw_array.specs.Members.{ArrayTree, Cost, Like}
-use Rattle.layout_check.specs.ColumnKinds.{type_of_columns}
+use Rattle.schema_check.specs.ColumnKinds.{type_of_columns}
 use Rattle.layout_check.specs.Values.{rows_of}
 use Rattle.layout_check.specs.Walk.{ChunkOk}
 use Rattle.stage_model.specs.Stages.{passes, rows_after}

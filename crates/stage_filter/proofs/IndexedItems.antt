@@ -15,8 +15,8 @@ use Rattle.tree_model.specs.Tree.{Depth, Released, Live, IsLive, Trees, no_trees
 use Rattle.raw_array.specs.Members.{ArrayMembers, ArrayTree, members_of}
 use Rattle.col_build.specs.Encoding.{Fits}
 use Rattle.col_build.specs.Finished.{blocks_of}
-use Rattle.layout_check.specs.ColumnKinds.{type_of_kind}
-use Rattle.layout_check.specs.Kinds.{KindTree}
+use Rattle.schema_check.specs.ColumnKinds.{type_of_kind}
+use Rattle.schema_check.specs.Kinds.{KindTree}
 use Rattle.layout_check.specs.Layout.{IsLong, buffer, bytes, end, first, is_valid, natural, stored_number}
 use Rattle.layout_check.specs.Rules.{one_if}
 use Rattle.layout_check.specs.Values.{each, tree_items, value_at, values_of}

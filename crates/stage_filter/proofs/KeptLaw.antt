@@ -10,8 +10,8 @@ use Rattle.fmt_string.specs.declared.kind.DataType.TheVariants as kinds
 use Rattle.tree_model.specs.Tree.{Live, IsLive, Released, Trees, absent, child_at, children_of, dictionary_at, trees, tree_list}
 use Rattle.tree_model.proofs.Lists.{tree_list-trees, trees-tree_list}
 use Rattle.raw_array.specs.Members.{ArrayTree, members_of}
-use Rattle.layout_check.specs.ColumnKinds.{table_type, type_of_column, type_of_columns, type_of_kind, types_of_columns, types_of_members}
-use Rattle.layout_check.specs.Kinds.{KindTree}
+use Rattle.schema_check.specs.ColumnKinds.{table_type, type_of_column, type_of_columns, type_of_kind, types_of_columns, types_of_members}
+use Rattle.schema_check.specs.Kinds.{KindTree}
 use Rattle.layout_check.specs.Layout.{first}
 use Rattle.layout_check.specs.Values.{field_items, readers, row_items, rows_of, tree_items, value_at, values_of}
 use Rattle.layout_check.specs.Walk.{ChunkOk, LayoutOk}

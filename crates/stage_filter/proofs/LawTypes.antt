@@ -5,8 +5,8 @@ use Rattle.fmt_string.specs.declared.kind.DataType.{DataType}
 use Rattle.tree_model.specs.Tree.{IsLive}
 use Rattle.raw_array.specs.Members.{ArrayTree}
 use Rattle.col_build.specs.Encoding.{Fits}
-use Rattle.layout_check.specs.ColumnKinds.{table_type}
-use Rattle.layout_check.specs.Kinds.{KindTree}
+use Rattle.schema_check.specs.ColumnKinds.{table_type}
+use Rattle.schema_check.specs.Kinds.{KindTree}
 use Rattle.layout_check.specs.Lawful.{ItemsHold, PartsHold, RootHolds}
 use Rattle.layout_check.specs.Values.{rows_of, tree_items, values_of}
 use Rattle.layout_check.specs.Walk.{ChunkOk, LayoutOk}

@@ -4,8 +4,8 @@ use Rattle.fmt_string.specs.Table.{Column, Row, Kind, Flat, Dict, Columns, Membe
 use Rattle.fmt_string.specs.Value.{Value, Null}
 use Rattle.tree_model.specs.Tree.{Released, Live, Trees, no_trees, more_trees, absent, present, AllAlike, child_at, children_of, dictionary_at, tree_list}
 use Rattle.raw_array.specs.Members.{ArrayMembers, ArrayTree, Cost, Like, LikeMembers}
-use Rattle.layout_check.specs.ColumnKinds.{type_of_columns}
-use Rattle.layout_check.specs.Kinds.{KindTree}
+use Rattle.schema_check.specs.ColumnKinds.{type_of_columns}
+use Rattle.schema_check.specs.Kinds.{KindTree}
 use Rattle.layout_check.specs.Values.{rows_of, values_of}
 use Rattle.layout_check.specs.Walk.{ChunkOk}
 use Rattle.stream_face.specs.Lawful.{DictsAreFull, IsTable, MemberDictsAreFull}

@@ -6,7 +6,7 @@ use Rattle.tree_model.specs.Tree.{dictionary_at}
 use Rattle.unit_pass.specs.Tally.{Tally, risen}
 use Rattle.raw_array.specs.Members.{ArrayTree, Cost}
 use Rattle.col_build.specs.Finished.{blocks_of}
-use Rattle.layout_check.specs.ColumnKinds.{type_of_kind}
+use Rattle.schema_check.specs.ColumnKinds.{type_of_kind}
 use Rattle.arr_export.specs.ArrayTrees.{column_tree}
 use Rattle.stage_model.specs.Traffic.{Moved, kind_blocks}
 use Rattle.column_fill.proofs.ColumnBlocks.{blocks-are}

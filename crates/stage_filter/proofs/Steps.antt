@@ -16,8 +16,8 @@ use Rattle.unit_pass.specs.Tally.{Tally, risen}
 use Rattle.unit_pass.specs.declared.no_memory.NoMemory.{NoMemory}
 use Rattle.raw_array.specs.Members.{ArrayTree, members_of}
 use Rattle.arr_export.specs.ArrayTrees.{table_tree}
-use Rattle.layout_check.specs.ColumnKinds.{table_type, type_of_column, type_of_columns, type_of_kind, types_of_columns, types_of_members}
-use Rattle.layout_check.specs.Kinds.{KindTree}
+use Rattle.schema_check.specs.ColumnKinds.{table_type, type_of_column, type_of_columns, type_of_kind, types_of_columns, types_of_members}
+use Rattle.schema_check.specs.Kinds.{KindTree}
 use Rattle.layout_check.specs.Layout.{end, first, is_valid}
 use Rattle.layout_check.specs.Values.{field_items, readers, row_items, tree_items, value_at}
 use Rattle.layout_check.specs.Walk.{LayoutOk}

@@ -7,8 +7,8 @@ use Rattle.fmt_string.specs.declared.kind.ColumnType.{ColumnType}
 use Rattle.tree_model.specs.Tree.{Depth, child_at}
 use Rattle.unit_pass.specs.declared.pass.TheConstants.{CHUNK}
 use Rattle.raw_array.specs.Members.{ArrayTree}
-use Rattle.layout_check.specs.ColumnKinds.{type_of_columns}
-use Rattle.layout_check.specs.Kinds.{KindTree}
+use Rattle.schema_check.specs.ColumnKinds.{type_of_columns}
+use Rattle.schema_check.specs.Kinds.{KindTree}
 use Rattle.layout_check.specs.Values.{rows_of, tree_items}
 use Rattle.layout_check.specs.Walk.{ChunkOk}
 use Rattle.arr_import.specs.Window.{child_window, whole}

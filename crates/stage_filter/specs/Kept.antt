@@ -7,7 +7,7 @@ use Rattle.fmt_string.specs.Table.{Row}
 use Rattle.fmt_string.specs.Value.{Value, Null, Whole}
 use Rattle.bit_pack.specs.Packed.{meant, number_at}
 use Rattle.raw_array.specs.Members.{ArrayTree}
-use Rattle.layout_check.specs.Kinds.{KindTree}
+use Rattle.schema_check.specs.Kinds.{KindTree}
 use Rattle.layout_check.specs.Layout.{is_valid_by}
 use Rattle.layout_check.specs.Values.{each, row_items, value_at}
 use Rattle.arr_import.specs.Window.{Window, item_at}

@@ -8,7 +8,7 @@ use Rattle.tree_model.specs.Tree.{Depth, child_at, children_of}
 use Rattle.unit_pass.specs.Tally.{Tally, risen}
 use Rattle.unit_pass.specs.declared.pass.TheConstants.{CHUNK}
 use Rattle.raw_array.specs.Members.{ArrayTree, Cost, members_of}
-use Rattle.layout_check.specs.ColumnKinds.{type_of_columns, type_of_kind}
+use Rattle.schema_check.specs.ColumnKinds.{type_of_columns, type_of_kind}
 use Rattle.layout_check.specs.Layout.{first}
 use Rattle.layout_check.specs.Values.{tree_items}
 use Rattle.layout_check.specs.Walk.{LayoutOk}

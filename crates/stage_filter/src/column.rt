@@ -4,9 +4,9 @@ ghost use Rattle.fmt_string.specs.Table.{Flat};
 ghost use Rattle.unit_pass.specs.declared.pass.TheConstants.{SUPPLY};
 ghost use Rattle.raw_array.specs.Members.{Cost};
 ghost use Rattle.col_build.specs.Holding.{Holds};
-ghost use Rattle.layout_check.specs.ColumnKinds.{type_of_kind};
-ghost use Rattle.layout_check.specs.Kinds.{TypedOk};
-ghost use Rattle.layout_check.specs.TypedView.{typed_of};
+ghost use Rattle.schema_check.specs.ColumnKinds.{type_of_kind};
+ghost use Rattle.schema_check.specs.Kinds.{TypedOk};
+ghost use Rattle.schema_check.specs.TypedView.{typed_of};
 ghost use Rattle.stage_filter.specs.Kept.{values_at};
 ghost use Rattle.stage_filter.specs.Moving.{CanMove, IsMoved};
 

@@ -1,8 +1,8 @@
 //! The rows that pass are the same by any number of workers.
 ghost use Rattle.std.specs.Prelude.{◌≡◌, ◌≤◌, length};
 ghost use Rattle.tree_model.specs.Tree.{children_of, depth_of_all, trees};
-ghost use Rattle.layout_check.specs.Kinds.{TypedOk};
-ghost use Rattle.layout_check.specs.TypedView.{typed_of};
+ghost use Rattle.schema_check.specs.Kinds.{TypedOk};
+ghost use Rattle.schema_check.specs.TypedView.{typed_of};
 ghost use Rattle.layout_check.specs.Values.{rows_of};
 ghost use Rattle.layout_check.specs.Walk.{ChunkOk};
 ghost use Rattle.raw_array.specs.Members.{Cost};

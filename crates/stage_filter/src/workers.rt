@@ -2,9 +2,9 @@
 ghost use Rattle.std.specs.Prelude.{◌≡◌, ◌*◌, ◌-◌, ◌≤◌, length, vec_len, IfOk};
 ghost use Rattle.std.specs.List.{flat_map};
 ghost use Rattle.raw_array.specs.Members.{Cost, Like};
-ghost use Rattle.layout_check.specs.Kinds.{TypedOk};
+ghost use Rattle.schema_check.specs.Kinds.{TypedOk};
 ghost use Rattle.layout_check.specs.Layout.{natural};
-ghost use Rattle.layout_check.specs.TypedView.{typed_of};
+ghost use Rattle.schema_check.specs.TypedView.{typed_of};
 ghost use Rattle.layout_check.specs.Values.{rows_of, tree_items};
 ghost use Rattle.layout_check.specs.Walk.{ChunkOk};
 ghost use Rattle.arr_import.specs.Window.{child_window, whole};

@@ -8,8 +8,8 @@ use Rattle.fmt_string.specs.declared.kind.DataType.TheVariants as kinds
 use Rattle.tree_model.specs.Tree.{IsLive, Released, Live, Trees, no_trees, more_trees, MaybeTree, absent, present, tree_list, option_tree}
 use Rattle.tree_model.proofs.Lists.{tree_list-trees}
 use Rattle.raw_array.specs.Members.{ArrayMembers, ArrayTree, Buffer, Cost, cost_of_all, cost_of_maybe, holds_of}
-use Rattle.layout_check.specs.ColumnKinds.{type_of_column, type_of_columns, type_of_kind, types_of_columns, types_of_members}
-use Rattle.layout_check.specs.Kinds.{KindTree}
+use Rattle.schema_check.specs.ColumnKinds.{type_of_column, type_of_columns, type_of_kind, types_of_columns, types_of_members}
+use Rattle.schema_check.specs.Kinds.{KindTree}
 use Rattle.layout_check.specs.Lawful.{PartsHold, RootHolds}
 use Rattle.layout_check.specs.Layout.{buffer_count, layout_of}
 use Rattle.layout_check.specs.Rules.{one_if}

@@ -14,7 +14,7 @@ use Rattle.fmt_string.specs.declared.kind.ColumnType.{ColumnType}
 use Rattle.tree_model.specs.Tree.{Released, IsLive, child_at}
 use Rattle.tree_model.proofs.Lists.{tree_list-trees}
 use Rattle.raw_array.specs.Members.{ArrayTree, Cost, members_of}
-use Rattle.layout_check.specs.ColumnKinds.{type_of_columns}
+use Rattle.schema_check.specs.ColumnKinds.{type_of_columns}
 use Rattle.layout_check.specs.Values.{rows_of}
 use Rattle.layout_check.specs.Walk.{ChunkOk}
 use Rattle.arr_move.specs.TreeActs.{Columns}

@@ -16,10 +16,10 @@ use Rattle.fmt_string.specs.declared.kind.ColumnType.{ColumnType}
 use Rattle.tree_model.specs.Tree.{Depth, Released, Live, Trees, no_trees, more_trees, MaybeTree, absent, present, trees, depth_of_all, depth_of_maybe}
 use Rattle.raw_schema.specs.Members.{Nodes, SchemaMembers, SchemaTree}
 use Rattle.fmt_string.specs.declared.kind.DataType.{DataType}
-use Rattle.layout_check.specs.ColumnKinds.{type_of_column, type_of_columns, types_of_columns, types_of_members}
-use Rattle.layout_check.specs.ColumnSchema.{SchemaOf, member_schemas, schema_of_column}
-use Rattle.layout_check.specs.Kinds.{KindTree}
-use Rattle.layout_check.specs.Schemas.{DictTyped, KidsTyped, TypedFrom, TypedOf}
+use Rattle.schema_check.specs.ColumnKinds.{type_of_column, type_of_columns, types_of_columns, types_of_members}
+use Rattle.schema_check.specs.ColumnSchema.{SchemaOf, member_schemas, schema_of_column}
+use Rattle.schema_check.specs.Kinds.{KindTree}
+use Rattle.schema_check.specs.Schemas.{DictTyped, KidsTyped, TypedFrom, TypedOf}
 use Rattle.arr_move.specs.TreeActs.{Distinct}
 use Rattle.stream_face.specs.Lawful.{AreFieldItems, AreItems, DictsHaveBytes, HasFields, IsTable, LawfulColumns, LawfulTables, MemberDictsHaveBytes}
 use Rattle.stream_face.specs.Lawful.{column_leaves, leaves, member_leaves, total_rows}

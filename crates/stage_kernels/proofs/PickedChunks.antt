@@ -15,11 +15,11 @@ use Rattle.raw_array.specs.Windows.{Window, is_whole}
 use Rattle.raw_schema.specs.Members.{SchemaTree, coded_schema}
 use Rattle.unit_pass.specs.Tally.{Tally, risen}
 use Rattle.unit_pass.specs.declared.no_memory.NoMemory.{NoMemory}
-use Rattle.layout_check.specs.Kinds.{KindTree}
+use Rattle.schema_check.specs.Kinds.{KindTree}
 use Rattle.layout_check.specs.Walk.{ChunkOk}
 use Rattle.layout_check.specs.Values.{rows_of}
-use Rattle.layout_check.specs.ColumnKinds.{type_of_columns}
-use Rattle.layout_check.specs.ColumnSchema.{SchemaOf}
+use Rattle.schema_check.specs.ColumnKinds.{type_of_columns}
+use Rattle.schema_check.specs.ColumnSchema.{SchemaOf}
 use Rattle.arr_move.specs.TreeActs.{Columns, Distinct, cut}
 use Rattle.stream_face.specs.Calls.{Answers, Counts}
 use Rattle.stream_face.specs.Lawful.{DictsAreFull, MemberDictsAreFull}

@@ -11,9 +11,9 @@ use Rattle.fmt_string.specs.Value.{Value, Null}
 use Rattle.fmt_string.specs.declared.kind.ColumnType.{ColumnType}
 use Rattle.tree_model.specs.Tree.{Depth, trees, depth_of_all}
 use Rattle.raw_schema.specs.Members.{Nodes, nodes_of_all}
-use Rattle.layout_check.specs.ColumnKinds.{type_of_column, type_of_columns, types_of_columns}
-use Rattle.layout_check.specs.ColumnSchema.{SchemaOf, schema_of_column}
-use Rattle.layout_check.specs.Schemas.{KidsTyped, TypedFrom, TypedOf}
+use Rattle.schema_check.specs.ColumnKinds.{type_of_column, type_of_columns, types_of_columns}
+use Rattle.schema_check.specs.ColumnSchema.{SchemaOf, schema_of_column}
+use Rattle.schema_check.specs.Schemas.{KidsTyped, TypedFrom, TypedOf}
 use Rattle.arr_move.specs.TreeActs.{Distinct}
 use Rattle.stream_face.specs.Lawful.{AreItems, DictsHaveBytes, IsTable, LawfulColumns, LawfulTables, column_leaves, leaves, total_rows}
 use Rattle.stage_kernels.specs.Picks.{PickFits, no_column, picked_columns, picked_rows}

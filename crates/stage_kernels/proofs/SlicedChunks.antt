@@ -8,8 +8,8 @@ use Rattle.fmt_string.specs.Table.{Column, Row}
 use Rattle.tree_model.specs.Tree.{IsLive, Live, Released, children_of}
 use Rattle.raw_array.specs.Members.{ArrayTree, Cost, windowed}
 use Rattle.raw_array.specs.Windows.{Window, is_whole}
-use Rattle.layout_check.specs.ColumnKinds.{type_of_columns}
-use Rattle.layout_check.specs.Kinds.{KindTree}
+use Rattle.schema_check.specs.ColumnKinds.{type_of_columns}
+use Rattle.schema_check.specs.Kinds.{KindTree}
 use Rattle.layout_check.specs.Values.{rows_of, tree_items}
 use Rattle.layout_check.specs.Walk.{ChunkOk, LayoutOk}
 use Rattle.stage_model.specs.Stages.{is_within, sliced, sliced_chunks, unless_empty, window_end, window_start}

@@ -11,10 +11,10 @@ use Rattle.tree_model.specs.Tree.{Released, IsLive, children_of, child_at}
 use Rattle.tree_model.proofs.Lists.{tree_list-trees}
 use Rattle.raw_array.specs.Members.{ArrayTree, Cost, members_of}
 use Rattle.unit_pass.specs.Tally.{Tally, risen}
-use Rattle.layout_check.specs.Kinds.{KindTree}
+use Rattle.schema_check.specs.Kinds.{KindTree}
 use Rattle.layout_check.specs.Walk.{ChunkOk, LayoutOk}
 use Rattle.layout_check.specs.Values.{rows_of}
-use Rattle.layout_check.specs.ColumnKinds.{table_type, type_of_column, type_of_columns, types_of_columns}
+use Rattle.schema_check.specs.ColumnKinds.{table_type, type_of_column, type_of_columns, types_of_columns}
 use Rattle.column_laws.specs.Picking.{Unpacked, cut_children}
 use Rattle.stage_model.specs.Stages.{chunks_after}
 use Rattle.stage_model.specs.Typing.{column_at, no_column}

@@ -14,9 +14,9 @@ use Rattle.fmt_string.specs.Value.{Value, Null, Truth, Whole, Bits, Bytes, Items
 use Rattle.fmt_string.specs.declared.kind.ColumnType.{ColumnType}
 use Rattle.tree_model.specs.Tree.{Depth, trees, more_trees, depth_of_all}
 use Rattle.raw_schema.specs.Members.{Nodes, nodes_of_all}
-use Rattle.layout_check.specs.ColumnKinds.{type_of_columns}
-use Rattle.layout_check.specs.ColumnSchema.{SchemaOf, schema_of_column, member_schemas}
-use Rattle.layout_check.specs.Schemas.{TypedOf}
+use Rattle.schema_check.specs.ColumnKinds.{type_of_columns}
+use Rattle.schema_check.specs.ColumnSchema.{SchemaOf, schema_of_column, member_schemas}
+use Rattle.schema_check.specs.Schemas.{TypedOf}
 use Rattle.stage_model.specs.Typing.{column_at, no_column, struct_members}
 use Rattle.stream_face.specs.Lawful.{AreFieldItems, AreItems, DictsHaveBytes, HasFields, IsTable, LawfulColumns, LawfulTables, MemberDictsHaveBytes}
 use Rattle.stream_face.specs.Lawful.{column_leaves, leaves, member_leaves, total_rows}

@@ -2,7 +2,7 @@
 ghost use Rattle.std.specs.Prelude.{◌≤◌, ◌+◌, ◌*◌, List, All};
 ghost use Rattle.fmt_string.specs.ColumnForms.{AreColumnKinds};
 ghost use Rattle.fmt_string.specs.Table.{Column};
-ghost use Rattle.layout_check.specs.ColumnKinds.{type_of_columns};
+ghost use Rattle.schema_check.specs.ColumnKinds.{type_of_columns};
 ghost use Rattle.layout_check.specs.Walk.{ChunkOk};
 ghost use Rattle.raw_array.specs.Members.{ArrayTree, Cost};
 ghost use Rattle.stage_kernels.specs.Structs.{column_structs};

@@ -7,7 +7,7 @@ ghost use Rattle.raw_array.specs.Members.{Cost, cost_of_all, members_of};
 ghost use Rattle.raw_array.specs.Windows.{FitsWindow};
 ghost use Rattle.unit_pass.specs.Tally.{risen};
 ghost use Rattle.unit_pass.specs.declared.pass.TheConstants.{SUPPLY};
-ghost use Rattle.layout_check.specs.ColumnKinds.{type_of_columns};
+ghost use Rattle.schema_check.specs.ColumnKinds.{type_of_columns};
 ghost use Rattle.layout_check.specs.Layout.{natural};
 ghost use Rattle.layout_check.specs.Walk.{ChunkOk};
 ghost use Rattle.arr_move.specs.TreeActs.{Distinct, FitParentWindow, InRange};

@@ -5,7 +5,7 @@ ghost use Rattle.fmt_string.specs.Table.{Column};
 ghost use Rattle.raw_array.specs.Members.{Cost};
 ghost use Rattle.raw_array.specs.Windows.{Window};
 ghost use Rattle.unit_pass.specs.declared.pass.TheConstants.{SUPPLY};
-ghost use Rattle.layout_check.specs.ColumnKinds.{type_of_columns};
+ghost use Rattle.schema_check.specs.ColumnKinds.{type_of_columns};
 ghost use Rattle.layout_check.specs.Values.{tree_items};
 ghost use Rattle.layout_check.specs.Walk.{ChunkOk};
 ghost use Rattle.stage_model.specs.Stages.{chunks_after};

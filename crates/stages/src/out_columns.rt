@@ -5,7 +5,7 @@ ghost use Rattle.unit_pass.specs.declared.pass.TheConstants.{CHUNK};
 ghost use Rattle.fmt_string.specs.ColumnView.{column_of};
 ghost use Rattle.tree_model.specs.Tree.{Depth};
 ghost use Rattle.raw_schema.specs.Members.{Nodes};
-ghost use Rattle.layout_check.specs.ColumnSchema.{KindsOk, SchemaOf};
+ghost use Rattle.schema_check.specs.ColumnSchema.{KindsOk, SchemaOf};
 
 use arr_export::export_schema;
 use fmt_string::ColumnType;
@@ -29,7 +29,7 @@ impl Model for OutColumns {
     ghost use Rattle.fmt_string.specs.ColumnView.{column_of};
     ghost use Rattle.fmt_string.specs.declared.kind.ColumnType.{ColumnType};
     ghost use Rattle.fmt_string.specs.contracts.kind.ColumnType as columns;
-    ghost use Rattle.layout_check.specs.ColumnSchema.{KindsOk, SchemaOf};
+    ghost use Rattle.schema_check.specs.ColumnSchema.{KindsOk, SchemaOf};
 
     ghost Value = { List ColumnType };
 

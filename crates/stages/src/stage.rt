@@ -7,7 +7,7 @@ ghost use Rattle.raw_array.specs.Members.{ArrayTree, Cost};
 ghost use Rattle.raw_schema.specs.Members.{Nodes};
 ghost use Rattle.unit_pass.specs.Tally.{risen};
 ghost use Rattle.unit_pass.specs.declared.pass.TheConstants.{CHUNK, ROOM};
-ghost use Rattle.layout_check.specs.ColumnSchema.{SchemaOf};
+ghost use Rattle.schema_check.specs.ColumnSchema.{SchemaOf};
 ghost use Rattle.stream_face.specs.Calls.{Answers, Counts, IsCode, IsRowFault, Repeats, Shows, Tells};
 ghost use Rattle.stream_face.specs.Lawful.{LawfulColumns, LawfulTables};
 ghost use Rattle.stream_face.specs.Meaning.{meaning};

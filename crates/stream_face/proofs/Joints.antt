@@ -8,10 +8,10 @@ use Rattle.tree_model.specs.Tree.{Tree, Released, Live, IsLive}
 use Rattle.unit_pass.specs.Tally.{Tally}
 use Rattle.raw_array.specs.Members.{ArrayTree}
 use Rattle.raw_schema.specs.Members.{SchemaTree}
-use Rattle.layout_check.specs.Kinds.{KindTree}
-use Rattle.layout_check.specs.ColumnKinds.{type_of_columns}
-use Rattle.layout_check.specs.ColumnSchema.{SchemaOf}
-use Rattle.layout_check.specs.Schemas.{TypedOf}
+use Rattle.schema_check.specs.Kinds.{KindTree}
+use Rattle.schema_check.specs.ColumnKinds.{type_of_columns}
+use Rattle.schema_check.specs.ColumnSchema.{SchemaOf}
+use Rattle.schema_check.specs.Schemas.{TypedOf}
 use Rattle.stream_face.specs.Calls.{Answers, Begins, Repeats, Shows, Tells}
 use Rattle.stream_face.specs.Raw.{raw_joints, raw_state, refusal_or}
 use Rattle.stream_face.specs.Shown.{Seen, Shown, grown, of_link, seen_of, shown_table, shown_tables}

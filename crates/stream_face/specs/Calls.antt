@@ -6,7 +6,7 @@ use Rattle.tree_model.specs.Tree.{Released, IsLive}
 use Rattle.raw_array.specs.Members.{ArrayTree}
 use Rattle.raw_schema.specs.Members.{SchemaTree, Nodes}
 use Rattle.unit_pass.specs.Tally.{Tally, risen}
-use Rattle.layout_check.specs.ColumnSchema.{SchemaOf}
+use Rattle.schema_check.specs.ColumnSchema.{SchemaOf}
 use Rattle.stream_face.specs.Lawful.{IsChunkOf}
 use Rattle.stream_face.specs.Shown.{Seen, Shown, grown, of_link}
 use Rattle.stream_face.specs.Streams.{Stream, Traffic}

@@ -12,9 +12,9 @@ use Rattle.tree_model.specs.Tree.{Live, Released, no_trees, absent, Depth, child
 use Rattle.raw_array.specs.Members.{ArrayTree, Cost}
 use Rattle.raw_schema.specs.Members.{Nodes}
 use Rattle.unit_pass.specs.declared.pass.TheConstants.{CHUNK}
-use Rattle.layout_check.specs.ColumnKinds.{type_of_columns}
-use Rattle.layout_check.specs.ColumnSchema.{SchemaOf}
-use Rattle.layout_check.specs.Schemas.{TypedOf}
+use Rattle.schema_check.specs.ColumnKinds.{type_of_columns}
+use Rattle.schema_check.specs.ColumnSchema.{SchemaOf}
+use Rattle.schema_check.specs.Schemas.{TypedOf}
 use Rattle.layout_check.specs.Values.{rows_of, values_of}
 use Rattle.layout_check.specs.Walk.{ChunkOk}
 

@@ -4,10 +4,10 @@ use Rattle.fmt_string.specs.Table.{Column, Row}
 use Rattle.tree_model.specs.Tree.{Released, Live, Trees, no_trees, more_trees, MaybeTree, absent, present}
 use Rattle.raw_array.specs.Members.{ArrayTree}
 use Rattle.raw_schema.specs.Members.{SchemaMembers, SchemaTree}
-use Rattle.layout_check.specs.Kinds.{KindTree}
+use Rattle.schema_check.specs.Kinds.{KindTree}
 use Rattle.layout_check.specs.Values.{rows_of}
-use Rattle.layout_check.specs.ColumnKinds.{type_of_columns}
-use Rattle.layout_check.specs.ColumnSchema.{SchemaOf}
+use Rattle.schema_check.specs.ColumnKinds.{type_of_columns}
+use Rattle.schema_check.specs.ColumnSchema.{SchemaOf}
 
 abbrev mutual
   -- the names of a schema's nodes, at all depths: a node's, those of its children, those of its dictionary

@@ -8,10 +8,10 @@ ghost use Rattle.fmt_string.specs.contracts.row_fault.RowFault as rows;
 ghost use Rattle.tree_model.specs.Tree.{Released, IsLive};
 ghost use Rattle.raw_array.specs.Members.{Cost};
 ghost use Rattle.raw_schema.specs.Members.{Nodes, coded_schema};
-ghost use Rattle.layout_check.specs.ColumnSchema.{SchemaOf};
-ghost use Rattle.layout_check.specs.Kinds.{KindTree, TypedOk};
-ghost use Rattle.layout_check.specs.Schemas.{TypedOf};
-ghost use Rattle.layout_check.specs.TypedView.{typed_of};
+ghost use Rattle.schema_check.specs.ColumnSchema.{SchemaOf};
+ghost use Rattle.schema_check.specs.Kinds.{KindTree, TypedOk};
+ghost use Rattle.schema_check.specs.Schemas.{TypedOf};
+ghost use Rattle.schema_check.specs.TypedView.{typed_of};
 ghost use Rattle.layout_check.specs.Walk.{ChunkOk};
 ghost use Rattle.unit_pass.specs.Tally.{risen};
 ghost use Rattle.unit_pass.specs.declared.pass.TheConstants.{CHUNK, ROOM, SUPPLY};
@@ -146,7 +146,7 @@ fn refuse_chunk(
 
 impl<S: ArrayStream> RawStream<S> {
     ghost use Rattle.stream_face.specs.Meaning.{below, meaning, raw_fault, raw_kinds, raw_link, raw_schema};
-    ghost use Rattle.layout_check.specs.ColumnKinds.{type_of_columns};
+    ghost use Rattle.schema_check.specs.ColumnKinds.{type_of_columns};
 
     /// Asks the inner stream for its schema, once, and checks it. On a refusal the inner stream is handed back, and all units
     /// are back.

@@ -1,7 +1,7 @@
 //! What is told of the chunks of a run.
 ghost use Rattle.std.specs.Prelude.{◌≡◌, List, Option, [], ◌∷◌, OnErr, OnOk};
-ghost use Rattle.layout_check.specs.Schemas.{TypedOf};
-ghost use Rattle.layout_check.specs.TypedView.{typed_of};
+ghost use Rattle.schema_check.specs.Schemas.{TypedOf};
+ghost use Rattle.schema_check.specs.TypedView.{typed_of};
 ghost use Rattle.layout_check.specs.Walk.{ChunkOk};
 ghost use Rattle.stream_face.specs.Shown.{Seen, grown, seen_of};
 

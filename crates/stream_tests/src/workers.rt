@@ -1,7 +1,7 @@
 //! A small chunk read by workers, side by side and in turn.
 ghost use Rattle.std.specs.Prelude.{◌≡◌};
-ghost use Rattle.layout_check.specs.Kinds.{TypedOk};
-ghost use Rattle.layout_check.specs.TypedView.{typed_of};
+ghost use Rattle.schema_check.specs.Kinds.{TypedOk};
+ghost use Rattle.schema_check.specs.TypedView.{typed_of};
 
 use buf_block::{BufView, make};
 use edge_io::{Gate, OpenGate};

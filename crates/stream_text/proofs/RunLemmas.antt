@@ -12,9 +12,9 @@ use Rattle.raw_array.specs.Members.{ArrayTree}
 use Rattle.unit_pass.specs.Tally.{Tally, risen}
 use Rattle.unit_pass.specs.declared.no_memory.NoMemory.{NoMemory}
 use Rattle.csv_model.specs.Text.{row_fields, rows_text}
-use Rattle.layout_check.specs.Kinds.{KindTree}
+use Rattle.schema_check.specs.Kinds.{KindTree}
 use Rattle.layout_check.specs.Values.{rows_of}
-use Rattle.layout_check.specs.ColumnKinds.{type_of_columns}
+use Rattle.schema_check.specs.ColumnKinds.{type_of_columns}
 use Rattle.arr_import.specs.Window.{Window, whole}
 use Rattle.csv_write.specs.CsvTexts.{HasText, rows_in}
 use Rattle.csv_write.specs.declared.csv_text.CsvText.{CsvText}

@@ -18,9 +18,9 @@ use Rattle.fmt_string.specs.declared.kind.DataType.{DataType}
 use Rattle.fmt_string.specs.Value.{Value, Null, byte_total, bytes_of}
 use Rattle.fmt_string.specs.declared.kind.ColumnType.{ColumnType}
 use Rattle.fmt_string.specs.declared.row_fault.RowFault.{RowFault}
-use Rattle.layout_check.specs.ColumnKinds.{type_of_columns}
-use Rattle.layout_check.specs.ColumnSchema.{SchemaOf}
-use Rattle.layout_check.specs.Schemas.{TypedOf}
+use Rattle.schema_check.specs.ColumnKinds.{type_of_columns}
+use Rattle.schema_check.specs.ColumnSchema.{SchemaOf}
+use Rattle.schema_check.specs.Schemas.{TypedOf}
 use Rattle.raw_schema.specs.Members.{Nodes}
 use Rattle.tree_model.specs.Tree.{Depth}
 use Rattle.unit_pass.specs.declared.pass.TheConstants.{CHUNK}

@@ -10,7 +10,7 @@ use Rattle.fmt_string.specs.Parts.{joined_rows}
 use Rattle.fmt_string.specs.Table.{Column, Kind, Row}
 use Rattle.fmt_string.specs.declared.kind.ColumnType.{ColumnType}
 use Rattle.fmt_string.specs.declared.row_fault.RowFault.{RowFault}
-use Rattle.layout_check.specs.ColumnKinds.{type_of_columns}
+use Rattle.schema_check.specs.ColumnKinds.{type_of_columns}
 use Rattle.layout_check.specs.Values.{rows_of}
 use Rattle.layout_check.specs.Walk.{ChunkOk}
 use Rattle.raw_array.specs.Members.{ArrayTree, Cost}

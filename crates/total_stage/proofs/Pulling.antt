@@ -12,8 +12,8 @@ use Rattle.fmt_string.specs.Table.{Column, Flat, Row}
 use Rattle.fmt_string.specs.Value.{Null}
 use Rattle.raw_array.specs.Members.{ArrayTree, Cost}
 use Rattle.tree_model.specs.Tree.{IsLive}
-use Rattle.layout_check.specs.ColumnKinds.{type_of_columns}
-use Rattle.layout_check.specs.Kinds.{KindTree, TypedOk}
+use Rattle.schema_check.specs.ColumnKinds.{type_of_columns}
+use Rattle.schema_check.specs.Kinds.{KindTree, TypedOk}
 use Rattle.layout_check.specs.Values.{rows_of}
 use Rattle.layout_check.specs.Walk.{ChunkOk}
 use Rattle.column_fill.proofs.Counts.{kids-long}

@@ -5,7 +5,7 @@ use Rattle.fmt_string.specs.Table.{Row}
 use Rattle.fmt_string.specs.Value.{Null}
 use Rattle.tree_model.specs.Tree.{children_of}
 use Rattle.raw_array.specs.Members.{ArrayTree}
-use Rattle.layout_check.specs.Kinds.{KindTree, TypedOk}
+use Rattle.schema_check.specs.Kinds.{KindTree, TypedOk}
 use Rattle.layout_check.specs.Layout.{natural}
 use Rattle.layout_check.specs.Values.{rows_of}
 use Rattle.layout_check.specs.Walk.{ChunkOk}

@@ -1,7 +1,7 @@
 //! The totals of the rows of a window, as the job of workers.
 ghost use Rattle.std.specs.Prelude.{◌≤◌, length, IfOk};
 ghost use Rattle.layout_check.specs.Layout.{natural};
-ghost use Rattle.layout_check.specs.TypedView.{typed_of};
+ghost use Rattle.schema_check.specs.TypedView.{typed_of};
 ghost use Rattle.layout_check.specs.Values.{rows_of};
 ghost use Rattle.total_stage.specs.Sums.{AreSums, CanAdd, CanSum, rows_between};
 

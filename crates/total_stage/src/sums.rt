@@ -2,7 +2,7 @@
 ghost use Rattle.std.specs.Prelude.{◌≡◌, ◌≤◌, ◌+◌, ◌*◌, ◌^◌, ◌++◌, [], ℕ, List, length, IfOk, OnOk};
 ghost use Rattle.fmt_string.specs.Table.{Row};
 ghost use Rattle.raw_array.specs.Members.{Cost};
-ghost use Rattle.layout_check.specs.TypedView.{typed_of};
+ghost use Rattle.schema_check.specs.TypedView.{typed_of};
 ghost use Rattle.layout_check.specs.Values.{rows_of};
 ghost use Rattle.total_stage.specs.Sums.{AreParts, AreSums, CanAdd, HaveBegun};
 

@@ -1,8 +1,8 @@
 //! The totals of a chunk are the same by any number of workers, and two workers run side by side.
 ghost use Rattle.std.specs.Prelude.{◌≡◌, ◌≤◌, ◌<◌, ◌^◌, ◌∷◌, [], ℕ, length, IsTrue};
 ghost use Rattle.tree_model.specs.Tree.{children_of, depth_of_all, trees};
-ghost use Rattle.layout_check.specs.Kinds.{TypedOk};
-ghost use Rattle.layout_check.specs.TypedView.{typed_of};
+ghost use Rattle.schema_check.specs.Kinds.{TypedOk};
+ghost use Rattle.schema_check.specs.TypedView.{typed_of};
 ghost use Rattle.arr_import.specs.Cols.{window_of};
 ghost use Rattle.arr_import.specs.Window.{IsStruct, item_at};
 ghost use Rattle.total_stage.specs.Sums.{CanAdd};

@@ -2,14 +2,15 @@
 use Rattle.std.proofs.Common.{◌≡◌, ◌≢◌, ◌∙◌, ℕ, List, None, Some, Ok, Err, ap, sym, refl, subst}
 use Rattle.raw_schema.specs.Members.{SchemaTree}
 use Rattle.raw_array.specs.Members.{ArrayTree}
-use Rattle.layout_check.specs.Found.{fault_of, steps_of}
-use Rattle.layout_check.specs.Kinds.{KindTree}
-use Rattle.layout_check.specs.SchemaAnswers.{IsFirstFault}
-use Rattle.layout_check.specs.Schemas.{TypedOf}
+use Rattle.schema_check.specs.Ways.{steps_of}
+use Rattle.layout_check.specs.Found.{fault_of}
+use Rattle.schema_check.specs.Kinds.{KindTree}
+use Rattle.schema_check.specs.SchemaAnswers.{IsFirstFault}
+use Rattle.schema_check.specs.Schemas.{TypedOf}
 use Rattle.layout_check.specs.Walk.{first_fault}
 use Rattle.layout_check.specs.declared.rule.LayoutFault.{LayoutFault}
-use Rattle.layout_check.specs.declared.schema.SchemaFault.{SchemaFault}
-use Rattle.layout_check.specs.declared.schema.SchemaFault.TheVariants as schemas
+use Rattle.schema_check.specs.declared.schema.SchemaFault.{SchemaFault}
+use Rattle.schema_check.specs.declared.schema.SchemaFault.TheVariants as schemas
 use Rattle.tree_text.specs.Answers.{Reads}
 use Rattle.tree_text.specs.Report.{ReportOf}
 use Rattle.tree_text.specs.declared.fault.TextFault.{TextFault}

@@ -5,8 +5,8 @@ use Rattle.fmt_string.specs.declared.fault.FormatFault.{FormatFault}
 use Rattle.fmt_string.specs.declared.kind.DataType.{DataType}
 use Rattle.raw_schema.specs.Members.{SchemaTree}
 use Rattle.raw_array.specs.Members.{ArrayTree}
-use Rattle.layout_check.specs.Kinds.{KindTree}
-use Rattle.layout_check.specs.SchemaAnswers.{FirstFault, SchemaReads}
+use Rattle.schema_check.specs.Kinds.{KindTree}
+use Rattle.schema_check.specs.SchemaAnswers.{FirstFault, SchemaReads}
 use Rattle.tree_text.specs.Answers.{Reads}
 use Rattle.tree_text.specs.declared.fault.TextFault.{TextFault}
 use Rattle.tree_check.specs.Checks.{Checked, ChecksTo, ReadComes, TreesCome, kinds_checked}

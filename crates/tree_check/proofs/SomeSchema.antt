@@ -15,14 +15,14 @@ use Rattle.schema_meta.specs.declared.fault.MetaFault.TheVariants as meta
 use Rattle.schema_meta.specs.declared.pair.Pair.{Pair}
 use Rattle.tree_model.specs.Tree.{Released, Live, Trees, no_trees, more_trees, MaybeTree, absent, present}
 use Rattle.raw_schema.specs.Members.{SchemaMembers, SchemaTree}
-use Rattle.layout_check.specs.Kinds.{KindTree, tree_count}
-use Rattle.layout_check.specs.SchemaAnswers.{FirstFault, SchemaReads}
-use Rattle.layout_check.specs.Schemas.{ChildrenFit, DictFault, DictTyped, FailsHere, FaultFrom, IndexFits, IsPairNode, IsPairSchema}
-use Rattle.layout_check.specs.Schemas.{KidFault, KidsTyped, MapFits, MetaFits}
-use Rattle.layout_check.specs.Schemas.{NodeIs, TypedFrom}
-use Rattle.layout_check.specs.Walk.{Steps, dictionary_step}
-use Rattle.layout_check.specs.declared.rule.SchemaRule.{SchemaRule}
-use Rattle.layout_check.specs.declared.rule.SchemaRule.TheVariants as rules
+use Rattle.schema_check.specs.Kinds.{KindTree, tree_count}
+use Rattle.schema_check.specs.SchemaAnswers.{FirstFault, SchemaReads}
+use Rattle.schema_check.specs.Schemas.{ChildrenFit, DictFault, DictTyped, FailsHere, FaultFrom, IndexFits, IsPairNode, IsPairSchema}
+use Rattle.schema_check.specs.Schemas.{KidFault, KidsTyped, MapFits, MetaFits}
+use Rattle.schema_check.specs.Schemas.{NodeIs, TypedFrom}
+use Rattle.schema_check.specs.Ways.{Steps, dictionary_step}
+use Rattle.schema_check.specs.declared.rule.SchemaRule.{SchemaRule}
+use Rattle.schema_check.specs.declared.rule.SchemaRule.TheVariants as rules
 use Rattle.tree_text.specs.TreeText.{AllFit, AreBytesIf, MaybeFits, SchemaNodeFits, TreeFits}
 use Rattle.tree_check.proofs.SomeMeta.{some-meta}
 

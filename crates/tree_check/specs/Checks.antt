@@ -4,14 +4,15 @@ use Rattle.unit_pass.specs.Tally.{risen}
 use Rattle.tree_model.specs.TreeCost.{Holds, Nodes}
 use Rattle.raw_schema.specs.Members.{SchemaTree}
 use Rattle.raw_array.specs.Members.{ArrayTree, holds}
-use Rattle.layout_check.specs.Found.{fault_of, steps_of}
-use Rattle.layout_check.specs.Kinds.{KindTree}
-use Rattle.layout_check.specs.SchemaAnswers.{FirstFault, SchemaReads}
-use Rattle.layout_check.specs.Walk.{Fault, Steps, first_fault}
+use Rattle.schema_check.specs.Ways.{steps_of, Steps}
+use Rattle.layout_check.specs.Found.{fault_of}
+use Rattle.schema_check.specs.Kinds.{KindTree}
+use Rattle.schema_check.specs.SchemaAnswers.{FirstFault, SchemaReads}
+use Rattle.layout_check.specs.Walk.{Fault, first_fault}
 use Rattle.layout_check.specs.declared.rule.LayoutFault.{LayoutFault}
-use Rattle.layout_check.specs.declared.rule.Path.{Path}
-use Rattle.layout_check.specs.declared.schema.SchemaFault.{SchemaFault}
-use Rattle.layout_check.specs.declared.schema.SchemaFault.TheVariants as schemas
+use Rattle.schema_check.specs.declared.rule.Path.{Path}
+use Rattle.schema_check.specs.declared.schema.SchemaFault.{SchemaFault}
+use Rattle.schema_check.specs.declared.schema.SchemaFault.TheVariants as schemas
 use Rattle.tree_text.specs.Answers.{Reads}
 use Rattle.tree_text.specs.Report.{ReportOf}
 use Rattle.tree_text.specs.TreeText.{TreeIs}

@@ -1,6 +1,6 @@
 //! Why a text of trees has no report.
 ghost use Rattle.std.specs.Prelude.{◌≡◌};
-ghost use Rattle.layout_check.specs.Found.{steps_of};
+ghost use Rattle.schema_check.specs.Ways.{steps_of};
 ghost use Rattle.tree_check.specs.Checks.{path_of};
 
 use layout_check::{LayoutFault, Path, SchemaFault, SchemaRule};

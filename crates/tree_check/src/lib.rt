@@ -6,7 +6,7 @@
 //! - [`one_check`] is the law that each text comes to one report or one fault, and one alone.
 //!
 //! What a check comes to stands in `specs/Checks.antt`. Left to others: what the lines of a text are and what the report says
-//! (`tree_text`), the rules of schemas and arrays (`layout_check`).
+//! (`tree_text`), the rules of schemas and arrays (`schema_check`, `layout_check`).
 #![tactic(auto)]
 
 mod check;

@@ -5,13 +5,15 @@ use Rattle.std.proofs.lemmas.Grind.{flat_map-append}
 use Rattle.std.proofs.lemmas.List.{append-nil}
 use Rattle.tree_model.specs.Tree.{Released, Live, IsLive, trees, children_of}
 use Rattle.raw_array.specs.Members.{ArrayTree, members_of}
-use Rattle.layout_check.specs.declared.typed.Typed.{Typed, out-Typed}
-use Rattle.layout_check.specs.TypedView.{typed_of, kind_of, live_node}
+use Rattle.schema_check.specs.declared.typed.Typed.{Typed, out-Typed}
+use Rattle.schema_check.specs.TypedView.{typed_of, kind_of}
+use Rattle.layout_check.specs.NodeView.{live_node}
 use Rattle.layout_check.specs.Layout.{layout_of}
 use Rattle.layout_check.specs.Rules.{null_items}
-use Rattle.layout_check.specs.Kinds.{KindTree}
-use Rattle.layout_check.specs.Walk.{Steps, Visit, visits, walks_of, walk_children, nulls_in}
-use Rattle.layout_check.proofs.Levels.{typed_out}
+use Rattle.schema_check.specs.Kinds.{KindTree}
+use Rattle.schema_check.specs.Ways.{Steps}
+use Rattle.layout_check.specs.Walk.{Visit, visits, walks_of, walk_children, nulls_in}
+use Rattle.schema_check.proofs.Levels.{typed_out}
 use Rattle.tree_text.specs.Report.{visits_text, visit_text, node_line}
 use Rattle.tree_text.specs.Below.{children_visits, dictionary_visits}
 

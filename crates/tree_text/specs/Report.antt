@@ -4,11 +4,12 @@ use Rattle.std.specs.List.{flat_map}
 use Rattle.std.specs.Fmt.{signed_decimal}
 use Rattle.fmt_string.specs.Spelling.{spelling_of}
 use Rattle.raw_array.specs.Members.{ArrayTree}
-use Rattle.layout_check.specs.FaultTexts.{way_text}
-use Rattle.layout_check.specs.Kinds.{KindTree}
+use Rattle.schema_check.specs.FaultTexts.{way_text}
+use Rattle.schema_check.specs.Kinds.{KindTree}
 use Rattle.layout_check.specs.Layout.{layout_of}
 use Rattle.layout_check.specs.Rules.{Node, null_items}
-use Rattle.layout_check.specs.Walk.{Steps, Visit, visits}
+use Rattle.schema_check.specs.Ways.{Steps}
+use Rattle.layout_check.specs.Walk.{Visit, visits}
 use Rattle.tree_text.specs.TreeText.{token, spaced}
 
 -- the way to a node, its format, its length and the number of its null items

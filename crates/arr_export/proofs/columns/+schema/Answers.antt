@@ -7,7 +7,7 @@ use Rattle.fmt_string.specs.declared.kind.ColumnType.{ColumnType}
 use Rattle.tree_model.specs.Tree.{Depth, absent, trees}
 use Rattle.tree_model.proofs.Measures.{cost_of_all-append}
 use Rattle.raw_schema.specs.Members.{Nodes, SchemaTree, no_holds, nodes_of_all}
-use Rattle.layout_check.specs.ColumnSchema.{KindsOk, column_schema, node, nullable, struct_format}
+use Rattle.schema_check.specs.ColumnSchema.{KindsOk, column_schema, node, nullable, struct_format}
 use Rattle.arr_export.specs.CodeSchema.{ColumnsOk, code_schema, code_schemas}
 use Rattle.arr_export.proofs.Costs.{depth-here, few-columns, map-more, nodes-here}
 use Rattle.arr_export.proofs.Rows.{struct-kinds, struct-schema}

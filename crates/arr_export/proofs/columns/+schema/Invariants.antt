@@ -4,7 +4,7 @@ use Rattle.unit_pass.specs.Tally.{risen}
 use Rattle.fmt_string.specs.ColumnView.{kind_of}
 use Rattle.tree_model.specs.Tree.{Depth, depth_of_all, trees}
 use Rattle.raw_schema.specs.Members.{nodes_of_all}
-use Rattle.layout_check.specs.ColumnSchema.{column_schema}
+use Rattle.schema_check.specs.ColumnSchema.{column_schema}
 use Rattle.arr_export.specs.CodeSchema.{code_schema, code_schemas}
 use Rattle.arr_export.proofs.columns.+schema.Given as goal
 

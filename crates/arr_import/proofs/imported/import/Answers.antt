@@ -1,11 +1,11 @@
 use Rattle.std.proofs.lemmas.Grind.{common_steps}
 use Rattle.std.proofs.Common.{◌≡◌, Ok, Err, refl, sym, subst, true≢false, arith}
-use Rattle.layout_check.specs.declared.schema.SchemaFault.{SchemaFault}
-use Rattle.layout_check.specs.declared.schema.SchemaFault.TheVariants.{At, NoMemory}
-use Rattle.layout_check.specs.Kinds.{KindTree}
-use Rattle.layout_check.specs.Schemas.{TypedOf}
-use Rattle.layout_check.specs.SchemaAnswers.{Gives}
-use Rattle.layout_check.specs.TypedView.{typed_of}
+use Rattle.schema_check.specs.declared.schema.SchemaFault.{SchemaFault}
+use Rattle.schema_check.specs.declared.schema.SchemaFault.TheVariants.{At, NoMemory}
+use Rattle.schema_check.specs.Kinds.{KindTree}
+use Rattle.schema_check.specs.Schemas.{TypedOf}
+use Rattle.schema_check.specs.SchemaAnswers.{Gives}
+use Rattle.schema_check.specs.TypedView.{typed_of}
 use Rattle.layout_check.specs.Walk.{LayoutOk}
 use Rattle.arr_import.specs.declared.imported.ImportFault.TheVariants.{Schema}
 use Rattle.arr_import.proofs.imported.import.Goals as goal

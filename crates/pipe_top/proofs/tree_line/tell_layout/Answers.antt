@@ -1,7 +1,8 @@
 use Rattle.std.proofs.Common.{decimal}
 use Rattle.std.specs.Fmt.{signed_decimal}
-use Rattle.layout_check.specs.FaultTexts.{rule_text, way_text}
-use Rattle.layout_check.specs.Found.{steps_of}
+use Rattle.schema_check.specs.FaultTexts.{way_text}
+use Rattle.layout_check.specs.FaultTexts.{rule_text}
+use Rattle.schema_check.specs.Ways.{steps_of}
 use Rattle.pipe_top.proofs.Pieces.{says-both, says-in-part}
 use Rattle.pipe_top.proofs.TreeLines.{layout-line}
 use Rattle.pipe_top.proofs.tree_line.tell_layout.Goals as goal

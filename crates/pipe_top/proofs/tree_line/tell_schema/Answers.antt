@@ -1,5 +1,5 @@
-use Rattle.layout_check.specs.FaultTexts.{schema_rule_text, way_text}
-use Rattle.layout_check.specs.Found.{steps_of}
+use Rattle.schema_check.specs.FaultTexts.{schema_rule_text, way_text}
+use Rattle.schema_check.specs.Ways.{steps_of}
 use Rattle.pipe_top.proofs.Pieces.{says-both, says-in-part}
 use Rattle.pipe_top.proofs.TreeLines.{schema-line}
 use Rattle.std.proofs.Common.{refl}

@@ -3,7 +3,7 @@ use Rattle.std.proofs.Math.Seq.{take-length}
 use Rattle.std.proofs.KnownBytes.{Appends-nil, Appends-trans}
 use Rattle.std.specs.Io.KnownBytes.{Appends}
 use Rattle.std.specs.List.{flat_map}
-use Rattle.layout_check.specs.FaultTexts.{step_text}
+use Rattle.schema_check.specs.FaultTexts.{step_text}
 use Rattle.pipe_top.proofs.Pieces.{first-then, says-in-part}
 use Rattle.pipe_top.proofs.TreeLines.{steps-around, steps-push}
 use Rattle.pipe_top.proofs.tree_line.tell_steps.Goals as goal

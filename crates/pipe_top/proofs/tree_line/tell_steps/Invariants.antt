@@ -1,7 +1,7 @@
 use Rattle.std.proofs.Common.{◌≤◌, take}
 use Rattle.std.specs.Io.KnownBytes.{Appends}
 use Rattle.std.specs.List.{flat_map}
-use Rattle.layout_check.specs.FaultTexts.{step_text}
+use Rattle.schema_check.specs.FaultTexts.{step_text}
 use Rattle.pipe_top.proofs.tree_line.tell_steps.Given as goal
 
 -- the sink took the steps so far

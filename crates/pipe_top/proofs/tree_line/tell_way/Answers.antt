@@ -1,5 +1,5 @@
 use Rattle.std.proofs.Common.{ap, codes, refl, ◌++◌}
-use Rattle.layout_check.specs.FaultTexts.{way_text}
+use Rattle.schema_check.specs.FaultTexts.{way_text}
 use Rattle.pipe_top.proofs.Pieces.{says-both, says-in-part}
 use Rattle.pipe_top.proofs.tree_line.tell_way.Goals as goal
 

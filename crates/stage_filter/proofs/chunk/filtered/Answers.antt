@@ -4,8 +4,8 @@ use Rattle.fmt_string.specs.ColumnView.{column_of}
 use Rattle.fmt_string.specs.Table.{Row}
 use Rattle.tree_model.specs.Tree.{children_of}
 use Rattle.unit_pass.specs.Tally.{risen}
-use Rattle.layout_check.specs.ColumnKinds.{type_of_columns}
-use Rattle.layout_check.specs.Kinds.{KindTree}
+use Rattle.schema_check.specs.ColumnKinds.{type_of_columns}
+use Rattle.schema_check.specs.Kinds.{KindTree}
 use Rattle.layout_check.specs.Values.{rows_of}
 use Rattle.arr_import.specs.Window.{IsStruct}
 use Rattle.stage_model.specs.Stages.{rows_after}

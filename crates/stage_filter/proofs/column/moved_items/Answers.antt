@@ -6,8 +6,8 @@ use Rattle.col_build.specs.Holding.{Holds}
 use Rattle.fmt_string.specs.Table.{Flat}
 use Rattle.fmt_string.specs.Value.{Value}
 use Rattle.fmt_string.specs.declared.kind.DataType.{DataType}
-use Rattle.layout_check.specs.ColumnKinds.{type_of_kind}
-use Rattle.layout_check.specs.TypedView.{typed_of}
+use Rattle.schema_check.specs.ColumnKinds.{type_of_kind}
+use Rattle.schema_check.specs.TypedView.{typed_of}
 use Rattle.layout_check.specs.Values.{value_at}
 use Rattle.stage_filter.specs.Kept.{values_at}
 use Rattle.column_fill.specs.Takes.{Takes}

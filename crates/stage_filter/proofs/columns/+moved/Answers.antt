@@ -9,11 +9,11 @@ use Rattle.fmt_string.specs.declared.kind.ColKind.{ColKind}
 use Rattle.fmt_string.specs.declared.kind.ColumnType.{ColumnType}
 use Rattle.tree_model.specs.Tree.{IsLive, Released, child_at, children_of, trees}
 use Rattle.raw_array.specs.Members.{ArrayTree, cost_of_all, members_of}
-use Rattle.layout_check.specs.ColumnKinds.{type_of_columns, type_of_kind}
-use Rattle.layout_check.specs.Kinds.{TypedOk}
+use Rattle.schema_check.specs.ColumnKinds.{type_of_columns, type_of_kind}
+use Rattle.schema_check.specs.Kinds.{TypedOk}
 use Rattle.layout_check.specs.Layout.{first, natural}
-use Rattle.layout_check.specs.declared.typed.Typed.{out-Typed}
-use Rattle.layout_check.specs.TypedView.{kids_of, typed_of}
+use Rattle.schema_check.specs.declared.typed.Typed.{out-Typed}
+use Rattle.schema_check.specs.TypedView.{kids_of, typed_of}
 use Rattle.arr_export.specs.ArrayTrees.{IsColumn}
 use Rattle.stage_kernels.proofs.MovedChildren.{at-place, children-set, cost-push, rest-taken}
 use Rattle.stage_filter.specs.Kept.{rows_at}

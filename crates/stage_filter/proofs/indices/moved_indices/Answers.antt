@@ -6,7 +6,7 @@ use Rattle.arr_import.specs.Lent.{lent_bytes}
 use Rattle.col_build.specs.Holding.{Holds, Takes}
 use Rattle.fmt_string.specs.Table.{Dict}
 use Rattle.fmt_string.specs.Value.{Value}
-use Rattle.layout_check.specs.ColumnKinds.{type_of_kind}
+use Rattle.schema_check.specs.ColumnKinds.{type_of_kind}
 use Rattle.layout_check.specs.Values.{value_at}
 use Rattle.stage_filter.specs.KeptTrees.{index_type, indices_at}
 use Rattle.stage_filter.proofs.IndexedItems.{has-dictionary, index-kind, index-values, next-place}

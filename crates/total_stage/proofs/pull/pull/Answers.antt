@@ -6,8 +6,8 @@ use Rattle.fmt_string.specs.Parts.{joined_rows}
 use Rattle.fmt_string.specs.Table.{Row}
 use Rattle.tree_model.specs.Tree.{Released}
 use Rattle.raw_array.specs.Members.{Cost}
-use Rattle.layout_check.specs.Kinds.{TypedOk}
-use Rattle.layout_check.specs.TypedView.{typed_of}
+use Rattle.schema_check.specs.Kinds.{TypedOk}
+use Rattle.schema_check.specs.TypedView.{typed_of}
 use Rattle.layout_check.specs.Values.{rows_of}
 use Rattle.stream_face.specs.Meaning.{meaning}
 use Rattle.stream_face.specs.Streams.{IsFresh}

@@ -4,8 +4,8 @@ use Rattle.fmt_string.specs.Table.{Row}
 use Rattle.fmt_string.specs.Value.{Null}
 use Rattle.tree_model.specs.Tree.{children_of}
 use Rattle.raw_array.specs.Members.{ArrayTree}
-use Rattle.layout_check.specs.Kinds.{KindTree}
-use Rattle.layout_check.specs.TypedView.{typed_of}
+use Rattle.schema_check.specs.Kinds.{KindTree}
+use Rattle.schema_check.specs.TypedView.{typed_of}
 use Rattle.layout_check.specs.Values.{row_items, rows_of, tree_items}
 use Rattle.layout_check.specs.Walk.{ChunkOk}
 use Rattle.arr_import.specs.Cols.{window_of}

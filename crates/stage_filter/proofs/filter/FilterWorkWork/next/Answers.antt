@@ -4,7 +4,7 @@ use Rattle.std.proofs.Math.Nat.{mul-le-mul_right}
 use Rattle.fmt_string.specs.ColumnView.{column_of}
 use Rattle.fmt_string.specs.declared.kind.ColumnType.{ColumnType}
 use Rattle.tree_model.specs.Tree.{Depth, IsLive}
-use Rattle.layout_check.specs.ColumnKinds.{type_of_columns}
+use Rattle.schema_check.specs.ColumnKinds.{type_of_columns}
 use Rattle.unit_pass.specs.Tally.{risen}
 use Rattle.raw_array.specs.Members.{ArrayTree, Cost, Like}
 use Rattle.stage_model.specs.Traffic.{Moved, table_blocks, table_nodes}

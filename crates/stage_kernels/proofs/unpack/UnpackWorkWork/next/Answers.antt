@@ -3,7 +3,7 @@ use Rattle.std.proofs.Common.{rules, ◌≡◌, ◌≤◌, ◌∙◌, pos, map, 
 use Rattle.tree_model.specs.Tree.{IsLive}
 use Rattle.raw_array.specs.Members.{Cost}
 use Rattle.layout_check.specs.Walk.{ChunkOk}
-use Rattle.layout_check.specs.ColumnKinds.{type_of_columns}
+use Rattle.schema_check.specs.ColumnKinds.{type_of_columns}
 use Rattle.column_laws.specs.Picking.{Unpacked}
 use Rattle.fmt_string.specs.ColumnView.{column_of}
 use Rattle.stage_model.specs.Typing.{no_column}

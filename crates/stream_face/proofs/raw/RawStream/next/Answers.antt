@@ -1,9 +1,9 @@
 use Rattle.std.proofs.lemmas.Grind.{common_steps}
 use Rattle.std.proofs.Common.{IsTrue, ◌≡◌, ◌∙◌, pos, w32, of_z, refl, sym, ap, subst, true≢false, arith}
 use Rattle.raw_schema.specs.Members.{Nodes}
-use Rattle.layout_check.specs.ColumnKinds.{type_of_columns}
-use Rattle.layout_check.specs.ColumnSchema.{SchemaOf}
-use Rattle.layout_check.specs.Schemas.{TypedOf}
+use Rattle.schema_check.specs.ColumnKinds.{type_of_columns}
+use Rattle.schema_check.specs.ColumnSchema.{SchemaOf}
+use Rattle.schema_check.specs.Schemas.{TypedOf}
 use Rattle.layout_check.specs.Walk.{ChunkOk}
 use Rattle.stream_face.specs.Calls.{IsCode, IsRowFault, Shows, Tells}
 use Rattle.stream_face.specs.Failures.{why}
