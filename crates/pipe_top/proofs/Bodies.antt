@@ -22,10 +22,10 @@ use Rattle.stage_model.specs.declared.fault.PlanFault.TheVariants as plan
 use Rattle.stage_model.specs.declared.stage.StageText.{StageText}
 use Rattle.stage_plan.specs.declared.types.TypeEntry.{TypeEntry}
 use Rattle.stream_face.specs.Streams.{Stream}
-use Rattle.pipe_top.specs.Answer.{Answer, Fault, Request, Text, answer_of_columns, answer_of_plan, answer_of_records, answer_of_rows, fault_of_chain}
-use Rattle.pipe_top.specs.Answer.{fault_of_header, fault_of_plan, fault_of_row}
-use Rattle.pipe_top.specs.declared.fault.RunFault.{RunFault}
-use Rattle.pipe_top.specs.declared.fault.RunFault.TheVariants as run
+use Rattle.run_model.specs.Answer.{Answer, Fault, Request, Text, fault_of_header, fault_of_plan, fault_of_row}
+use Rattle.run_model.specs.declared.fault.RunFault.{RunFault}
+use Rattle.run_model.specs.declared.fault.RunFault.TheVariants as run
+use Rattle.pipe_top.specs.Answer.{answer_of_columns, answer_of_plan, answer_of_records, answer_of_rows, fault_of_chain}
 
 -- ---- the header
 

@@ -14,7 +14,7 @@ use Rattle.stage_model.specs.Traffic.{link_blocks, link_nodes, run_blocks, run_n
 use Rattle.stage_model.specs.Typing.{Stage, plan_of}
 use Rattle.stream_face.specs.Streams.{Stream}
 use Rattle.unit_pass.specs.Tally.{Tally, risen}
-use Rattle.pipe_top.specs.Answer.{Request}
+use Rattle.run_model.specs.Answer.{Request}
 use Rattle.pipe_top.specs.Traffic.{LinksTraffic, links_behind_header, links_of, links_planned}
 
 module _ (request : Request) (records : List Record) (columns : List Column) (found : header_of (entries_of request.entries) records ≡ Ok columns)

@@ -8,10 +8,11 @@ use Rattle.csv_model.specs.Reading.{records_of}
 use Rattle.tree_check.specs.Checks.{Checked, ChecksTo}
 use Rattle.words.specs.Words.{Options, words_of}
 use Rattle.words.specs.declared.WordsFault.{WordsFault}
-use Rattle.pipe_top.specs.Answer.{Answer, AnswersWithin, EntriesAsk, Fault, IsAnswer, IsAnswerTo, OptionsAsk, Request, StagesAsk, Table, Task, TaskIs, Tree}
-use Rattle.pipe_top.specs.Answer.{answer_of_check, answer_of_records, asked_by, is_too_long, meant_by, request_with, stages_from, table_of}
-use Rattle.pipe_top.specs.declared.fault.RunFault.{RunFault}
-use Rattle.pipe_top.specs.declared.fault.RunFault.TheVariants as run
+use Rattle.run_model.specs.Answer.{Answer, EntriesAsk, Fault, OptionsAsk, Request, StagesAsk, Table, Task, TaskIs, Tree, asked_by, meant_by}
+use Rattle.run_model.specs.Answer.{request_with, stages_from, table_of}
+use Rattle.run_model.specs.declared.fault.RunFault.{RunFault}
+use Rattle.run_model.specs.declared.fault.RunFault.TheVariants as run
+use Rattle.pipe_top.specs.Answer.{AnswersWithin, IsAnswer, IsAnswerTo, answer_of_check, answer_of_records, is_too_long}
 
 module _ (some : (text : List ℕ) → (read : Result (List TypeEntry) TypesFault) × Reads text read)
     (alone : (text : List ℕ) (first second : Result (List TypeEntry) TypesFault) → Reads text first → Reads text second → first ≡ second) where

@@ -7,15 +7,17 @@ use Rattle.edge_io.specs.declared.WriteFault.{WriteFault}
 use Rattle.unit_pass.specs.declared.pass.Audit.{Audit}
 use Rattle.stage_chain.proofs.Chaining.{shows-nothing}
 use Rattle.stream_face.specs.Shown.{Seen}
+use Rattle.run_model.specs.Answer.{Answer, Asks, Table, Task, Tree, Text, Fault, cause_of, status_of, Cause, OfWords, OfTexts, OfPlan, OfRecords}
+use Rattle.run_model.specs.Answer.{OfTree, OfLength, Reading, Writing, Memory}
+use Rattle.run_model.specs.Outcomes.{AtWriteFault, AtWriting, asked_of, is_decided}
+use Rattle.run_model.specs.declared.asked.Task.{Task as AsksTask}
+use Rattle.run_model.specs.Told.{Says, Told, Took, audit_if, fault_line}
+use Rattle.run_model.specs.declared.fault.RunFault.{RunFault}
+use Rattle.run_model.specs.declared.fault.RunFault.TheVariants as run
 use Rattle.pipe_top.specs.Traffic.{IsShownInPart, ShowsAsked}
 use Rattle.words.specs.Words.{made_of}
-use Rattle.pipe_top.specs.Answer.{Answer, Asks, IsAnswer, IsAnswerTo, IsInput, Table, Task, Tree, Text, Fault, cause_of, input_by, status_of}
-use Rattle.pipe_top.specs.Answer.{Cause, OfWords, OfTexts, OfPlan, OfRecords, OfTree, OfLength, Reading, Writing, Memory}
-use Rattle.pipe_top.specs.Outcomes.{AtWriteFault, AtWriting, GotFirst, GotText, asked_of, fault_in, is_decided}
-use Rattle.pipe_top.specs.declared.asked.Task.{Task as AsksTask}
-use Rattle.pipe_top.specs.Told.{Says, Told, Took, audit_if, fault_line}
-use Rattle.pipe_top.specs.declared.fault.RunFault.{RunFault}
-use Rattle.pipe_top.specs.declared.fault.RunFault.TheVariants as run
+use Rattle.pipe_top.specs.Answer.{IsAnswer, IsAnswerTo, IsInput, input_by}
+use Rattle.pipe_top.specs.Outcomes.{GotFirst, GotText, fault_in}
 
 -- ---- diagnostics
 

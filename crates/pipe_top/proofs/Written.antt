@@ -6,10 +6,11 @@ use Rattle.stage_chain.specs.Chains.{link_shows}
 use Rattle.stream_text.specs.Runs.{ShowsSome}
 use Rattle.stream_face.specs.Shown.{Seen}
 use Rattle.csv_model.specs.Reading.{records_of}
-use Rattle.pipe_top.specs.Answer.{Answer, AnswersBytes, AnswersTask, AnswersWithin, IsAnswerTo, Request, Table, Task, Text, input_limit}
+use Rattle.run_model.specs.Answer.{Answer, Request, Table, Task, Text}
+use Rattle.run_model.specs.declared.fault.RunFault.{RunFault}
+use Rattle.pipe_top.specs.Answer.{AnswersBytes, AnswersTask, AnswersWithin, IsAnswerTo, input_limit}
 use Rattle.pipe_top.specs.Outcomes.{GotFirst, GotText}
 use Rattle.pipe_top.specs.Traffic.{ShowsAsked, links_of, links_within}
-use Rattle.pipe_top.specs.declared.fault.RunFault.{RunFault}
 
 not-long : (n : ℕ) → n ≤ input_limit → nat_lt input_limit n ≡ false
 not-long n fits = grind (arith, nat_tests)

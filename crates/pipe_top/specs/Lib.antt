@@ -1,5 +1,3 @@
 pub mod Answer
 pub mod Outcomes
-pub mod Told
 pub mod Traffic
-pub mod SaidTexts

@@ -1,54 +1,8 @@
--- What the outcome of a run says of the answer and of the sink.
-use Rattle.std.specs.Prelude.{ℕ, ◌≤◌, Bool, true, false, List, Option, None, Some, Result, Ok, Err, Vec, ⊤, length, take}
-use Rattle.std.specs.Global.{Global}
+-- What the outcome of a run says of the answer, of the source and of the sink.
+use Rattle.std.specs.Prelude.{ℕ, ◌≤◌, List, Option, None, Some, Result, Ok, Err, length, take}
 use Rattle.std.specs.Io.KnownBytes.{Appends, IsAtEnd, Keeps}
-use Rattle.stage_plan.specs.declared.types.TypeEntry.{TypeEntry}
-use Rattle.pipe_top.specs.Answer.{Answer, Text, Request, Task, Table, Tree, Cause, OfWords, OfTexts, OfPlan}
-use Rattle.pipe_top.specs.Answer.{OfRecords, OfTree, OfLength, Reading, Writing, Memory, cause_of}
-use Rattle.pipe_top.specs.declared.asked.Request.{Request as AsksFor}
-use Rattle.pipe_top.specs.declared.asked.Task.{Task as AsksTask}
-use Rattle.pipe_top.specs.declared.asked.Task.TheVariants as tasks
-use Rattle.pipe_top.specs.declared.fault.RunFault.{RunFault}
-
--- the words and the bytes of the input decide a fault of this cause
-abbrev pub decides : Cause → Bool
-decides OfWords = true
-decides OfTexts = true
-decides OfPlan = true
-decides OfRecords = true
-decides OfTree = true
-decides OfLength = true
-decides Reading = false
-decides (Writing taken) = false
-decides Memory = false
-
-abbrev pub is_decided : RunFault → Bool
-is_decided fault = decides (cause_of fault)
-
--- the words alone decide it
-abbrev pub decides_early : Cause → Bool
-decides_early OfWords = true
-decides_early OfTexts = true
-decides_early _ = false
-
-abbrev pub is_early : RunFault → Bool
-is_early fault = decides_early (cause_of fault)
-
--- it is a failed write
-abbrev pub is_writing : Cause → Bool
-is_writing (Writing taken) = true
-is_writing _ = false
-
-abbrev pub is_write_fault : RunFault → Bool
-is_write_fault fault = is_writing (cause_of fault)
-
--- so many bytes were taken before a write failed
-abbrev pub AtWriting : Cause → (ℕ → Type 0) → Type 0
-AtWriting (Writing taken) P = P taken
-AtWriting _ P = ⊤
-
-abbrev pub AtWriteFault : RunFault → (ℕ → Type 0) → Type 0
-AtWriteFault fault P = AtWriting (cause_of fault) P
+use Rattle.run_model.specs.Answer.{Answer, Text}
+use Rattle.run_model.specs.declared.fault.RunFault.{RunFault}
 
 -- the source was read to its end, or is as before where rows are made in place of its bytes
 abbrev pub IsRead : Option ℕ → Option (List ℕ) → Option (List ℕ) → Type 0
@@ -62,33 +16,6 @@ GotText Answers old new = (text : List ℕ) × Answers (Text text) × Appends ol
 -- an answer is a text, and the sink got its first bytes
 abbrev pub GotFirst : (Answer → Type 0) → Option (List ℕ) → Option (List ℕ) → ℕ → Type 0
 GotFirst Answers old new taken = (text : List ℕ) × Answers (Text text) × (taken ≤ length text) × Appends old new (take taken text)
-
--- what the program has read, as the definitions see it
-abbrev pub entries_asked : Result (Vec TypeEntry Global) RunFault → Result (List TypeEntry) RunFault
-entries_asked (Ok entries) = Ok entries.items
-entries_asked (Err fault) = Err fault
-
--- the number of workers changes no answer
-abbrev pub request_of : AsksFor → Request
-request_of asked = record { entries = asked.entries.items; stages = asked.stages.items; batch = asked.batch; mark = asked.mark }
-
-abbrev pub request_asked : Result AsksFor RunFault → Result Request RunFault
-request_asked (Ok asked) = Ok (request_of asked)
-request_asked (Err fault) = Err fault
-
--- what the program has read of the words, as the definitions see it
-abbrev pub task_of : AsksTask → Task
-task_of (tasks.Table request) = Table (request_of request)
-task_of tasks.Tree = Tree
-
-abbrev pub asked_of : Result AsksTask RunFault → Result Task RunFault
-asked_of (Ok asked) = Ok (task_of asked)
-asked_of (Err fault) = Err fault
-
--- what holds of the request for a table
-abbrev pub IfTable : AsksTask → (AsksFor → Type 0) → Type 0
-IfTable (tasks.Table request) P = P request
-IfTable tasks.Tree P = ⊤
 
 -- the fault of a result
 abbrev pub fault_in : Result Unit RunFault → Option RunFault

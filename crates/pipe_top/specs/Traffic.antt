@@ -15,8 +15,9 @@ use Rattle.stage_model.specs.declared.fault.PlanFault.{PlanFault}
 use Rattle.stream_face.specs.Shown.{Seen}
 use Rattle.tree_check.specs.Checks.{CountsTrees}
 use Rattle.unit_pass.specs.Tally.{risen}
-use Rattle.pipe_top.specs.Answer.{Asks, Request, Table, Task, Tree, is_too_long}
-use Rattle.pipe_top.specs.declared.fault.RunFault.{RunFault}
+use Rattle.run_model.specs.Answer.{Asks, Request, Table, Task, Tree}
+use Rattle.run_model.specs.declared.fault.RunFault.{RunFault}
+use Rattle.pipe_top.specs.Answer.{is_too_long}
 
 -- the links of stages over columns and the records behind a header, where the stages fit
 abbrev pub links_planned : Request → List Column → Result (List Stage) PlanFault → List Record → List Link

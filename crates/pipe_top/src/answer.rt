@@ -15,17 +15,17 @@ ghost use Rattle.stream_text.specs.Runs.{ShowsAll, ShowsSome};
 ghost use Rattle.stage_model.specs.Typing.{plan_of};
 ghost use Rattle.stage_plan.specs.PlanWords.{IsPlan, columns_in};
 ghost use Rattle.unit_pass.specs.declared.pass.TheConstants.{ROOM, SUPPLY};
-ghost use Rattle.pipe_top.specs.Answer.{Fault, Request as ARequest, Text, answer_of_plan, answer_of_records, input_limit};
-ghost use Rattle.pipe_top.specs.Outcomes.{request_of};
+ghost use Rattle.run_model.specs.Answer.{Fault, Request as ARequest, Text};
+ghost use Rattle.run_model.specs.Outcomes.{request_of};
+ghost use Rattle.pipe_top.specs.Answer.{answer_of_plan, answer_of_records, fault_of_chain, input_limit};
 ghost use Rattle.pipe_top.specs.Traffic.{LinksTraffic, links_of};
 
-use crate::asked::Request;
-use crate::fault::RunFault;
 use csv_read::{Records, read_header};
 use csv_source::CsvSource;
 use edge_io::Gate;
-use fmt_string::{ColumnType, clone_columns};
-use stage_chain::drive;
+use fmt_string::{ColumnType, RowFault, clone_columns};
+use run_model::{Request, RunFault};
+use stage_chain::{DriveFault, drive};
 use stage_plan::{Plan, StageText, TypeEntry, type_plan};
 use std::alloc::Global;
 use std::thread::Threads;
@@ -111,6 +111,17 @@ fn source_of<'a>(
     CsvSource::start(alloc, records, columns, mark, batch)
 }
 
+/// The fault of a run whose chain of stages gives no text.
+fn run_fault(fault: DriveFault) -> RunFault
+    ensures { result ≡ fault_of_chain fault }
+{
+    match fault {
+        DriveFault::Row(RowFault::Ragged { row, found }) => RunFault::Ragged { row, found },
+        DriveFault::Row(RowFault::Field { row, column }) => RunFault::Field { row, column },
+        DriveFault::NoMemory => RunFault::NoMemory,
+    }
+}
+
 /// The text of the table that stages make of the table that a text spells, or the first fault: of the header, of the stages
 /// over its columns, of the records.
 pub(crate) fn answer_input<R: Threads + Sync, T: Tap>(
@@ -153,6 +164,6 @@ pub(crate) fn answer_input<R: Threads + Sync, T: Tap>(
     let workers = request.workers;
     match drive(rt, alloc, source, plan, mark, workers, pass, tap, gate) {
         Ok(text) => Ok(text),
-        Err(fault) => Err(RunFault::from(fault)),
+        Err(fault) => Err(run_fault(fault)),
     }
 }

@@ -1,6 +1,7 @@
 //! What holds of the answers of runs. The calls do nothing.
 ghost use Rattle.std.specs.Prelude.{◌≡◌, ℕ, List};
-ghost use Rattle.pipe_top.specs.Answer.{Answer, IsAnswer};
+ghost use Rattle.run_model.specs.Answer.{Answer};
+ghost use Rattle.pipe_top.specs.Answer.{IsAnswer};
 
 /// A law: whatever the words and the bytes of the input are, there is an answer, and one alone.
 pub fn one_answer()

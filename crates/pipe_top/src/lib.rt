@@ -8,29 +8,26 @@
 //! exactly the text that the definitions give (`specs/Answer.antt`), which knows nothing of chunks, that each refusal has its
 //! cause, and that each structure and each hold that was made is given up again on every path.
 //!
-//! Each fault has a line of its own, which goes to a sink of diagnostics (`specs/Told.antt`), and so does the audit's where the
-//! words ask for it; no line takes memory, and a failed write there changes nothing else.
+//! Each fault has a line of its own, which goes to a sink of diagnostics, and so does the audit's where the words ask for it;
+//! no line takes memory, and a failed write there changes nothing else.
 //!
-//! What CSV means stands in `csv_model`, the words in `words`, what stages mean in `stage_model`, their texts in `stage_plan`,
-//! the source in `csv_source`, the chain of stages in `stage_chain`, the check of a tree in `tree_check`, the structures
-//! in `raw_schema` and `raw_array`, the sources and sinks in `edge_io`.
+//! What the words ask for, the faults and the lines stand in `run_model`, what CSV means in `csv_model`, the words in `words`,
+//! what stages mean in `stage_model`, their texts in `stage_plan`, the source in `csv_source`, the chain of stages in
+//! `stage_chain`, the check of a tree in `tree_check`, the structures in `raw_schema` and `raw_array`, the sources and sinks in
+//! `edge_io`.
 #![tactic(auto)]
 
 ghost use Rattle.std.specs.Prelude.{◌≡◌, ◌∷◌, ◌++◌, [], codes};
-ghost use Rattle.pipe_top.specs.Answer.{AnswersBytes, Fault, Table, Text, asking};
-ghost use Rattle.pipe_top.specs.declared.fault.RunFault.TheVariants as run;
+ghost use Rattle.run_model.specs.Answer.{Fault, Table, Text, asking};
+ghost use Rattle.run_model.specs.declared.fault.RunFault.TheVariants as run;
+ghost use Rattle.pipe_top.specs.Answer.{AnswersBytes};
 
 mod answer;
-mod asked;
-mod fault;
-mod fault_text;
 mod laws;
-mod told;
 mod top;
-mod tree_line;
 
-pub use fault::RunFault;
 pub use laws::one_answer;
+pub use run_model::RunFault;
 pub use stage_chain::{DriveFault, drive};
 pub use stage_plan::{PlanRule, StageFault, TypesRule};
 pub use top::{Outcome, run};
@@ -49,6 +46,3 @@ pub fn worked_answers()
     ensures marked { AnswersBytes (Table (asking (codes "NA"))) (codes "a,b\nNA,\n") (Text (codes "a,b\nNA,\n")) }
     ensures mark_and_quotes { AnswersBytes (Table (asking [])) (0xef ∷ 0xbb ∷ 0xbf ∷ codes "a\r\n\"x,y\"\r\n") (Text (codes "a\n\"x,y\"\n")) }
 {}
-
-#[cfg(test)]
-mod line_tests;

@@ -8,20 +8,19 @@ ghost use Rattle.edge_io.specs.Edge.{LosesPrefix, Rose};
 ghost use Rattle.unit_pass.specs.declared.pass.TheConstants.{ROOM};
 ghost use Rattle.made_table.specs.Made.{made};
 ghost use Rattle.words.specs.Words.{audit_of, made_of, texts_of};
-ghost use Rattle.pipe_top.specs.Answer.{AnswersBytes, Asks, Fault, IsAnswer, IsAnswerTo, IsInput, Text, input_by, input_limit};
-ghost use Rattle.pipe_top.specs.Answer.{status_of};
-ghost use Rattle.pipe_top.specs.Outcomes.{AtWriteFault, GotFirst, GotText, IfTable, IsRead, asked_of, fault_in, is_decided, is_early, is_write_fault, task_of};
-ghost use Rattle.pipe_top.specs.Told.{Told, audit_if};
+ghost use Rattle.run_model.specs.Answer.{Asks, Fault, Text, status_of};
+ghost use Rattle.run_model.specs.Outcomes.{AtWriteFault, IfTable, asked_of, is_decided, is_early, is_write_fault, task_of};
+ghost use Rattle.run_model.specs.Told.{Told, audit_if};
+ghost use Rattle.run_model.specs.declared.fault.RunFault.{RunFault as AFault};
+ghost use Rattle.pipe_top.specs.Answer.{AnswersBytes, IsAnswer, IsAnswerTo, IsInput, input_by, input_limit};
+ghost use Rattle.pipe_top.specs.Outcomes.{GotFirst, GotText, IsRead, fault_in};
 ghost use Rattle.pipe_top.specs.Traffic.{CountsTask, IsShown, IsShownInPart, IsTraffic, ShowsAsked, ShowsTask};
-ghost use Rattle.pipe_top.specs.declared.fault.RunFault.{RunFault as AFault};
 
 use crate::answer::answer_input;
-use crate::asked::{Asked, Task, read_asked};
-use crate::fault::RunFault;
 use crate::laws::one_answer;
-use crate::told::tell;
 use edge_io::{Gate, ReadFault, Sink, Source, WriteFault, read_all, write_all};
 use made_table::{made, made_is_short};
+use run_model::{Asked, RunFault, Task, read_asked, tell};
 use std::alloc::Global;
 use std::thread::Threads;
 use stream_face::Tap;
@@ -60,7 +59,7 @@ pub struct Outcome {
 /// words, of reading, of the text, of the schema, of the array. The tap sees nothing, and `N`, `W` and the mark change nothing.
 ///
 /// With `--selftest N`, which takes no stage, no schema text and no `--check`, the source is left alone: so many rows are made in
-/// its place (`made_table`), and go through a chain of stages of their own (`specs/Answer.antt`). The mark changes nothing.
+/// its place (`made_table`), and go through a chain of stages of their own (`chain_of` in `run_model`). The mark changes nothing.
 ///
 /// Each chunk that passes from the source or from a stage is checked and then shown to the tap: link 0 is the source's, link
 /// K that of stage K ("The Arrow C Stream Interface").

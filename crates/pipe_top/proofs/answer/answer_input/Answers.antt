@@ -20,8 +20,9 @@ use Rattle.stage_model.specs.Links.{Whole}
 use Rattle.stage_model.specs.Stages.{table}
 use Rattle.stage_model.specs.Typing.{plan_of}
 use Rattle.stream_face.specs.Streams.{Stream}
-use Rattle.pipe_top.specs.Answer.{Fault, Text, answer_of_records, fault_of_row}
-use Rattle.pipe_top.specs.Outcomes.{request_of}
+use Rattle.run_model.specs.Answer.{Fault, Text, fault_of_row}
+use Rattle.run_model.specs.Outcomes.{request_of}
+use Rattle.pipe_top.specs.Answer.{answer_of_records}
 use Rattle.pipe_top.proofs.Bodies.{driven-text, driven-told, source-is, told-here}
 use Rattle.pipe_top.proofs.Flat.{proper-flat}
 use Rattle.pipe_top.proofs.LinksMade.{chain-counts, chain-links-are}
@@ -162,7 +163,7 @@ returns-in-Err-drive-clause-fault g c =
     let is : s ≡ stream_of cols (batches_in request.mark cols (behind_header records) request.batch) =
     source-is s request.mark c.as_slice-mark.result.now cols (map column_of c.read_columns.result.now) (behind_header records) _ request.batch
     c.in_ok-source.ensures c.as_slice-mark.ensures first behind in
-    driven-told request records cols found stages planned c.in-Err-drive.fault _ c.from.ensures
+    driven-told request records cols found stages planned c.in-Err-drive.fault _ c.run_fault.ensures
     (subst (λ (m : Stream). IfRow c.in-Err-drive.fault (λ row. m.ending ≡ Some row)) is
     (subst (λ r. IfErr r (λ e. IfRow e (λ row. s.ending ≡ Some row))) c.in-Err-drive.is c.drive.ensures.row))
 

@@ -1,8 +1,8 @@
 use Rattle.std.proofs.Common.{rules, ap, refl, subst, take}
 use Rattle.std.specs.Io.KnownBytes.{Appends}
 use Rattle.edge_io.specs.Edge.{taken_by}
+use Rattle.run_model.specs.Outcomes.{asked_of, task_of}
 use Rattle.pipe_top.specs.Answer.{input_by}
-use Rattle.pipe_top.specs.Outcomes.{asked_of, task_of}
 use Rattle.pipe_top.proofs.Runs.{unshown-input}
 use Rattle.pipe_top.proofs.Written.{first-written}
 use Rattle.pipe_top.proofs.top.carry_out.Goals as goal

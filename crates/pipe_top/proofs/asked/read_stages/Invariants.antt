@@ -1,6 +1,0 @@
-use Rattle.pipe_top.proofs.AskedStages.{ReadTo}
-use Rattle.pipe_top.proofs.asked.read_stages.Given as goal
-
--- the stages so far are those of the texts before the place
-abbrev pub invariant-loop-place : goal.invariant-loop-place
-invariant-loop-place l = ReadTo l.texts l.place l.stages.items

@@ -1,0 +1,18 @@
+use Rattle.std.proofs.Common.{◌∙◌, ap, sym}
+use Rattle.words.specs.Words.{options_of}
+use Rattle.run_model.specs.Answer.{meant_by}
+use Rattle.run_model.specs.Outcomes.{asked_of}
+use Rattle.run_model.proofs.Meant.{meant-only}
+use Rattle.run_model.proofs.asked.read_task.Goals as goal
+
+pub returns-in-None-clause-only : goal.returns-in-None-clause-only
+returns-in-None-clause-only c =
+    let options = options_of c.args.options.now in
+    meant-only options.check options.selftest options options (asked_of c.read_table.result) c.if-options.false
+    (ap (λ r. meant_by r options) (sym c.in-None.is)) c.read_table.ensures.only
+
+pub returns-in_ok-chain-in-Some-clause-only : goal.returns-in_ok-chain-in-Some-clause-only
+returns-in_ok-chain-in-Some-clause-only c =
+    let options = options_of c.args.options.now in
+    meant-only options.check options.selftest options (options_of c.in_ok-chain-in-Some.chain) (asked_of c.read_table-in-Some.result) c.if-options.false
+    (c.in_ok-chain-in-Some.ensures.chain ∙ ap (λ r. meant_by r options) (sym c.in-Some.is)) c.read_table-in-Some.ensures.only

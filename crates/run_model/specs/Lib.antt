@@ -1,0 +1,4 @@
+pub mod Answer
+pub mod Outcomes
+pub mod Told
+pub mod SaidTexts

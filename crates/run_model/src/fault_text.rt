@@ -1,0 +1,194 @@
+//! The text of a fault of a run, of which its line on the sink of diagnostics and its `Display` are made.
+ghost use Rattle.std.specs.Prelude.{◌≡◌, ◌++◌, codes, decimal};
+ghost use Rattle.stage_model.specs.FaultTexts.{rule_text, stage_fault_text};
+ghost use Rattle.run_model.specs.Told.{entry_text, fault_text};
+ghost use Rattle.run_model.specs.SaidTexts.{digits_of, said_text, told_text};
+
+use crate::fault::RunFault;
+use itoa::Buffer;
+use stage_plan::{PlanRule, StageFault, TypesRule};
+use std::fmt;
+use tree_check::TreeFault;
+use words::WordsFault;
+
+/// A text with at most two numbers in it.
+#[derive(Clone, Copy)]
+pub(crate) struct Said {
+    pub(crate) front: &'static str,
+    pub(crate) first: Option<u64>,
+    pub(crate) middle: &'static str,
+    pub(crate) second: Option<u64>,
+    pub(crate) back: &'static str,
+}
+
+/// What is told of a fault: a text with at most two numbers in it, or the fault of a tree, whose way to a node may be long.
+#[derive(Clone, Copy)]
+pub(crate) enum Told {
+    Text(Said),
+    Tree(TreeFault),
+}
+
+/// A text without a number.
+fn plain(text: &'static str) -> Told
+    ensures { told_text result ≡ text.now }
+{
+    Told::Text(Said {
+        front: text,
+        first: None,
+        middle: "",
+        second: None,
+        back: "",
+    })
+}
+
+/// A text with a number.
+fn counted(front: &'static str, number: u64, back: &'static str) -> Told
+    ensures { told_text result ≡ front.now ++ decimal number ++ back.now }
+{
+    Told::Text(Said {
+        front,
+        first: Some(number),
+        middle: back,
+        second: None,
+        back: "",
+    })
+}
+
+/// A text with two numbers.
+fn placed(
+    front: &'static str,
+    first: u64,
+    middle: &'static str,
+    second: u64,
+    back: &'static str,
+) -> Told
+    ensures { told_text result ≡ front.now ++ decimal first ++ middle.now ++ decimal second ++ back.now }
+{
+    Told::Text(Said {
+        front,
+        first: Some(first),
+        middle,
+        second: Some(second),
+        back,
+    })
+}
+
+/// What is told of a fault.
+pub(crate) fn told_of(fault: RunFault) -> Told
+    ensures { told_text result ≡ fault_text fault }
+{
+    match fault {
+        RunFault::Words(WordsFault::Refused) => plain("words refused"),
+        RunFault::Words(WordsFault::TooManyStages) => plain("words: more than 16 stages"),
+        RunFault::Words(WordsFault::UsedWithCheck) => {
+            plain("words: --check takes no stage and no --schema")
+        }
+        RunFault::Words(WordsFault::UsedWithSelftest) => {
+            plain("words: --selftest takes no stage, no --schema and no --check")
+        }
+        RunFault::Stage { stage, rule } => counted("stage ", stage as u64, stage_text(rule)),
+        RunFault::Schema { entry, rule } => counted("schema entry ", entry, entry_text(rule)),
+        RunFault::Plan { stage, rule } => counted("stage ", stage as u64, rule_text(rule)),
+        RunFault::NoHeader => plain("no header"),
+        RunFault::TooManyColumns { count } => counted("header has ", count, " columns"),
+        RunFault::HeaderText { column } => {
+            counted("header column ", column as u64, ": not UTF-8")
+        }
+        RunFault::HeaderTwice { column } => {
+            counted("header column ", column as u64, ": named before")
+        }
+        RunFault::HeaderUnknown { entry } => { counted("schema entry ", entry, ": no such column") }
+        RunFault::Ragged { row, found } => placed("record ", row, ": ", found, " fields"),
+        RunFault::Field { row, column } => placed(
+            "record ",
+            row,
+            ", column ",
+            column as u64,
+            ": not a value of its type",
+        ),
+        RunFault::InputTooLong => plain("input longer than 1073741824 bytes"),
+        RunFault::ReadFault => plain("read failed"),
+        RunFault::WriteFault { taken } => counted("write failed after ", taken, " bytes"),
+        RunFault::Tree(fault) => Told::Tree(fault),
+        RunFault::NoMemory => plain("out of memory"),
+    }
+}
+
+/// What is told of a fault of a stage text.
+fn stage_text(fault: StageFault) -> &'static str
+    ensures { result.now ≡ codes ": " ++ stage_fault_text fault }
+{
+    match fault {
+        StageFault::UnknownStage => ": unknown stage",
+        StageFault::BadArguments => ": bad arguments",
+        StageFault::NoMemory => ": out of memory",
+    }
+}
+
+/// What is told of a stage that doesn't fit the columns before it.
+fn rule_text(rule: PlanRule) -> &'static str
+    ensures { result.now ≡ codes ": " ++ rule_text rule }
+{
+    match rule {
+        PlanRule::NoColumn => ": no such column",
+        PlanRule::SameName => ": same name twice",
+        PlanRule::WrongType => ": wrong column type",
+        PlanRule::BadConstant => ": bad constant",
+        PlanRule::NestedOutput => ": nested column in the output",
+        PlanRule::NoColumns => ": no column left",
+        PlanRule::TooWide => ": too many columns",
+    }
+}
+
+/// What is told of a fault of an entry.
+fn entry_text(rule: TypesRule) -> &'static str
+    ensures { result.now ≡ entry_text rule }
+{
+    match rule {
+        TypesRule::BadEntry => ": not a column type",
+        TypesRule::Twice => ": named before",
+    }
+}
+
+/// The digits of a number, and nothing where there is none.
+pub(crate) fn digits<'a>(number: Option<u64>, room: &'a mut Buffer) -> &'a str
+    ensures { result.now ≡ digits_of number }
+{
+    match number {
+        Some(number) => room.format(number),
+        None => "",
+    }
+}
+
+impl fmt::Display for Said {
+    ghost use Rattle.std.specs.Prelude.{Some};
+    ghost use Rattle.run_model.specs.SaidTexts.{said_text};
+
+    ghost output = { λ said. Some (said_text said) };
+
+    fn fmt<W: fmt::Write>(&self, f: &mut fmt::Formatter<W>) -> fmt::Result {
+        let mut one = Buffer::new();
+        let mut two = Buffer::new();
+        f.write_str(self.front)?;
+        f.write_str(digits(self.first, &mut one))?;
+        f.write_str(self.middle)?;
+        f.write_str(digits(self.second, &mut two))?;
+        f.write_str(self.back)
+    }
+}
+
+impl fmt::Display for RunFault {
+    ghost use Rattle.std.specs.Prelude.{Some};
+    ghost use Rattle.run_model.specs.Told.{fault_text};
+
+    ghost output = { λ fault. Some (fault_text fault) };
+
+    fn fmt<W: fmt::Write>(&self, f: &mut fmt::Formatter<W>) -> fmt::Result {
+        match told_of(*self) {
+            Told::Text(said) => write!(f, "{said}"),
+            Told::Tree(fault) => write!(f, "{fault}"),
+        }
+    }
+}
+
+impl std::error::Error for RunFault {}

@@ -1,0 +1,166 @@
+//! The line of the fault of a tree. The way to a node may be long, so the line is written piece by piece and takes no memory.
+ghost use Rattle.std.specs.Prelude.{◌≡◌, ◌++◌, codes, decimal, flat_map};
+ghost use Rattle.std.specs.Fmt.{signed_decimal};
+ghost use Rattle.schema_check.specs.FaultTexts.{schema_rule_text, step_text, way_text};
+ghost use Rattle.layout_check.specs.FaultTexts.{layout_fault_text, rule_text};
+ghost use Rattle.schema_check.specs.Ways.{steps_of};
+ghost use Rattle.tree_check.specs.FaultTexts.{tree_fault_text};
+ghost use Rattle.tree_text.specs.FaultTexts.{text_fault_text};
+ghost use Rattle.run_model.specs.Told.{Says, line_of};
+
+use crate::told::say;
+use edge_io::{Sink, WriteFault};
+use itoa::Buffer;
+use layout_check::{DICTIONARY_STEP, LayoutFault, LayoutRule, Path, SchemaRule};
+use tree_check::TreeFault;
+use tree_text::TextFault;
+
+/// The line of the fault of a tree.
+pub(crate) fn tell_tree<E: Sink>(errs: &mut E, fault: &TreeFault) -> Result<(), WriteFault>
+    ensures { Says result (E.taken errs.old) (E.taken errs.new) (E.faults errs.old) (E.faults errs.new) (line_of (tree_fault_text fault.now)) }
+{
+    match fault {
+        TreeFault::Text(fault) => tell_text(errs, *fault),
+        TreeFault::Schema { path, rule } => tell_schema(errs, path, *rule),
+        TreeFault::Layout(fault) => tell_layout(errs, fault),
+    }
+}
+
+/// The line of the fault of a text.
+fn tell_text<E: Sink>(errs: &mut E, fault: TextFault) -> Result<(), WriteFault>
+    ensures { Says result (E.taken errs.old) (E.taken errs.new) (E.faults errs.old) (E.faults errs.new) (line_of (text_fault_text fault)) }
+{
+    let mut room = Buffer::new();
+    match fault {
+        TextFault::Line { line } => say(
+            errs,
+            &[
+                "arrowpipe: tree line ",
+                room.format(line),
+                ": not expected\n",
+            ],
+        ),
+        TextFault::TooManyLines => say(errs, &["arrowpipe: tree: too many lines\n"]),
+        TextFault::NoMemory => say(errs, &["arrowpipe: out of memory\n"]),
+    }
+}
+
+/// The line of a rule that fails at a node of a schema.
+fn tell_schema<E: Sink>(errs: &mut E, path: &Path, rule: SchemaRule) -> Result<(), WriteFault>
+    ensures { Says result (E.taken errs.old) (E.taken errs.new) (E.faults errs.old) (E.faults errs.new)
+        (line_of (codes "tree " ++ way_text (steps_of path.now) ++ codes ": schema: " ++ schema_rule_text rule)) }
+{
+    tell_way(errs, path)?;
+    say(errs, &[": schema: ", schema_rule_name(rule), "\n"])
+}
+
+/// The line of a rule that fails at a node of an array.
+fn tell_layout<E: Sink>(errs: &mut E, fault: &LayoutFault) -> Result<(), WriteFault>
+    ensures { Says result (E.taken errs.old) (E.taken errs.new) (E.faults errs.old) (E.faults errs.new)
+        (line_of (codes "tree " ++ layout_fault_text fault.now)) }
+{
+    tell_way(errs, &fault.path)?;
+    tell_numbers(errs, fault)
+}
+
+/// The rule, its place and its numbers, behind the way to the node.
+fn tell_numbers<E: Sink>(errs: &mut E, fault: &LayoutFault) -> Result<(), WriteFault>
+    ensures { Says result (E.taken errs.old) (E.taken errs.new) (E.faults errs.old) (E.faults errs.new)
+        (codes ": " ++ rule_text fault.now.rule ++ codes " at " ++ decimal fault.now.place ++ codes ": " ++ signed_decimal fault.now.left ++ codes ", "
+        ++ signed_decimal fault.now.right ++ codes "\n") }
+{
+    let mut place = Buffer::new();
+    let mut left = Buffer::new();
+    let mut right = Buffer::new();
+    let place = place.format(fault.place);
+    let left = left.format(fault.left);
+    let right = right.format(fault.right);
+    let rule = rule_name(fault.rule);
+    say(
+        errs,
+        &[": ", rule, " at ", place, ": ", left, ", ", right, "\n"],
+    )
+}
+
+/// The front of a line, with the way to a node.
+fn tell_way<E: Sink>(errs: &mut E, path: &Path) -> Result<(), WriteFault>
+    ensures { Says result (E.taken errs.old) (E.taken errs.new) (E.faults errs.old) (E.faults errs.new)
+        (codes "arrowpipe: tree " ++ way_text (steps_of path.now)) }
+{
+    say(errs, &["arrowpipe: tree "])?;
+    tell_steps_if(errs, path.way())
+}
+
+/// The steps from the root, which has none and is a `/`.
+fn tell_steps_if<E: Sink>(errs: &mut E, way: &[u32]) -> Result<(), WriteFault>
+    ensures { Says result (E.taken errs.old) (E.taken errs.new) (E.faults errs.old) (E.faults errs.new) (way_text way.now) }
+{
+    if way.is_empty() {
+        say(errs, &["/"])
+    } else {
+        tell_steps(errs, way)
+    }
+}
+
+/// The steps, one behind the other.
+fn tell_steps<E: Sink>(errs: &mut E, way: &[u32]) -> Result<(), WriteFault>
+    ensures { Says result (E.taken errs.old) (E.taken errs.new) (E.faults errs.old) (E.faults errs.new) (flat_map step_text way.now) }
+{
+    for step in way {
+        tell_step(errs, *step)?;
+    }
+    Ok(())
+}
+
+/// One step, to a child or to the dictionary.
+fn tell_step<E: Sink>(errs: &mut E, step: u32) -> Result<(), WriteFault>
+    ensures { Says result (E.taken errs.old) (E.taken errs.new) (E.faults errs.old) (E.faults errs.new) (step_text step) }
+{
+    let mut room = Buffer::new();
+    if step == DICTIONARY_STEP {
+        say(errs, &["/d"])
+    } else {
+        say(errs, &["/", room.format(step)])
+    }
+}
+
+/// The name of a rule of schemas, without the fault that it holds.
+fn schema_rule_name(rule: SchemaRule) -> &'static str
+    ensures { result.now ≡ schema_rule_text rule }
+{
+    match rule {
+        SchemaRule::Released => "Released",
+        SchemaRule::Format(_) => "Format",
+        SchemaRule::Meta(_) => "Meta",
+        SchemaRule::ChildCount => "ChildCount",
+        SchemaRule::DictIndexType => "DictIndexType",
+        SchemaRule::MapShape => "MapShape",
+        SchemaRule::Deep => "Deep",
+    }
+}
+
+/// The name of a rule of arrays.
+fn rule_name(rule: LayoutRule) -> &'static str
+    ensures { result.now ≡ rule_text rule }
+{
+    match rule {
+        LayoutRule::Released => "Released",
+        LayoutRule::NegativeLength => "NegativeLength",
+        LayoutRule::NegativeOffset => "NegativeOffset",
+        LayoutRule::BufferCount => "BufferCount",
+        LayoutRule::ChildCount => "ChildCount",
+        LayoutRule::Dictionary => "Dictionary",
+        LayoutRule::BufferAbsent => "BufferAbsent",
+        LayoutRule::BufferShort => "BufferShort",
+        LayoutRule::OffsetsFall => "OffsetsFall",
+        LayoutRule::ChildShort => "ChildShort",
+        LayoutRule::NullCount => "NullCount",
+        LayoutRule::NotText => "NotText",
+        LayoutRule::IndexRange => "IndexRange",
+        LayoutRule::TopNulls => "TopNulls",
+        LayoutRule::WindowTooLong => "WindowTooLong",
+        LayoutRule::TopKind => "TopKind",
+        LayoutRule::ViewPlace => "ViewPlace",
+        LayoutRule::ViewPrefix => "ViewPrefix",
+    }
+}
