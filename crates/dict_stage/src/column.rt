@@ -13,9 +13,9 @@ use crate::coder::coded;
 use crate::item::{count, item_of};
 use arr_import::Col;
 use col_build::Builder;
+use column_fill::{built_column, push};
 use fmt_string::{ColKind, DataType, clone_kind, storage_of};
 use raw_array::RawArray;
-use column_fill::{built_column, push};
 use std::alloc::Global;
 use unit_pass::{NoMemory, Pass, SUPPLY};
 

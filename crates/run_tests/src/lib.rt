@@ -17,6 +17,6 @@ mod payments;
 #[cfg(test)]
 mod runs;
 #[cfg(test)]
-mod stages;
+mod staged;
 #[cfg(test)]
 mod workers;

@@ -3,7 +3,7 @@ use crate::payments::{CHAIN, TOTALS, payments};
 use crate::runs::{
     Ran, came_to, has_made, has_told, run_into, sink_of, sink_with_room, source_of, words_of,
 };
-use crate::stages::run_line;
+use crate::staged::run_line;
 use edge_io::{Got, MemSource, OpenGate, Source};
 use pipe_top::{RunFault, WordsFault};
 use std::alloc::Global;

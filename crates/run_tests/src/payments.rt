@@ -1,6 +1,6 @@
 //! Runs with stages of each kind over made tables of payments.
 use crate::runs::{came_to, has_made, has_told};
-use crate::stages::run_line;
+use crate::staged::run_line;
 use std::alloc::Global;
 use std::process::Abort;
 use std::test::Fail;

@@ -1,7 +1,7 @@
 //! Runs over sources and sinks in memory, with answers from outside.
 ghost use Rattle.std.specs.Prelude.{◌≤◌};
 
-use crate::stages::run_line;
+use crate::staged::run_line;
 use edge_io::{CountSource, Gate, MemSink, MemSource, OpenGate, Source};
 use pipe_top::{Outcome, PlanRule, RunFault, StageFault, TypesRule, WordsFault, run};
 use std::alloc::Global;
