@@ -4,7 +4,6 @@ use Rattle.tree_model.specs.Tree.{Tree, Live, Released, trees, absent, child_at,
 use Rattle.raw_array.specs.Members.{ArrayMembers, ArrayTree, members_of}
 use Rattle.raw_array.specs.Windows.{Window, FitsWindow}
 use Rattle.raw_array.specs.declared.array.ReleaseKind.TheVariants.{Assembled}
-use Rattle.raw_schema.specs.Members.{SchemaTree}
 
 -- no child is picked twice
 abbrev pub Distinct : List ℕ → Type 0
@@ -39,7 +38,3 @@ struct_members len = record { length = len; null_count = pos 0; offset = pos 0; 
 abbrev pub Columns : ArrayTree → List ℕ → ArrayTree
 Columns t picks =
     Live (struct_members (members_of t).length) (trees (map (cut t (members_of t).offset (members_of t).length) picks)) absent
-
--- the schema with the picked fields in the order of the picks
-abbrev pub Fields : SchemaTree → List ℕ → SchemaTree
-Fields s picks = with_children s (map (child_at s) picks)

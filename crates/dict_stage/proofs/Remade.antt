@@ -22,7 +22,7 @@ use Rattle.layout_check.specs.Values.{rows_of, tree_items, values_of}
 use Rattle.layout_check.specs.Walk.{ChunkOk, LayoutOk}
 use Rattle.arr_export.specs.ArrayTrees.{AreIndices, column_tree, flat_type, looked_up}
 use Rattle.column_laws.specs.Picking.{AreLive, Replaced, cut_children}
-use Rattle.stage_kernels.specs.Structs.{column_structs, structs}
+use Rattle.plan_laws.specs.Structs.{column_structs, structs}
 use Rattle.stage_kernels.proofs.MovedChildren.{cut-at}
 use Rattle.stage_kernels.proofs.PickedChunks.{dicts-window}
 use Rattle.stage_model.specs.Dictionary.{Dictionary}

@@ -6,7 +6,7 @@ use Rattle.fmt_string.specs.Table.{Column, Flat, Dict}
 use Rattle.fmt_string.specs.declared.kind.ColumnType.{ColumnType}
 use Rattle.fmt_string.specs.declared.kind.DataType.{DataType}
 use Rattle.stage_model.specs.Typing.{column, column_at, is_bytes}
-use Rattle.stage_kernels.specs.Structs.{column_structs, most_structs}
+use Rattle.plan_laws.specs.Structs.{column_structs, most_structs}
 
 -- a column of these is of plain texts or bytes, and the columns that are kept have a dictionary of them in its place
 pub record DictFits (place : ℕ) (kept : List ColumnType) (before : List Column) : Type 0 where

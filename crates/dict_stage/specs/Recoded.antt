@@ -12,7 +12,7 @@ use Rattle.schema_check.specs.Kinds.{KindTree}
 use Rattle.layout_check.specs.Values.{rows_of}
 use Rattle.layout_check.specs.Walk.{ChunkOk}
 use Rattle.arr_import.specs.Window.{Window}
-use Rattle.stage_kernels.specs.Structs.{column_structs, most_structs}
+use Rattle.plan_laws.specs.Structs.{column_structs, most_structs}
 use Rattle.stage_model.specs.Traffic.{Made, kind_blocks, kind_nodes}
 use Rattle.stage_model.specs.Typing.{column, column_at}
 use Rattle.stream_face.specs.Lawful.{AreValues, HasBytes}

@@ -1,7 +1,2 @@
-pub mod Bodies
-mod OneAnswer
+mod Fitting
 pub mod Runs
-mod Written
-pub mod LinksMade
-pub mod PlanMade
-pub mod Flat

@@ -5,19 +5,19 @@ use Rattle.std.proofs.Common.{append-nil, inl, inr}
 use Rattle.std.proofs.lemmas.Bool.{false≢true}
 use Rattle.edge_io.specs.declared.WriteFault.{WriteFault}
 use Rattle.unit_pass.specs.declared.pass.Audit.{Audit}
-use Rattle.stage_chain.proofs.Chaining.{shows-nothing}
 use Rattle.stream_face.specs.Shown.{Seen}
-use Rattle.run_model.specs.Answer.{Answer, Asks, Table, Task, Tree, Text, Fault, cause_of, status_of, Cause, OfWords, OfTexts, OfPlan, OfRecords}
+use Rattle.run_model.specs.Answer.{Answer, Asks, Task, Text, Fault, cause_of, status_of, Cause, OfWords, OfTexts, OfPlan, OfRecords}
 use Rattle.run_model.specs.Answer.{OfTree, OfLength, Reading, Writing, Memory}
 use Rattle.run_model.specs.Outcomes.{AtWriteFault, AtWriting, asked_of, is_decided}
 use Rattle.run_model.specs.declared.asked.Task.{Task as AsksTask}
 use Rattle.run_model.specs.Told.{Says, Told, Took, audit_if, fault_line}
 use Rattle.run_model.specs.declared.fault.RunFault.{RunFault}
 use Rattle.run_model.specs.declared.fault.RunFault.TheVariants as run
-use Rattle.pipe_top.specs.Traffic.{IsShownInPart, ShowsAsked}
+use Rattle.run_task.specs.Traffic.{IsShownInPart, ShowsAsked}
 use Rattle.words.specs.Words.{made_of}
-use Rattle.pipe_top.specs.Answer.{IsAnswer, IsAnswerTo, IsInput, input_by}
-use Rattle.pipe_top.specs.Outcomes.{GotFirst, GotText, fault_in}
+use Rattle.run_task.proofs.Unshown.{unshown}
+use Rattle.run_task.specs.Answer.{IsAnswer, IsAnswerTo, IsInput, input_by}
+use Rattle.run_task.specs.Outcomes.{GotFirst, GotText, fault_in}
 
 -- ---- diagnostics
 
@@ -264,19 +264,6 @@ made-keeps A words rows request (inl none) early made = if-some (made_of words) 
 made-keeps A words rows request (inr same) early made = subst (λ r. IfSome r (λ n. A)) same made
 
 -- ---- what is shown
-
--- where nothing was shown, the first chunks of whatever links were
-pub unshown : (asked : Result Task RunFault) (bytes : List ℕ) (old new : Option (List Seen)) → new ≡ old → ShowsAsked asked bytes old new
-unshown (Ok (Table request)) bytes old new same =
-    subst (λ n. ShowsAsked (Ok (Table request)) bytes old n) (sym same) (shows-nothing _ old)
-unshown (Ok Tree) bytes old new same = same
-unshown (Err fault) bytes old new same = same
-
-pub unshown-input : (r : Result (Unit {0}) RunFault) (left : Option (List ℕ)) (asked : Result Task RunFault) (old new : Option (List Seen)) → new ≡ old
-    → OnErr r (IfSome left (λ bytes. ShowsAsked asked bytes old new))
-unshown-input (Ok done) left asked old new same = tt
-unshown-input (Err fault) None asked old new same = tt
-unshown-input (Err fault) (Some bytes) asked old new same = unshown asked bytes old new same
 
 module _ (words : List (List ℕ)) (left : Option (List ℕ)) (rows : Option ℕ) (request : Result AsksTask RunFault) (old new : Option (List Seen))
     (none : IfErr request (λ _. new ≡ old)) where

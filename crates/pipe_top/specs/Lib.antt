@@ -1,3 +1,1 @@
-pub mod Answer
-pub mod Outcomes
-pub mod Traffic
+pub mod AnyWorks

@@ -1,34 +1,25 @@
 //! The top call.
-ghost use Rattle.std.specs.Prelude.{◌≡◌, ◌<◌, ◌≤◌, ◌*◌, ◌⊎◌, ◌++◌, true, false, All, Some, None, Ok, Err, IfOk, IfErr, IfSome, OnOk, OnErr, length, ℕ, List};
+ghost use Rattle.std.specs.Prelude.{◌≡◌, ◌⊎◌, true, false, Some, None, Err, IfSome, ℕ, List};
 ghost use Rattle.std.specs.Thread.{IsSync};
-ghost use Rattle.std.specs.Io.KnownBytes.{IsAtEnd, Keeps};
-ghost use Rattle.field_codec.specs.TextColumns.{IsAllowed};
-ghost use Rattle.fmt_string.specs.Kinds.{KindOk};
+ghost use Rattle.std.specs.Io.KnownBytes.{Keeps};
 ghost use Rattle.edge_io.specs.Edge.{LosesPrefix, Rose};
-ghost use Rattle.unit_pass.specs.declared.pass.TheConstants.{ROOM};
-ghost use Rattle.made_table.specs.Made.{made};
 ghost use Rattle.words.specs.Words.{audit_of, made_of, texts_of};
 ghost use Rattle.run_model.specs.Answer.{Asks, Fault, Text, status_of};
-ghost use Rattle.run_model.specs.Outcomes.{AtWriteFault, IfTable, asked_of, is_decided, is_early, is_write_fault, task_of};
+ghost use Rattle.run_model.specs.Outcomes.{AtWriteFault, is_decided, is_early, is_write_fault};
 ghost use Rattle.run_model.specs.Told.{Told, audit_if};
 ghost use Rattle.run_model.specs.declared.fault.RunFault.{RunFault as AFault};
-ghost use Rattle.pipe_top.specs.Answer.{AnswersBytes, IsAnswer, IsAnswerTo, IsInput, input_by, input_limit};
-ghost use Rattle.pipe_top.specs.Outcomes.{GotFirst, GotText, IsRead, fault_in};
-ghost use Rattle.pipe_top.specs.Traffic.{CountsTask, IsShown, IsShownInPart, IsTraffic, ShowsAsked, ShowsTask};
+ghost use Rattle.run_task.specs.Answer.{IsAnswer, IsInput};
+ghost use Rattle.run_task.specs.Outcomes.{GotFirst, GotText, IsRead, fault_in};
+ghost use Rattle.run_task.specs.Traffic.{IsShown, IsShownInPart, IsTraffic};
 
-use crate::answer::answer_input;
-use crate::laws::one_answer;
-use edge_io::{Gate, ReadFault, Sink, Source, WriteFault, read_all, write_all};
-use made_table::{made, made_is_short};
-use run_model::{Asked, RunFault, Task, read_asked, tell};
+use crate::any_work::AnyWork;
+use edge_io::{Gate, Sink, Source};
+use run_model::{Asked, RunFault, read_asked, tell};
+use run_task::{carry_out, one_answer};
 use std::alloc::Global;
 use std::thread::Threads;
 use stream_face::Tap;
-use tree_check::check_tree;
-use unit_pass::{Audit, Pass, ROOM, open_desk};
-
-/// The most bytes that are read.
-const INPUT_LIMIT: u64 = 1 << 30;
+use unit_pass::{Audit, open_desk};
 
 /// What a run came to.
 #[derive(Clone, Copy, PartialEq, Eq, Debug)]
@@ -134,7 +125,9 @@ pub fn run<R: Threads + Sync, S: Source, K: Sink, E: Sink, T: Tap>(
         made,
         task,
     } = read_asked(alloc, words);
-    let carried = carry_out(rt, alloc, made, task, source, sink, &mut pass, tap, gate);
+    let carried = carry_out::<AnyWork, _, _, _, _>(
+        rt, alloc, made, task, source, sink, &mut pass, tap, gate,
+    );
     let audit = desk.close(pass);
     let outcome = outcome_of(carried, audit);
     let _told = tell(errs, outcome.fault, &outcome.audit, wanted);
@@ -182,149 +175,5 @@ fn status(fault: RunFault) -> u8
         RunFault::WriteFault { taken: _ } => 7,
         RunFault::Tree(_) => 8,
         RunFault::NoMemory => 9,
-    }
-}
-
-/// The bytes of the input: those that the source has, which is read to its end, or those of so many rows that are made.
-fn read_input<S: Source>(
-    alloc: Global,
-    rows: Option<u32>,
-    source: &mut S,
-) -> Result<Vec<u8>, RunFault>
-    requires few { IfSome rows (λ n. n ≤ 1000000) }
-    ensures bytes { IfOk result (λ v. IfSome (input_by rows (S.left source.old)) (λ bytes. bytes ≡ v.items)) }
-    ensures fits { IfOk result (λ v. length v.items ≤ input_limit) }
-    ensures end { OnOk result (IsRead rows (S.left source.old) (S.left source.new)) }
-    ensures fault { IfErr result (λ fault. (fault ≡ RunFault.NoMemory)
-        ⊎ (fault ≡ RunFault.ReadFault) × (rows ≡ None) × Rose (S.faults source.old) (S.faults source.new)
-        ⊎ (fault ≡ RunFault.InputTooLong) × IfSome (input_by rows (S.left source.old)) (λ bytes. input_limit < length bytes)) }
-    ensures made_unread { IfSome rows (λ n. Keeps (S.left source.old) (S.left source.new)) }
-    ensures made_unfailed { IfSome rows (λ n. S.faults source.new ≡ S.faults source.old) }
-    ensures prefix { LosesPrefix (S.left source.old) (S.left source.new) }
-{
-    match rows {
-        Some(rows) => make_input(alloc, rows),
-        None => read_source(alloc, source),
-    }
-}
-
-/// The bytes of so many rows.
-fn make_input(alloc: Global, rows: u32) -> Result<Vec<u8>, RunFault>
-    requires few { rows ≤ 1000000 }
-    ensures bytes { IfOk result (λ v. made rows ≡ v.items) }
-    ensures fits { IfOk result (λ v. length v.items ≤ input_limit) }
-    ensures fault { IfErr result (λ fault. fault ≡ RunFault.NoMemory) }
-{
-    made_is_short();
-    let bytes = made(alloc, rows)?;
-    Ok(bytes)
-}
-
-/// Reads the source to its end.
-fn read_source<S: Source>(alloc: Global, source: &mut S) -> Result<Vec<u8>, RunFault>
-    ensures bytes { IfOk result (λ v. IfSome (S.left source.old) (λ bytes. bytes ≡ v.items)) }
-    ensures fits { IfOk result (λ v. length v.items ≤ input_limit) }
-    ensures end { OnOk result (IsAtEnd (S.left source.new)) }
-    ensures fault { IfErr result (λ fault. (fault ≡ RunFault.NoMemory)
-        ⊎ (fault ≡ RunFault.ReadFault) × Rose (S.faults source.old) (S.faults source.new)
-        ⊎ (fault ≡ RunFault.InputTooLong) × IfSome (S.left source.old) (λ bytes. input_limit < length bytes)) }
-    ensures prefix { LosesPrefix (S.left source.old) (S.left source.new) }
-{
-    match read_all(alloc, source, INPUT_LIMIT) {
-        Ok(bytes) => Ok(bytes),
-        Err(ReadFault::Failed) => Err(RunFault::ReadFault),
-        Err(ReadFault::TooLong) => Err(RunFault::InputTooLong),
-        Err(ReadFault::NoMemory) => Err(RunFault::NoMemory),
-    }
-}
-
-/// The text that answers a task and an input, or the first fault of the input.
-fn answer_task<R: Threads + Sync, T: Tap>(
-    rt: &R,
-    alloc: Global,
-    bytes: &[u8],
-    task: &Task,
-    pass: &mut Pass,
-    tap: &mut T,
-    gate: &(dyn Gate + Sync),
-) -> Result<Vec<u8>, RunFault>
-    requires shared { IsSync R.row }
-    requires short { length bytes.now ≤ input_limit }
-    requires units { 2 * ROOM ≤ pass.old.units }
-    requires proper { IfTable task.now (λ r. All (λ e. KindOk e.kind) r.entries.items) }
-    requires allowed { IfTable task.now (λ r. All (λ e. IsAllowed e.kind) r.entries.items) }
-    requires few { IfTable task.now (λ r. length r.stages.items ≤ 16) }
-    requires batch { IfTable task.now (λ r. (1 ≤ r.batch) × (r.batch ≤ 1000000)) }
-    requires workers { IfTable task.now (λ r. (1 ≤ r.workers) × (r.workers ≤ 64)) }
-    ensures text { IfOk result (λ text. AnswersBytes (task_of task.now) bytes.now (Text text.items)) }
-    ensures fault { IfErr result (λ fault. (fault ≡ RunFault.NoMemory) ⊎ AnswersBytes (task_of task.now) bytes.now (Fault fault)) }
-    ensures units { pass.new.units ≡ pass.old.units }
-    ensures counts { OnOk result (CountsTask (task_of task.now) bytes.now pass.old.blocks pass.old.nodes pass.new.blocks pass.new.nodes) }
-    ensures shows { OnOk result (ShowsTask (task_of task.now) bytes.now (T.seen tap.old) (T.seen tap.new)) }
-    ensures shows_some { OnErr result (ShowsAsked (Ok (task_of task.now)) bytes.now (T.seen tap.old) (T.seen tap.new)) }
-{
-    match task {
-        Task::Table(request) => answer_input(rt, alloc, bytes, request, pass, tap, gate),
-        Task::Tree => match check_tree(alloc, bytes, pass) {
-            Ok(report) => Ok(report),
-            Err(fault) => Err(RunFault::from(fault)),
-        },
-    }
-}
-
-/// Reads the source or makes so many rows, makes the text and writes it, where the words are taken.
-fn carry_out<R: Threads + Sync, S: Source, K: Sink, T: Tap>(
-    rt: &R,
-    alloc: Global,
-    rows: Option<u32>,
-    task: Result<Task, RunFault>,
-    source: &mut S,
-    sink: &mut K,
-    pass: &mut Pass,
-    tap: &mut T,
-    gate: &(dyn Gate + Sync),
-) -> Result<(), RunFault>
-    requires shared { IsSync R.row }
-    requires few_rows { IfSome rows (λ n. n ≤ 1000000) }
-    requires units { 2 * ROOM ≤ pass.old.units }
-    requires proper { IfOk task (λ t. IfTable t (λ r. All (λ e. KindOk e.kind) r.entries.items)) }
-    requires allowed { IfOk task (λ t. IfTable t (λ r. All (λ e. IsAllowed e.kind) r.entries.items)) }
-    requires few { IfOk task (λ t. IfTable t (λ r. length r.stages.items ≤ 16)) }
-    requires batch { IfOk task (λ t. IfTable t (λ r. (1 ≤ r.batch) × (r.batch ≤ 1000000))) }
-    requires workers { IfOk task (λ t. IfTable t (λ r. (1 ≤ r.workers) × (r.workers ≤ 64))) }
-    requires early { IfErr task (λ fault. (is_early fault ≡ true) ⊎ (fault ≡ RunFault.NoMemory)) }
-    ensures text { OnOk result (IfSome (input_by rows (S.left source.old))
-        (λ bytes. GotText (IsAnswerTo (asked_of task) bytes) (K.taken sink.old) (K.taken sink.new))) }
-    ensures text_read_to_end { OnOk result (IsRead rows (S.left source.old) (S.left source.new)) }
-    ensures refused { IfErr result (λ fault. is_decided fault ≡ true
-        → IfSome (input_by rows (S.left source.old)) (λ bytes. IsAnswerTo (asked_of task) bytes (Fault fault))) }
-    ensures refused_early { IfErr task (λ fault. result ≡ Err fault) }
-    ensures refused_early_only { IfErr result (λ fault. is_early fault ≡ true → asked_of task ≡ Err fault) }
-    ensures refused_unread { IfErr task (λ _. Keeps (S.left source.old) (S.left source.new)) }
-    ensures refused_unfailed { IfErr task (λ _. S.faults source.new ≡ S.faults source.old) }
-    ensures made_unread { IfSome rows (λ n. Keeps (S.left source.old) (S.left source.new)) }
-    ensures made_unfailed { IfSome rows (λ n. S.faults source.new ≡ S.faults source.old) }
-    ensures read_fault { result ≡ Err RunFault.ReadFault → (rows ≡ None) × Rose (S.faults source.old) (S.faults source.new) }
-    ensures write_fault { IfErr result (λ fault. AtWriteFault fault (λ taken. Rose (K.faults sink.old) (K.faults sink.new))) }
-    ensures write_fault_prefix { IfErr result (λ fault. AtWriteFault fault
-        (λ taken. IfSome (input_by rows (S.left source.old))
-        (λ bytes. GotFirst (IsAnswerTo (asked_of task) bytes) (K.taken sink.old) (K.taken sink.new) taken))) }
-    ensures unwritten { IfErr result (λ fault. is_write_fault fault ≡ false → Keeps (K.taken sink.old) (K.taken sink.new)) }
-    ensures prefix { LosesPrefix (S.left source.old) (S.left source.new) }
-    ensures units { pass.new.units ≡ pass.old.units }
-    ensures counts { OnOk result (IfOk task (λ t. IfSome (input_by rows (S.left source.old))
-        (λ bytes. CountsTask (task_of t) bytes pass.old.blocks pass.old.nodes pass.new.blocks pass.new.nodes))) }
-    ensures shows { OnOk result (IfOk task (λ t. IfSome (input_by rows (S.left source.old))
-        (λ bytes. ShowsTask (task_of t) bytes (T.seen tap.old) (T.seen tap.new)))) }
-    ensures unshown { IfErr task (λ _. T.seen tap.new ≡ T.seen tap.old) }
-    ensures shows_some { OnErr result (IfSome (input_by rows (S.left source.old))
-        (λ bytes. ShowsAsked (asked_of task) bytes (T.seen tap.old) (T.seen tap.new))) }
-{
-    let task = task?;
-    let bytes = read_input(alloc, rows, source)?;
-    let text = answer_task(rt, alloc, &bytes, &task, pass, tap, gate)?;
-    match write_all(sink, &text) {
-        Ok(()) => Ok(()),
-        Err(WriteFault::Failed { taken }) => Err(RunFault::WriteFault { taken }),
     }
 }

@@ -23,8 +23,8 @@ use Rattle.stage_model.specs.declared.stage.Step.TheVariants as steps
 use Rattle.stage_model.proofs.Numbers.{none-fails, stages-fit}
 use Rattle.stage_model.proofs.StageColumns.{stages-have}
 use Rattle.stream_face.specs.Lawful.{DictsHaveBytes, HasBytes, column_leaves, leaves}
-use Rattle.stage_kernels.specs.Structs.{column_structs, structs}
-use Rattle.stage_kernels.proofs.PickedStreams.{all-picked, first-within, leaves-are, rest-within, sum-picked, total}
+use Rattle.plan_laws.specs.Structs.{column_structs, structs}
+use Rattle.plan_laws.proofs.PickedColumns.{all-picked, first-within, leaves-are, rest-within, sum-picked, total}
 use Rattle.plan_laws.specs.Distinct.{DistinctPicks}
 use Rattle.plan_laws.proofs.DifferentPicks.{stages-distinct}
 

@@ -1,3 +1,4 @@
+pub mod PickedColumns
 pub mod DifferentPicks
 pub mod KeptColumns
 pub mod SmallSchemas

@@ -8,7 +8,7 @@ use Rattle.raw_schema.specs.Members.{Nodes, nodes_of_all}
 use Rattle.schema_check.specs.ColumnSchema.{SchemaOf, column_schema, member_schemas, schema_of_column}
 use Rattle.stage_model.specs.Traffic.{Made, kind_nodes, member_nodes, table_nodes}
 use Rattle.stream_face.specs.Lawful.{column_leaves, leaves, member_leaves}
-use Rattle.stage_kernels.specs.Structs.{column_structs, member_structs, structs}
+use Rattle.plan_laws.specs.Structs.{column_structs, member_structs, structs}
 
 -- ---- counted
 

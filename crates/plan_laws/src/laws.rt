@@ -8,7 +8,7 @@ ghost use Rattle.schema_check.specs.ColumnSchema.{SchemaOf};
 ghost use Rattle.stage_model.specs.Traffic.{Made, table_nodes};
 ghost use Rattle.stage_model.specs.Typing.{IsStageOver, Stage, most_columns};
 ghost use Rattle.stream_face.specs.Lawful.{DictsHaveBytes, column_leaves};
-ghost use Rattle.stage_kernels.specs.Structs.{column_structs};
+ghost use Rattle.plan_laws.specs.Structs.{column_structs};
 ghost use Rattle.plan_laws.specs.Distinct.{DistinctPicks};
 
 /// A law: what a stage that no rule refuses leaves of the columns before it.

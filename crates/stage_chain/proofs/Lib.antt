@@ -1,4 +1,4 @@
-pub mod Starting
+mod TypedKinds
 pub mod Planning
 pub mod Chaining
 pub mod Driving

@@ -1,4 +1,3 @@
 pub mod Boxes
 pub mod Plans
 pub mod Chains
-pub mod StepWorks

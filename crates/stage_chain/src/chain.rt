@@ -7,7 +7,7 @@ ghost use Rattle.csv_write.specs.CsvTexts.{HasText};
 ghost use Rattle.fmt_string.specs.ColumnForms.{AreColumnKinds};
 ghost use Rattle.fmt_string.specs.Table.{Column};
 ghost use Rattle.unit_pass.specs.declared.pass.TheConstants.{CHUNK, ROOM, SUPPLY};
-ghost use Rattle.stage_kernels.specs.Structs.{column_structs};
+ghost use Rattle.plan_laws.specs.Structs.{column_structs};
 ghost use Rattle.stage_model.specs.Links.{last_columns};
 ghost use Rattle.stream_face.specs.Streams.{Stream, kept};
 ghost use Rattle.stage_chain.specs.Chains.{chain_links, chain_traffic, joints_with, last_rows};
@@ -18,6 +18,7 @@ ghost use Rattle.stream_text.specs.Runs.{Counted, ShowsAll, ShowsSome};
 use crate::boxed::Boxed;
 use crate::planned::PlannedStage;
 use crate::stage_start::start_stage;
+use crate::step_work::StepWork;
 use csv_write::CsvText;
 use edge_io::Gate;
 use std::alloc::Global;
@@ -34,8 +35,8 @@ pub(crate) trait Chain {
 
     const LEFT: usize;
 
-    /// Adds the rows that come out of the stages over a source to a text. The source is spent.
-    fn go<S: ArrayStream, R: Threads + Sync, T: Tap>(
+    /// Adds the rows that come out of the stages over a source, by these works, to a text. The source is spent.
+    fn go<W: StepWork, S: ArrayStream, R: Threads + Sync, T: Tap>(
         rt: &R,
         alloc: Global,
         source: S,
@@ -97,7 +98,7 @@ impl Chain for Zero {
 
     const LEFT: usize = 0;
 
-    fn go<S: ArrayStream, R: Threads + Sync, T: Tap>(
+    fn go<W: StepWork, S: ArrayStream, R: Threads + Sync, T: Tap>(
         rt: &R,
         alloc: Global,
         source: S,
@@ -124,7 +125,7 @@ impl<N: Chain> Chain for Succ<N> {
 
     // Stands alone, so that no level holds the code of those behind it.
     #[inline(never)]
-    fn go<S: ArrayStream, R: Threads + Sync, T: Tap>(
+    fn go<W: StepWork, S: ArrayStream, R: Threads + Sync, T: Tap>(
         rt: &R,
         alloc: Global,
         source: S,
@@ -145,8 +146,8 @@ impl<N: Chain> Chain for Succ<N> {
         let mut stages = stages;
         match stages.next() {
             None => write_rows(up, rt, alloc, text, pass, tap, gate),
-            Some(stage) => match Boxed::new(alloc, start_stage(up, stage, workers)) {
-                Ok(above) => N::go(
+            Some(stage) => match Boxed::new(alloc, start_stage::<W, S>(up, stage, workers)) {
+                Ok(above) => N::go::<W, _, _, _>(
                     rt,
                     alloc,
                     above,

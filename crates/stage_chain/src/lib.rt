@@ -1,15 +1,16 @@
 //! The chain of stages over a stream of chunks, and the text of what comes out of it.
 //!
-//! What this crate owns: [`drive`], which makes the stages of a plan streams, each over the checked stream of the one before it,
-//! and writes the rows of the last one as CSV. A chain is no type that holds itself: each stage is a stream over the stream
-//! below it, by one work for all kinds of steps, and how many stages may be left is a number that is a type (`chain.rt`).
+//! What this crate owns: [`drive_by`], which makes the stages of a plan streams, each over the checked stream of the one before
+//! it, and writes the rows of the last one as CSV. What a stage does is a work that is made of its step ([`StepWork`]), one type
+//! for all kinds of steps. A chain is no type that holds itself: each stage is a stream over the stream below it, and how many
+//! stages may be left is a number that is a type (`chain.rt`).
 //!
 //! What it promises: the text is that of the one table that the stages make of all rows, however these came in chunks; each chunk
 //! of each link is checked and shown to the tap, once and in order; the counts rise by what the source and the stages make; a
 //! source that ends at a record is refused with it; and the source is spent with all units on every outcome.
 //!
 //! What it leaves to others: what stages mean (`stage_model`), which stages fit columns (`stage_plan`), what each does to a chunk
-//! (`stage_kernels`, `stage_filter`, `dict_stage`, `total_stage`), and where the rows come from.
+//! (the works: `stage_works`), and where the rows come from.
 #![tactic(auto)]
 
 mod boxed;
@@ -19,5 +20,6 @@ mod stage_start;
 mod step_work;
 mod text;
 
+pub use step_work::StepWork;
 pub use stream_text::DriveFault;
-pub use text::drive;
+pub use text::drive_by;

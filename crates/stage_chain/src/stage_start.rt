@@ -1,36 +1,35 @@
 //! The stream of a stage.
 ghost use Rattle.std.specs.Prelude.{◌≡◌, ◌≤◌, All, IsTrue, None};
 ghost use Rattle.fmt_string.specs.ColumnForms.{AreColumnKinds};
-ghost use Rattle.stage_kernels.specs.Structs.{column_structs, most_structs};
+ghost use Rattle.plan_laws.specs.Structs.{column_structs, most_structs};
 ghost use Rattle.stage_model.specs.Typing.{IsStageOver};
 ghost use Rattle.stages.specs.Stages.{stage_state};
 ghost use Rattle.stream_face.specs.Meaning.{meaning};
 ghost use Rattle.stage_chain.specs.Chains.{over_stream};
 ghost use Rattle.stage_chain.specs.Plans.{stage_in};
-ghost use Rattle.stage_chain.specs.StepWorks.{work_ahead, work_columns, work_due};
 
 use crate::planned::PlannedStage;
-use crate::step_work::{StepWork, work_of};
+use crate::step_work::StepWork;
 use stages::{OutColumns, Stage};
 use stream_face::{ArrayStream, RawStream};
 
 /// The stream of a stage over a checked stream, by so many workers. Takes no memory.
-pub(crate) fn start_stage<U: ArrayStream>(
+pub(crate) fn start_stage<W: StepWork, U: ArrayStream>(
     up: RawStream<U>,
     stage: PlannedStage,
     workers: u32,
-) -> Stage<U, StepWork>
+) -> Stage<U, W>
     requires live { IsTrue (meaning U.state up).live }
     requires lawful { IsTrue (meaning U.state up).lawful }
     requires stage { IsStageOver (meaning U.state up).columns (stage_in stage) }
     requires workers { (1 ≤ workers) × (workers ≤ 64) }
     requires structs { column_structs (meaning U.state up).columns ≤ most_structs }
-    ensures { stage_state U.state work_columns work_ahead work_due result ≡ over_stream (stage_in stage) (meaning U.state up) }
+    ensures { stage_state U.state W.columns W.ahead W.due result ≡ over_stream (stage_in stage) (meaning U.state up) }
 {
     up.lawful_facts();
     plan_laws::stages_keep_columns();
     plan_laws::schemas_are_small();
     let PlannedStage { step, columns } = stage;
     let out = OutColumns::new(columns);
-    Stage::start(up, work_of(step, out, workers))
+    Stage::start(up, W::of(step, out, workers))
 }

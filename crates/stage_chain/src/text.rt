@@ -6,7 +6,7 @@ ghost use Rattle.csv_model.specs.Text.{header_text, table_text};
 ghost use Rattle.csv_write.specs.CsvTexts.{HasText};
 ghost use Rattle.field_codec.specs.TextColumns.{HaveTexts};
 ghost use Rattle.fmt_string.specs.Parts.{joined_rows};
-ghost use Rattle.stage_kernels.specs.Structs.{column_structs};
+ghost use Rattle.plan_laws.specs.Structs.{column_structs};
 ghost use Rattle.stage_model.specs.Links.{Whole};
 ghost use Rattle.stage_model.specs.Stages.{table};
 ghost use Rattle.stage_model.specs.declared.stage.StageText.{StageText as AText};
@@ -21,6 +21,7 @@ ghost use Rattle.stream_text.specs.Runs.{Counted, ShowsAll, ShowsSome};
 use crate::boxed::Boxed;
 use crate::chain::{Chain, Sixteen, refuse};
 use crate::planned::{PlannedStage, planned};
+use crate::step_work::StepWork;
 use csv_write::CsvText;
 use edge_io::Gate;
 use stage_plan::Plan;
@@ -43,11 +44,11 @@ fn prepare(alloc: Global, plan: Plan, mark: &[u8]) -> Result<(CsvText, Vec<Plann
     Ok((text, stages))
 }
 
-/// The text of the table that the stages of a plan make of all rows of a source, a null as the mark. Each stage works on the
-/// chunks of a checked stream, and each chunk of each link is shown to the tap: link 0 is the source's, link K that of stage
-/// K. The stages that have work for several workers (a filter, totals) give each chunk to so many; the text is the same for
-/// every number of them. The source is released and spent on every outcome.
-pub fn drive<S: ArrayStream, R: Threads + Sync, T: Tap>(
+/// The text of the table that the stages of a plan make of all rows of a source, by these works, a null as the mark. Each stage
+/// works on the chunks of a checked stream, and each chunk of each link is shown to the tap: link 0 is the source's, link K
+/// that of stage K. The stages that have work for several workers (a filter, totals) give each chunk to so many; the text is
+/// the same for every number of them. The source is released and spent on every outcome.
+pub fn drive_by<W: StepWork, S: ArrayStream, R: Threads + Sync, T: Tap>(
     rt: &R,
     alloc: Global,
     source: S,
@@ -91,7 +92,7 @@ pub fn drive<S: ArrayStream, R: Threads + Sync, T: Tap>(
         Err((source, NoMemory)) => return refuse(source, pass),
     };
     match prepare(alloc, plan, mark) {
-        Ok((text, stages)) => Sixteen::go(
+        Ok((text, stages)) => Sixteen::go::<W, _, _, _>(
             rt,
             alloc,
             source,

@@ -29,8 +29,8 @@ use Rattle.stream_face.specs.Lawful.{DictsAreFull, DictsHaveBytes, IsChunkOf, Is
 use Rattle.stream_face.specs.Shown.{Seen}
 use Rattle.stream_face.specs.Streams.{IsFresh, Stream}
 use Rattle.stream_face.specs.Texts.{Refusal}
-use Rattle.stage_kernels.specs.Dues.{due_with}
-use Rattle.stage_kernels.specs.Structs.{column_structs, member_structs, most_structs, structs}
+use Rattle.plan_laws.specs.Dues.{due_with}
+use Rattle.plan_laws.specs.Structs.{column_structs, member_structs, most_structs, structs}
 use Rattle.stage_kernels.proofs.ColumnSets.{same_columns}
 use Rattle.stage_filter.specs.Filters.{CanFilter, FilterFits, passing_numbers, passing_rows}
 use Rattle.stage_filter.specs.Kept.{rows_at}

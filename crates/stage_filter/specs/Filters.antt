@@ -16,7 +16,7 @@ use Rattle.stage_model.specs.Stages.{rows_after}
 use Rattle.stage_model.specs.declared.stage.Const.{Const}
 use Rattle.stage_model.specs.declared.stage.Step.TheVariants as steps
 use Rattle.stage_model.specs.declared.stage.Test.{Test}
-use Rattle.stage_kernels.specs.Structs.{column_structs, most_structs}
+use Rattle.plan_laws.specs.Structs.{column_structs, most_structs}
 use Rattle.stream_face.specs.Lawful.{DictsAreFull, IsTable}
 use Rattle.stage_filter.specs.Kept.{kept_numbers}
 use Rattle.stage_filter.specs.Plain.{most_of_columns}

@@ -15,7 +15,7 @@ use Rattle.layout_check.specs.Layout.{buffer_count, layout_of}
 use Rattle.layout_check.specs.Rules.{one_if}
 use Rattle.layout_check.specs.Walk.{LayoutOk}
 use Rattle.stream_face.specs.Lawful.{column_leaves, leaves, member_leaves}
-use Rattle.stage_kernels.specs.Structs.{column_structs, member_structs, structs}
+use Rattle.plan_laws.specs.Structs.{column_structs, member_structs, structs}
 
 -- what the laws say of all trees
 abbrev Roots : Type 0

@@ -25,7 +25,7 @@ use Rattle.stream_face.specs.Calls.{Answers, Counts}
 use Rattle.stream_face.specs.Lawful.{DictsAreFull, MemberDictsAreFull}
 use Rattle.stream_face.specs.Streams.{Stream}
 use Rattle.stage_kernels.specs.Picks.{PickFits, no_column, picked_columns, picked_rows, with_nodes}
-use Rattle.stage_kernels.proofs.PickedStreams.{as-many, column-at}
+use Rattle.plan_laws.proofs.PickedColumns.{as-many, column-at}
 
 pub schema-kept : (result : Result SchemaTree NoMemory) (picks : List ℕ) (kept : List ColumnType) → IfOk result (λ s. s ≡ SchemaOf (map column_of kept))
     → IfOk result (λ s. (before : List Column) → ∥ PickFits picks kept before ∥₁ → s ≡ SchemaOf (picked_columns picks before))

@@ -22,7 +22,7 @@ use Rattle.stage_model.specs.declared.stage.Step.TheVariants as steps
 use Rattle.stream_face.specs.Calls.{Answers, Counts}
 use Rattle.stream_face.specs.Lawful.{AreItems, DictsAreFull, HasFields, IsChunkOf, IsTable, LawfulTables, MemberDictsAreFull}
 use Rattle.stream_face.specs.Streams.{Stream, Traffic}
-use Rattle.stage_kernels.specs.Dues.{due_with}
+use Rattle.plan_laws.specs.Dues.{due_with}
 use Rattle.stage_kernels.specs.Unpacks.{UnpackFits}
 use Rattle.stage_kernels.proofs.MovedChildren.{cut-at, cut_to}
 use Rattle.stage_kernels.proofs.PickedChunks.{dicts-window, risen-more}

@@ -10,7 +10,7 @@ use Rattle.raw_array.specs.Windows.{FitsWindow, Window}
 use Rattle.schema_check.specs.ColumnKinds.{type_of_columns}
 use Rattle.layout_check.specs.Walk.{ChunkOk}
 use Rattle.stage_model.specs.Typing.{column_at}
-use Rattle.stage_kernels.specs.Structs.{column_structs, most_structs}
+use Rattle.plan_laws.specs.Structs.{column_structs, most_structs}
 
 -- the column of this number is a struct, and the columns that are kept have its columns in its place
 pub record UnpackFits (place : ℕ) (kept : List ColumnType) (before : List Column) : Type 0 where

@@ -5,7 +5,7 @@ ghost use Rattle.fmt_string.specs.Table.{Column};
 ghost use Rattle.schema_check.specs.ColumnKinds.{type_of_columns};
 ghost use Rattle.layout_check.specs.Walk.{ChunkOk};
 ghost use Rattle.raw_array.specs.Members.{ArrayTree, Cost};
-ghost use Rattle.stage_kernels.specs.Structs.{column_structs};
+ghost use Rattle.plan_laws.specs.Structs.{column_structs};
 ghost use Rattle.stream_face.specs.Lawful.{DictsHaveBytes, column_leaves};
 
 use layout_check::lawful_trees;

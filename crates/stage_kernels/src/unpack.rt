@@ -4,7 +4,7 @@ ghost use Rattle.fmt_string.specs.ColumnView.{column_of};
 ghost use Rattle.stage_model.specs.Stages.{chunks_after};
 ghost use Rattle.stage_model.specs.declared.stage.Step.TheVariants as steps;
 ghost use Rattle.stages.specs.Works.{rows_alone};
-ghost use Rattle.stage_kernels.specs.Dues.{due_with};
+ghost use Rattle.plan_laws.specs.Dues.{due_with};
 ghost use Rattle.stage_kernels.specs.Unpacks.{UnpackFits};
 
 use crate::unpacked::unpack_column;

@@ -16,7 +16,7 @@ use Rattle.layout_check.specs.Walk.{ChunkOk}
 use Rattle.raw_array.specs.Members.{ArrayTree, Cost}
 use Rattle.tree_model.specs.Tree.{IsLive, Released, child_at}
 use Rattle.unit_pass.specs.Tally.{Tally, risen}
-use Rattle.stage_kernels.specs.Dues.{due_with}
+use Rattle.plan_laws.specs.Dues.{due_with}
 use Rattle.stage_model.specs.Stages.{at_end, totals_row}
 use Rattle.stage_model.specs.Traffic.{Made, made_blocks, made_nodes, table_blocks, table_nodes}
 use Rattle.stage_model.specs.declared.stage.Step.{Step}

@@ -2,7 +2,7 @@ use Rattle.std.proofs.Common.{arith, map}
 use Rattle.fmt_string.specs.ColumnView.{column_of}
 use Rattle.stream_face.specs.Meaning.{meaning}
 use Rattle.stage_chain.specs.Plans.{stage_in}
-use Rattle.stage_chain.proofs.Starting.{kinds-ok}
+use Rattle.stage_chain.proofs.TypedKinds.{kinds-ok}
 use Rattle.stage_chain.proofs.stage_start.start_stage.Goals as goal
 
 pub new-out-requires-clause-kinds : goal.new-out-requires-clause-kinds

@@ -1,16 +1,14 @@
 use Rattle.std.proofs.lemmas.Grind.{common_steps}
-use Rattle.std.proofs.Common.{rules, arith, ◌≡◌, ◌≤◌, ◌∷◌, ℕ, List, [], length, refl, sym, ◌∙◌, ap, subst}
+use Rattle.std.proofs.Common.{rules, arith, ◌≡◌, ◌∷◌, [], ◌∙◌, ap, subst}
 use Rattle.raw_schema.specs.Members.{Nodes}
-use Rattle.stage_kernels.specs.Structs.{column_structs}
-use Rattle.stage_model.specs.Typing.{Stage}
+use Rattle.plan_laws.specs.Structs.{column_structs}
 use Rattle.stream_face.specs.Meaning.{meaning, raw_schema}
 use Rattle.stream_face.specs.Streams.{Stream}
 use Rattle.stages.specs.Stages.{stage_state}
 use Rattle.stage_chain.specs.Boxes.{boxed_state}
-use Rattle.stage_chain.specs.Chains.{chain_links, chain_traffic, joints_with, over_stream}
+use Rattle.stage_chain.specs.Chains.{over_stream}
 use Rattle.stage_chain.specs.Plans.{AreStages, stage_in, stages_left}
-use Rattle.stream_text.specs.Runs.{Counted, ShowsAll, ShowsSome}
-use Rattle.stage_chain.specs.StepWorks.{work_ahead, work_columns, work_due}
+use Rattle.stream_text.specs.Runs.{ShowsAll, ShowsSome}
 use Rattle.stage_chain.proofs.Planning.{no_stages}
 use Rattle.stage_chain.proofs.Chaining.{IsStarted, counted-last, counted-step, joints-above, joints-last, joints-step, on-err, on-ok, shows-nothing, whatever}
 use Rattle.stage_chain.proofs.Driving.{text-last}
@@ -26,7 +24,7 @@ go-requires-clause-links g c =
     let up = meaning g.S.ArrayStream.state c.in-Ok.up in
     let raw : IsStarted c.args.link (Nodes (raw_schema c.in-Ok.up)) s up = search rules in
     let stage = stage_in c.in-Some.stage in
-    let node = boxed_state (stage_state g.S.ArrayStream.state work_columns work_ahead work_due) c.in-Ok-new.above in
+    let node = boxed_state (stage_state g.S.ArrayStream.state g.W.Work.columns g.W.Work.ahead g.W.Work.due) c.in-Ok-new.above in
     let is : node ≡ over_stream stage up = c.in-Ok-new.ensures.made ∙ c.start_stage.ensures in
     let rest = stages_left c.next.new.self in
     let are : stages_left c.args.stages ≡ stage ∷ rest = search rules in
@@ -38,7 +36,7 @@ go-requires-clause-structs g c =
     let up = meaning g.S.ArrayStream.state c.in-Ok.up in
     let raw : IsStarted c.args.link (Nodes (raw_schema c.in-Ok.up)) s up = search rules in
     let stage = stage_in c.in-Some.stage in
-    let node = boxed_state (stage_state g.S.ArrayStream.state work_columns work_ahead work_due) c.in-Ok-new.above in
+    let node = boxed_state (stage_state g.S.ArrayStream.state g.W.Work.columns g.W.Work.ahead g.W.Work.due) c.in-Ok-new.above in
     let is : node ≡ over_stream stage up = c.in-Ok-new.ensures.made ∙ c.start_stage.ensures in
     let rest = stages_left c.next.new.self in
     let are : stages_left c.args.stages ≡ stage ∷ rest = search rules in
@@ -85,7 +83,7 @@ returns-in-Ok-new-clause-counts g c =
     let up = meaning g.S.ArrayStream.state c.in-Ok.up in
     let raw : IsStarted c.args.link (Nodes (raw_schema c.in-Ok.up)) s up = search rules in
     let stage = stage_in c.in-Some.stage in
-    let node = boxed_state (stage_state g.S.ArrayStream.state work_columns work_ahead work_due) c.in-Ok-new.above in
+    let node = boxed_state (stage_state g.S.ArrayStream.state g.W.Work.columns g.W.Work.ahead g.W.Work.due) c.in-Ok-new.above in
     let is : node ≡ over_stream stage up = c.in-Ok-new.ensures.made ∙ c.start_stage.ensures in
     let rest = stages_left c.next.new.self in
     let are : stages_left c.args.stages ≡ stage ∷ rest = search rules in
@@ -100,7 +98,7 @@ returns-in-Ok-new-clause-shows g c =
     let up = meaning g.S.ArrayStream.state c.in-Ok.up in
     let raw : IsStarted c.args.link (Nodes (raw_schema c.in-Ok.up)) s up = search rules in
     let stage = stage_in c.in-Some.stage in
-    let node = boxed_state (stage_state g.S.ArrayStream.state work_columns work_ahead work_due) c.in-Ok-new.above in
+    let node = boxed_state (stage_state g.S.ArrayStream.state g.W.Work.columns g.W.Work.ahead g.W.Work.due) c.in-Ok-new.above in
     let is : node ≡ over_stream stage up = c.in-Ok-new.ensures.made ∙ c.start_stage.ensures in
     let rest = stages_left c.next.new.self in
     let are : stages_left c.args.stages ≡ stage ∷ rest = search rules in
@@ -115,7 +113,7 @@ returns-in-Ok-new-clause-shows_some g c =
     let up = meaning g.S.ArrayStream.state c.in-Ok.up in
     let raw : IsStarted c.args.link (Nodes (raw_schema c.in-Ok.up)) s up = search rules in
     let stage = stage_in c.in-Some.stage in
-    let node = boxed_state (stage_state g.S.ArrayStream.state work_columns work_ahead work_due) c.in-Ok-new.above in
+    let node = boxed_state (stage_state g.S.ArrayStream.state g.W.Work.columns g.W.Work.ahead g.W.Work.due) c.in-Ok-new.above in
     let is : node ≡ over_stream stage up = c.in-Ok-new.ensures.made ∙ c.start_stage.ensures in
     let rest = stages_left c.next.new.self in
     let are : stages_left c.args.stages ≡ stage ∷ rest = search rules in
@@ -134,40 +132,40 @@ pub returns-in-None-clause-shows : goal.returns-in-None-clause-shows
 returns-in-None-clause-shows g c = grind (arith, common_steps)
 
 pub stages_keep_columns-requires : goal.stages_keep_columns-requires
-stages_keep_columns-requires g c = grind (arith, common_steps)
+stages_keep_columns-requires g c = tt
 
 pub schemas_are_small-requires : goal.schemas_are_small-requires
-schemas_are_small-requires g c = grind (arith, common_steps)
+schemas_are_small-requires g c = tt
 
 pub start-requires-clause-live : goal.start-requires-clause-live
-start-requires-clause-live g c = grind (arith, common_steps)
+start-requires-clause-live g c = c.requires.live
 
 pub start-requires-clause-own_link : goal.start-requires-clause-own_link
-start-requires-clause-own_link g c = grind (arith, common_steps)
+start-requires-clause-own_link g c = c.requires.links c.args.link (omega arith)
 
 pub start-requires-clause-room : goal.start-requires-clause-room
-start-requires-clause-room g c = grind (arith, common_steps)
+start-requires-clause-room g c = omega (arith, c.requires.room)
 
 pub refuse-requires : goal.refuse-requires
 refuse-requires g c = grind (arith, common_steps)
 
 pub returns-in-Err-clause-text : goal.returns-in-Err-clause-text
-returns-in-Err-clause-text g c = grind (arith, common_steps)
+returns-in-Err-clause-text g c = rw c.refuse.ensures.refused tt
 
 pub returns-in-Err-clause-ends : goal.returns-in-Err-clause-ends
-returns-in-Err-clause-ends g c = grind (arith, common_steps)
+returns-in-Err-clause-ends g c = rw c.refuse.ensures.refused tt
 
 pub returns-in-Err-clause-row : goal.returns-in-Err-clause-row
-returns-in-Err-clause-row g c = grind (arith, common_steps)
+returns-in-Err-clause-row g c = rw c.refuse.ensures.refused tt
 
 pub returns-in-Err-clause-units : goal.returns-in-Err-clause-units
 returns-in-Err-clause-units g c = grind (arith, common_steps)
 
 pub returns-in-Err-clause-counts : goal.returns-in-Err-clause-counts
-returns-in-Err-clause-counts g c = grind (arith, common_steps)
+returns-in-Err-clause-counts g c = rw c.refuse.ensures.refused tt
 
 pub returns-in-Err-clause-shows : goal.returns-in-Err-clause-shows
-returns-in-Err-clause-shows g c = grind (arith, common_steps)
+returns-in-Err-clause-shows g c = rw c.refuse.ensures.refused tt
 
 pub start_stage-requires-clause-live : goal.start_stage-requires-clause-live
 start_stage-requires-clause-live g c = grind (arith, common_steps)
@@ -179,7 +177,7 @@ pub start_stage-requires-clause-stage : goal.start_stage-requires-clause-stage
 start_stage-requires-clause-stage g c = grind (arith, common_steps)
 
 pub start_stage-requires-clause-workers : goal.start_stage-requires-clause-workers
-start_stage-requires-clause-workers g c = grind (arith, common_steps)
+start_stage-requires-clause-workers g c = c.requires.workers
 
 pub start_stage-requires-clause-structs : goal.start_stage-requires-clause-structs
 start_stage-requires-clause-structs g c = grind (arith, common_steps)
@@ -188,7 +186,7 @@ pub overflow_add-link : goal.overflow_add-link
 overflow_add-link g c = grind (arith, common_steps)
 
 pub go-requires-clause-shared : goal.go-requires-clause-shared
-go-requires-clause-shared g c = grind (arith, common_steps)
+go-requires-clause-shared g c = c.requires.shared
 
 pub go-requires-clause-live : goal.go-requires-clause-live
 go-requires-clause-live g c = grind (arith, common_steps)
@@ -200,7 +198,7 @@ pub go-requires-clause-stages : goal.go-requires-clause-stages
 go-requires-clause-stages g c = grind (arith, common_steps)
 
 pub go-requires-clause-workers : goal.go-requires-clause-workers
-go-requires-clause-workers g c = grind (arith, common_steps)
+go-requires-clause-workers g c = c.requires.workers
 
 pub go-requires-clause-numbers : goal.go-requires-clause-numbers
 go-requires-clause-numbers g c = grind (arith, common_steps)
@@ -239,19 +237,19 @@ pub returns-in-Ok-new-clause-units : goal.returns-in-Ok-new-clause-units
 returns-in-Ok-new-clause-units g c = grind (arith, common_steps)
 
 pub returns-in-Err-new-clause-text : goal.returns-in-Err-new-clause-text
-returns-in-Err-new-clause-text g c = grind (arith, common_steps)
+returns-in-Err-new-clause-text g c = rw c.refuse-in-Err-new.ensures.refused tt
 
 pub returns-in-Err-new-clause-ends : goal.returns-in-Err-new-clause-ends
-returns-in-Err-new-clause-ends g c = grind (arith, common_steps)
+returns-in-Err-new-clause-ends g c = rw c.refuse-in-Err-new.ensures.refused tt
 
 pub returns-in-Err-new-clause-row : goal.returns-in-Err-new-clause-row
-returns-in-Err-new-clause-row g c = grind (arith, common_steps)
+returns-in-Err-new-clause-row g c = rw c.refuse-in-Err-new.ensures.refused tt
 
 pub returns-in-Err-new-clause-units : goal.returns-in-Err-new-clause-units
 returns-in-Err-new-clause-units g c = grind (arith, common_steps)
 
 pub returns-in-Err-new-clause-counts : goal.returns-in-Err-new-clause-counts
-returns-in-Err-new-clause-counts g c = grind (arith, common_steps)
+returns-in-Err-new-clause-counts g c = rw c.refuse-in-Err-new.ensures.refused tt
 
 pub returns-in-Err-new-clause-shows : goal.returns-in-Err-new-clause-shows
-returns-in-Err-new-clause-shows g c = grind (arith, common_steps)
+returns-in-Err-new-clause-shows g c = rw c.refuse-in-Err-new.ensures.refused tt

@@ -1,15 +1,11 @@
 use Rattle.std.proofs.lemmas.Grind.{common_steps}
-use Rattle.std.proofs.Common.{rules, arith, ◌≡◌, ◌≤◌, ◌∷◌, ℕ, List, [], length, refl, sym, ◌∙◌, ap, subst}
+use Rattle.std.proofs.Common.{rules, arith, ◌≡◌, ◌≤◌, ◌∷◌, List, [], length, refl, subst}
 use Rattle.raw_schema.specs.Members.{Nodes}
 use Rattle.stage_model.specs.Typing.{Stage}
 use Rattle.stream_face.specs.Meaning.{meaning, raw_schema}
-use Rattle.stream_face.specs.Streams.{Stream}
-use Rattle.stages.specs.Stages.{stage_state}
-use Rattle.stage_chain.specs.Chains.{chain_links, chain_traffic, joints_with}
-use Rattle.stage_chain.specs.Plans.{AreStages, stage_in, stages_left}
-use Rattle.stream_text.specs.Runs.{Counted, ShowsAll, ShowsSome}
-use Rattle.stage_chain.specs.StepWorks.{work_ahead, work_columns, work_due}
-use Rattle.stage_chain.proofs.Chaining.{IsStarted, counted-last, counted-step, joints-above, joints-last, joints-step, on-err, on-ok, shows-nothing, whatever}
+use Rattle.stage_chain.specs.Plans.{stages_left}
+use Rattle.stream_text.specs.Runs.{ShowsSome}
+use Rattle.stage_chain.proofs.Chaining.{IsStarted, counted-last, joints-last, on-err, on-ok, shows-nothing, whatever}
 use Rattle.stage_chain.proofs.chain.ZeroChain.go.Goals as goal
 
 none_left : (stages : List Stage) → length stages ≤ 0 → stages ≡ []

@@ -10,7 +10,7 @@ use Rattle.fmt_string.specs.declared.kind.ColumnType.{ColumnType}
 use Rattle.raw_array.specs.Members.{Cost}
 use Rattle.tree_model.specs.Tree.{Released}
 use Rattle.unit_pass.specs.Tally.{risen}
-use Rattle.stage_kernels.specs.Dues.{due_with}
+use Rattle.plan_laws.specs.Dues.{due_with}
 use Rattle.stage_model.specs.Stages.{totals_row}
 use Rattle.stage_model.specs.declared.stage.Step.TheVariants as steps
 use Rattle.stream_face.specs.Calls.{Answers, Counts, Repeats, Tells}

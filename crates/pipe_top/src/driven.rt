@@ -1,0 +1,66 @@
+//! The text of a table that stages make of a stream.
+ghost use Rattle.std.specs.Prelude.{◌≡◌, ◌≤◌, ◌+◌, ◌*◌, List, None, Some, ℕ, [], IsTrue, IfErr, IfOk, OnErr, OnOk, length};
+ghost use Rattle.std.specs.Thread.{IsSync};
+ghost use Rattle.csv_model.specs.Text.{table_text};
+ghost use Rattle.fmt_string.specs.Parts.{joined_rows};
+ghost use Rattle.plan_laws.specs.Structs.{column_structs};
+ghost use Rattle.stage_model.specs.Links.{Whole};
+ghost use Rattle.stage_model.specs.Stages.{table};
+ghost use Rattle.stage_model.specs.declared.stage.StageText.{StageText as AText};
+ghost use Rattle.stage_plan.specs.PlanWords.{IsPlan};
+ghost use Rattle.unit_pass.specs.declared.pass.TheConstants.{ROOM, SUPPLY};
+ghost use Rattle.stream_face.specs.Streams.{kept};
+ghost use Rattle.stage_chain.specs.Chains.{chain_links, chain_traffic, link_shows};
+ghost use Rattle.stage_chain.specs.Plans.{plan_stages};
+ghost use Rattle.stream_text.specs.Faults.{IfRow};
+ghost use Rattle.stream_text.specs.Runs.{Counted, ShowsAll, ShowsSome};
+
+use crate::any_work::AnyWork;
+use edge_io::Gate;
+use stage_chain::{DriveFault, drive_by};
+use stage_plan::Plan;
+use std::alloc::Global;
+use std::thread::Threads;
+use stream_face::{ArrayStream, Tap};
+use unit_pass::{Pass, ROOM, SUPPLY};
+
+/// The text of the table that the stages of a plan make of all rows of a source, a null as the mark: [`drive_by`] by the works
+/// of all kinds of steps.
+pub fn drive<S: ArrayStream, R: Threads + Sync, T: Tap>(
+    rt: &R,
+    alloc: Global,
+    source: S,
+    plan: Plan,
+    mark: &[u8],
+    workers: u32,
+    pass: &mut Pass,
+    tap: &mut T,
+    gate: &(dyn Gate + Sync),
+) -> Result<Vec<u8>, DriveFault>
+    requires shared { IsSync R.row }
+    requires live { IsTrue (S.state source).live }
+    // The source is lawful and stands over no other checked stream.
+    requires lawful { IsTrue (S.state source).lawful }
+    requires no_joints { (link : ℕ) → (S.state source).joints link ≡ [] }
+    // None of its columns is a struct.
+    requires flat { column_structs (S.state source).columns ≡ 0 }
+    // The plan is what stages are over these columns, and they are at most 16.
+    requires plan { (texts : List AText) × IsPlan (S.state source).columns texts plan }
+    requires few { length plan.steps.items ≤ 16 }
+    requires workers { (1 ≤ workers) × (workers ≤ 64) }
+    requires room { 2 * ROOM ≤ pass.old.units }
+    requires supply { pass.old.units + kept (S.state source) ≤ SUPPLY }
+    // The text is that of the one table that the stages make of all rows, however they came in chunks.
+    ensures text { IfOk result (λ text. text.items
+        ≡ table_text mark.now (Whole (table (S.state source).columns (joined_rows (S.state source).ahead)) (plan_stages plan))) }
+    // There is one where the source ends well; else there is its record at fault. Memory may be wanting.
+    ensures ends { OnOk result ((S.state source).ending ≡ None) }
+    ensures row { IfErr result (λ e. IfRow e (λ fault. (S.state source).ending ≡ Some fault)) }
+    ensures units { pass.new.units ≡ pass.old.units + kept (S.state source) }
+    ensures counts { OnOk result (Counted (chain_traffic (S.state source) (plan_stages plan)) pass.old pass.new) }
+    // Each chunk of each link was shown once, in order; on an error the first ones of each.
+    ensures shows { OnOk result (ShowsAll (link_shows (chain_links (S.state source) (plan_stages plan))) (T.seen tap.old) (T.seen tap.new)) }
+    ensures shows_some { OnErr result (ShowsSome (link_shows (chain_links (S.state source) (plan_stages plan))) (T.seen tap.old) (T.seen tap.new)) }
+{
+    drive_by::<AnyWork, _, _, _>(rt, alloc, source, plan, mark, workers, pass, tap, gate)
+}

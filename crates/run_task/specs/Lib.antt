@@ -1,0 +1,4 @@
+pub mod Answer
+pub mod Outcomes
+pub mod Traffic
+pub mod Begun

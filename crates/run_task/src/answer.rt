@@ -1,0 +1,193 @@
+//! The text of a table, made of the bytes of an input.
+ghost use Rattle.std.specs.Prelude.{◌≡◌, ◌⊎◌, ◌≤◌, ◌*◌, ◌^◌, vec_len, length, ℕ, List, IfErr, IfOk, OnErr, OnOk, All, Ok, map, get_or, []};
+ghost use Rattle.std.specs.Thread.{IsSync};
+ghost use Rattle.csv_model.specs.Batches.{batches_in};
+ghost use Rattle.csv_model.specs.Header.{header_of, most_columns};
+ghost use Rattle.csv_model.specs.Reading.{behind_header, records_of};
+ghost use Rattle.csv_read.specs.Entries.{entries_of};
+ghost use Rattle.csv_source.specs.Sources.{source_state, stream_of};
+ghost use Rattle.field_codec.specs.TextColumns.{AreAllowed, AreProper, IsAllowed, NamesDiffer};
+ghost use Rattle.fmt_string.specs.ColumnView.{column_of};
+ghost use Rattle.fmt_string.specs.Kinds.{KindOk};
+ghost use Rattle.stage_chain.specs.Chains.{link_shows};
+ghost use Rattle.stage_chain.specs.Plans.{links_of as plan_links};
+ghost use Rattle.stream_text.specs.Runs.{ShowsAll, ShowsSome};
+ghost use Rattle.stage_model.specs.Typing.{plan_of};
+ghost use Rattle.stage_plan.specs.PlanWords.{IsPlan, columns_in};
+ghost use Rattle.unit_pass.specs.declared.pass.TheConstants.{ROOM, SUPPLY};
+ghost use Rattle.run_model.specs.Answer.{Fault, Request as ARequest, Text};
+ghost use Rattle.run_model.specs.Outcomes.{request_of};
+ghost use Rattle.run_task.specs.Answer.{answer_of_plan, answer_of_records, fault_of_chain, input_limit};
+ghost use Rattle.run_task.specs.Begun.{IsBegun};
+ghost use Rattle.run_task.specs.Traffic.{LinksTraffic, links_of};
+
+use csv_read::{Records, read_header};
+use csv_source::CsvSource;
+use edge_io::Gate;
+use fmt_string::{ColumnType, RowFault, clone_columns};
+use run_model::{Request, RunFault};
+use stage_chain::{DriveFault, StepWork, drive_by};
+use stage_plan::{Plan, StageText, TypeEntry, type_plan};
+use std::alloc::Global;
+use std::thread::Threads;
+use stream_face::Tap;
+use unit_pass::{NoMemory, Pass, ROOM, SUPPLY};
+
+/// The columns that the header of a text names, or why it is refused. The records behind it are left.
+fn header_columns(
+    alloc: Global,
+    records: &mut Records<'_>,
+    entries: &[TypeEntry],
+) -> Result<Vec<ColumnType>, RunFault>
+    requires proper { All (λ e. KindOk e.kind) entries.now }
+    requires allowed { All (λ e. IsAllowed e.kind) entries.now }
+    ensures found { IfOk result (λ columns. header_of (entries_of entries.now) records.old.records ≡ Ok (map column_of columns.items)) }
+    ensures some { IfOk result (λ columns. 1 ≤ vec_len columns) }
+    ensures few { IfOk result (λ columns. vec_len columns ≤ most_columns) }
+    ensures differ { IfOk result (λ columns. NamesDiffer (map column_of columns.items)) }
+    ensures proper { IfOk result (λ columns. AreProper (map column_of columns.items)) }
+    ensures allowed { IfOk result (λ columns. AreAllowed (map column_of columns.items)) }
+    ensures fault { IfErr result
+        (λ fault. (fault ≡ RunFault.NoMemory)
+        ⊎ ((request : ARequest) → request.entries ≡ entries.now → answer_of_records request records.old.records ≡ Fault fault)) }
+    ensures behind { OnOk result (records.new.records ≡ behind_header records.old.records) }
+    ensures size { records.new.size ≤ records.old.size }
+{
+    match read_header(alloc, records, entries) {
+        Ok(columns) => Ok(columns),
+        Err(fault) => Err(RunFault::from(fault)),
+    }
+}
+
+/// What stages are over columns, or why they don't fit.
+fn plan_stages(
+    alloc: Global,
+    columns: Vec<ColumnType>,
+    stages: &[StageText],
+) -> Result<Plan, RunFault>
+    requires proper { AreProper (map column_of columns.items) }
+    requires few { length stages.now ≤ 16 }
+    ensures found { IfOk result (IsPlan (map column_of columns.items) stages.now) }
+    ensures few { IfOk result (λ plan. length plan.steps.items ≤ 16) }
+    ensures read { IfOk result (λ plan. get_or (plan_links plan) 0 [] ≡ map column_of columns.items) }
+    ensures links { IfOk result (λ plan. 1 ≤ vec_len plan.links) }
+    ensures fault { IfErr result (λ fault. (fault ≡ RunFault.NoMemory)
+        ⊎ ((mark : List ℕ) (records : List (List (List ℕ)))
+        → answer_of_plan mark (map column_of columns.items) (plan_of (map column_of columns.items) stages.now) records ≡ Fault fault)) }
+{
+    match type_plan(alloc, columns, stages) {
+        Ok(plan) => Ok(plan),
+        Err(fault) => Err(RunFault::from(fault)),
+    }
+}
+
+/// The columns that a plan reads.
+fn read_columns(plan: &Plan) -> &[ColumnType]
+    requires { 1 ≤ vec_len plan.now.links }
+    ensures { columns_in result.now ≡ get_or (plan_links plan.now) 0 [] }
+{
+    plan.links[0].as_slice()
+}
+
+/// The records behind a header as a stream of chunks of the columns that a plan reads.
+fn source_of<'a>(
+    alloc: Global,
+    records: Records<'a>,
+    columns: &[ColumnType],
+    batch: u32,
+    mark: &[u8],
+) -> Result<CsvSource<'a>, NoMemory>
+    requires short { records.size ≤ 2 ^ 30 }
+    requires some { 1 ≤ length columns.now }
+    requires few { length columns.now ≤ most_columns }
+    requires differ { NamesDiffer (map column_of columns.now) }
+    requires proper { AreProper (map column_of columns.now) }
+    requires allowed { AreAllowed (map column_of columns.now) }
+    requires some_rows { 1 ≤ batch }
+    requires few_rows { batch ≤ 1000000 }
+    ensures { IfOk result (λ source. source_state source
+        ≡ stream_of (map column_of columns.now) (batches_in mark.now (map column_of columns.now) records.entry.records batch)) }
+{
+    let columns = clone_columns(alloc, columns)?;
+    CsvSource::start(alloc, records, columns, mark, batch)
+}
+
+/// The fault of a run whose chain of stages gives no text.
+fn run_fault(fault: DriveFault) -> RunFault
+    ensures { result ≡ fault_of_chain fault }
+{
+    match fault {
+        DriveFault::Row(RowFault::Ragged { row, found }) => RunFault::Ragged { row, found },
+        DriveFault::Row(RowFault::Field { row, column }) => RunFault::Field { row, column },
+        DriveFault::NoMemory => RunFault::NoMemory,
+    }
+}
+
+/// The records behind the header of a text as a stream, and what the stages are over its columns; or the first fault: of the
+/// header, of the stages.
+fn begin<'a>(
+    alloc: Global,
+    bytes: &'a [u8],
+    request: &Request,
+) -> Result<(CsvSource<'a>, Plan), RunFault>
+    requires short { length bytes.now ≤ input_limit }
+    requires proper { All (λ e. KindOk e.kind) request.now.entries.items }
+    requires allowed { All (λ e. IsAllowed e.kind) request.now.entries.items }
+    requires few { length request.now.stages.items ≤ 16 }
+    requires some_rows { 1 ≤ request.now.batch }
+    requires few_rows { request.now.batch ≤ 1000000 }
+    ensures begun { IfOk result (λ made. IsBegun (request_of request.now) (records_of bytes.now) (source_state made.0) made.1) }
+    ensures few { IfOk result (λ made. length made.1.steps.items ≤ 16) }
+    ensures fault { IfErr result
+        (λ fault. (fault ≡ RunFault.NoMemory) ⊎ (answer_of_records (request_of request.now) (records_of bytes.now) ≡ Fault fault)) }
+{
+    let mark = request.mark.as_slice();
+    let mut records = Records::start(alloc, bytes)?;
+    let columns = match header_columns(alloc, &mut records, request.entries.as_slice()) {
+        Ok(columns) => columns,
+        Err(fault) => return Err(fault),
+    };
+    let plan = plan_stages(alloc, columns, request.stages.as_slice())?;
+    let source = source_of(alloc, records, read_columns(&plan), request.batch, mark)?;
+    Ok((source, plan))
+}
+
+/// The text of the table that stages make, by these works, of the table that a text spells, or the first fault: of the header,
+/// of the stages over its columns, of the records.
+pub(crate) fn answer_input<W: StepWork, R: Threads + Sync, T: Tap>(
+    rt: &R,
+    alloc: Global,
+    bytes: &[u8],
+    request: &Request,
+    pass: &mut Pass,
+    tap: &mut T,
+    gate: &(dyn Gate + Sync),
+) -> Result<Vec<u8>, RunFault>
+    requires shared { IsSync R.row }
+    requires short { length bytes.now ≤ input_limit }
+    requires units { 2 * ROOM ≤ pass.old.units }
+    requires proper { All (λ e. KindOk e.kind) request.now.entries.items }
+    requires allowed { All (λ e. IsAllowed e.kind) request.now.entries.items }
+    requires few { length request.now.stages.items ≤ 16 }
+    requires some_rows { 1 ≤ request.now.batch }
+    requires few_rows { request.now.batch ≤ 1000000 }
+    requires some_workers { 1 ≤ request.now.workers }
+    requires few_workers { request.now.workers ≤ 64 }
+    ensures text { IfOk result (λ text. answer_of_records (request_of request.now) (records_of bytes.now) ≡ Text text.items) }
+    ensures fault { IfErr result
+        (λ fault. (fault ≡ RunFault.NoMemory) ⊎ (answer_of_records (request_of request.now) (records_of bytes.now) ≡ Fault fault)) }
+    ensures units { pass.new.units ≡ pass.old.units }
+    ensures counts { OnOk result (LinksTraffic (links_of (request_of request.now)
+        (records_of bytes.now)) pass.old.blocks pass.old.nodes pass.new.blocks pass.new.nodes) }
+    ensures shows { OnOk result (ShowsAll (link_shows (links_of (request_of request.now) (records_of bytes.now))) (T.seen tap.old) (T.seen tap.new)) }
+    ensures shows_some { OnErr result (ShowsSome (link_shows (links_of (request_of request.now) (records_of bytes.now))) (T.seen tap.old) (T.seen tap.new)) }
+{
+    stage_model::batches_give_the_whole();
+    let (source, plan) = begin(alloc, bytes, request)?;
+    let mark = request.mark.as_slice();
+    let workers = request.workers;
+    match drive_by::<W, _, _, _>(rt, alloc, source, plan, mark, workers, pass, tap, gate) {
+        Ok(text) => Ok(text),
+        Err(fault) => Err(run_fault(fault)),
+    }
+}
