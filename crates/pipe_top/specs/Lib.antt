@@ -1,1 +1,2 @@
+pub mod KernelWorks
 pub mod AnyWorks

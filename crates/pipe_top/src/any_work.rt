@@ -1,6 +1,7 @@
 //! The work of a step, whatever its kind is.
 ghost use Rattle.pipe_top.specs.AnyWorks.{work_ahead, work_columns, work_due, work_fits, work_gives};
 
+use crate::kernel_work::KernelWork;
 use dict_stage::{DictWork, PlainWork};
 use edge_io::Gate;
 use raw_array::RawArray;
@@ -19,11 +20,9 @@ use unit_pass::{NoMemory, Pass};
 /// The work of a step of one of the eight kinds.
 #[derive(Drop)]
 pub enum AnyWork {
-    Select(SelectWork),
-    Slice(SliceWork),
+    /// Of a step that selects, slices, packs or unpacks.
+    Kernel(KernelWork),
     Filter(FilterWork),
-    Pack(PackWork),
-    Unpack(UnpackWork),
     Dict(DictWork),
     Plain(PlainWork),
     Totals(TotalsWork),
@@ -42,11 +41,8 @@ impl Work for AnyWork {
 
     fn schema(&self, alloc: Global, pass: &mut Pass) -> Result<RawSchema, NoMemory> {
         match self {
-            AnyWork::Select(work) => work.schema(alloc, pass),
-            AnyWork::Slice(work) => work.schema(alloc, pass),
+            AnyWork::Kernel(work) => work.schema(alloc, pass),
             AnyWork::Filter(work) => work.schema(alloc, pass),
-            AnyWork::Pack(work) => work.schema(alloc, pass),
-            AnyWork::Unpack(work) => work.schema(alloc, pass),
             AnyWork::Dict(work) => work.schema(alloc, pass),
             AnyWork::Plain(work) => work.schema(alloc, pass),
             AnyWork::Totals(work) => work.schema(alloc, pass),
@@ -64,11 +60,8 @@ impl Work for AnyWork {
         gate: &(dyn Gate + Sync),
     ) -> Result<i32, NoMemory> {
         match self {
-            AnyWork::Select(work) => work.next(up, rt, alloc, out, pass, tap, gate),
-            AnyWork::Slice(work) => work.next(up, rt, alloc, out, pass, tap, gate),
+            AnyWork::Kernel(work) => work.next(up, rt, alloc, out, pass, tap, gate),
             AnyWork::Filter(work) => work.next(up, rt, alloc, out, pass, tap, gate),
-            AnyWork::Pack(work) => work.next(up, rt, alloc, out, pass, tap, gate),
-            AnyWork::Unpack(work) => work.next(up, rt, alloc, out, pass, tap, gate),
             AnyWork::Dict(work) => work.next(up, rt, alloc, out, pass, tap, gate),
             AnyWork::Plain(work) => work.next(up, rt, alloc, out, pass, tap, gate),
             AnyWork::Totals(work) => work.next(up, rt, alloc, out, pass, tap, gate),
@@ -77,11 +70,8 @@ impl Work for AnyWork {
 
     fn lawful_facts(&self) {
         match self {
-            AnyWork::Select(work) => work.lawful_facts(),
-            AnyWork::Slice(work) => work.lawful_facts(),
+            AnyWork::Kernel(work) => work.lawful_facts(),
             AnyWork::Filter(work) => work.lawful_facts(),
-            AnyWork::Pack(work) => work.lawful_facts(),
-            AnyWork::Unpack(work) => work.lawful_facts(),
             AnyWork::Dict(work) => work.lawful_facts(),
             AnyWork::Plain(work) => work.lawful_facts(),
             AnyWork::Totals(work) => work.lawful_facts(),
@@ -95,17 +85,24 @@ impl StepWork for AnyWork {
         plan_laws::stages_keep_columns();
         stage_model::stages_fit_their_columns();
         match step {
-            Step::Select { picks } => AnyWork::Select(SelectWork::new(picks.into_vec(), out)),
-            Step::Slice { off, len } => AnyWork::Slice(SliceWork::new(off, len, out)),
+            Step::Select { picks } => {
+                AnyWork::Kernel(KernelWork::Select(SelectWork::new(picks.into_vec(), out)))
+            }
+            Step::Slice { off, len } => {
+                AnyWork::Kernel(KernelWork::Slice(SliceWork::new(off, len, out)))
+            }
             Step::Filter {
                 column,
                 test,
                 constant,
             } => AnyWork::Filter(FilterWork::new(column, test, constant, out, workers)),
             Step::Pack { rest, picks } => {
-                AnyWork::Pack(PackWork::new(rest.into_vec(), picks.into_vec(), out))
+                let work = PackWork::new(rest.into_vec(), picks.into_vec(), out);
+                AnyWork::Kernel(KernelWork::Pack(work))
             }
-            Step::Unpack { column } => AnyWork::Unpack(UnpackWork::new(column, out)),
+            Step::Unpack { column } => {
+                AnyWork::Kernel(KernelWork::Unpack(UnpackWork::new(column, out)))
+            }
             Step::Dict { column } => AnyWork::Dict(DictWork::new(column, out)),
             Step::Plain { column } => AnyWork::Plain(PlainWork::new(column, out)),
             Step::Totals { columns } => {

@@ -1,7 +1,10 @@
 //! Laws on stages that typing accepts: what they leave of the columns before them, and which columns they pick; and how
 //! small the schemas of columns are. The calls do nothing.
 //!
-//! What it leaves to others: what stages are and mean (`stage_model`), and their works (`stage_kernels`).
+//! It owns, too, what the works and the chain of stages count by: the structs among columns (`specs/Structs.antt`) and what a
+//! stage's calls still count (`specs/Dues.antt`).
+//!
+//! What it leaves to others: what stages are and mean (`stage_model`), and their works (`stage_kernels` and those above it).
 #![tactic(auto)]
 
 mod laws;

@@ -17,9 +17,9 @@ returns-in-Slice-clause-due c = λ up. rw c.in-Slice.is (sliced-due c.in-Slice.o
 
 pub returns-in-Pack-clause-fits : goal.returns-in-Pack-clause-fits
 returns-in-Pack-clause-fits c = λ before over few.
-    pack-fits c.args.out c.new-in-Pack.result.out before c.args.step c.new-in-Pack.ensures.out (c.stages_fit_their_columns.ensures.within before _ over)
-    (c.stages_fit_their_columns.ensures.after before _ over) c.in-Pack.rest c.in-Pack.picks c.new-in-Pack.result.rest.items
-    c.new-in-Pack.result.picks.items (c.new-in-Pack.ensures.rest ∙ c.into_vec-in-Pack.ensures) (c.new-in-Pack.ensures.picks ∙ c.into_vec-in-Pack-2.ensures)
+    pack-fits c.args.out c.new-work.result.out before c.args.step c.new-work.ensures.out (c.stages_fit_their_columns.ensures.within before _ over)
+    (c.stages_fit_their_columns.ensures.after before _ over) c.in-Pack.rest c.in-Pack.picks c.new-work.result.rest.items
+    c.new-work.result.picks.items (c.new-work.ensures.rest ∙ c.into_vec-in-Pack.ensures) (c.new-work.ensures.picks ∙ c.into_vec-in-Pack-2.ensures)
     c.in-Pack.is (c.picks_are_distinct.ensures before _ over) few
 
 pub returns-in-Filter-clause-fits : goal.returns-in-Filter-clause-fits

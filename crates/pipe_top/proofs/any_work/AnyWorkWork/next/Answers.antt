@@ -1,16 +1,7 @@
 use Rattle.pipe_top.proofs.any_work.AnyWorkWork.next.Goals as goal
 
-pub returns-in-Slice-clause-columns : goal.returns-in-Slice-clause-columns
-returns-in-Slice-clause-columns g c = λ before. rw c.in-Slice.is (c.next-in-Slice.ensures.columns before)
-
-pub returns-in-Pack-clause-columns : goal.returns-in-Pack-clause-columns
-returns-in-Pack-clause-columns g c = λ before. rw c.in-Pack.is (c.next-in-Pack.ensures.columns before)
-
 pub returns-in-Filter-clause-columns : goal.returns-in-Filter-clause-columns
 returns-in-Filter-clause-columns g c = λ before. rw c.in-Filter.is (c.next-in-Filter.ensures.columns before)
-
-pub returns-in-Unpack-clause-columns : goal.returns-in-Unpack-clause-columns
-returns-in-Unpack-clause-columns g c = λ before. rw c.in-Unpack.is (c.next-in-Unpack.ensures.columns before)
 
 pub returns-in-Totals-clause-columns : goal.returns-in-Totals-clause-columns
 returns-in-Totals-clause-columns g c = λ before. rw c.in-Totals.is (c.next-in-Totals.ensures.columns before)
