@@ -9,7 +9,7 @@
 //! What the words ask for, and the cause and the status of each fault, stand in `specs/Answer.antt`, what a cause says in
 //! `specs/Outcomes.antt`, the lines in `specs/Told.antt`. Left to others: what the words of the command are (`words`), what the
 //! texts among them spell (`stage_plan`), the rules of trees and their names (`layout_check`, `tree_check`), and what a run
-//! answers to what it is asked for (`pipe_top`).
+//! answers to what it is asked for (`run_task`).
 #![tactic(auto)]
 
 mod asked;
