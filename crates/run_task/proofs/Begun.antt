@@ -16,7 +16,7 @@ use Rattle.stage_model.specs.Typing.{plan_of}
 use Rattle.stage_model.specs.declared.stage.StageText.{StageText}
 use Rattle.stage_plan.specs.PlanWords.{IsPlan}
 use Rattle.stage_plan.specs.declared.typing.Plan.{Plan}
-use Rattle.stream_face.specs.Streams.{Stream, kept}
+use Rattle.stream_face.specs.Streams.{Stream}
 use Rattle.stream_text.specs.Faults.{IfRow}
 use Rattle.stream_text.specs.Runs.{Counted}
 use Rattle.stream_text.specs.declared.fault.DriveFault.{DriveFault}
@@ -41,9 +41,6 @@ module _ (request : Request) (records : List Record) (s : Stream) (plan : Plan) 
 
   pub begun-alone : (link : ℕ) → s.joints link ≡ []
   begun-alone link = ap (λ (m : Stream). m.joints link) begun.source_is
-
-  pub begun-kept : kept s ≡ 0
-  begun-kept = ap kept begun.source_is
 
   pub begun-flat : column_structs s.columns ≡ 0
   begun-flat = ap (λ (m : Stream). column_structs m.columns) begun.source_is ∙ proper-flat begun.columns begun.proper
