@@ -1,12 +1,11 @@
 -- The columns of a header are plain values.
-use Rattle.std.proofs.Common.{◌≡◌, ◌<◌, ◌+◌, ℕ, zero, suc, List, [], ◌∷◌, length, map, All, sym, subst, ap, refl, arith}
+use Rattle.std.proofs.Common.{◌≡◌, ◌<◌, zero, suc, List, [], ◌∷◌, map, All, sym, subst, ap, refl, arith}
 use Rattle.std.proofs.lemmas.List.{get_or-map, length-map}
 use Rattle.fmt_string.specs.ColumnForms.{KindsOk}
 use Rattle.fmt_string.specs.ColumnView.{column_of, kind_of}
-use Rattle.fmt_string.specs.Kinds.{KindOk}
-use Rattle.fmt_string.specs.Table.{Column, Flat}
+use Rattle.fmt_string.specs.Table.{Column}
 use Rattle.fmt_string.specs.declared.kind.ColumnType.{ColumnType}
-use Rattle.field_codec.specs.TextColumns.{AreProper, IsFlatOf}
+use Rattle.field_codec.specs.TextColumns.{AreProper}
 use Rattle.plan_laws.specs.Structs.{column_structs, structs}
 
 -- the numbers of their types are in their ranges

@@ -1,16 +1,16 @@
 -- What a chain over the batches of a text shows and counts are its links.
-use Rattle.std.proofs.Common.{◌≡◌, ◌∙◌, ◌+◌, ◌*◌, ℕ, List, [], ◌∷◌, None, Ok, ap, sym, refl, arith, subst}
+use Rattle.std.proofs.Common.{◌≡◌, ◌∙◌, List, None, Ok, ap, sym, subst}
 use Rattle.std.proofs.lemmas.List.Sums.{sum_by-cons}
 use Rattle.csv_model.specs.Batches.{Chunks, batches_in}
 use Rattle.csv_model.specs.Header.{header_of}
 use Rattle.csv_model.specs.Reading.{Record, behind_header}
 use Rattle.csv_read.specs.Entries.{entries_of}
-use Rattle.csv_source.specs.Sources.{chunks_traffic, stream_of}
+use Rattle.csv_source.specs.Sources.{stream_of}
 use Rattle.fmt_string.specs.Table.{Column}
-use Rattle.stage_chain.specs.Chains.{chain_links, chain_traffic, chunks_of}
+use Rattle.stage_chain.specs.Chains.{chain_links, chain_traffic}
 use Rattle.stream_text.specs.Runs.{Counted}
 use Rattle.stage_model.specs.Links.{Link, Links, links_behind}
-use Rattle.stage_model.specs.Traffic.{link_blocks, link_nodes, run_blocks, run_nodes}
+use Rattle.stage_model.specs.Traffic.{link_blocks, link_nodes}
 use Rattle.stage_model.specs.Typing.{Stage, plan_of}
 use Rattle.stream_face.specs.Streams.{Stream}
 use Rattle.unit_pass.specs.Tally.{Tally, risen}

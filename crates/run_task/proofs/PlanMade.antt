@@ -1,12 +1,12 @@
 -- What is planned of stages.
-use Rattle.std.proofs.Common.{◌≡◌, ◌∙◌, ◌≤◌, ◌+◌, ℕ, List, [], ◌∷◌, Option, None, Some, Result, Ok, Err, map, length, get_or, ap, sym, refl, subst, suc, arith}
+use Rattle.std.proofs.Common.{◌≡◌, ◌∙◌, ◌≤◌, ◌+◌, ℕ, List, [], ◌∷◌, Ok, length, get_or, ap, refl, subst, suc, arith}
 use Rattle.std.specs.List.{list_any}
 use Rattle.fmt_string.specs.Table.{Column}
 use Rattle.stage_chain.specs.Plans.{links_of}
 use Rattle.stage_chain.proofs.Planning.{after-same, end-plain, taken-stages}
-use Rattle.stage_model.specs.Typing.{Stage, columns_after, is_struct, plan_from, plan_links, plan_steps, stage_over}
+use Rattle.stage_model.specs.Typing.{Stage, columns_after, is_struct, plan_from, plan_steps, stage_over}
 use Rattle.stage_model.specs.declared.stage.StageText.{StageText}
-use Rattle.stage_plan.specs.PlanWords.{IsPlan, columns_in}
+use Rattle.stage_plan.specs.PlanWords.{IsPlan}
 use Rattle.stage_plan.specs.declared.typing.Plan.{Plan}
 
 count-from : (number : ℕ) (columns : List Column) (ts : List StageText) (stages : List Stage) → plan_from number columns ts ≡ Ok stages

@@ -1,4 +1,4 @@
-use Rattle.std.proofs.Common.{◌∙◌, arith, map}
+use Rattle.std.proofs.Common.{arith, map}
 use Rattle.fmt_string.specs.ColumnView.{column_of}
 use Rattle.run_task.proofs.Flat.{proper-kinds}
 use Rattle.run_task.proofs.PlanMade.{steps-are-few}

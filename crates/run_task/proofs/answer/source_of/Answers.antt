@@ -1,5 +1,4 @@
-use Rattle.std.proofs.Common.{map, subst, sym}
-use Rattle.fmt_string.specs.ColumnView.{column_of}
+use Rattle.std.proofs.Common.{subst, sym}
 use Rattle.field_codec.specs.TextColumns.{AreAllowed, AreProper}
 use Rattle.run_task.proofs.Flat.{proper-kinds}
 use Rattle.run_task.proofs.answer.source_of.Goals as goal
