@@ -1,23 +1,21 @@
 -- One link of a chain.
-use Rattle.std.proofs.Common.{◌≡◌, ◌≤◌, ◌+◌, ◌++◌, ◌==◌, ℕ, List, [], ◌∷◌, Option, Some, None, Result, Ok, Err, OnErr, OnOk, IsTrue, refl, sym, ◌∙◌, ap, subst}
+use Rattle.std.proofs.Common.{◌≡◌, ◌≤◌, ◌+◌, ℕ, List, [], ◌∷◌, Option, Some, None, Result, Ok, Err, OnErr, OnOk, refl, ◌∙◌, ap, subst}
 use Rattle.std.proofs.Common.{arith, inl, inr}
-use Rattle.std.specs.List.{sum_by}
 use Rattle.std.proofs.lemmas.Bool.Decides.{eqb_tells}
 use Rattle.std.proofs.lemmas.List.Sums.{sum_by-cons}
-use Rattle.fmt_string.specs.Table.{Column, Row}
 use Rattle.raw_schema.specs.Members.{Nodes}
 use Rattle.schema_check.specs.ColumnSchema.{SchemaOf}
 use Rattle.unit_pass.specs.Tally.{Tally, risen}
 use Rattle.stage_model.specs.Links.{Link, links_behind}
 use Rattle.stage_model.specs.Stages.{chunks_after}
-use Rattle.stage_model.specs.Traffic.{Made, link_blocks, link_nodes, made_blocks, made_nodes, run_blocks, run_nodes, table_nodes}
+use Rattle.stage_model.specs.Traffic.{Made, link_blocks, link_nodes, table_nodes}
 use Rattle.stage_model.specs.Typing.{Stage}
 use Rattle.stream_face.specs.Raw.{raw_joints, raw_state}
 use Rattle.stream_face.specs.Shown.{Seen, Shown}
 use Rattle.stream_face.specs.Streams.{Stream, Traffic, telling}
-use Rattle.stage_chain.specs.Chains.{chain_links, chain_traffic, chunks_of, joints_with, over_stream}
-use Rattle.stream_text.specs.Runs.{Counted, ShowsAll, ShowsSome}
-use Rattle.stream_text.proofs.RunLemmas.{grown-nil, risen-add}
+use Rattle.stage_chain.specs.Chains.{chain_links, chain_traffic, joints_with, over_stream}
+use Rattle.stream_text.specs.Runs.{Counted, ShowsSome}
+use Rattle.stream_text.proofs.RunLemmas.{grown-nil}
 
 pub on-err : {A E P Q : Type 0} (r : Result A E) → (P → Q) → OnErr r P → OnErr r Q
 on-err (Ok a) f p = tt

@@ -1,7 +1,7 @@
 -- The stages of a plan are stages over the columns that are read.
-use Rattle.std.proofs.Common.{◌≡◌, ◌≤◌, ◌<◌, ◌+◌, ◌∷◌, ℕ, zero, suc, List, [], All, drop, get_or, map, length, Option, Some, None, Result, Ok, Err, Bool, true}
+use Rattle.std.proofs.Common.{◌≡◌, ◌≤◌, ◌+◌, ◌∷◌, ℕ, zero, suc, List, [], All, drop, get_or, map, length, Option, Some, None, Result, Ok, Err, Bool, true}
 use Rattle.std.proofs.Common.{false, ◌||◌, refl, sym, ◌∙◌, ap, subst, arith}
-use Rattle.std.specs.List.{AllByRecursion, list_any}
+use Rattle.std.specs.List.{list_any}
 use Rattle.field_codec.specs.TextColumns.{HasTexts, HaveTexts}
 use Rattle.fmt_string.specs.ColumnForms.{AreColumnKinds}
 use Rattle.fmt_string.specs.Table.{Column, Kind, Flat, Dict, Columns}

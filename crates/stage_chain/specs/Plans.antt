@@ -6,7 +6,6 @@ use Rattle.std.specs.declared.vec.IntoIter.{IntoIter}
 use Rattle.std.specs.Global.{Global}
 use Rattle.fmt_string.specs.ColumnView.{column_of}
 use Rattle.fmt_string.specs.Table.{Column}
-use Rattle.fmt_string.specs.declared.kind.ColumnType.{ColumnType}
 use Rattle.stage_model.specs.Typing.{IsStageOver, Stage, is_struct}
 use Rattle.stage_model.specs.declared.stage.Step.{Step}
 use Rattle.stage_plan.specs.PlanWords.{columns_in}

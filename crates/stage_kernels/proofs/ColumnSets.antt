@@ -1,6 +1,6 @@
 -- An equation of columns is a proposition, since columns have a code.
 use Rattle.std.specs.Coded.{Coded, Coded-set, coded_list, coded_ℕ}
-use Rattle.std.proofs.Common.{◌≡◌, ◌∙◌, ℕ, List, refl, ap, sym, subst, map}
+use Rattle.std.proofs.Common.{◌≡◌, ℕ, List, refl, ap}
 use Rattle.std.proofs.Math.Logic.{∥∥₁_elim}
 use base.Stored.{Gv, gnil, gnum, gcons}
 use Rattle.fmt_string.specs.Table.{Column, Kind, Flat, Dict, Columns, Members, no_members, more_members}

@@ -9,7 +9,7 @@ use Rattle.std.proofs.lemmas.List.Elements.{All-nil, All-cons, All-head, All-tai
 use Rattle.unit_pass.specs.declared.pass.TheConstants.{CHUNK}
 use Rattle.fmt_string.specs.ColumnForms.{AreColumnKinds, MembersAreColumns}
 use Rattle.fmt_string.specs.ColumnView.{column_of, members}
-use Rattle.fmt_string.specs.Parts.{column_values, fields_of, member_columns, AreWithin, packed, packed_columns, picked, value_list}
+use Rattle.fmt_string.specs.Parts.{column_values, fields_of, member_columns, AreWithin, packed, packed_columns, picked}
 use Rattle.fmt_string.specs.Table.{Column, Row, Columns as StructOf}
 use Rattle.fmt_string.specs.Value.{Value, Null, Fields, values}
 use Rattle.fmt_string.specs.declared.kind.ColumnType.{ColumnType}
