@@ -9,10 +9,10 @@ use Rattle.fmt_string.specs.Value.{Value, Null, Truth}
 use Rattle.fmt_string.specs.declared.kind.DataType.{DataType}
 use Rattle.col_build.specs.Encoding.{Fits, is_null, null_total}
 use Rattle.schema_check.specs.Kinds.{KindTree}
-use Rattle.layout_check.specs.Rules.{count_wrong, indices_wrong, length_if, one_if}
-use Rattle.layout_check.specs.Values.{item, value_at, values_of}
+use Rattle.layout_rules.specs.Rules.{count_wrong, indices_wrong, length_if, one_if}
+use Rattle.layout_rules.specs.Values.{item, value_at, values_of}
 use Rattle.schema_check.specs.Ways.{Steps}
-use Rattle.layout_check.specs.Walk.{LayoutOk, node_fault, visit_fault}
+use Rattle.layout_rules.specs.Walk.{LayoutOk, node_fault, visit_fault}
 use Rattle.arr_export.specs.ArrayTrees.{column_members, column_tree, flat_type}
 use Rattle.arr_export.proofs.ColumnReads.{Reads, reads}
 use Rattle.arr_export.proofs.Each.{each-is}

@@ -15,11 +15,11 @@ use Rattle.fmt_string.specs.declared.kind.DataType.TheVariants as kinds
 use Rattle.fmt_string.specs.declared.kind.Tick.TheVariants as ticks
 use Rattle.col_build.specs.Encoding.{Fits, buffers_if, bytes_of, encoded, fault_if, in_place as in_place_bytes, is_null, is_by_offsets, is_wide, is_within}
 use Rattle.col_build.specs.Encoding.{stored_item}
-use Rattle.layout_check.specs.Layout.{bytes, data_of, is_valid, layout_of, stored_number}
-use Rattle.layout_check.specs.Rules.{not_text, texts_wrong}
-use Rattle.layout_check.specs.Values.{item}
-use Rattle.layout_check.specs.declared.layout.Layout.{Layout}
-use Rattle.layout_check.specs.declared.layout.Layout.TheVariants.{FixedWidth}
+use Rattle.layout_rules.specs.Layout.{bytes, data_of, is_valid, layout_of, stored_number}
+use Rattle.layout_rules.specs.Rules.{not_text, texts_wrong}
+use Rattle.layout_rules.specs.Values.{item}
+use Rattle.layout_rules.specs.declared.layout.Layout.{Layout}
+use Rattle.layout_rules.specs.declared.layout.Layout.TheVariants.{FixedWidth}
 use Rattle.arr_export.specs.ArrayTrees.{made_buffers, made_if}
 use Rattle.col_build.specs.Encoding.{validity_of}
 use Rattle.arr_export.proofs.Layouts.{as_bits, bit-there, bits-ok, by_offsets, data-there, fixed-ok, in_place, number-stored, offsets-ok, stored-there}

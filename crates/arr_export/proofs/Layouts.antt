@@ -8,10 +8,10 @@ use Rattle.raw_array.specs.Members.{Buffer}
 use Rattle.fmt_string.specs.Value.{Value, Null}
 use Rattle.bit_pack.specs.Packed.{bit, le_bytes, le_number, number_at, offset_width}
 use Rattle.col_build.specs.Encoding.{bit_bytes, bit_value, bytes_of, if_some, is_set, offset_bytes, stored_item}
-use Rattle.layout_check.specs.Layout.{bytes, data_of, end, natural, offset_in, offsets_need, stored_bytes}
-use Rattle.layout_check.specs.Rules.{buffer_short, fault, first_below, is_negative, offset_falls, offsets_fall}
-use Rattle.layout_check.specs.declared.layout.Layout.TheVariants.{ByOffsets, FixedWidth, TruthBits}
-use Rattle.layout_check.specs.declared.rule.Numbers.{Numbers}
+use Rattle.layout_rules.specs.Layout.{bytes, data_of, end, natural, offset_in, offsets_need, stored_bytes}
+use Rattle.layout_rules.specs.Rules.{buffer_short, fault, first_below, is_negative, offset_falls, offsets_fall}
+use Rattle.layout_rules.specs.declared.layout.Layout.TheVariants.{ByOffsets, FixedWidth, TruthBits}
+use Rattle.layout_rules.specs.declared.rule.Numbers.{Numbers}
 use Rattle.arr_export.specs.ArrayTrees.{made_if}
 use Rattle.arr_export.proofs.BitBytes.{bits-of, length-bit_bytes}
 use Rattle.arr_export.proofs.NodeRules.{BuffersOk, absent-none, below-none, both-none, data-back, long-data, long-if, no-fault, nulls-fit, short-none, there-if}

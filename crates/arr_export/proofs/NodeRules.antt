@@ -11,16 +11,16 @@ use Rattle.fmt_string.specs.Value.{Value}
 use Rattle.fmt_string.specs.declared.kind.DataType.{DataType}
 use Rattle.col_build.specs.Encoding.{if_some, null_total, validity_of}
 use Rattle.schema_check.specs.Kinds.{KindTree}
-use Rattle.layout_check.specs.Layout.{bits_need, buffer, buffer_count, bytes, bytes_or_none, end, layout_of, need}
-use Rattle.layout_check.specs.Rules.{Node, buffer_absent, buffer_short, count_wrong, fails, fault_if, first_below, in_order, indices_wrong, is_behind_offsets}
-use Rattle.layout_check.specs.Rules.{length_if, null_count_wrong, null_count_wrong_in, offsets_fall_if, one_if, prefixes_wrong, texts_wrong, views_misplaced}
-use Rattle.layout_check.specs.Rules.{null_total as null_items}
+use Rattle.layout_rules.specs.Layout.{bits_need, buffer, buffer_count, bytes, bytes_or_none, end, layout_of, need}
+use Rattle.layout_rules.specs.Rules.{Node, buffer_absent, buffer_short, count_wrong, fails, fault_if, first_below, in_order, indices_wrong, is_behind_offsets}
+use Rattle.layout_rules.specs.Rules.{length_if, null_count_wrong, null_count_wrong_in, offsets_fall_if, one_if, prefixes_wrong, texts_wrong, views_misplaced}
+use Rattle.layout_rules.specs.Rules.{null_total as null_items}
 use Rattle.schema_check.specs.Ways.{Steps}
-use Rattle.layout_check.specs.Walk.{fault_at, fault_by, first_some, node_fault}
-use Rattle.layout_check.specs.declared.layout.Layout.{Layout}
-use Rattle.layout_check.specs.declared.rule.LayoutRule.{LayoutRule}
-use Rattle.layout_check.specs.declared.rule.LayoutRule.TheVariants as rules
-use Rattle.layout_check.specs.declared.rule.Numbers.{Numbers}
+use Rattle.layout_rules.specs.Walk.{fault_at, fault_by, first_some, node_fault}
+use Rattle.layout_rules.specs.declared.layout.Layout.{Layout}
+use Rattle.layout_rules.specs.declared.rule.LayoutRule.{LayoutRule}
+use Rattle.layout_rules.specs.declared.rule.LayoutRule.TheVariants as rules
+use Rattle.layout_rules.specs.declared.rule.Numbers.{Numbers}
 use Rattle.arr_export.specs.ArrayTrees.{made_if}
 use Rattle.arr_export.proofs.Nulls.{nulls-are, own, validity-long}
 

@@ -8,8 +8,8 @@ use Rattle.raw_array.specs.Members.{Buffer, ArrayMembers, bytes_in}
 use Rattle.raw_array.specs.declared.array.ReleaseKind.TheVariants.{Exported}
 use Rattle.fmt_string.specs.Value.{Value, Null, Truth}
 use Rattle.col_build.specs.Encoding.{bit_value, bit_bytes, is_null, null_total, validity_of}
-use Rattle.layout_check.specs.Layout.{is_valid, is_valid_by}
-use Rattle.layout_check.specs.Rules.{null_total as null_items}
+use Rattle.layout_rules.specs.Layout.{is_valid, is_valid_by}
+use Rattle.layout_rules.specs.Rules.{null_total as null_items}
 use Rattle.arr_export.specs.ArrayTrees.{made_if}
 use Rattle.arr_export.proofs.BitBytes.{bits-of, length-bit_bytes}
 

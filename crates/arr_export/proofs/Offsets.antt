@@ -6,7 +6,7 @@ use Rattle.std.proofs.Math.Seq.{drop-append_seam, take-append_seam}
 use Rattle.std.specs.List.{All, concat}
 use Rattle.bit_pack.specs.Packed.{le_bytes, meant, number_at, offset_width}
 use Rattle.col_build.specs.Encoding.{ends, offset_bytes}
-use Rattle.layout_check.specs.Layout.{natural, offset_in}
+use Rattle.layout_rules.specs.Layout.{natural, offset_in}
 use Rattle.std.specs.Prelude.{int_lt}
 use Rattle.arr_export.proofs.Pieces.{length-le_bytes, length-pieces, number-there}
 

@@ -4,13 +4,13 @@ use Rattle.tree_model.specs.Tree.{Released, Live, Trees, no_trees, more_trees, M
 use Rattle.raw_array.specs.Members.{ArrayTree}
 use Rattle.fmt_string.specs.declared.kind.DataType.{DataType}
 use Rattle.schema_check.specs.Kinds.{KindTree}
-use Rattle.layout_check.specs.Rules.{Node, fails, in_order}
+use Rattle.layout_rules.specs.Rules.{Node, fails, in_order}
 use Rattle.schema_check.specs.Ways.{Steps, dictionary_step}
-use Rattle.layout_check.specs.Walk.{Walk, fault_at, fault_by, first_some, node_fault, node_of, visit_fault, visits, walk_below}
-use Rattle.layout_check.specs.Walk.{walk_children, walk_dictionary, walk_of, walks_of}
-use Rattle.layout_check.specs.declared.rule.LayoutRule.{LayoutRule}
-use Rattle.layout_check.specs.declared.rule.Numbers.{Numbers}
-use Rattle.layout_check.proofs.Lawful.{left-none, right-none}
+use Rattle.layout_rules.specs.Walk.{Walk, fault_at, fault_by, first_some, node_fault, node_of, visit_fault, visits, walk_below}
+use Rattle.layout_rules.specs.Walk.{walk_children, walk_dictionary, walk_of, walks_of}
+use Rattle.layout_rules.specs.declared.rule.LayoutRule.{LayoutRule}
+use Rattle.layout_rules.specs.declared.rule.Numbers.{Numbers}
+use Rattle.layout_rules.proofs.Lawful.{left-none, right-none}
 use Rattle.arr_export.proofs.NodeRules.{both-none}
 
 -- ---- the rules of a node

@@ -12,8 +12,8 @@ use Rattle.col_build.specs.Encoding.{Fits, encoded}
 use Rattle.col_build.specs.Finished.{IsEncoded}
 use Rattle.col_build.specs.declared.built.Built.{Built}
 use Rattle.schema_check.specs.Kinds.{KindTree}
-use Rattle.layout_check.specs.Values.{each, field_items, tree_items, value_at, values_of}
-use Rattle.layout_check.specs.Walk.{LayoutOk}
+use Rattle.layout_rules.specs.Values.{each, field_items, tree_items, value_at, values_of}
+use Rattle.layout_rules.specs.Walk.{LayoutOk}
 
 -- ---- a column
 

@@ -3,7 +3,7 @@ ghost use Rattle.std.specs.Prelude.{◌≡◌, ◌+◌, ◌-◌, ◌^◌, ◌<�
 ghost use Rattle.unit_pass.specs.Tally.{risen};
 ghost use Rattle.tree_model.specs.Tree.{trees};
 ghost use Rattle.raw_array.specs.Members.{Cost, cost_of_all};
-ghost use Rattle.layout_check.specs.Layout.{natural};
+ghost use Rattle.layout_rules.specs.Layout.{natural};
 ghost use Rattle.arr_export.specs.ArrayTrees.{IsColumn, table_tree};
 
 use buf_block::BufView;

@@ -4,9 +4,9 @@ use Rattle.fmt_string.specs.declared.storage.Storage.{Storage}
 use Rattle.fmt_string.specs.Value.{Value}
 use Rattle.tree_model.specs.Tree.{children_of, trees}
 use Rattle.raw_array.specs.Members.{members_of}
-use Rattle.layout_check.specs.Layout.{bytes, first}
+use Rattle.layout_rules.specs.Layout.{bytes, first}
 use Rattle.schema_check.specs.TypedView.{kids_of}
-use Rattle.layout_check.specs.Values.{readers}
+use Rattle.layout_rules.specs.Values.{readers}
 use Rattle.arr_import.specs.declared.col.Col.{Col}
 use Rattle.arr_import.specs.StoredItems.{stored_item, IsThere}
 use Rattle.arr_import.specs.Window.{item_at}

@@ -18,12 +18,12 @@ use Rattle.bit_pack.specs.Packed.{IsWidth}
 use Rattle.tree_model.specs.Tree.{Released, Live, IsLive, absent, present, trees, maybe_tree, tree_list, children_of, child_at, dictionary_of, Depth}
 use Rattle.raw_array.specs.Members.{ArrayMembers, ArrayTree, members_of}
 use Rattle.schema_check.specs.declared.typed.Typed.{Typed, out-Typed}
-use Rattle.layout_check.specs.declared.layout.Layout.TheVariants.{ByChildren}
+use Rattle.layout_rules.specs.declared.layout.Layout.TheVariants.{ByChildren}
 use Rattle.schema_check.specs.Kinds.{KindTree, NodesOk, AllNodesOk, DictNodesOk, KidsOk, DictOk, IsOneChild, IsPairOfColumns}
 use Rattle.schema_check.specs.TypedView.{typed_of, kind_of, kids_of, dict_in}
-use Rattle.layout_check.specs.Layout.{layout_of, bytes, first, is_valid}
-use Rattle.layout_check.specs.Values.{Reader, each, child_item, field_items, row_items, item, item_or_entry, value_at, readers, reader_of, tree_items}
-use Rattle.layout_check.specs.Within.{StoredWithin, ItemsWithin, IndexWithin, ViewWithin, DataWithin}
+use Rattle.layout_rules.specs.Layout.{layout_of, bytes, first, is_valid}
+use Rattle.layout_rules.specs.Values.{Reader, each, child_item, field_items, row_items, item, item_or_entry, value_at, readers, reader_of, tree_items}
+use Rattle.layout_rules.specs.Within.{StoredWithin, ItemsWithin, IndexWithin, ViewWithin, DataWithin}
 use Rattle.fmt_string.specs.declared.storage.Storage.{Storage}
 use Rattle.arr_import.specs.StoredItems.{stored_item, IsThere, NumberThere, IsListStorage, IsViewStorage, AreItemsThere, IsIndexThere, IsOwn}
 use Rattle.arr_import.specs.Window.{Window, Home, IsDictionary, IsStruct, IsStructValue, index_at, home_from, home_of}

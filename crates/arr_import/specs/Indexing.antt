@@ -2,7 +2,7 @@
 use Rattle.std.specs.Prelude.{ℕ, ◌+◌, Bool}
 use Rattle.raw_array.specs.Members.{members_of}
 use Rattle.schema_check.specs.Kinds.{kind_in}
-use Rattle.layout_check.specs.Layout.{is_valid}
+use Rattle.layout_rules.specs.Layout.{is_valid}
 use Rattle.arr_import.specs.declared.indexed.Indexed.{Indexed}
 use Rattle.arr_import.specs.Window.{Window, index_at}
 use Rattle.arr_import.specs.Cols.{window_of}

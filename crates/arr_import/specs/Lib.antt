@@ -7,6 +7,3 @@ pub mod Cols
 pub mod Plain
 pub mod Indexing
 pub mod Shown
-pub mod Imports
-pub mod ImportFaults
-pub mod FaultTexts

@@ -9,8 +9,8 @@ use Rattle.bit_pack.specs.Packed.{IsWidth, bit, meant, number_at}
 use Rattle.tree_model.specs.Tree.{dictionary_of}
 use Rattle.raw_array.specs.Members.{members_of}
 use Rattle.schema_check.specs.Kinds.{kind_in}
-use Rattle.layout_check.specs.Layout.{buffer, natural, offset_in}
-use Rattle.layout_check.specs.Within.{OffsetsRise}
+use Rattle.layout_rules.specs.Layout.{buffer, natural, offset_in}
+use Rattle.layout_rules.specs.Within.{OffsetsRise}
 use Rattle.arr_import.specs.declared.plain.Texts.{Texts}
 use Rattle.arr_import.specs.declared.plain.Wholes.{Wholes}
 use Rattle.arr_import.specs.declared.plain.Truths.{Truths}

@@ -4,10 +4,10 @@ use Rattle.fmt_string.specs.Value.{Value, values}
 use Rattle.fmt_string.specs.Value.Value.{Null, Truth, Whole, Bits, Bytes, Items, Fields}
 use Rattle.bit_pack.specs.Packed.{IsWidth, bit, offset_width}
 use Rattle.raw_array.specs.Members.{ArrayMembers, ArrayTree}
-use Rattle.layout_check.specs.Layout.{first, bytes, natural, offset_in, stored_number, stored_bytes, data_of, view_width}
-use Rattle.layout_check.specs.Views.{view_data}
-use Rattle.layout_check.specs.Values.{Reader, each, child_item, field_items, listed}
-use Rattle.layout_check.specs.Within.{OffsetsRise}
+use Rattle.layout_rules.specs.Layout.{first, bytes, natural, offset_in, stored_number, stored_bytes, data_of, view_width}
+use Rattle.layout_rules.specs.Views.{view_data}
+use Rattle.layout_rules.specs.Values.{Reader, each, child_item, field_items, listed}
+use Rattle.layout_rules.specs.Within.{OffsetsRise}
 use Rattle.fmt_string.specs.declared.storage.Storage.{Storage}
 use Rattle.fmt_string.specs.declared.storage.Storage.TheVariants as storages
 

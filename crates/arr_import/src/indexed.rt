@@ -4,14 +4,14 @@ ghost use Rattle.fmt_string.specs.Value.Value.{Null, Bytes};
 ghost use Rattle.tree_model.specs.Tree.{dictionary_of};
 ghost use Rattle.schema_check.specs.TypedView.{dict_in};
 ghost use Rattle.schema_check.specs.declared.typed.Typed.{out-Typed};
-ghost use Rattle.layout_check.specs.Layout.{natural};
+ghost use Rattle.layout_rules.specs.Layout.{natural};
 ghost use Rattle.arr_import.specs.Window.{IsDictionary, item_at};
 ghost use Rattle.arr_import.specs.Cols.{window_of};
 ghost use Rattle.arr_import.specs.Dictionaries.{IsDictionary-prop};
 
 use crate::col::Col;
 use fmt_string::Storage;
-use layout_check::{lawful_has_no_fault, lawful_root};
+use layout_rules::{lawful_has_no_fault, lawful_root};
 
 /// A column of indices with the column of its dictionary.
 #[derive(Clone, Copy)]

@@ -4,8 +4,8 @@ ghost use Rattle.bit_pack.specs.Packed.{bit};
 ghost use Rattle.raw_array.specs.Members.{members_of};
 ghost use Rattle.tree_model.specs.Tree.{Released, children_of, child_at, trees};
 ghost use Rattle.schema_check.specs.TypedView.{kind_of, kids_of};
-ghost use Rattle.layout_check.specs.Layout.{first, is_valid as is_valid_at};
-ghost use Rattle.layout_check.specs.Values.{each, child_item, listed, readers, tree_items};
+ghost use Rattle.layout_rules.specs.Layout.{first, is_valid as is_valid_at};
+ghost use Rattle.layout_rules.specs.Values.{each, child_item, listed, readers, tree_items};
 ghost use Rattle.arr_import.specs.StoredItems.{stored_item, IsThere, IsListStorage, AreItemsThere};
 ghost use Rattle.fmt_string.specs.declared.storage.Storage.TheVariants as storages;
 ghost use Rattle.fmt_string.specs.Value.{values};
@@ -19,9 +19,8 @@ use crate::stored::{bits_at, bytes_at, start_at, text_at, truth_at, whole_at};
 use crate::value_ref::ValueRef;
 use bit_pack::bit_at;
 use fmt_string::Storage;
-use layout_check::{
-    kinds_of_typed, lawful_has_no_fault, lawful_items_lie_within, lawful_parts, lawful_root,
-};
+use layout_rules::{lawful_has_no_fault, lawful_items_lie_within, lawful_parts, lawful_root};
+use schema_check::kinds_of_typed;
 
 impl<'a> Col<'a> {
     /// What the buffers have of an item.

@@ -1,7 +1,5 @@
 //! The values of lawful arrays, read in place ("Arrow Columnar Format", "Physical memory layout").
 //!
-//! - [`import`] takes a schema and an array that `layout_check` accepts, and keeps both; or it hands both back whole, with
-//!   the check's fault.
 //! - [`Col`] is a column: a window over the items of an array. [`Col::value`] shows an item: a null, a number, bytes that
 //!   are lent from the block, a list as the column of its items, or that it is a struct. [`Col::truth`], [`Col::whole`],
 //!   [`Col::bits`] and [`Col::bytes`] show the items of one kind alone, at less cost. [`Col::child`] is a struct's
@@ -11,19 +9,18 @@
 //!   dictionary of indices once.
 //!
 //! Contracts see a column as a window (`specs/Window.antt`): the kinds, the array's tree, and which items of it. What an
-//! item is stands in `layout_check`'s `specs/Values.antt`; what a reference shows, in `specs/Shown.antt`. A column in a
+//! item is stands in `layout_rules`'s `specs/Values.antt`; what a reference shows, in `specs/Shown.antt`. A column in a
 //! common way is seen as so many items, each by its number (`specs/Plain.antt`).
 //!
-//! Nothing here but [`import`] takes memory, and nothing writes or copies bytes. A column looks its buffers up once, so
+//! Nothing here takes memory, writes or copies bytes. A column looks its buffers up once, so
 //! that a text costs a bit, two offsets and a slice, whatever the length of the column; a list's items, and a dictionary
-//! but for [`Indexed`], are columns that are made anew for each item that is read. Left to others: the units of the
-//! structures, which [`Imported::into_raw`] gives back, and whether the root is a table (`layout_check::check_chunk`).
+//! but for [`Indexed`], are columns that are made anew for each item that is read. Left to others: whether an array is lawful
+//! (`layout_check`), and taking in a schema and an array together (`tree_import`).
 #![tactic(auto)]
 
 mod access;
 mod col;
 mod home;
-mod imported;
 mod indexed;
 mod item;
 mod one_kind;
@@ -35,7 +32,6 @@ mod value_ref;
 mod view;
 
 pub use col::Col;
-pub use imported::{ImportFault, Imported, import};
 pub use indexed::Indexed;
 pub use plain::{Doubles, Texts, Truths, Wholes};
 pub use value_ref::ValueRef;

@@ -9,8 +9,8 @@ ghost use Rattle.tree_model.specs.Tree.{children_of, trees};
 ghost use Rattle.raw_array.specs.Members.{members_of};
 ghost use Rattle.schema_check.specs.TypedView.{dict_in, kids_of};
 ghost use Rattle.schema_check.specs.declared.typed.Typed.{out-Typed};
-ghost use Rattle.layout_check.specs.Layout.{natural, is_valid as is_valid_at};
-ghost use Rattle.layout_check.specs.Values.{readers};
+ghost use Rattle.layout_rules.specs.Layout.{natural, is_valid as is_valid_at};
+ghost use Rattle.layout_rules.specs.Values.{readers};
 ghost use Rattle.arr_import.specs.StoredItems.{stored_item, AreBetween, IsOwn, IsViewStorage};
 ghost use Rattle.arr_import.specs.Window.{item_at};
 ghost use Rattle.arr_import.specs.Cols.{window_of};
@@ -19,7 +19,8 @@ use crate::access::Access;
 use crate::col::Col;
 use crate::stored::{bits_at, bytes_at, text_at, truth_at, whole_at};
 use fmt_string::Storage;
-use layout_check::{kinds_of_typed, lawful_has_no_fault, lawful_root};
+use layout_rules::{lawful_has_no_fault, lawful_root};
+use schema_check::kinds_of_typed;
 
 impl<'a> Col<'a> {
     /// Item `i` where it is a truth value, also through a dictionary; none where it is null or of any other kind.

@@ -5,9 +5,9 @@ ghost use Rattle.fmt_string.specs.Value.{Value};
 ghost use Rattle.fmt_string.specs.Value.Value.{Truth, Whole, Bits, Bytes};
 ghost use Rattle.tree_model.specs.Tree.{children_of, trees};
 ghost use Rattle.raw_array.specs.Members.{members_of};
-ghost use Rattle.layout_check.specs.Layout.{buffer, first};
+ghost use Rattle.layout_rules.specs.Layout.{buffer, first};
 ghost use Rattle.schema_check.specs.TypedView.{dict_in, kids_of};
-ghost use Rattle.layout_check.specs.Values.{readers};
+ghost use Rattle.layout_rules.specs.Values.{readers};
 ghost use Rattle.schema_check.specs.declared.typed.Typed.{out-Typed};
 ghost use Rattle.arr_import.specs.StoredItems.{IsThere, stored_item};
 ghost use Rattle.arr_import.specs.Window.{item_at};
@@ -17,7 +17,8 @@ ghost use Rattle.arr_import.specs.Plain.{IsCommonWidth, AreTexts, AreWholes, Are
 use crate::col::Col;
 use crate::stored::{bits_at, text_at, truth_at, whole_at};
 use fmt_string::Storage;
-use layout_check::{kinds_of_typed, lawful_has_no_fault, lawful_items_lie_within, lawful_root};
+use layout_rules::{lawful_has_no_fault, lawful_items_lie_within, lawful_root};
+use schema_check::kinds_of_typed;
 
 /// Texts or bytes between offsets of 32 bits.
 #[derive(Clone, Copy)]

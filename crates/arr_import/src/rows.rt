@@ -1,12 +1,13 @@
 //! The rows of a struct column.
 ghost use Rattle.std.specs.Prelude.{◌≡◌, ℕ, ◌+◌, length};
 ghost use Rattle.tree_model.specs.Tree.{children_of};
-ghost use Rattle.layout_check.specs.Values.{row_items};
+ghost use Rattle.layout_rules.specs.Values.{row_items};
 ghost use Rattle.arr_import.specs.Window.{IsStruct};
 ghost use Rattle.arr_import.specs.Cols.{window_of};
 
 use crate::col::Col;
-use layout_check::{kinds_of_typed, lawful_has_no_fault, lawful_root};
+use layout_rules::{lawful_has_no_fault, lawful_root};
+use schema_check::kinds_of_typed;
 
 impl<'a> Col<'a> {
     /// A law: a row of a struct has an item of each child ("Struct Layout"). The call does nothing.

@@ -4,14 +4,15 @@ ghost use Rattle.std.specs.Prelude.{◌≡◌, true, pos, ◌+◌, ◌*◌, ◌<
 ghost use Rattle.bit_pack.specs.Packed.{meant, number_at};
 ghost use Rattle.raw_array.specs.Members.{members_of};
 ghost use Rattle.tree_model.specs.Tree.{IsLive};
-ghost use Rattle.layout_check.specs.Layout.{is_valid as is_valid_at, view_width};
-ghost use Rattle.layout_check.specs.Views.{view_data};
-ghost use Rattle.layout_check.specs.Within.{DataWithin};
+ghost use Rattle.layout_rules.specs.Layout.{is_valid as is_valid_at, view_width};
+ghost use Rattle.layout_rules.specs.Views.{view_data};
+ghost use Rattle.layout_rules.specs.Within.{DataWithin};
 ghost use Rattle.arr_import.specs.StoredItems.{IsViewStorage};
 
 use crate::col::{Col, buffer_bytes};
 use bit_pack::offset_at;
-use layout_check::{kinds_of_typed, lawful_has_no_fault, lawful_items_lie_within, lawful_root};
+use layout_rules::{lawful_has_no_fault, lawful_items_lie_within, lawful_root};
+use schema_check::kinds_of_typed;
 
 /// The longest item that stands in its view.
 const MOST_IN_VIEW: i64 = 12;

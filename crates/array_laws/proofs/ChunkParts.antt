@@ -6,11 +6,11 @@ use Rattle.tree_model.proofs.Lists.{tree_list-trees}
 use Rattle.raw_array.specs.Members.{ArrayMembers, ArrayTree}
 use Rattle.schema_check.specs.ColumnKinds.{table_type}
 use Rattle.schema_check.specs.Kinds.{KindTree}
-use Rattle.layout_check.specs.Layout.{end, first, items}
-use Rattle.layout_check.specs.Values.{tree_items}
-use Rattle.layout_check.specs.Walk.{LayoutOk}
-use Rattle.layout_check.proofs.ReadWithin.{live-of}
-use Rattle.layout_check.proofs.TreeLaws.{items_hold, parts_hold, root_holds}
+use Rattle.layout_rules.specs.Layout.{end, first, items}
+use Rattle.layout_rules.specs.Values.{tree_items}
+use Rattle.layout_rules.specs.Walk.{LayoutOk}
+use Rattle.layout_rules.proofs.ReadWithin.{live-of}
+use Rattle.layout_rules.proofs.TreeLaws.{items_hold, parts_hold, root_holds}
 use Rattle.array_laws.proofs.LawfulNodes.{length-items, offset-first}
 
 -- what holds of a struct of these types

@@ -5,12 +5,12 @@ use Rattle.tree_model.specs.Tree.{Released, Live, Trees, no_trees, more_trees, M
 use Rattle.tree_model.specs.Tree.{depth_of_maybe}
 use Rattle.raw_array.specs.Members.{ArrayMembers, ArrayTree}
 use Rattle.schema_check.specs.Kinds.{AllNodesOk, DictNodesOk, KindTree, NodesOk}
-use Rattle.layout_check.specs.Rules.{count_wrong, one_if}
+use Rattle.layout_rules.specs.Rules.{count_wrong, one_if}
 use Rattle.schema_check.specs.Ways.{Steps, dictionary_step}
-use Rattle.layout_check.specs.Walk.{LayoutOk, fault_from, first_some, node_fault, visit_fault, visits, walk_below, walk_children}
-use Rattle.layout_check.specs.Walk.{walk_dictionary, walk_of, walks_of}
-use Rattle.layout_check.proofs.Lawful.{lawful-first_fault, left-none, right-none}
-use Rattle.layout_check.proofs.Faults.{first_some-append}
+use Rattle.layout_rules.specs.Walk.{LayoutOk, fault_from, first_some, node_fault, visit_fault, visits, walk_below, walk_children}
+use Rattle.layout_rules.specs.Walk.{walk_dictionary, walk_of, walks_of}
+use Rattle.layout_rules.proofs.Lawful.{lawful-first_fault, left-none, right-none}
+use Rattle.layout_rules.proofs.Walks.{first_some-append}
 use Rattle.array_laws.proofs.NodeParts.{node-ok}
 use Rattle.array_laws.proofs.LawfulNodes.{node}
 

@@ -3,8 +3,8 @@ use Rattle.std.proofs.Common.{◌≡◌, ◌∙◌, ℕ, zero, suc, ◌+◌, ◌
 use Rattle.std.proofs.Math.Seq.{drop-nil, take-nil}
 use Rattle.raw_array.specs.Members.{ArrayTree}
 use Rattle.schema_check.specs.Kinds.{KindTree}
-use Rattle.layout_check.specs.Values.{rows_of, tree_items, values_of}
-use Rattle.layout_check.specs.Walk.{LayoutOk}
+use Rattle.layout_rules.specs.Values.{rows_of, tree_items, values_of}
+use Rattle.layout_rules.specs.Walk.{LayoutOk}
 use Rattle.raw_array.specs.Windows.{Window}
 use Rattle.array_laws.proofs.WindowTree.{window-has_rows, window-has_values}
 

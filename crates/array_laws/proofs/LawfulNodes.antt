@@ -4,10 +4,10 @@ use Rattle.std.specs.Prelude.{nat_lt}
 use Rattle.fmt_string.specs.declared.kind.DataType.{DataType}
 use Rattle.tree_model.specs.Tree.{IsLive, Released, Live, Trees, MaybeTree, tree_list, option_tree}
 use Rattle.raw_array.specs.Members.{ArrayMembers, ArrayTree}
-use Rattle.layout_check.specs.Layout.{end, first, items, natural}
-use Rattle.layout_check.specs.Rules.{Node, fault_if, is_negative, window_limit}
-use Rattle.layout_check.specs.Walk.{LayoutOk, first_fault, first_some, node_fault, visit_fault, walk_below, walk_of, walks_of}
-use Rattle.layout_check.proofs.Lawful.{lawful-first_fault, left-none, right-none}
+use Rattle.layout_rules.specs.Layout.{end, first, items, natural}
+use Rattle.layout_rules.specs.Rules.{Node, fault_if, is_negative, window_limit}
+use Rattle.layout_rules.specs.Walk.{LayoutOk, first_fault, first_some, node_fault, visit_fault, walk_below, walk_of, walks_of}
+use Rattle.layout_rules.proofs.Lawful.{lawful-first_fault, left-none, right-none}
 use Rattle.array_laws.proofs.NodeParts.{NodeOk, fault-false, node-ok}
 
 pub pos-natural : (z : ℤ) → is_negative z ≡ false → z ≡ pos (natural z)

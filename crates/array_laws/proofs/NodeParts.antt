@@ -1,14 +1,14 @@
 -- The rules of a node one by one.
 use Rattle.std.proofs.Common.{◌≡◌, ◌∙◌, ℕ, zero, suc, ◌+◌, ◌<◌, ◌≤◌, ℤ, Bool, true, false, List, [], ◌∷◌, Option, None, Some, refl, ap, arith}
 use Rattle.std.specs.Option.{option_or}
-use Rattle.layout_check.specs.declared.rule.LayoutRule.{LayoutRule}
-use Rattle.layout_check.specs.declared.rule.LayoutRule.TheVariants as rules
-use Rattle.layout_check.specs.declared.rule.Numbers.{Numbers}
-use Rattle.layout_check.specs.Rules.{Node, fails, fault_if, first_below, in_order}
+use Rattle.layout_rules.specs.declared.rule.LayoutRule.{LayoutRule}
+use Rattle.layout_rules.specs.declared.rule.LayoutRule.TheVariants as rules
+use Rattle.layout_rules.specs.declared.rule.Numbers.{Numbers}
+use Rattle.layout_rules.specs.Rules.{Node, fails, fault_if, first_below, in_order}
 use Rattle.schema_check.specs.Ways.{Steps}
-use Rattle.layout_check.specs.Walk.{fault_at, fault_by, first_some, node_fault}
-use Rattle.layout_check.proofs.Firsts.{first_below-none_at}
-use Rattle.layout_check.proofs.Lawful.{left-none, right-none}
+use Rattle.layout_rules.specs.Walk.{fault_at, fault_by, first_some, node_fault}
+use Rattle.layout_rules.proofs.Firsts.{first_below-none_at}
+use Rattle.layout_rules.proofs.Lawful.{left-none, right-none}
 
 pub both-none : {X : Type 0} → (a b : Option X) → a ≡ None → b ≡ None → option_or a b ≡ None
 both-none a b e f = ap (λ o. option_or o b) e ∙ f

@@ -7,9 +7,9 @@ use Rattle.bit_pack.specs.Packed.{bit, meant, number_at}
 use Rattle.fmt_string.specs.Value.{Value, values}
 use Rattle.fmt_string.specs.Value.Value.{Null, Truth, Whole, Bits, Bytes, Items, Fields}
 use Rattle.raw_array.specs.Members.{ArrayMembers, ArrayTree}
-use Rattle.layout_check.specs.Layout.{buffer, bytes_or_none, first, is_valid, is_valid_by, natural, offset_in, time_width}
+use Rattle.layout_rules.specs.Layout.{buffer, bytes_or_none, first, is_valid, is_valid_by, natural, offset_in, time_width}
 use Rattle.array_laws.proofs.PlaceRules.{Buffers, data_at, view_at}
-use Rattle.layout_check.specs.Values.{Reader, child_item, dictionary_item, each, field_items, item, item_or_entry}
+use Rattle.layout_rules.specs.Values.{Reader, child_item, dictionary_item, each, field_items, item, item_or_entry}
 
 -- ---- an item of the array's own
 abbrev number_by : ℕ → Bool → Buffers → ℕ → Value

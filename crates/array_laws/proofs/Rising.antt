@@ -3,11 +3,11 @@ use Rattle.std.proofs.Common.{◌≡◌, ℕ, zero, suc, ◌+◌, ◌-◌, ◌<�
 use Rattle.std.specs.Prelude.{if◌then◌else◌, int_lt, ◌≤ℤ◌}
 use Rattle.std.specs.Int.Signed.{≤ℤ_refl}
 use Rattle.raw_array.specs.Members.{ArrayMembers}
-use Rattle.layout_check.specs.declared.rule.Numbers.{Numbers}
-use Rattle.layout_check.specs.Layout.{items, first, end, natural, offset}
-use Rattle.layout_check.specs.Rules.{fault_if, fault, is_negative, first_below, offset_falls, offsets_fall}
-use Rattle.layout_check.proofs.Firsts.{first_below-none_at}
-use Rattle.layout_check.proofs.TextData.{natural-rise, not_zero}
+use Rattle.layout_rules.specs.declared.rule.Numbers.{Numbers}
+use Rattle.layout_rules.specs.Layout.{items, first, end, natural, offset}
+use Rattle.layout_rules.specs.Rules.{fault_if, fault, is_negative, first_below, offset_falls, offsets_fall}
+use Rattle.layout_rules.proofs.Firsts.{first_below-none_at}
+use Rattle.layout_rules.proofs.TextData.{natural-rise, not_zero}
 
 pub trans-≤ℤ : (a b c : ℤ) → a ≤ℤ b → b ≤ℤ c → a ≤ℤ c
 trans-≤ℤ a b c h k = grind arith

@@ -6,7 +6,7 @@ use Rattle.tree_model.specs.Tree.{MaybeAlike}
 use Rattle.raw_array.specs.Members.{Buffer, ArrayMembers, ArrayTree, bytes_in, shared_buffer, lowered_buffer, shared_members, lowered_members, ShareOf, Lowered}
 use Rattle.raw_array.specs.Members.{LoweredBy, buffer_lowered_by, members_lowered_by, LikeBuffers, LikeMembers, Like}
 use Rattle.raw_array.specs.declared.array.ReleaseKind.TheVariants.{Assembled}
-use Rattle.layout_check.specs.Layout.{buffer}
+use Rattle.layout_rules.specs.Layout.{buffer}
 use Rattle.array_laws.specs.Shown.{shown_buffer, shown_members, SameShown}
 
 pub funext : {X Y : Type 0} → {f g : X → Y} → ((x : X) → f x ≡ g x) → f ≡ g

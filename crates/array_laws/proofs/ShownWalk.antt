@@ -5,14 +5,14 @@ use Rattle.std.specs.Option.{option_or}
 use Rattle.fmt_string.specs.declared.kind.DataType.{DataType}
 use Rattle.tree_model.specs.Tree.{Released, Live, Trees, no_trees, more_trees, MaybeTree, absent, present, tree_list, option_tree, map_trees, map_maybe}
 use Rattle.raw_array.specs.Members.{ArrayMembers, ArrayTree}
-use Rattle.layout_check.specs.declared.rule.LayoutRule.TheVariants as rules
+use Rattle.layout_rules.specs.declared.rule.LayoutRule.TheVariants as rules
 use Rattle.schema_check.specs.Kinds.{KindTree}
-use Rattle.layout_check.specs.Layout.{items}
+use Rattle.layout_rules.specs.Layout.{items}
 use Rattle.schema_check.specs.Ways.{Steps, dictionary_step}
-use Rattle.layout_check.specs.Walk.{ChunkOk, LayoutOk, Walk, first_chunk_fault, first_fault, first_some, is_table, root_fault}
-use Rattle.layout_check.specs.Walk.{top_fault, visit_fault, visits, walk_below, walk_children, walk_dictionary, walk_of, walks_of}
-use Rattle.layout_check.proofs.Faults.{first_some-append}
-use Rattle.layout_check.proofs.Lawful.{first_fault-lawful, lawful-first_fault}
+use Rattle.layout_rules.specs.Walk.{ChunkOk, LayoutOk, Walk, first_chunk_fault, first_fault, first_some, is_table, root_fault}
+use Rattle.layout_rules.specs.Walk.{top_fault, visit_fault, visits, walk_below, walk_children, walk_dictionary, walk_of, walks_of}
+use Rattle.layout_rules.proofs.Walks.{first_some-append}
+use Rattle.layout_rules.proofs.Lawful.{first_fault-lawful, lawful-first_fault}
 use Rattle.array_laws.specs.Shown.{SameShown, shown, shown_members}
 use Rattle.array_laws.proofs.ShownRules.{node-shown, total-shown}
 

@@ -13,15 +13,15 @@ use Rattle.tree_model.proofs.Lists.{tree_list-trees}
 use Rattle.raw_array.specs.Members.{ArrayMembers, ArrayTree}
 use Rattle.raw_array.specs.declared.array.ReleaseKind.TheVariants.{Assembled}
 use Rattle.schema_check.specs.Kinds.{KindTree}
-use Rattle.layout_check.specs.Layout.{natural}
-use Rattle.layout_check.specs.Rules.{child_short, count_wrong, fault_if, live_length, null_total, short_child}
-use Rattle.layout_check.specs.Values.{each, field_items, readers, row_items, rows_of, tree_items, value_at}
+use Rattle.layout_rules.specs.Layout.{natural}
+use Rattle.layout_rules.specs.Rules.{child_short, count_wrong, fault_if, live_length, null_total, short_child}
+use Rattle.layout_rules.specs.Values.{each, field_items, readers, row_items, rows_of, tree_items, value_at}
 use Rattle.schema_check.specs.Ways.{Steps}
-use Rattle.layout_check.specs.Walk.{ChunkOk, LayoutOk, first_some, node_fault, root_fault, top_fault, visit_fault, visits, walk_children, walks_of}
-use Rattle.layout_check.specs.declared.rule.LayoutRule.TheVariants as rules
-use Rattle.layout_check.proofs.Faults.{first_some-append}
-use Rattle.layout_check.proofs.Lawful.{first_fault-lawful, lawful-first_fault}
-use Rattle.layout_check.proofs.ReadWithin.{any-path, live-of}
+use Rattle.layout_rules.specs.Walk.{ChunkOk, LayoutOk, first_some, node_fault, root_fault, top_fault, visit_fault, visits, walk_children, walks_of}
+use Rattle.layout_rules.specs.declared.rule.LayoutRule.TheVariants as rules
+use Rattle.layout_rules.proofs.Walks.{first_some-append}
+use Rattle.layout_rules.proofs.Lawful.{first_fault-lawful, lawful-first_fault}
+use Rattle.layout_rules.proofs.ReadWithin.{any-path, live-of}
 use Rattle.schema_check.specs.ColumnKinds.{table_type}
 use Rattle.array_laws.proofs.NodeParts.{both-none, no-fault, ok-node}
 use Rattle.array_laws.proofs.WindowItems.{each-same}

@@ -5,9 +5,9 @@ use Rattle.fmt_string.specs.declared.kind.DataType.{DataType}
 use Rattle.tree_model.specs.Tree.{Live, Trees, MaybeTree, tree_list, option_tree}
 use Rattle.raw_array.specs.Members.{ArrayMembers, ArrayTree, nulls_in_part}
 use Rattle.schema_check.specs.Kinds.{KindTree}
-use Rattle.layout_check.specs.Layout.{first, items, natural}
-use Rattle.layout_check.specs.Rules.{is_negative}
-use Rattle.layout_check.specs.Values.{each, field_items, readers, reader_of, row_items, rows_of, value_at, values_of}
+use Rattle.layout_rules.specs.Layout.{first, items, natural}
+use Rattle.layout_rules.specs.Rules.{is_negative}
+use Rattle.layout_rules.specs.Values.{each, field_items, readers, reader_of, row_items, rows_of, value_at, values_of}
 use Rattle.array_laws.proofs.PlaceItems.{same-read}
 use Rattle.array_laws.proofs.PlaceRules.{IsPart}
 use Rattle.array_laws.proofs.WindowNode.{IsWindow}

@@ -5,17 +5,17 @@ use Rattle.std.specs.Prelude.{if◌then◌else◌, is_some, nat_lt, ◌||◌}
 use Rattle.std.specs.Ordering.{int_eq}
 use Rattle.std.proofs.lemmas.Bool.{le-ltb}
 use Rattle.raw_array.specs.Members.{ArrayMembers, ArrayTree, nulls_in_part}
-use Rattle.layout_check.specs.declared.layout.Layout.{Layout}
-use Rattle.layout_check.specs.declared.layout.Layout.TheVariants.{NoBuffers, FixedWidth, TruthBits, ByOffsets, ListOffsets, FixedItems, ByChildren, Views}
-use Rattle.layout_check.specs.declared.rule.Numbers.{Numbers}
-use Rattle.layout_check.specs.Layout.{buffer, bytes, bytes_or_none, data_need, end, first, is_valid, is_valid_by, items, layout_of, natural, need, offset}
-use Rattle.layout_check.specs.Layout.{view_width, offsets_need}
-use Rattle.layout_check.specs.Rules.{Node, buffer_absent, buffer_short, child_short, fault, fault_if, first_below, indices_wrong, is_behind_offsets}
-use Rattle.layout_check.specs.Rules.{is_negative, items_need, live_length, null_count_wrong, null_count_wrong_in, null_total, offset_falls, offsets_fall}
-use Rattle.layout_check.specs.Rules.{offsets_fall_if, prefixes_wrong, views_misplaced, short_child, texts_wrong, count_wrong, length_if, window_limit}
-use Rattle.layout_check.proofs.Lawful.{left-none, right-none}
-use Rattle.layout_check.proofs.Long.{long-bytes}
-use Rattle.layout_check.proofs.TextData.{not_zero}
+use Rattle.layout_rules.specs.declared.layout.Layout.{Layout}
+use Rattle.layout_rules.specs.declared.layout.Layout.TheVariants.{NoBuffers, FixedWidth, TruthBits, ByOffsets, ListOffsets, FixedItems, ByChildren, Views}
+use Rattle.layout_rules.specs.declared.rule.Numbers.{Numbers}
+use Rattle.layout_rules.specs.Layout.{buffer, bytes, bytes_or_none, data_need, end, first, is_valid, is_valid_by, items, layout_of, natural, need, offset}
+use Rattle.layout_rules.specs.Layout.{view_width, offsets_need}
+use Rattle.layout_rules.specs.Rules.{Node, buffer_absent, buffer_short, child_short, fault, fault_if, first_below, indices_wrong, is_behind_offsets}
+use Rattle.layout_rules.specs.Rules.{is_negative, items_need, live_length, null_count_wrong, null_count_wrong_in, null_total, offset_falls, offsets_fall}
+use Rattle.layout_rules.specs.Rules.{offsets_fall_if, prefixes_wrong, views_misplaced, short_child, texts_wrong, count_wrong, length_if, window_limit}
+use Rattle.layout_rules.proofs.Lawful.{left-none, right-none}
+use Rattle.layout_rules.proofs.Long.{long-bytes}
+use Rattle.layout_rules.proofs.TextData.{not_zero}
 use Rattle.array_laws.proofs.NodeParts.{NodeOk, below-again, both-none, no-fault}
 use Rattle.array_laws.proofs.PlaceRules.{IsPart, each-part, falls-by_place, indices-by_place, places-by_place, prefixes-by_place, rule-part, texts-by_place}
 use Rattle.array_laws.proofs.Rising.{falls-step, natural-rises, never-negative, rises}

@@ -11,12 +11,12 @@ use Rattle.tree_model.specs.Tree.{IsLive, Released, Live, Trees, MaybeTree}
 use Rattle.raw_array.specs.Members.{ArrayMembers, ArrayTree, members_of, windowed}
 use Rattle.raw_array.specs.Windows.{FitsWindow, Window}
 use Rattle.schema_check.specs.Kinds.{KindTree}
-use Rattle.layout_check.specs.Layout.{first, items, natural}
-use Rattle.layout_check.specs.Rules.{null_total}
-use Rattle.layout_check.specs.Values.{each, row_items, rows_of, tree_items, value_at, values_of}
-use Rattle.layout_check.specs.Walk.{ChunkOk, LayoutOk, first_some, is_table, node_fault, root_fault, top_fault, visit_fault, walk_below, walk_of, walks_of}
-use Rattle.layout_check.specs.declared.rule.LayoutRule.TheVariants as rules
-use Rattle.layout_check.proofs.Lawful.{first_fault-lawful}
+use Rattle.layout_rules.specs.Layout.{first, items, natural}
+use Rattle.layout_rules.specs.Rules.{null_total}
+use Rattle.layout_rules.specs.Values.{each, row_items, rows_of, tree_items, value_at, values_of}
+use Rattle.layout_rules.specs.Walk.{ChunkOk, LayoutOk, first_some, is_table, node_fault, root_fault, top_fault, visit_fault, walk_below, walk_of, walks_of}
+use Rattle.layout_rules.specs.declared.rule.LayoutRule.TheVariants as rules
+use Rattle.layout_rules.proofs.Lawful.{first_fault-lawful}
 use Rattle.array_laws.proofs.LawfulNodes.{below-lawful, lawful-end, lawful-live, lawful-node, length-items, node, not-before, offset-first}
 use Rattle.array_laws.proofs.NodeParts.{both-none, ok-node}
 use Rattle.array_laws.proofs.WindowItems.{each-same, length-each, part-each, window-part, window_of, window-rows, window-value, window-values}

@@ -9,8 +9,8 @@ use Rattle.tree_model.specs.Tree.{Live, no_trees, absent, trees}
 use Rattle.raw_array.specs.Members.{Buffer, ArrayTree}
 use Rattle.raw_array.specs.declared.array.ReleaseKind.TheVariants.{Assembled, Exported}
 use Rattle.schema_check.specs.Kinds.{KindTree}
-use Rattle.layout_check.specs.Values.{rows_of}
-use Rattle.layout_check.specs.Walk.{first_chunk_fault}
+use Rattle.layout_rules.specs.Values.{rows_of}
+use Rattle.layout_rules.specs.Walk.{first_chunk_fault}
 use Rattle.schema_check.specs.ColumnKinds.{table_type}
 
 abbrev pub bytes : List ℕ → Option Buffer

@@ -7,7 +7,7 @@ use Rattle.tree_model.proofs.Lists.{tree_list-trees}
 use Rattle.raw_array.specs.Members.{ArrayTree}
 use Rattle.schema_check.specs.ColumnKinds.{type_of_column, type_of_columns, types_of_columns}
 use Rattle.schema_check.specs.Kinds.{KindTree}
-use Rattle.layout_check.specs.Values.{each, row_items, rows_of, tree_items}
+use Rattle.layout_rules.specs.Values.{each, row_items, rows_of, tree_items}
 
 pub length-each : {X : Type 0} (f : ℕ → X) (from n : ℕ) → length (each f from n) ≡ n
 length-each f from zero = refl

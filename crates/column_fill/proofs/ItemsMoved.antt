@@ -15,7 +15,7 @@ use Rattle.col_build.specs.declared.builder.Builder.{Builder}
 use Rattle.raw_array.specs.Members.{ArrayTree}
 use Rattle.schema_check.specs.ColumnKinds.{type_of_kind}
 use Rattle.schema_check.specs.Kinds.{KindTree}
-use Rattle.layout_check.specs.Values.{value_at}
+use Rattle.layout_rules.specs.Values.{value_at}
 use Rattle.arr_import.specs.Window.{Window, item_at, whole}
 use Rattle.stream_face.specs.Lawful.{AreValues}
 use Rattle.column_fill.specs.Takes.{IsStored, Takes}

@@ -4,8 +4,8 @@ use Rattle.fmt_string.specs.Value.{Null}
 use Rattle.tree_model.specs.Tree.{Released}
 use Rattle.raw_array.specs.Members.{ArrayTree}
 use Rattle.schema_check.specs.Kinds.{KindTree}
-use Rattle.layout_check.specs.Values.{rows_of}
-use Rattle.layout_check.specs.Walk.{ChunkOk, LayoutOk}
+use Rattle.layout_rules.specs.Values.{rows_of}
+use Rattle.layout_rules.specs.Walk.{ChunkOk, LayoutOk}
 use Rattle.schema_check.specs.ColumnKinds.{table_type}
 use Rattle.arr_move.specs.TreeActs.{Columns, FitParentWindow, InRange}
 use Rattle.array_laws.proofs.StructParts.{children-are, of-struct}

@@ -6,9 +6,9 @@ use Rattle.fmt_string.specs.Value.{Null}
 use Rattle.tree_model.specs.Tree.{IsLive, Released, Live, Trees, MaybeTree, absent, trees, tree_list}
 use Rattle.raw_array.specs.Members.{ArrayMembers, ArrayTree}
 use Rattle.schema_check.specs.Kinds.{KindTree}
-use Rattle.layout_check.specs.Layout.{first, items}
-use Rattle.layout_check.specs.Values.{each, field_items, readers, row_items, rows_of, tree_items, value_at}
-use Rattle.layout_check.specs.Walk.{ChunkOk, LayoutOk}
+use Rattle.layout_rules.specs.Layout.{first, items}
+use Rattle.layout_rules.specs.Values.{each, field_items, readers, row_items, rows_of, tree_items, value_at}
+use Rattle.layout_rules.specs.Walk.{ChunkOk, LayoutOk}
 use Rattle.schema_check.specs.ColumnKinds.{table_type}
 use Rattle.raw_array.specs.Windows.{FitsWindow, Window}
 use Rattle.arr_move.specs.TreeActs.{Columns, FitParentWindow, cut, struct_members}

@@ -5,8 +5,8 @@ use Rattle.fmt_string.specs.Value.{Value, Null}
 use Rattle.tree_model.specs.Tree.{IsLive}
 use Rattle.raw_array.specs.Members.{ArrayTree}
 use Rattle.schema_check.specs.Kinds.{KindTree}
-use Rattle.layout_check.specs.Values.{each, field_items, row_items, rows_of, tree_items, value_at, values_of}
-use Rattle.layout_check.specs.Walk.{ChunkOk, LayoutOk}
+use Rattle.layout_rules.specs.Values.{each, field_items, row_items, rows_of, tree_items, value_at, values_of}
+use Rattle.layout_rules.specs.Walk.{ChunkOk, LayoutOk}
 use Rattle.schema_check.specs.ColumnKinds.{table_type}
 use Rattle.column_laws.proofs.PackedColumns.{like-chunk, like-rows}
 use Rattle.column_laws.proofs.PickedColumns.{map-each}

@@ -9,9 +9,9 @@ use Rattle.fmt_string.specs.declared.kind.DataType.TheVariants as kinds
 use Rattle.tree_model.specs.Tree.{Released, Live, Trees, MaybeTree, absent, trees, tree_list}
 use Rattle.raw_array.specs.Members.{ArrayMembers, ArrayTree, members_of}
 use Rattle.schema_check.specs.Kinds.{KindTree}
-use Rattle.layout_check.specs.Layout.{first, items, is_valid}
-use Rattle.layout_check.specs.Values.{field_items, readers, row_items, tree_items, value_at}
-use Rattle.layout_check.specs.Walk.{LayoutOk}
+use Rattle.layout_rules.specs.Layout.{first, items, is_valid}
+use Rattle.layout_rules.specs.Values.{field_items, readers, row_items, tree_items, value_at}
+use Rattle.layout_rules.specs.Walk.{LayoutOk}
 use Rattle.schema_check.specs.ColumnKinds.{table_type}
 use Rattle.raw_array.specs.Windows.{Window}
 use Rattle.array_laws.proofs.ChunkParts.{struct-facts}

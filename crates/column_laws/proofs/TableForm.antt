@@ -7,8 +7,8 @@ use Rattle.fmt_string.specs.Table.{Column, Columns as StructOf, Members}
 use Rattle.fmt_string.specs.Value.{Null}
 use Rattle.tree_model.specs.Tree.{Released}
 use Rattle.raw_array.specs.Members.{ArrayTree}
-use Rattle.layout_check.specs.Values.{rows_of}
-use Rattle.layout_check.specs.Walk.{ChunkOk}
+use Rattle.layout_rules.specs.Values.{rows_of}
+use Rattle.layout_rules.specs.Walk.{ChunkOk}
 use Rattle.schema_check.specs.Kinds.{KindTree}
 use Rattle.schema_check.specs.ColumnKinds.{table_type, type_of_column, type_of_columns, type_of_kind, types_of_columns}
 use Rattle.arr_move.specs.TreeActs.{Columns, FitParentWindow, InRange}

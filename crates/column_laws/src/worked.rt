@@ -3,7 +3,7 @@ ghost use Rattle.std.specs.Prelude.{◌≡◌, [], ◌∷◌};
 ghost use Rattle.fmt_string.specs.Parts.{picked};
 ghost use Rattle.fmt_string.specs.Value.{Null};
 ghost use Rattle.tree_model.specs.Tree.{Released};
-ghost use Rattle.layout_check.specs.Values.{rows_of};
+ghost use Rattle.layout_rules.specs.Values.{rows_of};
 ghost use Rattle.arr_move.specs.TreeActs.{Columns};
 ghost use Rattle.schema_check.specs.ColumnKinds.{table_type};
 ghost use Rattle.array_laws.specs.Examples.{HasRows, chunk, hello, hi, n, shorts, three, types};

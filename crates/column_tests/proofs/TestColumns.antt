@@ -7,8 +7,8 @@ use Rattle.std.proofs.lemmas.Bool.{lt-ltb}
 use Rattle.std.specs.Prelude.{◌≤ℤ◌, if◌then◌else◌, nat_lt}
 use Rattle.tree_model.specs.Tree.{IsLive, Released, Live}
 use Rattle.raw_array.specs.Members.{ArrayTree, members_of}
-use Rattle.layout_check.specs.Layout.{natural}
-use Rattle.layout_check.specs.Values.{tree_items}
+use Rattle.layout_rules.specs.Layout.{natural}
+use Rattle.layout_rules.specs.Values.{tree_items}
 use Rattle.fmt_string.specs.FieldText.{Form, form_of}
 use Rattle.fmt_string.specs.Kinds.{KindOk}
 use Rattle.fmt_string.specs.Value.{Value}

@@ -1,6 +1,6 @@
 //! Columns, dictionaries and a table as arrays, against the layouts that the standard shows.
 ghost use Rattle.std.specs.Prelude.{◌≡◌, ◌≤ℤ◌, ◌++◌, pos, List, [], ◌∷◌, Some};
-ghost use Rattle.layout_check.specs.Layout.{natural};
+ghost use Rattle.layout_rules.specs.Layout.{natural};
 ghost use Rattle.fmt_string.specs.Value.{Value};
 ghost use Rattle.fmt_string.specs.declared.kind.DataType.{DataType};
 ghost use Rattle.col_build.specs.Finished.{IsMade, IsLaidOut};

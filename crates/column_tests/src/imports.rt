@@ -4,13 +4,15 @@ ghost use Rattle.arr_import.specs.Window.{IsStruct};
 ghost use Rattle.arr_import.specs.Cols.{window_of};
 
 use crate::trees::{encoded, ended, flat, holding, holding_two, indexing, leaf, over, pair};
-use arr_import::{Col, ImportFault, ValueRef, import};
+use arr_import::{Col, ValueRef};
 use fmt_string::{FormatFault, FormatRule};
-use layout_check::{LayoutRule, SchemaFault, SchemaRule};
+use layout_rules::LayoutRule;
 use raw_array::RawArray;
 use raw_schema::RawSchema;
+use schema_check::{SchemaFault, SchemaRule};
 use std::alloc::Global;
 use std::process::Abort;
+use tree_import::{ImportFault, import};
 use unit_pass::{Desk, Pass, SUPPLY, open_desk};
 
 /// What is to be read.

@@ -6,9 +6,10 @@ ghost use Rattle.arr_import.specs.Indexing.{shown_by};
 
 use crate::imports::closed;
 use crate::trees::{Span, encoded, ended, flat, holding, indexing, leaf, over};
-use arr_import::{Col, Indexed, ValueRef, import};
+use arr_import::{Col, Indexed, ValueRef};
 use std::alloc::Global;
 use std::process::Abort;
+use tree_import::import;
 use unit_pass::open_desk;
 
 /// The one way in which a column is read.

@@ -1,11 +1,11 @@
 //! Views as they are read: three columns written out by hand, and views below other columns.
 use crate::imports::{Want, closed, reads, refused};
 use crate::trees::{encoded, flat, holding, indexing, leaf, over};
-use arr_import::ImportFault;
-use layout_check::LayoutRule;
+use layout_rules::LayoutRule;
 use raw_array::RawArray;
 use std::alloc::Global;
 use std::process::Abort;
+use tree_import::ImportFault;
 use unit_pass::{Pass, open_desk};
 
 /// `hi` in its view, and a long item of the first data buffer, with the prefix `hell`.

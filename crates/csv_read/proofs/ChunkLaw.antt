@@ -6,8 +6,8 @@ use Rattle.fmt_string.specs.Value.{Value, Null}
 use Rattle.fmt_string.specs.declared.kind.DataType.{DataType}
 use Rattle.tree_model.specs.Tree.{IsLive}
 use Rattle.col_build.specs.Encoding.{Fits}
-use Rattle.layout_check.specs.Values.{each, tree_items, values_of}
-use Rattle.layout_check.specs.Walk.{LayoutOk}
+use Rattle.layout_rules.specs.Values.{each, tree_items, values_of}
+use Rattle.layout_rules.specs.Walk.{LayoutOk}
 use Rattle.arr_export.specs.ArrayTrees.{AreLawful, HaveValues, column_tree, flat_type, rows_of_values}
 use Rattle.schema_check.specs.ColumnKinds.{type_of_kind, types_of_columns}
 use Rattle.csv_read.specs.Body.{column_values}

@@ -19,8 +19,8 @@ use Rattle.fmt_string.specs.Value.{Value}
 use Rattle.fmt_string.specs.declared.kind.DataType.{DataType}
 use Rattle.fmt_string.specs.declared.row_fault.RowFault.{RowFault}
 use Rattle.schema_check.specs.ColumnKinds.{type_of_columns}
-use Rattle.layout_check.specs.Values.{rows_of}
-use Rattle.layout_check.specs.Walk.{ChunkOk}
+use Rattle.layout_rules.specs.Values.{rows_of}
+use Rattle.layout_rules.specs.Walk.{ChunkOk}
 use Rattle.raw_array.specs.Members.{ArrayTree, Cost}
 use Rattle.stage_model.specs.Traffic.{Made, kind_nodes, made_nodes}
 use Rattle.stream_face.specs.Lawful.{DictsAreFull, IsChunkOf, IsTable}

@@ -16,7 +16,7 @@ use Rattle.fmt_string.specs.Value.{Value, Null, Truth, Whole, Bits, Bytes, Items
 use Rattle.csv_model.specs.Text.{row_fields, rows_text}
 use Rattle.tree_model.specs.Tree.{children_of, tree_list, trees}
 use Rattle.schema_check.specs.Kinds.{KindTree}
-use Rattle.layout_check.specs.Values.{each, row_items}
+use Rattle.layout_rules.specs.Values.{each, row_items}
 use Rattle.schema_check.specs.ColumnKinds.{type_of_column, type_of_columns, types_of_columns}
 use Rattle.arr_import.specs.Cols.{window_of}
 use Rattle.arr_import.specs.Window.{Window, child_window, item_at}

@@ -2,7 +2,7 @@
 use Rattle.std.specs.Prelude.{◌≡◌, ◌<◌, ◌+◌, ◌^◌, ℕ, List, map, length, get_or, IfSome}
 use Rattle.fmt_string.specs.FieldText.{Text}
 use Rattle.fmt_string.specs.Value.{Null}
-use Rattle.layout_check.specs.Values.{each, row_items}
+use Rattle.layout_rules.specs.Values.{each, row_items}
 use Rattle.arr_import.specs.Cols.{window_of}
 use Rattle.arr_import.specs.Indexing.{shown_by}
 use Rattle.arr_import.specs.Window.{Window, item_at}

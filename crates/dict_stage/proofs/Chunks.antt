@@ -9,8 +9,8 @@ use Rattle.tree_model.specs.Tree.{Released, Live, children_of}
 use Rattle.raw_array.specs.Members.{ArrayTree, members_of}
 use Rattle.schema_check.specs.ColumnKinds.{type_of_columns}
 use Rattle.schema_check.specs.Kinds.{KindTree}
-use Rattle.layout_check.specs.Layout.{natural}
-use Rattle.layout_check.specs.Values.{each, row_items, rows_of, tree_items, value_at}
+use Rattle.layout_rules.specs.Layout.{natural}
+use Rattle.layout_rules.specs.Values.{each, row_items, rows_of, tree_items, value_at}
 use Rattle.arr_export.specs.ArrayTrees.{IsColumn}
 use Rattle.arr_import.specs.Window.{Window, child_window, item_at, items_of, whole}
 use Rattle.stream_face.specs.Lawful.{AreValues}

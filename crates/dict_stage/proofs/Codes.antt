@@ -16,7 +16,7 @@ use Rattle.fmt_string.specs.declared.kind.DataType.TheVariants as kinds
 use Rattle.fmt_string.specs.declared.storage.Storage.{Storage}
 use Rattle.col_build.specs.Holding.{Adds, Holds, Takes as IsTaken}
 use Rattle.col_build.specs.declared.builder.Builder.{Builder}
-use Rattle.layout_check.specs.Values.{each, value_at}
+use Rattle.layout_rules.specs.Values.{each, value_at}
 use Rattle.arr_import.specs.Window.{Window, item_at, items_of}
 use Rattle.stage_model.specs.Dictionary.{has_bytes}
 use Rattle.stream_face.specs.Lawful.{HasBytes}

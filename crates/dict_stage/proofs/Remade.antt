@@ -18,8 +18,8 @@ use Rattle.schema_check.specs.ColumnSchema.{SchemaOf}
 use Rattle.schema_check.specs.Kinds.{KindTree}
 use Rattle.schema_check.specs.Schemas.{TypedOf}
 use Rattle.raw_schema.specs.Members.{Nodes}
-use Rattle.layout_check.specs.Values.{rows_of, tree_items, values_of}
-use Rattle.layout_check.specs.Walk.{ChunkOk, LayoutOk}
+use Rattle.layout_rules.specs.Values.{rows_of, tree_items, values_of}
+use Rattle.layout_rules.specs.Walk.{ChunkOk, LayoutOk}
 use Rattle.arr_export.specs.ArrayTrees.{AreIndices, column_tree, flat_type, looked_up}
 use Rattle.column_laws.specs.Picking.{AreLive, Replaced, cut_children}
 use Rattle.plan_laws.specs.Structs.{column_structs, structs}

@@ -10,8 +10,8 @@ use Rattle.tree_model.proofs.Lists.{tree_list-trees}
 use Rattle.raw_array.specs.Members.{ArrayTree, members_of}
 use Rattle.raw_array.specs.Windows.{Window}
 use Rattle.raw_array.proofs.Windows.{Depth-Window}
-use Rattle.layout_check.specs.Layout.{end, first, natural}
-use Rattle.layout_check.specs.Values.{tree_items}
+use Rattle.layout_rules.specs.Layout.{end, first, natural}
+use Rattle.layout_rules.specs.Values.{tree_items}
 use Rattle.arr_export.specs.ArrayTrees.{IsColumn, table_tree}
 use Rattle.arr_move.proofs.Filled.{Depth-child_at}
 use Rattle.arr_move.specs.TreeActs.{struct_members}

@@ -23,7 +23,7 @@ use Rattle.schema_check.specs.ColumnKinds.{type_of_columns}
 use Rattle.schema_check.specs.ColumnSchema.{SchemaOf}
 use Rattle.schema_check.specs.Kinds.{KindTree}
 use Rattle.schema_check.specs.Schemas.{TypedOf}
-use Rattle.layout_check.specs.Values.{rows_of}
+use Rattle.layout_rules.specs.Values.{rows_of}
 use Rattle.column_laws.specs.Picking.{Replaced}
 use Rattle.stage_model.specs.Traffic.{Made, column_blocks, kind_blocks}
 use Rattle.stage_model.specs.Typing.{column_at, is_bytes, no_column}

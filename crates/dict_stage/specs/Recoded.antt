@@ -9,8 +9,8 @@ use Rattle.unit_pass.specs.Tally.{Tally, risen}
 use Rattle.raw_array.specs.Members.{ArrayTree, Cost}
 use Rattle.schema_check.specs.ColumnKinds.{type_of_columns}
 use Rattle.schema_check.specs.Kinds.{KindTree}
-use Rattle.layout_check.specs.Values.{rows_of}
-use Rattle.layout_check.specs.Walk.{ChunkOk}
+use Rattle.layout_rules.specs.Values.{rows_of}
+use Rattle.layout_rules.specs.Walk.{ChunkOk}
 use Rattle.arr_import.specs.Window.{Window}
 use Rattle.plan_laws.specs.Structs.{column_structs, most_structs}
 use Rattle.stage_model.specs.Traffic.{Made, kind_blocks, kind_nodes}

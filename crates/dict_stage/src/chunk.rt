@@ -8,7 +8,7 @@ ghost use Rattle.tree_model.specs.Tree.{child_at};
 ghost use Rattle.raw_array.specs.Members.{Cost};
 ghost use Rattle.schema_check.specs.Kinds.{TypedOk};
 ghost use Rattle.schema_check.specs.TypedView.{typed_of};
-ghost use Rattle.layout_check.specs.Values.{rows_of};
+ghost use Rattle.layout_rules.specs.Values.{rows_of};
 ghost use Rattle.column_laws.specs.Picking.{Replaced};
 ghost use Rattle.stage_model.specs.Traffic.{Made, kind_blocks, kind_nodes};
 ghost use Rattle.stage_model.specs.Typing.{column_at};
@@ -19,8 +19,8 @@ use crate::column::recoded_column;
 use crate::replaced::replaced;
 use arr_import::Col;
 use fmt_string::{ColKind, ColumnType};
-use layout_check::Typed;
 use raw_array::RawArray;
+use schema_check::Typed;
 use std::alloc::Global;
 use unit_pass::{NoMemory, Pass, SUPPLY};
 

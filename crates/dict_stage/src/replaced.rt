@@ -4,7 +4,7 @@ ghost use Rattle.tree_model.specs.Tree.{Depth, child_at, children_of, trees};
 ghost use Rattle.raw_array.specs.Members.{ArrayTree, Cost, cost_of_all, members_of};
 ghost use Rattle.unit_pass.specs.Tally.{risen};
 ghost use Rattle.unit_pass.specs.declared.pass.TheConstants.{SUPPLY};
-ghost use Rattle.layout_check.specs.Layout.{natural};
+ghost use Rattle.layout_rules.specs.Layout.{natural};
 ghost use Rattle.arr_export.specs.ArrayTrees.{IsColumn};
 ghost use Rattle.column_laws.specs.Picking.{Replaced};
 ghost use Rattle.stage_kernels.specs.Unpacks.{ShowsChildren};

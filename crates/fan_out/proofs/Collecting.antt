@@ -13,7 +13,7 @@ use Rattle.fmt_string.specs.Table.{Row}
 use Rattle.tree_model.specs.Tree.{Released}
 use Rattle.raw_array.specs.Members.{Cost}
 use Rattle.schema_check.specs.Kinds.{KindTree}
-use Rattle.layout_check.specs.Values.{rows_of}
+use Rattle.layout_rules.specs.Values.{rows_of}
 use Rattle.fan_out.specs.declared.piece.Piece.{Piece}
 use Rattle.fan_out.specs.Pieces.{GivesPiece, GivesPieces}
 use Rattle.fan_out.specs.Workers.{IsReady, IsUnspent, IsDone, IsReleased, SameTrees, Collected}

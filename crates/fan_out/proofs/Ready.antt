@@ -5,7 +5,7 @@ use Rattle.unit_pass.specs.declared.pass.TheConstants.{SUPPLY}
 use Rattle.fmt_string.specs.Table.{Row}
 use Rattle.raw_array.specs.Members.{ArrayTree, Cost}
 use Rattle.schema_check.specs.Kinds.{KindTree}
-use Rattle.layout_check.specs.Values.{rows_of}
+use Rattle.layout_rules.specs.Values.{rows_of}
 use Rattle.fan_out.specs.declared.piece.Piece.{Piece}
 use Rattle.fan_out.specs.Pieces.{IsChunk}
 use Rattle.fan_out.specs.Workers.{CanRun, IsReady, IsUnspent}

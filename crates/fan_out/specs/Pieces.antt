@@ -3,8 +3,8 @@ use Rattle.std.specs.Prelude.{◌<◌, slice_index_or, ◌≡◌, ℕ, ℤ, pos,
 use Rattle.fmt_string.specs.Table.{Row}
 use Rattle.raw_array.specs.Members.{ArrayTree, Cost}
 use Rattle.schema_check.specs.Kinds.{KindTree}
-use Rattle.layout_check.specs.Values.{rows_of}
-use Rattle.layout_check.specs.Walk.{ChunkOk}
+use Rattle.layout_rules.specs.Values.{rows_of}
+use Rattle.layout_rules.specs.Walk.{ChunkOk}
 use Rattle.array_laws.specs.Pieces.{border}
 
 -- an answer that a job may give (from, to, answer) on piece w of so many rows, cut for so many workers

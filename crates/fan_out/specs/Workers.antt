@@ -6,8 +6,8 @@ use Rattle.fmt_string.specs.Table.{Row}
 use Rattle.tree_model.specs.Tree.{Released}
 use Rattle.raw_array.specs.Members.{Cost}
 use Rattle.schema_check.specs.Kinds.{KindTree}
-use Rattle.layout_check.specs.Values.{rows_of}
-use Rattle.layout_check.specs.Walk.{ChunkOk}
+use Rattle.layout_rules.specs.Values.{rows_of}
+use Rattle.layout_rules.specs.Walk.{ChunkOk}
 use Rattle.fan_out.specs.Pieces.{GivesPiece, IsChunk}
 use Rattle.fan_out.specs.declared.piece.Piece.{Piece}
 

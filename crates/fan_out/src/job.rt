@@ -3,11 +3,11 @@ ghost use Rattle.std.specs.Prelude.{◌≤ℤ◌, ℤ, pos, List, length, IfOk};
 ghost use Rattle.fmt_string.specs.Table.{Row};
 ghost use Rattle.schema_check.specs.Kinds.{KindTree, TypedOk};
 ghost use Rattle.schema_check.specs.TypedView.{typed_of};
-ghost use Rattle.layout_check.specs.Values.{rows_of};
-ghost use Rattle.layout_check.specs.Walk.{ChunkOk};
+ghost use Rattle.layout_rules.specs.Values.{rows_of};
+ghost use Rattle.layout_rules.specs.Walk.{ChunkOk};
 
-use layout_check::Typed;
 use raw_array::RawArray;
+use schema_check::Typed;
 use unit_pass::NoMemory;
 
 /// Work on a window of a chunk's rows, which any thread may do. What it answers is said by the chunk's types and rows and by

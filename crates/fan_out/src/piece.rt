@@ -1,18 +1,19 @@
 //! One worker's piece.
 ghost use Rattle.std.specs.Prelude.{◌≡◌, ℕ, pos, ◌+◌, ◌<◌, ◌≤◌, ◌≤ℤ◌, length, IfOk};
 ghost use Rattle.schema_check.specs.Kinds.{TypedOk};
-ghost use Rattle.layout_check.specs.Layout.{natural};
+ghost use Rattle.layout_rules.specs.Layout.{natural};
 ghost use Rattle.schema_check.specs.TypedView.{typed_of};
-ghost use Rattle.layout_check.specs.Values.{rows_of};
-ghost use Rattle.layout_check.specs.Walk.{ChunkOk};
+ghost use Rattle.layout_rules.specs.Values.{rows_of};
+ghost use Rattle.layout_rules.specs.Walk.{ChunkOk};
 ghost use Rattle.array_laws.specs.Pieces.{border};
 ghost use Rattle.fan_out.specs.Pieces.{GivesPiece};
 ghost use Rattle.fan_out.specs.Workers.{CanRun, IsDone};
 
 use crate::job::Job;
 use edge_io::Gate;
-use layout_check::{Typed, count_rows};
+use layout_check::count_rows;
 use raw_array::RawArray;
+use schema_check::Typed;
 use unit_pass::{NoMemory, Pass};
 
 /// A share of a chunk, or the chunk itself; the units of its worker; and the worker's answer, once it is there. Neither the

@@ -6,15 +6,15 @@ ghost use Rattle.unit_pass.specs.declared.pass.TheConstants.{SUPPLY};
 ghost use Rattle.tree_model.specs.Tree.{Released};
 ghost use Rattle.raw_array.specs.Members.{Cost, LeastAmount, Like, LoweredBy};
 ghost use Rattle.schema_check.specs.TypedView.{typed_of};
-ghost use Rattle.layout_check.specs.Values.{rows_of};
-ghost use Rattle.layout_check.specs.Walk.{ChunkOk};
+ghost use Rattle.layout_rules.specs.Values.{rows_of};
+ghost use Rattle.layout_rules.specs.Walk.{ChunkOk};
 ghost use Rattle.fan_out.specs.Workers.{Collected, IsReady, IsReleased, IsUnspent, SameTrees};
 ghost use Rattle.fan_out.specs.declared.piece.Piece.{Piece};
 
 use crate::piece::Piece;
 use crate::share::shared_chunk;
-use layout_check::Typed;
 use raw_array::{RawArray, like_trees_are_ordered, shares_add_up};
+use schema_check::Typed;
 use std::alloc::Global;
 use unit_pass::{NoMemory, Pass, SUPPLY};
 

@@ -3,13 +3,14 @@ ghost use Rattle.std.specs.Prelude.{◌≡◌, ◌+◌, ◌≤◌, if◌then◌e
 ghost use Rattle.tree_model.specs.Tree.{IsLive};
 ghost use Rattle.raw_array.specs.Members.{Cost, LeastAmount, Like, Lowered};
 ghost use Rattle.schema_check.specs.TypedView.{typed_of};
-ghost use Rattle.layout_check.specs.Values.{rows_of};
-ghost use Rattle.layout_check.specs.Walk.{ChunkOk};
+ghost use Rattle.layout_rules.specs.Values.{rows_of};
+ghost use Rattle.layout_rules.specs.Walk.{ChunkOk};
 ghost use Rattle.fan_out.specs.Pieces.{IsChunk};
 
 use array_laws::{shares_show_the_same, trees_that_show_the_same};
-use layout_check::{Typed, lawful_root};
+use layout_rules::lawful_root;
 use raw_array::RawArray;
+use schema_check::Typed;
 use std::alloc::Global;
 use unit_pass::{NoMemory, Pass};
 

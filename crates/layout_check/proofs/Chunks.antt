@@ -7,16 +7,16 @@ use Rattle.fmt_string.specs.declared.kind.DataType.{DataType}
 use Rattle.tree_model.specs.Tree.{Released, Live, IsLive, Trees, trees, MaybeTree, maybe_tree}
 use Rattle.raw_array.specs.Members.{ArrayMembers, ArrayTree, members_of}
 use Rattle.schema_check.specs.declared.typed.Typed.{Typed, out-Typed}
-use Rattle.layout_check.specs.declared.layout.Layout.{Layout}
-use Rattle.layout_check.specs.declared.layout.Layout.TheVariants.{NoBuffers, FixedWidth, TruthBits, ByOffsets, ListOffsets, FixedItems, ByChildren, Views}
-use Rattle.layout_check.specs.declared.rule.LayoutRule.TheVariants as rules
+use Rattle.layout_rules.specs.declared.layout.Layout.{Layout}
+use Rattle.layout_rules.specs.declared.layout.Layout.TheVariants.{NoBuffers, FixedWidth, TruthBits, ByOffsets, ListOffsets, FixedItems, ByChildren, Views}
+use Rattle.layout_rules.specs.declared.rule.LayoutRule.TheVariants as rules
 use Rattle.schema_check.specs.Kinds.{KindTree}
 use Rattle.schema_check.specs.TypedView.{typed_of, kids_of, kind_of, dict_in}
-use Rattle.layout_check.specs.Layout.{layout_of, buffer_count, items, is_valid}
-use Rattle.layout_check.specs.Rules.{null_total, null_items}
-use Rattle.layout_check.specs.Walk.{ChunkOk, first_fault, first_chunk_fault, top_fault, root_fault, is_struct, is_absent, is_table, nulls_in}
+use Rattle.layout_rules.specs.Layout.{layout_of, buffer_count, items, is_valid}
+use Rattle.layout_rules.specs.Rules.{null_total, null_items}
+use Rattle.layout_rules.specs.Walk.{ChunkOk, first_fault, first_chunk_fault, top_fault, root_fault, is_struct, is_absent, is_table, nulls_in}
 use Rattle.schema_check.proofs.Levels.{typed_out}
-use Rattle.layout_check.proofs.Lawful.{first_fault-lawful, lawful-first_fault, left-none, right-none}
+use Rattle.layout_rules.proofs.Lawful.{first_fault-lawful, lawful-first_fault, left-none, right-none}
 
 -- ---- no fault of a chunk, exactly where it is lawful
 

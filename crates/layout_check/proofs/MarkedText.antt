@@ -4,10 +4,10 @@ use Rattle.std.specs.Prelude.{IfSome, IsUtf8, get_or, ◌≤ℤ◌}
 use Rattle.std.specs.Str.{IsCharBoundary}
 use Rattle.std.proofs.lemmas.Str.{IsUtf8-between, IsUtf8-nil}
 use Rattle.raw_array.specs.Members.{ArrayMembers, bytes_in}
-use Rattle.layout_check.specs.Layout.{items, first, end, natural, offset, bytes, bytes_or_none}
-use Rattle.layout_check.specs.Rules.{offsets_fall}
+use Rattle.layout_rules.specs.Layout.{items, first, end, natural, offset, bytes, bytes_or_none}
+use Rattle.layout_rules.specs.Rules.{offsets_fall}
 use Rattle.layout_check.specs.Scans.{used_data}
-use Rattle.layout_check.proofs.TextData.{border-from, border-rise, natural-rise, not_below}
+use Rattle.layout_rules.proofs.TextData.{border-from, border-rise, natural-rise, not_below}
 
 present-text : (buffer : Option (List ℕ)) → IfSome buffer IsUtf8 → IsUtf8 (bytes_or_none buffer)
 present-text None h = IsUtf8-nil

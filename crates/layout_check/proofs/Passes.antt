@@ -7,13 +7,13 @@ use Rattle.std.specs.Option.{option_or}
 use Rattle.tree_model.specs.Tree.{Released, IsLive, children_of, dictionary_of}
 use Rattle.raw_array.specs.Members.{ArrayTree}
 use Rattle.schema_check.specs.declared.typed.Typed.{Typed, out-Typed}
-use Rattle.layout_check.specs.declared.rule.LayoutRule.{LayoutRule}
-use Rattle.layout_check.specs.declared.rule.Numbers.{Numbers}
+use Rattle.layout_rules.specs.declared.rule.LayoutRule.{LayoutRule}
+use Rattle.layout_rules.specs.declared.rule.Numbers.{Numbers}
 use Rattle.schema_check.specs.TypedView.{typed_of, kids_of, dict_in}
 use Rattle.layout_check.specs.NodeView.{live_node}
-use Rattle.layout_check.specs.Rules.{Node, fails, first_below, form_rules, buffer_rules, item_rules}
+use Rattle.layout_rules.specs.Rules.{Node, fails, first_below, form_rules, buffer_rules, item_rules}
 use Rattle.schema_check.specs.Ways.{Steps}
-use Rattle.layout_check.specs.Walk.{rules_fault, fault_by, fault_at, fault_from, own_fault, children_fault, dictionary_fault}
+use Rattle.layout_rules.specs.Walk.{rules_fault, fault_by, fault_at, fault_from, own_fault, children_fault, dictionary_fault}
 use Rattle.layout_check.proofs.Faults.{fault_from-typed, fault_from-typed_own, own_fault-typed, children_fault-step}
 
 pub none-or : {X : Type 0} → (a b : Option X) → is_none (option_or a b) ≡ (is_none a && is_none b)

@@ -6,13 +6,13 @@ use Rattle.fmt_string.specs.declared.kind.DataType.{DataType}
 use Rattle.fmt_string.specs.declared.kind.DataType.TheVariants as kinds
 use Rattle.bit_pack.specs.Packed.{offset_width}
 use Rattle.raw_array.specs.Members.{ArrayMembers}
-use Rattle.layout_check.specs.declared.layout.Layout.{Layout}
-use Rattle.layout_check.specs.declared.layout.Layout.TheVariants.{ByOffsets, Views}
-use Rattle.layout_check.specs.Layout.{bytes, buffer_count, offsets_need, data_need, items, first, end, IsLongIfPresent, view_width, data_lengths, lengths_need}
+use Rattle.layout_rules.specs.declared.layout.Layout.{Layout}
+use Rattle.layout_rules.specs.declared.layout.Layout.TheVariants.{ByOffsets, Views}
+use Rattle.layout_rules.specs.Layout.{bytes, buffer_count, offsets_need, data_need, items, first, end, IsLongIfPresent, view_width, data_lengths, lengths_need}
 use Rattle.layout_check.specs.NodeView.{AreReadable}
-use Rattle.layout_check.specs.Rules.{texts_wrong}
-use Rattle.layout_check.specs.Within.{AreThere}
-use Rattle.layout_check.proofs.Long.{long-bytes, long-data, long-validity, some_views, long-views, long-lengths, long-named}
+use Rattle.layout_rules.specs.Rules.{texts_wrong}
+use Rattle.layout_rules.specs.Within.{AreThere}
+use Rattle.layout_rules.proofs.Long.{long-bytes, long-data, long-validity, some_views, long-views, long-lengths, long-named}
 
 three : (n : ℕ) → n ≡ 3 → 2 < n
 three n e = omega (arith, e)

@@ -4,10 +4,10 @@ use Rattle.std.proofs.Common.{subst, true≢false, arith}
 use Rattle.std.specs.Prelude.{IsTrue, IsUtf8, nat_lt, ◌≤ℤ◌}
 use Rattle.std.proofs.lemmas.Bool.{cases_eq}
 use Rattle.raw_array.specs.Members.{ArrayMembers}
-use Rattle.layout_check.specs.Layout.{natural, is_valid, data_buffers, data_length}
-use Rattle.layout_check.specs.Views.{view_length, view_buffer, view_offset, is_long}
-use Rattle.layout_check.specs.Rules.{first_below, view_not_text}
-use Rattle.layout_check.specs.Within.{NamedWithin, DataWithin}
+use Rattle.layout_rules.specs.Layout.{natural, is_valid, data_buffers, data_length}
+use Rattle.layout_rules.specs.Views.{view_length, view_buffer, view_offset, is_long}
+use Rattle.layout_rules.specs.Rules.{first_below, view_not_text}
+use Rattle.layout_rules.specs.Within.{NamedWithin, DataWithin}
 use Rattle.layout_check.specs.Scans.{sized_data, names_large, PassAlone, PassesIn, PassOne, PassBefore}
 use Rattle.layout_check.proofs.Scanned.{first_below-all}
 use Rattle.layout_check.proofs.ViewsScanned.{passes-null, passes-part}

@@ -1,13 +1,4 @@
-pub mod Layout
 pub mod Formed
 pub mod NodeView
-pub mod Views
-pub mod Rules
-pub mod Walk
-pub mod Found
-pub mod Values
-pub mod WorkedArrays
+pub mod FoundAt
 pub mod Scans
-pub mod Within
-pub mod Lawful
-pub mod FaultTexts

@@ -2,9 +2,9 @@
 use Rattle.std.specs.Prelude.{◌≡◌, length, None}
 use Rattle.tree_model.specs.Tree.{children_of, dictionary_of}
 use Rattle.raw_array.specs.Members.{ArrayMembers, ArrayTree, members_of}
-use Rattle.layout_check.specs.Layout.{buffer_count}
-use Rattle.layout_check.specs.declared.layout.Layout.{Layout}
-use Rattle.layout_check.specs.Rules.{Node, buffer_absent, buffer_short, first_below}
+use Rattle.layout_rules.specs.Layout.{buffer_count}
+use Rattle.layout_rules.specs.declared.layout.Layout.{Layout}
+use Rattle.layout_rules.specs.Rules.{Node, buffer_absent, buffer_short, first_below}
 use Rattle.layout_check.specs.declared.node.FormedNode.{FormedNode}
 use Rattle.schema_check.specs.declared.typed.Typed.{Typed, out-Typed}
 use Rattle.schema_check.specs.TypedView.{kind_of, kids_of, dict_in}

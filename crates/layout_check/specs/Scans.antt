@@ -3,11 +3,11 @@ use Rattle.std.specs.Prelude.{◌≡◌, ℕ, ◌+◌, ◌-◌, ◌*◌, ◌<◌
 use Rattle.std.specs.Str.{IsCharBoundary}
 use Rattle.bit_pack.specs.Packed.{meant, number_at}
 use Rattle.raw_array.specs.Members.{ArrayMembers}
-use Rattle.layout_check.specs.declared.rule.Numbers.{Numbers}
+use Rattle.layout_rules.specs.declared.rule.Numbers.{Numbers}
 use Rattle.layout_check.specs.declared.runs.Run.{Run}
-use Rattle.layout_check.specs.Layout.{natural, offset_in, data_between, first, end, bytes, data_place, data_length}
-use Rattle.layout_check.specs.Rules.{fault_if, is_outside, view_not_text}
-use Rattle.layout_check.specs.Views.{view_length, view_buffer, is_long}
+use Rattle.layout_rules.specs.Layout.{natural, offset_in, data_between, first, end, bytes, data_place, data_length}
+use Rattle.layout_rules.specs.Rules.{fault_if, is_outside, view_not_text}
+use Rattle.layout_rules.specs.Views.{view_length, view_buffer, is_long}
 
 -- the data of the window's items
 abbrev pub used_data : Bool → ArrayMembers → List ℕ

@@ -5,16 +5,15 @@ ghost use Rattle.bit_pack.specs.Packed.{offset_width};
 ghost use Rattle.tree_model.specs.Tree.{IsLive};
 ghost use Rattle.raw_array.specs.Members.{ArrayTree, members_of};
 ghost use Rattle.layout_check.specs.NodeView.{AreReadable, own_of};
-ghost use Rattle.layout_check.specs.Layout.{natural, items, offset, end, bytes, offsets_need, data_need, named_need, need, buffer_count};
-ghost use Rattle.layout_check.specs.Rules.{missing, too_short, offsets_fall_if, is_behind_offsets, buffer_absent, fault_if, offset_falls, offsets_fall};
-ghost use Rattle.layout_check.specs.Rules.{buffer_short, first_below};
+ghost use Rattle.layout_rules.specs.Layout.{natural, items, offset, end, bytes, offsets_need, data_need, named_need, need, buffer_count};
+ghost use Rattle.layout_rules.specs.Rules.{missing, too_short, offsets_fall_if, is_behind_offsets, buffer_absent, fault_if, offset_falls, offsets_fall};
+ghost use Rattle.layout_rules.specs.Rules.{buffer_short, first_below};
 
-use crate::layout::Layout;
 use crate::node::FormedNode;
-use crate::rule::Numbers;
 use crate::scans::offsets_rise;
 use crate::views::{data_buffers, data_length};
 use bit_pack::offset_at;
+use layout_rules::{Layout, Numbers};
 use raw_array::RawArray;
 
 fn offsets_need(wide: bool, end: u128) -> u128
@@ -73,7 +72,7 @@ fn named_need(node: &FormedNode, k: usize) -> u128
 }
 
 /// How many bytes of its k-th buffer an array needs.
-#[tactic(auto, using(crate::proofs::Long::some_views))]
+#[tactic(auto, using(layout_rules::proofs::Long::some_views))]
 fn need(node: &FormedNode, k: usize) -> u128
     ensures need { result ≡ need node.now.layout (own_of node.now) k }
     ensures bound { result < 2 ^ 97 }
@@ -317,7 +316,7 @@ fn offsets_pass(wide: bool, node: &FormedNode) -> bool
 
 /// Whether the offsets of a layout that has some pass, once its buffers are long enough.
 #[inline(always)]
-#[tactic(auto, using(crate::proofs::Long::long))]
+#[tactic(auto, using(layout_rules::proofs::Long::long))]
 pub fn layout_passes(node: &FormedNode) -> bool
     requires buffers { AreReadable node.now.layout (own_of node.now) }
     ensures { result ≡ is_none (offsets_fall_if (is_behind_offsets node.now.layout) (own_of node.now)) }
@@ -330,7 +329,7 @@ pub fn layout_passes(node: &FormedNode) -> bool
 }
 
 /// The offsets of a layout that has some, once its buffers are long enough.
-#[tactic(auto, using(crate::proofs::Long::long))]
+#[tactic(auto, using(layout_rules::proofs::Long::long))]
 pub fn layout_falls(node: &FormedNode) -> Option<Numbers>
     requires buffers { AreReadable node.now.layout (own_of node.now) }
     ensures { result ≡ offsets_fall_if (is_behind_offsets node.now.layout) (own_of node.now) }

@@ -3,17 +3,16 @@ ghost use Rattle.std.specs.Prelude.{◌≡◌, None, ◌^◌, ◌<◌, length, O
 ghost use Rattle.tree_model.specs.Tree.{IsLive, children_of};
 ghost use Rattle.raw_array.specs.Members.{ArrayTree};
 ghost use Rattle.layout_check.specs.NodeView.{AreReadable, own_of};
-ghost use Rattle.layout_check.specs.Layout.{buffer_count};
-ghost use Rattle.layout_check.specs.Rules.{items_need, short_child, live_length, child_short};
+ghost use Rattle.layout_rules.specs.Layout.{buffer_count};
+ghost use Rattle.layout_rules.specs.Rules.{items_need, short_child, live_length, child_short};
 
 use crate::buffers::{last_offset, wide_need};
-use crate::layout::Layout;
 use crate::node::FormedNode;
-use crate::rule::Numbers;
+use layout_rules::{Layout, Numbers};
 use raw_array::RawArray;
 
 /// How many items an array needs of each child.
-#[tactic(auto, using(crate::proofs::Long::long))]
+#[tactic(auto, using(layout_rules::proofs::Long::long))]
 fn items_need(node: &FormedNode) -> u128
     requires buffers { AreReadable node.now.layout (own_of node.now) }
     ensures need { result ≡ items_need node.now.layout (own_of node.now) }

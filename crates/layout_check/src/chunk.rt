@@ -4,18 +4,17 @@ ghost use Rattle.raw_array.specs.Members.{ArrayTree};
 ghost use Rattle.schema_check.specs.Kinds.{TypedOk};
 ghost use Rattle.schema_check.specs.declared.typed.Typed.{out-Typed};
 ghost use Rattle.schema_check.specs.TypedView.{typed_of};
-ghost use Rattle.layout_check.specs.Layout.{layout_of, buffer_count};
-ghost use Rattle.layout_check.specs.Found.{found};
-ghost use Rattle.layout_check.specs.Values.{rows_of};
-ghost use Rattle.layout_check.specs.Walk.{LayoutOk, ChunkOk, root_fault, first_chunk_fault, top_fault, is_struct, is_table, nulls_in};
+ghost use Rattle.layout_rules.specs.Layout.{layout_of, buffer_count};
+ghost use Rattle.layout_rules.specs.Found.{found};
+ghost use Rattle.layout_rules.specs.Values.{rows_of};
+ghost use Rattle.layout_rules.specs.Walk.{LayoutOk, ChunkOk, root_fault, first_chunk_fault, top_fault, is_struct, is_table, nulls_in};
 
-use crate::laws::lawful_root;
-use crate::layout::layout_of;
+use crate::failing::Failing;
 use crate::node::FormedNode;
 use crate::nulls::null_total;
-use crate::rule::{Failing, LayoutFault, LayoutRule, Numbers};
 use crate::walk::{check_array, passes};
 use fmt_string::DataType;
+use layout_rules::{LayoutFault, LayoutRule, Numbers, lawful_root, layout_of};
 use raw_array::RawArray;
 use schema_check::{Path, Typed};
 
@@ -56,7 +55,7 @@ pub fn nulls_of(typed: &Typed, array: &RawArray) -> i64
 }
 
 /// How many items a lawful array's window has, which are the rows of a struct.
-#[tactic(auto, using(crate::proofs::TreeLaws::rows))]
+#[tactic(auto, using(layout_rules::proofs::TreeLaws::rows))]
 pub fn count_rows(typed: &Typed, array: &RawArray) -> i64
     requires { LayoutOk (typed_of typed.now) array.now }
     ensures { result ≡ pos (length (rows_of (typed_of typed.now) array.now)) }

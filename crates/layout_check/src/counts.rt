@@ -1,13 +1,12 @@
 //! The rules on an array's own numbers, and on how many parts it has.
 ghost use Rattle.std.specs.Prelude.{◌≡◌, ◌≤ℤ◌, ◌<◌, ◌-◌, ◌^◌, nat_lt, pos, IfNone, length, Option};
-ghost use Rattle.layout_check.specs.Layout.{buffer_count};
-ghost use Rattle.layout_check.specs.Rules.{fault_if, window_limit, is_negative, count_wrong, one_if};
+ghost use Rattle.layout_rules.specs.Layout.{buffer_count};
+ghost use Rattle.layout_rules.specs.Rules.{fault_if, window_limit, is_negative, count_wrong, one_if};
 ghost use Rattle.std.specs.Global.{Box};
 ghost use Rattle.tree_model.specs.Tree.{IsLive, children_of, dictionary_of};
 ghost use Rattle.raw_array.specs.Members.{ArrayTree, members_of};
 
-use crate::layout::{Layout, buffer_count};
-use crate::rule::Numbers;
+use layout_rules::{Layout, Numbers, buffer_count};
 use raw_array::RawArray;
 use schema_check::Typed;
 

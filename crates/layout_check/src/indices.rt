@@ -5,15 +5,15 @@ ghost use Rattle.fmt_string.specs.Kinds.{KindOk};
 ghost use Rattle.tree_model.specs.Tree.{IsLive, dictionary_of};
 ghost use Rattle.raw_array.specs.Members.{ArrayTree};
 ghost use Rattle.layout_check.specs.NodeView.{AreReadable, own_of};
-ghost use Rattle.layout_check.specs.Layout.{IsLongIfPresent, layout_of, items, end, stored_number, bytes};
-ghost use Rattle.layout_check.specs.Rules.{fault_if, is_outside, first_below, index_wrong, indices_wrong, length_if};
+ghost use Rattle.layout_rules.specs.Layout.{IsLongIfPresent, layout_of, items, end, stored_number, bytes};
+ghost use Rattle.layout_rules.specs.Rules.{fault_if, is_outside, first_below, index_wrong, indices_wrong, length_if};
 
 use crate::node::FormedNode;
 use crate::nulls::is_valid;
-use crate::rule::Numbers;
 use crate::scans::indices_inside;
 use bit_pack::int_at;
 use fmt_string::DataType;
+use layout_rules::Numbers;
 use raw_array::RawArray;
 
 /// The stored index of an item.
@@ -110,7 +110,7 @@ fn dictionary_total(array: &RawArray) -> Option<i64>
 }
 
 /// The first valid index that is no place of the dictionary.
-#[tactic(auto, using(crate::proofs::Long::valid))]
+#[tactic(auto, using(layout_rules::proofs::Long::valid))]
 pub fn indices_wrong(kind: &DataType, node: &FormedNode) -> Option<Numbers>
     requires layout { node.now.layout ≡ layout_of kind.now }
     requires type_ok { KindOk kind.now }

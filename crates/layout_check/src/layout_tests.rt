@@ -8,14 +8,13 @@ ghost use Rattle.schema_check.specs.TypedView.{typed_of};
 use crate::buffers::{buffers_absent, buffers_short};
 use crate::chunk::{count_rows, nulls_of};
 use crate::indices::{first_bad_index, indices_wrong};
-use crate::layout::Layout;
-use crate::rule::LayoutRule;
 use crate::tests::{
     Want, Window, array, before, closed, ended, flat, formed, found, found_at_each_place, indexed,
     int32, leaf, leaf_found, listed, node, parts_found, struct_of_two,
 };
 use crate::walk::check_array;
 use fmt_string::DataType;
+use layout_rules::{Layout, LayoutRule};
 use raw_array::RawArray;
 use schema_check::{DICTIONARY_STEP, Typed};
 use std::alloc::Global;
@@ -23,7 +22,7 @@ use std::process::Abort;
 use unit_pass::open_desk;
 
 /// Indices by a scan over the whole buffer, and one by one.
-#[tactic(auto, using(crate::proofs::Long::long, crate::proofs::Long::valid))]
+#[tactic(auto, using(layout_rules::proofs::Long::long, layout_rules::proofs::Long::valid))]
 fn indices_both_ways(rt: &impl Abort, array: &RawArray, total: i64) {
     let kind = DataType::Int {
         bits: 8,

@@ -2,10 +2,10 @@
 ghost use Rattle.std.specs.Prelude.{◌≡◌, ◌≤ℤ◌, pos, length};
 ghost use Rattle.tree_model.specs.Tree.{IsLive};
 ghost use Rattle.raw_array.specs.Members.{ArrayTree, members_of};
-ghost use Rattle.layout_check.specs.Layout.{first, end, buffer_count};
+ghost use Rattle.layout_rules.specs.Layout.{first, end, buffer_count};
 ghost use Rattle.layout_check.specs.Formed.{IsLive-prop};
 
-use crate::layout::Layout;
+use layout_rules::Layout;
 use raw_array::RawArray;
 
 /// A live array of a layout: its length and its offset aren't below 0, and it has as many buffers as the layout wants.
@@ -26,7 +26,7 @@ pub struct FormedNode<'a> {
 
 impl<'a> FormedNode<'a> {
     ghost use Rattle.std.specs.Prelude.{◌<◌};
-    ghost use Rattle.layout_check.specs.Layout.{items, bytes};
+    ghost use Rattle.layout_rules.specs.Layout.{items, bytes};
     ghost use Rattle.layout_check.specs.NodeView.{own_of};
 
     /// The node of an array that the first rules hold of.

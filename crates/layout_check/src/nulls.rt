@@ -3,12 +3,12 @@ ghost use Rattle.std.specs.Prelude.{◌≡◌, None, not, ◌&&◌, ◌+◌, ◌
 ghost use Rattle.std.specs.Ordering.{int_eq};
 ghost use Rattle.bit_pack.specs.Packed.{bit};
 ghost use Rattle.layout_check.specs.NodeView.{own_of};
-ghost use Rattle.layout_check.specs.Layout.{items, is_valid, buffer_count, IsLongIfPresent};
-ghost use Rattle.layout_check.specs.Rules.{fault_if, null_total, null_count_wrong, null_count_wrong_in, first_below, buffer_short};
+ghost use Rattle.layout_rules.specs.Layout.{items, is_valid, buffer_count, IsLongIfPresent};
+ghost use Rattle.layout_rules.specs.Rules.{fault_if, null_total, null_count_wrong, null_count_wrong_in, first_below, buffer_short};
 
 use crate::node::FormedNode;
-use crate::rule::Numbers;
 use bit_pack::{bit_at, count_clear};
+use layout_rules::Numbers;
 
 /// How many items of the window are null.
 #[inline(always)]
@@ -76,7 +76,7 @@ fn null_count_wrong(node: &FormedNode) -> Option<Numbers>
 }
 
 /// The number of nulls, which is not tried where the layout has no buffer.
-#[tactic(auto, using(crate::proofs::Long::valid, crate::proofs::NullSums::by_layout))]
+#[tactic(auto, using(layout_rules::proofs::Long::valid, crate::proofs::NullSums::by_layout))]
 pub fn nulls_wrong(node: &FormedNode) -> Option<Numbers>
     requires enough { first_below (buffer_short node.now.layout (own_of node.now)) (buffer_count node.now.layout (length (own_of node.now).buffers)) ≡ None }
     ensures { result ≡ null_count_wrong_in node.now.layout (own_of node.now) }

@@ -2,8 +2,8 @@
 ghost use Rattle.std.specs.Prelude.{◌≡◌, None, is_none, IsTrue, true, false, ◌⊎◌, ◌+◌, ◌-◌, ◌*◌, ◌^◌, ◌<◌, ◌≤◌, length, Option};
 ghost use Rattle.std.specs.Str.{IsCharBoundary};
 ghost use Rattle.bit_pack.specs.Packed.{offset_width};
-ghost use Rattle.layout_check.specs.Layout.{natural};
-ghost use Rattle.layout_check.specs.Rules.{first_below, falls_in};
+ghost use Rattle.layout_rules.specs.Layout.{natural};
+ghost use Rattle.layout_rules.specs.Rules.{first_below, falls_in};
 ghost use Rattle.layout_check.specs.Scans.{outside_in, AreBorders};
 
 use crate::runs;

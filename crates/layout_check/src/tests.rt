@@ -8,13 +8,12 @@ ghost use Rattle.schema_check.specs.TypedView.{typed_of, dict_in};
 
 use crate::buffers::{buffers_absent, buffers_short, first_fall, layout_falls};
 use crate::chunk::{check_chunk, chunk_passes, nulls_of};
-use crate::layout::{Layout, buffer_count};
 use crate::node::FormedNode;
-use crate::rule::{LayoutFault, LayoutRule};
 use crate::texts::{first_bad_text, texts_wrong};
 use crate::walk::check_array;
 use buf_block::{BufView, make};
 use fmt_string::DataType;
+use layout_rules::{Layout, LayoutFault, LayoutRule, buffer_count};
 use raw_array::{ArrayParts, RawArray, ReleaseKind};
 use schema_check::{DICTIONARY_STEP, Typed};
 use std::alloc::Global;
@@ -581,7 +580,7 @@ pub(crate) fn formed<'a>(rt: &impl Abort, layout: Layout, array: &'a RawArray) -
 }
 
 /// Items by a scan over the whole buffer, and one by one.
-#[tactic(auto, using(crate::proofs::Long::long))]
+#[tactic(auto, using(layout_rules::proofs::Long::long))]
 fn both_ways(rt: &impl Abort, array: &RawArray) {
     let kind = DataType::Utf8 { wide: false };
     let node = formed(rt, Layout::ByOffsets { wide: false }, array);

@@ -4,20 +4,20 @@ ghost use Rattle.std.specs.Str.{is_utf8};
 ghost use Rattle.std.specs.Str.Lossy.{utf8_valid_len};
 ghost use Rattle.bit_pack.specs.Packed.{offset_width};
 ghost use Rattle.layout_check.specs.NodeView.{AreReadable, own_of};
-ghost use Rattle.layout_check.specs.Layout.{IsLongIfPresent, natural, data_between, layout_of, first, items, offset, end, data_of, bytes, offsets_need};
-ghost use Rattle.layout_check.specs.Layout.{data_need};
+ghost use Rattle.layout_rules.specs.Layout.{IsLongIfPresent, natural, data_between, layout_of, first, items, offset, end, data_of, bytes, offsets_need};
+ghost use Rattle.layout_rules.specs.Layout.{data_need};
 ghost use Rattle.layout_check.specs.Scans.{used_data};
-ghost use Rattle.layout_check.specs.Rules.{fault_if, first_below, offsets_fall, offsets_fall_if, is_behind_offsets, not_text};
-ghost use Rattle.layout_check.specs.Rules.{texts_wrong, views_misplaced};
+ghost use Rattle.layout_rules.specs.Rules.{fault_if, first_below, offsets_fall, offsets_fall_if, is_behind_offsets, not_text};
+ghost use Rattle.layout_rules.specs.Rules.{texts_wrong, views_misplaced};
 
 use crate::buffers::offset_of;
 use crate::node::FormedNode;
 use crate::nulls::is_valid;
-use crate::rule::Numbers;
 use crate::runs::is_border;
 use crate::scans::cut_between_characters;
 use crate::view_texts::{view_text_wrong, view_texts_pass};
 use fmt_string::DataType;
+use layout_rules::Numbers;
 
 /// The place in the data at which an offset is.
 fn data_place(wide: bool, node: &FormedNode, place: u64) -> usize
@@ -30,7 +30,7 @@ fn data_place(wide: bool, node: &FormedNode, place: u64) -> usize
 }
 
 /// The data between the offsets at two places.
-#[tactic(auto, using(crate::proofs::TextData::naturals))]
+#[tactic(auto, using(layout_rules::proofs::TextData::naturals))]
 fn data_between<'a>(wide: bool, node: &FormedNode<'a>, from: u64, to: u64) -> &'a [u8]
     requires buffers { 2 < length (own_of node.now).buffers }
     requires order { from ≤ to }
@@ -82,7 +82,7 @@ pub fn is_text(bytes: &[u8]) -> bool
 }
 
 /// A text that isn't UTF-8.
-#[tactic(auto, using(crate::proofs::TextData::utf8))]
+#[tactic(auto, using(layout_rules::proofs::TextData::utf8))]
 pub fn not_utf8(i: u64, text: &[u8]) -> Option<Numbers>
     ensures { result ≡ fault_if (not (is_utf8 text.now)) i (pos (utf8_valid_len text.now)) (pos (length text.now)) }
 {
@@ -114,7 +114,7 @@ fn bad_text(wide: bool, node: &FormedNode, i: u64) -> Option<Numbers>
 }
 
 /// The first valid item that isn't UTF-8, item by item.
-#[tactic(auto, using(crate::proofs::TextData::items_lie))]
+#[tactic(auto, using(layout_rules::proofs::TextData::items_lie))]
 pub(crate) fn first_bad_text(wide: bool, node: &FormedNode) -> Option<Numbers>
     requires buffers { 2 < length (own_of node.now).buffers }
     requires validity { IsLongIfPresent (own_of node.now) }
@@ -132,7 +132,7 @@ pub(crate) fn first_bad_text(wide: bool, node: &FormedNode) -> Option<Numbers>
 }
 
 /// The data between the offsets at the window's borders.
-#[tactic(auto, using(crate::proofs::TextData::borders_lie))]
+#[tactic(auto, using(layout_rules::proofs::TextData::borders_lie))]
 fn used_data<'a>(wide: bool, node: &FormedNode<'a>) -> &'a [u8]
     requires buffers { 2 < length (own_of node.now).buffers }
     requires some { 0 < items (own_of node.now) }
@@ -145,7 +145,7 @@ fn used_data<'a>(wide: bool, node: &FormedNode<'a>) -> &'a [u8]
 }
 
 /// The used data is UTF-8: it lies between characters of a block that is marked as text, or it is read.
-#[tactic(auto, using(crate::proofs::TextData::borders_lie))]
+#[tactic(auto, using(layout_rules::proofs::TextData::borders_lie))]
 fn used_is_text(wide: bool, node: &FormedNode, used: &[u8]) -> bool
     requires buffers { 2 < length (own_of node.now).buffers }
     requires some { 0 < items (own_of node.now) }
@@ -165,7 +165,7 @@ fn used_is_text(wide: bool, node: &FormedNode, used: &[u8]) -> bool
 }
 
 /// The used data is UTF-8, and each item ends between two characters of it.
-#[tactic(auto, using(crate::proofs::Scanned::texts, crate::proofs::TextData::borders_lie))]
+#[tactic(auto, using(crate::proofs::Scanned::texts, layout_rules::proofs::TextData::borders_lie))]
 fn is_text_in_items(wide: bool, node: &FormedNode, used: &[u8]) -> bool
     requires buffers { 2 < length (own_of node.now).buffers }
     requires some { 0 < items (own_of node.now) }
@@ -237,7 +237,7 @@ fn all_are_texts(wide: bool, node: &FormedNode) -> bool
 }
 
 /// Whether each valid text is UTF-8.
-#[tactic(auto, using(crate::proofs::Long::long))]
+#[tactic(auto, using(layout_rules::proofs::Long::long))]
 pub fn texts_pass(kind: &DataType, node: &FormedNode) -> bool
     requires layout { node.now.layout ≡ layout_of kind.now }
     requires buffers { AreReadable node.now.layout (own_of node.now) }
@@ -253,7 +253,7 @@ pub fn texts_pass(kind: &DataType, node: &FormedNode) -> bool
 }
 
 /// The first valid text that isn't UTF-8.
-#[tactic(auto, using(crate::proofs::Long::long))]
+#[tactic(auto, using(layout_rules::proofs::Long::long))]
 pub fn texts_wrong(kind: &DataType, node: &FormedNode) -> Option<Numbers>
     requires layout { node.now.layout ≡ layout_of kind.now }
     requires buffers { AreReadable node.now.layout (own_of node.now) }

@@ -4,10 +4,10 @@ ghost use Rattle.schema_check.specs.Kinds.{NodesOk};
 ghost use Rattle.tree_model.specs.Tree.{Depth};
 ghost use Rattle.schema_check.specs.TypedView.{typed_of};
 
-use crate::rule::LayoutRule;
 use crate::tests::{Want, closed, ended, flat, found, leaf, leaf_found, taken};
 use crate::walk::check_array;
 use fmt_string::DataType;
+use layout_rules::LayoutRule;
 use schema_check::Typed;
 use std::alloc::Global;
 use std::process::Abort;

@@ -2,19 +2,19 @@
 //! are tested as a whole, and where one isn't text, by a table of its texts.
 ghost use Rattle.std.specs.Prelude.{◌≡◌, None, is_none, IsTrue, false, ◌+◌, ◌*◌, ◌^◌, ◌<◌, ◌≤◌, ◌≤ℤ◌, pos, length, Option};
 ghost use Rattle.layout_check.specs.NodeView.{own_of};
-ghost use Rattle.layout_check.specs.Layout.{items, end, bytes as bytes_at, is_valid, IsLongIfPresent, view_width, data_buffers, data_lengths, lengths_need};
-ghost use Rattle.layout_check.specs.Rules.{first_below, misplaced, view_not_text};
-ghost use Rattle.layout_check.specs.Within.{DataWithin, AreThere};
+ghost use Rattle.layout_rules.specs.Layout.{items, end, bytes as bytes_at, is_valid, IsLongIfPresent, view_width, data_buffers, data_lengths, lengths_need};
+ghost use Rattle.layout_rules.specs.Rules.{first_below, misplaced, view_not_text};
+ghost use Rattle.layout_rules.specs.Within.{DataWithin, AreThere};
 ghost use Rattle.layout_check.specs.Scans.{sized_data, AreTexts, AreRuns, names_large, PassAlone, PassesIn, PassOne};
 
 use crate::node::FormedNode;
 use crate::nulls::is_valid;
-use crate::rule::Numbers;
 use crate::runs::{Run, is_border, part_is_text, text_runs};
 use crate::texts::{is_text, not_utf8};
 use crate::views::{
     MOST_IN_VIEW, data_buffers, data_length, view_buffer, view_data, view_length, view_offset,
 };
+use layout_rules::Numbers;
 
 /// The size of a data buffer above which its views are tested by a table.
 const LARGE: u64 = 4096;
@@ -35,7 +35,7 @@ fn view_not_text(node: &FormedNode, i: u64) -> Option<Numbers>
 }
 
 /// The first valid view whose bytes aren't UTF-8, from an item on before which there is none.
-#[tactic(auto, using(crate::proofs::Placed::placed))]
+#[tactic(auto, using(layout_rules::proofs::Placed::placed))]
 fn first_bad_text(node: &FormedNode, from: u64) -> Option<Numbers>
     requires buffers { 3 ≤ length (own_of node.now).buffers }
     requires validity { IsLongIfPresent (own_of node.now) }
@@ -108,7 +108,7 @@ fn is_cut_well(node: &FormedNode, i: u64) -> bool
 }
 
 /// Each view of a text is a text.
-#[tactic(auto, using(crate::proofs::Placed::placed, crate::proofs::Firsts::one_more))]
+#[tactic(auto, using(layout_rules::proofs::Placed::placed, layout_rules::proofs::Firsts::one_more))]
 fn are_cut_well(node: &FormedNode) -> bool
     requires buffers { 3 ≤ length (own_of node.now).buffers }
     requires validity { IsLongIfPresent (own_of node.now) }
@@ -160,7 +160,7 @@ fn passes_alone(node: &FormedNode, i: u64) -> bool
 }
 
 /// How many of the first n views, from the first on, are texts or name large data buffers.
-#[tactic(auto, using(crate::proofs::Placed::placed, crate::proofs::ViewPasses::alone))]
+#[tactic(auto, using(layout_rules::proofs::Placed::placed, crate::proofs::ViewPasses::alone))]
 fn pass_alone(node: &FormedNode, n: u64) -> u64
     requires buffers { 3 ≤ length (own_of node.now).buffers }
     requires validity { IsLongIfPresent (own_of node.now) }
@@ -207,7 +207,7 @@ fn passes_in(node: &FormedNode, k: usize, bytes: &[u8], runs: &[Run], i: u64) ->
 }
 
 /// How many of the first n views, from the first on, are texts or don't name a data buffer.
-#[tactic(auto, using(crate::proofs::Placed::placed, crate::proofs::ViewPasses::one))]
+#[tactic(auto, using(layout_rules::proofs::Placed::placed, crate::proofs::ViewPasses::one))]
 fn pass_by(node: &FormedNode, k: usize, bytes: &[u8], runs: &[Run], n: u64) -> u64
     requires buffers { 3 ≤ length (own_of node.now).buffers }
     requires validity { IsLongIfPresent (own_of node.now) }
@@ -255,7 +255,7 @@ fn pass_one(node: &FormedNode, k: usize, n: u64) -> u64
 }
 
 /// How many views, from the first on, are texts: those of large data buffers a buffer at a time.
-#[tactic(auto, using(crate::proofs::Placed::placed, crate::proofs::ViewPasses::all))]
+#[tactic(auto, using(layout_rules::proofs::Placed::placed, crate::proofs::ViewPasses::all))]
 fn passed(node: &FormedNode) -> u64
     requires buffers { 3 ≤ length (own_of node.now).buffers }
     requires validity { IsLongIfPresent (own_of node.now) }

@@ -2,18 +2,17 @@
 ghost use Rattle.std.specs.Prelude.{◌≡◌, ◌==◌, is_none, ◌&&◌, not, nat_lt, None, IsTrue, true, ◌+◌, ◌*◌, ◌^◌, ◌<◌, ◌≤◌, ◌≤ℤ◌, pos, length, Option};
 ghost use Rattle.bit_pack.specs.Packed.{meant};
 ghost use Rattle.layout_check.specs.NodeView.{AreReadable, own_of};
-ghost use Rattle.layout_check.specs.Layout.{layout_of, items, end, bytes, is_valid, IsLongIfPresent, view_width, data_buffers, data_lengths};
-ghost use Rattle.layout_check.specs.Layout.{lengths_need, data_length};
-ghost use Rattle.layout_check.specs.Views.{view_number, view_length, view_prefix, view_buffer, view_offset, view_data, is_long};
-ghost use Rattle.layout_check.specs.Rules.{fault, fault_if, is_outside, first_below, named_outside, view_outside, misplaced, prefix_wrong, views_misplaced};
-ghost use Rattle.layout_check.specs.Rules.{prefixes_wrong};
-ghost use Rattle.layout_check.specs.Within.{DataWithin, AreThere};
+ghost use Rattle.layout_rules.specs.Layout.{layout_of, items, end, bytes, is_valid, IsLongIfPresent, view_width, data_buffers, data_lengths};
+ghost use Rattle.layout_rules.specs.Layout.{lengths_need, data_length};
+ghost use Rattle.layout_rules.specs.Views.{view_number, view_length, view_prefix, view_buffer, view_offset, view_data, is_long};
+ghost use Rattle.layout_rules.specs.Rules.{fault, fault_if, is_outside, first_below, named_outside, view_outside, misplaced, prefix_wrong, views_misplaced};
+ghost use Rattle.layout_rules.specs.Rules.{prefixes_wrong};
+ghost use Rattle.layout_rules.specs.Within.{DataWithin, AreThere};
 
-use crate::layout::Layout;
 use crate::node::FormedNode;
 use crate::nulls::is_valid;
-use crate::rule::Numbers;
 use bit_pack::{offset_at, unsigned_at};
+use layout_rules::{Layout, Numbers};
 
 /// The longest item that stands in its view.
 pub const MOST_IN_VIEW: i64 = 12;
@@ -108,7 +107,7 @@ fn ends_behind(i: u64, size: u64, to: u64) -> Option<Numbers>
 }
 
 /// A long view that names no data.
-#[tactic(auto, using(crate::proofs::Named::named))]
+#[tactic(auto, using(layout_rules::proofs::Named::named))]
 fn named_outside(node: &FormedNode, i: u64) -> Option<Numbers>
     requires buffers { 3 ≤ length (own_of node.now).buffers }
     requires inside { i < items (own_of node.now) }
@@ -238,7 +237,7 @@ fn prefix_wrong(node: &FormedNode, i: u64) -> Option<Numbers>
 }
 
 /// The first valid long view whose prefix isn't how its data begin, once each valid view names some.
-#[tactic(auto, using(crate::proofs::Placed::placed))]
+#[tactic(auto, using(layout_rules::proofs::Placed::placed))]
 pub fn first_wrong_prefix(node: &FormedNode) -> Option<Numbers>
     requires buffers { 3 ≤ length (own_of node.now).buffers }
     requires validity { IsLongIfPresent (own_of node.now) }
@@ -282,7 +281,7 @@ fn all_prefixes_pass(node: &FormedNode) -> bool
 
 /// Whether views name data and have its prefixes, once the buffers are long enough.
 #[inline(always)]
-#[tactic(auto, using(crate::proofs::Long::long))]
+#[tactic(auto, using(layout_rules::proofs::Long::long))]
 pub fn views_pass(node: &FormedNode) -> bool
     requires buffers { AreReadable node.now.layout (own_of node.now) }
     ensures exact { result ≡ (is_none (views_misplaced node.now.layout (own_of node.now)) && is_none (prefixes_wrong node.now.layout (own_of node.now))) }
@@ -295,7 +294,7 @@ pub fn views_pass(node: &FormedNode) -> bool
 }
 
 /// The rule on the places of views, once the buffers are long enough.
-#[tactic(auto, using(crate::proofs::Long::long))]
+#[tactic(auto, using(layout_rules::proofs::Long::long))]
 pub fn views_misplaced(node: &FormedNode) -> Option<Numbers>
     requires buffers { AreReadable node.now.layout (own_of node.now) }
     ensures { result ≡ views_misplaced node.now.layout (own_of node.now) }
@@ -307,7 +306,7 @@ pub fn views_misplaced(node: &FormedNode) -> Option<Numbers>
 }
 
 /// The rule on prefixes, once each valid view names data.
-#[tactic(auto, using(crate::proofs::Long::long))]
+#[tactic(auto, using(layout_rules::proofs::Long::long))]
 pub fn prefixes_wrong(node: &FormedNode) -> Option<Numbers>
     requires buffers { AreReadable node.now.layout (own_of node.now) }
     requires placed { views_misplaced node.now.layout (own_of node.now) ≡ None }

@@ -5,35 +5,36 @@ ghost use Rattle.tree_model.specs.Tree.{IsLive, children_of, dictionary_of, tree
 ghost use Rattle.raw_array.specs.Members.{ArrayTree, members_of};
 ghost use Rattle.schema_check.specs.Kinds.{NodesOk, AllNodesOk, DictNodesOk, TypedOk};
 ghost use Rattle.fmt_string.specs.Kinds.{KindOk};
-ghost use Rattle.layout_check.specs.Rules.{one_if, indices_wrong, length_if};
+ghost use Rattle.layout_rules.specs.Rules.{one_if, indices_wrong, length_if};
 ghost use Rattle.schema_check.specs.declared.typed.Typed.{out-Typed};
 ghost use Rattle.schema_check.specs.TypedView.{typed_of, kids_of, dict_in};
 ghost use Rattle.layout_check.specs.NodeView.{live_node};
-ghost use Rattle.layout_check.specs.Layout.{layout_of, buffer_count};
-ghost use Rattle.layout_check.specs.Rules.{buffer_rules, form_rules, item_rules, offsets_fall_if, is_behind_offsets};
+ghost use Rattle.layout_rules.specs.Layout.{layout_of, buffer_count};
+ghost use Rattle.layout_rules.specs.Rules.{buffer_rules, form_rules, item_rules, offsets_fall_if, is_behind_offsets};
 ghost use Rattle.layout_check.specs.NodeView.{AreReadable, own_of};
 ghost use Rattle.schema_check.specs.Ways.{steps_of, Steps};
-ghost use Rattle.layout_check.specs.Found.{found, found_at};
-ghost use Rattle.layout_check.specs.Walk.{LayoutOk, rules_fault, first_fault, fault_from, own_fault, children_fault, dictionary_fault};
+ghost use Rattle.layout_rules.specs.Found.{found};
+ghost use Rattle.layout_check.specs.FoundAt.{found_at};
+ghost use Rattle.layout_rules.specs.Walk.{LayoutOk, rules_fault, first_fault, fault_from, own_fault, children_fault, dictionary_fault};
 
 use crate::buffers::{buffers_absent, buffers_pass, buffers_short, layout_falls, layout_passes};
 use crate::children::children_short;
 use crate::counts::{buffers_wrong, children_wrong, dictionary_wrong, negative, window_too_long};
+use crate::failing::{Failing, ruled};
 use crate::indices::indices_wrong;
-use crate::layout::layout_of;
 use crate::node::FormedNode;
 use crate::nulls::nulls_wrong;
-use crate::rule::{Failing, LayoutFault, LayoutRule, Numbers, ruled};
 use crate::texts::{texts_pass, texts_wrong};
 use crate::views::{prefixes_wrong, views_misplaced, views_pass};
 use fmt_string::DataType;
+use layout_rules::{LayoutFault, LayoutRule, Numbers, layout_of};
 use raw_array::RawArray;
 use schema_check::{DICTIONARY_STEP, Path, Typed};
 
 /// Checks an array against its kinds ("Arrow Columnar Format", "Physical memory layout"). The fault is the first rule of
 /// [`LayoutRule`] that fails at the first failing node in preorder: children by number, then the dictionary. Takes no
 /// memory.
-#[tactic(auto, using(crate::proofs::Lawful::lawful))]
+#[tactic(auto, using(layout_rules::proofs::Lawful::lawful))]
 pub fn check_array(typed: &Typed, array: &RawArray) -> Result<(), LayoutFault>
     requires { TypedOk (typed_of typed.now) }
     ensures fault { found result ≡ first_fault (typed_of typed.now) array.now }

@@ -5,7 +5,7 @@ ghost use Rattle.schema_check.specs.Kinds.{AllNodesOk, NodesOk};
 ghost use Rattle.schema_check.specs.TypedView.{typed_of};
 
 use fmt_string::clone_kind;
-use layout_check::{Typed, kinds_of_typed};
+use schema_check::{Typed, kinds_of_typed};
 use std::alloc::Global;
 use unit_pass::NoMemory;
 

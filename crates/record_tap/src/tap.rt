@@ -2,7 +2,7 @@
 ghost use Rattle.std.specs.Prelude.{◌≡◌, [], IfOk, map};
 ghost use Rattle.schema_check.specs.Schemas.{TypedOf};
 ghost use Rattle.schema_check.specs.TypedView.{typed_of};
-ghost use Rattle.layout_check.specs.Walk.{ChunkOk};
+ghost use Rattle.layout_rules.specs.Walk.{ChunkOk};
 ghost use Rattle.stream_face.specs.Shown.{seen_of};
 ghost use Rattle.record_tap.specs.SeenChunks.{seen_by, seen_in};
 
@@ -10,9 +10,9 @@ use crate::kinds::kept_kinds;
 use crate::names::kept_names;
 use crate::rows::kept_rows;
 use crate::value::OwnedValue;
-use layout_check::{Typed, kinds_are_valid};
 use raw_array::RawArray;
 use raw_schema::RawSchema;
+use schema_check::{Typed, kinds_are_valid};
 use std::alloc::Global;
 use stream_face::Tap;
 use unit_pass::{Name, NoMemory};

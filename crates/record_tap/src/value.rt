@@ -2,8 +2,8 @@
 ghost use Rattle.std.specs.Prelude.{◌≡◌, ◌+◌, ◌<◌, ◌^◌, pos, map, IfOk};
 ghost use Rattle.fmt_string.specs.Value.{values};
 ghost use Rattle.fmt_string.specs.Value.Value.{Items, Fields};
-ghost use Rattle.layout_check.specs.Layout.{natural};
-ghost use Rattle.layout_check.specs.Values.{row_items};
+ghost use Rattle.layout_rules.specs.Layout.{natural};
+ghost use Rattle.layout_rules.specs.Values.{row_items};
 ghost use Rattle.arr_import.specs.Cols.{window_of};
 ghost use Rattle.arr_import.specs.Window.{IsStruct, item_at, items_of};
 ghost use Rattle.record_tap.specs.OwnedValues.{value_of};

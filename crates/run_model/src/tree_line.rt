@@ -2,7 +2,7 @@
 ghost use Rattle.std.specs.Prelude.{◌≡◌, ◌++◌, codes, decimal, flat_map};
 ghost use Rattle.std.specs.Fmt.{signed_decimal};
 ghost use Rattle.schema_check.specs.FaultTexts.{schema_rule_text, step_text, way_text};
-ghost use Rattle.layout_check.specs.FaultTexts.{layout_fault_text, rule_text};
+ghost use Rattle.layout_rules.specs.FaultTexts.{layout_fault_text, rule_text};
 ghost use Rattle.schema_check.specs.Ways.{steps_of};
 ghost use Rattle.tree_check.specs.FaultTexts.{tree_fault_text};
 ghost use Rattle.tree_text.specs.FaultTexts.{text_fault_text};
@@ -11,7 +11,8 @@ ghost use Rattle.run_model.specs.Told.{Says, line_of};
 use crate::told::say;
 use edge_io::{Sink, WriteFault};
 use itoa::Buffer;
-use layout_check::{DICTIONARY_STEP, LayoutFault, LayoutRule, Path, SchemaRule};
+use layout_rules::{LayoutFault, LayoutRule};
+use schema_check::{DICTIONARY_STEP, Path, SchemaRule};
 use tree_check::TreeFault;
 use tree_text::TextFault;
 

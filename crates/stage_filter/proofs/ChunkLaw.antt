@@ -7,7 +7,7 @@ use Rattle.fmt_string.specs.Value.{Value, Values, Fields, no_values, more_values
 use Rattle.raw_array.specs.Members.{ArrayTree}
 use Rattle.schema_check.specs.ColumnKinds.{table_type}
 use Rattle.schema_check.specs.Kinds.{KindTree}
-use Rattle.layout_check.specs.Values.{each, row_items, rows_of, values_of}
+use Rattle.layout_rules.specs.Values.{each, row_items, rows_of, values_of}
 use Rattle.arr_export.specs.ArrayTrees.{table_tree}
 use Rattle.stream_face.specs.Lawful.{HasFields}
 

@@ -4,7 +4,7 @@ use Rattle.std.proofs.lemmas.List.{get_or-map, length-map}
 use Rattle.fmt_string.specs.Parts.{column_values}
 use Rattle.fmt_string.specs.Table.{Column, Row}
 use Rattle.fmt_string.specs.Value.{Value, Null}
-use Rattle.layout_check.specs.Values.{each}
+use Rattle.layout_rules.specs.Values.{each}
 use Rattle.arr_export.specs.ArrayTrees.{rows_of_values}
 
 abbrev pub all_values : ℕ → List Column → List Row → List (List Value)

@@ -16,8 +16,8 @@ use Rattle.unit_pass.specs.Tally.{Tally, risen}
 use Rattle.unit_pass.specs.declared.pass.TheConstants.{CHUNK}
 use Rattle.raw_array.specs.Members.{ArrayTree, Cost, Like}
 use Rattle.schema_check.specs.ColumnKinds.{type_of_columns}
-use Rattle.layout_check.specs.Values.{rows_of}
-use Rattle.layout_check.specs.Walk.{ChunkOk}
+use Rattle.layout_rules.specs.Values.{rows_of}
+use Rattle.layout_rules.specs.Walk.{ChunkOk}
 use Rattle.stage_model.specs.Stages.{passes, rows_after}
 use Rattle.stage_model.specs.Traffic.{Moved, made_blocks, made_nodes, table_blocks, table_nodes}
 use Rattle.stage_model.specs.declared.stage.Const.{Const}

@@ -12,9 +12,9 @@ use Rattle.fmt_string.specs.Value.{Null}
 use Rattle.tree_model.specs.Tree.{IsLive, Live, Released, child_at, children_of, maybe_tree, trees}
 use Rattle.raw_array.specs.Members.{ArrayTree, members_of}
 use Rattle.schema_check.specs.Kinds.{KindTree}
-use Rattle.layout_check.specs.Layout.{first}
+use Rattle.layout_rules.specs.Layout.{first}
 use Rattle.schema_check.specs.TypedView.{dict_in, kids_of, kind_of, typed_of}
-use Rattle.layout_check.specs.Values.{each, row_items, rows_of, tree_items, value_at}
+use Rattle.layout_rules.specs.Values.{each, row_items, rows_of, tree_items, value_at}
 use Rattle.schema_check.specs.declared.typed.Typed.{Typed, out-Typed}
 use Rattle.array_laws.specs.Pieces.{border}
 use Rattle.arr_import.specs.Window.{Window, child_window, item_at, whole}

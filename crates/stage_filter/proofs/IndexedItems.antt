@@ -17,11 +17,11 @@ use Rattle.col_build.specs.Encoding.{Fits}
 use Rattle.col_build.specs.Finished.{blocks_of}
 use Rattle.schema_check.specs.ColumnKinds.{type_of_kind}
 use Rattle.schema_check.specs.Kinds.{KindTree}
-use Rattle.layout_check.specs.Layout.{IsLong, buffer, bytes, end, first, is_valid, natural, stored_number}
-use Rattle.layout_check.specs.Rules.{one_if}
-use Rattle.layout_check.specs.Values.{each, tree_items, value_at, values_of}
-use Rattle.layout_check.specs.Walk.{LayoutOk}
-use Rattle.layout_check.specs.Within.{IndexWithin}
+use Rattle.layout_rules.specs.Layout.{IsLong, buffer, bytes, end, first, is_valid, natural, stored_number}
+use Rattle.layout_rules.specs.Rules.{one_if}
+use Rattle.layout_rules.specs.Values.{each, tree_items, value_at, values_of}
+use Rattle.layout_rules.specs.Walk.{LayoutOk}
+use Rattle.layout_rules.specs.Within.{IndexWithin}
 use Rattle.arr_export.specs.ArrayTrees.{AreIndices, IsPlaceOf, flat_type, looked_up}
 use Rattle.stage_model.specs.Traffic.{flat_blocks, index_blocks, row_blocks}
 use Rattle.stream_face.specs.Lawful.{AreValues}

@@ -12,9 +12,9 @@ use Rattle.tree_model.proofs.Lists.{tree_list-trees, trees-tree_list}
 use Rattle.raw_array.specs.Members.{ArrayTree, members_of}
 use Rattle.schema_check.specs.ColumnKinds.{table_type, type_of_column, type_of_columns, type_of_kind, types_of_columns, types_of_members}
 use Rattle.schema_check.specs.Kinds.{KindTree}
-use Rattle.layout_check.specs.Layout.{first}
-use Rattle.layout_check.specs.Values.{field_items, readers, row_items, rows_of, tree_items, value_at, values_of}
-use Rattle.layout_check.specs.Walk.{ChunkOk, LayoutOk}
+use Rattle.layout_rules.specs.Layout.{first}
+use Rattle.layout_rules.specs.Values.{field_items, readers, row_items, rows_of, tree_items, value_at, values_of}
+use Rattle.layout_rules.specs.Walk.{ChunkOk, LayoutOk}
 use Rattle.arr_export.specs.ArrayTrees.{AreLawful, HaveValues, flat_type, rows_of_values, table_tree}
 use Rattle.stream_face.specs.Lawful.{DictsAreFull, MemberDictsAreFull}
 use Rattle.stage_filter.specs.Kept.{rows_at, values_at}

@@ -6,8 +6,8 @@ use Rattle.fmt_string.specs.Table.{Column, Kind, Flat, Dict, Columns, Members, n
 use Rattle.tree_model.specs.Tree.{Depth, IsLive, Released, children_of, depth_of_all, trees}
 use Rattle.raw_array.specs.Members.{ArrayTree, members_of}
 use Rattle.schema_check.specs.ColumnKinds.{type_of_kind, types_of_members, types_of_columns}
-use Rattle.layout_check.specs.Layout.{first}
-use Rattle.layout_check.specs.Values.{tree_items, value_at}
+use Rattle.layout_rules.specs.Layout.{first}
+use Rattle.layout_rules.specs.Values.{tree_items, value_at}
 use Rattle.arr_export.specs.ArrayTrees.{IsColumn, flat_type}
 use Rattle.stage_filter.specs.KeptTrees.{index_type, kept_columns, kept_members, kept_tree}
 use Rattle.stage_filter.specs.Moving.{CanMove, CanMoveRows}

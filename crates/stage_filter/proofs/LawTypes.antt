@@ -7,9 +7,9 @@ use Rattle.raw_array.specs.Members.{ArrayTree}
 use Rattle.col_build.specs.Encoding.{Fits}
 use Rattle.schema_check.specs.ColumnKinds.{table_type}
 use Rattle.schema_check.specs.Kinds.{KindTree}
-use Rattle.layout_check.specs.Lawful.{ItemsHold, PartsHold, RootHolds}
-use Rattle.layout_check.specs.Values.{rows_of, tree_items, values_of}
-use Rattle.layout_check.specs.Walk.{ChunkOk, LayoutOk}
+use Rattle.layout_rules.specs.Lawful.{ItemsHold, PartsHold, RootHolds}
+use Rattle.layout_rules.specs.Values.{rows_of, tree_items, values_of}
+use Rattle.layout_rules.specs.Walk.{ChunkOk, LayoutOk}
 use Rattle.arr_export.specs.ArrayTrees.{AreIndices, AreLawful, HaveValues, column_tree, flat_type, looked_up, rows_of_values, table_tree}
 
 -- ---- what is made

@@ -6,8 +6,8 @@ use Rattle.tree_model.specs.Tree.{Released, Live, Trees, no_trees, more_trees, a
 use Rattle.raw_array.specs.Members.{ArrayMembers, ArrayTree, Cost, Like, LikeMembers}
 use Rattle.schema_check.specs.ColumnKinds.{type_of_columns}
 use Rattle.schema_check.specs.Kinds.{KindTree}
-use Rattle.layout_check.specs.Values.{rows_of, values_of}
-use Rattle.layout_check.specs.Walk.{ChunkOk}
+use Rattle.layout_rules.specs.Values.{rows_of, values_of}
+use Rattle.layout_rules.specs.Walk.{ChunkOk}
 use Rattle.stream_face.specs.Lawful.{DictsAreFull, IsTable, MemberDictsAreFull}
 use Rattle.stage_filter.specs.Filters.{CanFilter}
 

@@ -8,7 +8,7 @@ use Rattle.tree_model.specs.Tree.{Released, child_at, children_of}
 use Rattle.unit_pass.specs.Tally.{Tally, risen}
 use Rattle.raw_array.specs.Members.{ArrayTree, members_of}
 use Rattle.schema_check.specs.ColumnKinds.{type_of_kind}
-use Rattle.layout_check.specs.Layout.{first}
+use Rattle.layout_rules.specs.Layout.{first}
 use Rattle.stage_model.specs.Traffic.{Moved, blocks_from, kind_blocks, kind_nodes}
 use Rattle.stage_filter.specs.Kept.{values_at}
 use Rattle.stage_filter.specs.KeptTrees.{kept_columns, kept_tree}

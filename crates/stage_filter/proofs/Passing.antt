@@ -9,8 +9,8 @@ use Rattle.tree_model.proofs.Lists.{tree_list-trees}
 use Rattle.raw_array.specs.Members.{ArrayTree, members_of}
 use Rattle.schema_check.specs.ColumnKinds.{type_of_columns, types_of_columns}
 use Rattle.schema_check.specs.Kinds.{KindTree}
-use Rattle.layout_check.specs.Layout.{first}
-use Rattle.layout_check.specs.Values.{each, row_items, rows_of, tree_items, value_at}
+use Rattle.layout_rules.specs.Layout.{first}
+use Rattle.layout_rules.specs.Values.{each, row_items, rows_of, tree_items, value_at}
 use Rattle.arr_import.specs.Window.{child_window, item_at, whole}
 use Rattle.stage_model.specs.Stages.{passes}
 use Rattle.stage_model.specs.declared.stage.Const.{Const}

@@ -18,9 +18,9 @@ use Rattle.raw_array.specs.Members.{ArrayTree, members_of}
 use Rattle.arr_export.specs.ArrayTrees.{table_tree}
 use Rattle.schema_check.specs.ColumnKinds.{table_type, type_of_column, type_of_columns, type_of_kind, types_of_columns, types_of_members}
 use Rattle.schema_check.specs.Kinds.{KindTree}
-use Rattle.layout_check.specs.Layout.{end, first, is_valid}
-use Rattle.layout_check.specs.Values.{field_items, readers, row_items, tree_items, value_at}
-use Rattle.layout_check.specs.Walk.{LayoutOk}
+use Rattle.layout_rules.specs.Layout.{end, first, is_valid}
+use Rattle.layout_rules.specs.Values.{field_items, readers, row_items, tree_items, value_at}
+use Rattle.layout_rules.specs.Walk.{LayoutOk}
 use Rattle.stage_model.specs.Traffic.{Moved, table_blocks}
 use Rattle.stream_face.specs.Lawful.{AreItems, DictsAreFull, HasFields, MemberDictsAreFull}
 use Rattle.column_fill.proofs.Counts.{kids-long}

@@ -9,8 +9,8 @@ use Rattle.unit_pass.specs.declared.pass.TheConstants.{CHUNK}
 use Rattle.raw_array.specs.Members.{ArrayTree}
 use Rattle.schema_check.specs.ColumnKinds.{type_of_columns}
 use Rattle.schema_check.specs.Kinds.{KindTree}
-use Rattle.layout_check.specs.Values.{rows_of, tree_items}
-use Rattle.layout_check.specs.Walk.{ChunkOk}
+use Rattle.layout_rules.specs.Values.{rows_of, tree_items}
+use Rattle.layout_rules.specs.Walk.{ChunkOk}
 use Rattle.arr_import.specs.Window.{child_window, whole}
 use Rattle.stage_model.specs.Stages.{rows_after}
 use Rattle.stage_model.specs.declared.stage.Const.{Const}

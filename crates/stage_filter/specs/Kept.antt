@@ -8,8 +8,8 @@ use Rattle.fmt_string.specs.Value.{Value, Null, Whole}
 use Rattle.bit_pack.specs.Packed.{meant, number_at}
 use Rattle.raw_array.specs.Members.{ArrayTree}
 use Rattle.schema_check.specs.Kinds.{KindTree}
-use Rattle.layout_check.specs.Layout.{is_valid_by}
-use Rattle.layout_check.specs.Values.{each, row_items, value_at}
+use Rattle.layout_rules.specs.Layout.{is_valid_by}
+use Rattle.layout_rules.specs.Values.{each, row_items, value_at}
 use Rattle.arr_import.specs.Window.{Window, item_at}
 use Rattle.stage_model.specs.Stages.{passes}
 use Rattle.stage_model.specs.declared.stage.Const.{Const}

@@ -8,7 +8,7 @@ use Rattle.fmt_string.specs.declared.kind.DataType.TheVariants as kinds
 use Rattle.tree_model.specs.Tree.{Released, children_of, dictionary_at}
 use Rattle.raw_array.specs.Members.{ArrayTree, members_of}
 use Rattle.schema_check.specs.ColumnKinds.{type_of_kind}
-use Rattle.layout_check.specs.Layout.{first}
+use Rattle.layout_rules.specs.Layout.{first}
 use Rattle.arr_export.specs.ArrayTrees.{column_tree, flat_type, table_tree}
 use Rattle.stage_filter.specs.Kept.{values_at}
 

@@ -9,9 +9,9 @@ use Rattle.unit_pass.specs.Tally.{Tally, risen}
 use Rattle.unit_pass.specs.declared.pass.TheConstants.{CHUNK}
 use Rattle.raw_array.specs.Members.{ArrayTree, Cost, members_of}
 use Rattle.schema_check.specs.ColumnKinds.{type_of_columns, type_of_kind}
-use Rattle.layout_check.specs.Layout.{first}
-use Rattle.layout_check.specs.Values.{tree_items}
-use Rattle.layout_check.specs.Walk.{LayoutOk}
+use Rattle.layout_rules.specs.Layout.{first}
+use Rattle.layout_rules.specs.Values.{tree_items}
+use Rattle.layout_rules.specs.Walk.{LayoutOk}
 use Rattle.stage_model.specs.Traffic.{Moved, blocks_from, kind_blocks, kind_nodes, table_blocks, table_nodes}
 use Rattle.stream_face.specs.Lawful.{AreItems, DictsAreFull}
 use Rattle.stage_filter.specs.Kept.{rows_at, values_at}

@@ -6,7 +6,7 @@ use Rattle.fmt_string.specs.Table.{Row}
 use Rattle.fmt_string.specs.Value.{Null}
 use Rattle.tree_model.specs.Tree.{children_of}
 use Rattle.schema_check.specs.Kinds.{KindTree}
-use Rattle.layout_check.specs.Layout.{natural}
+use Rattle.layout_rules.specs.Layout.{natural}
 use Rattle.arr_import.specs.Window.{IsStruct}
 use Rattle.fan_out.specs.Pieces.{GivesPieces}
 use Rattle.stage_model.specs.Stages.{passes}

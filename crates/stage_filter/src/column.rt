@@ -14,8 +14,9 @@ use arr_import::Col;
 use col_build::Builder;
 use column_fill::{built_column, push_item};
 use fmt_string::{DataType, clone_kind, storage_of};
-use layout_check::{Typed, lawful_trees};
+use layout_rules::lawful_trees;
 use raw_array::RawArray;
+use schema_check::Typed;
 use std::alloc::Global;
 use unit_pass::{NoMemory, Pass, SUPPLY};
 

@@ -9,7 +9,7 @@ ghost use Rattle.stage_filter.specs.Moving.{CanMove, IsMoved};
 use crate::indices::moved_indices;
 use column_fill::built_column;
 use fmt_string::DataType;
-use layout_check::lawful_trees;
+use layout_rules::lawful_trees;
 use raw_array::{Gone, PartlyMoved, RawArray};
 use std::alloc::Global;
 use unit_pass::{NoMemory, Pass, SUPPLY};

@@ -6,8 +6,8 @@ ghost use Rattle.tree_model.specs.Tree.{child_at, dictionary_at};
 ghost use Rattle.raw_array.specs.Members.{ArrayTree, Cost, Like};
 ghost use Rattle.schema_check.specs.ColumnKinds.{type_of_columns};
 ghost use Rattle.schema_check.specs.Kinds.{KindTree};
-ghost use Rattle.layout_check.specs.Values.{rows_of, values_of};
-ghost use Rattle.layout_check.specs.Walk.{ChunkOk};
+ghost use Rattle.layout_rules.specs.Values.{rows_of, values_of};
+ghost use Rattle.layout_rules.specs.Walk.{ChunkOk};
 ghost use Rattle.stream_face.specs.Lawful.{DictsAreFull};
 ghost use Rattle.stage_filter.specs.Kept.{rows_at};
 ghost use Rattle.stage_filter.specs.KeptTrees.{kept_chunk};
@@ -17,7 +17,7 @@ use arr_export::{
     encoded_columns_are_lawful, indexed_columns_are_lawful, lawful_columns_make_a_chunk,
 };
 use array_laws::{shares_show_the_same, trees_that_show_the_same};
-use layout_check::lawful_trees;
+use layout_rules::lawful_trees;
 use raw_array::like_trees_are_ordered;
 
 /// A law: the chunk that is made of some rows of a chunk meets the rules of a chunk, and its rows are these; a column with a

@@ -10,10 +10,10 @@ use Rattle.tree_model.proofs.Lists.{tree_list-trees}
 use Rattle.raw_array.specs.Members.{ArrayMembers, ArrayTree, Buffer, Cost, cost_of_all, cost_of_maybe, holds_of}
 use Rattle.schema_check.specs.ColumnKinds.{type_of_column, type_of_columns, type_of_kind, types_of_columns, types_of_members}
 use Rattle.schema_check.specs.Kinds.{KindTree}
-use Rattle.layout_check.specs.Lawful.{PartsHold, RootHolds}
-use Rattle.layout_check.specs.Layout.{buffer_count, layout_of}
-use Rattle.layout_check.specs.Rules.{one_if}
-use Rattle.layout_check.specs.Walk.{LayoutOk}
+use Rattle.layout_rules.specs.Lawful.{PartsHold, RootHolds}
+use Rattle.layout_rules.specs.Layout.{buffer_count, layout_of}
+use Rattle.layout_rules.specs.Rules.{one_if}
+use Rattle.layout_rules.specs.Walk.{LayoutOk}
 use Rattle.stream_face.specs.Lawful.{column_leaves, leaves, member_leaves}
 use Rattle.plan_laws.specs.Structs.{column_structs, member_structs, structs}
 

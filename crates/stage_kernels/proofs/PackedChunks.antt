@@ -15,8 +15,8 @@ use Rattle.tree_model.specs.Tree.{Released, IsLive, child_at}
 use Rattle.tree_model.proofs.Lists.{tree_list-trees}
 use Rattle.raw_array.specs.Members.{ArrayTree, Cost, members_of}
 use Rattle.schema_check.specs.ColumnKinds.{type_of_columns}
-use Rattle.layout_check.specs.Values.{rows_of}
-use Rattle.layout_check.specs.Walk.{ChunkOk}
+use Rattle.layout_rules.specs.Values.{rows_of}
+use Rattle.layout_rules.specs.Walk.{ChunkOk}
 use Rattle.arr_move.specs.TreeActs.{Columns}
 use Rattle.column_laws.specs.Picking.{Packed}
 use Rattle.stage_model.specs.declared.stage.Step.TheVariants as steps

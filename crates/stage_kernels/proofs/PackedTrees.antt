@@ -8,8 +8,8 @@ use Rattle.tree_model.proofs.Parted.{length-child}
 use Rattle.raw_array.specs.Members.{ArrayTree, Cost, cost_of_all, members_of, windowed}
 use Rattle.raw_array.specs.Windows.{Window, FitsWindow, is_whole}
 use Rattle.raw_array.proofs.Windows.{Depth-Window}
-use Rattle.layout_check.specs.Layout.{natural}
-use Rattle.layout_check.specs.Values.{tree_items}
+use Rattle.layout_rules.specs.Layout.{natural}
+use Rattle.layout_rules.specs.Values.{tree_items}
 use Rattle.arr_move.specs.TreeActs.{Distinct, FitParentWindow, InRange, struct_members}
 use Rattle.arr_move.proofs.Filled.{Depth-child_at}
 use Rattle.arr_move.proofs.Moving.{other_child}

@@ -16,8 +16,8 @@ use Rattle.raw_schema.specs.Members.{SchemaTree, coded_schema}
 use Rattle.unit_pass.specs.Tally.{Tally, risen}
 use Rattle.unit_pass.specs.declared.no_memory.NoMemory.{NoMemory}
 use Rattle.schema_check.specs.Kinds.{KindTree}
-use Rattle.layout_check.specs.Walk.{ChunkOk}
-use Rattle.layout_check.specs.Values.{rows_of}
+use Rattle.layout_rules.specs.Walk.{ChunkOk}
+use Rattle.layout_rules.specs.Values.{rows_of}
 use Rattle.schema_check.specs.ColumnKinds.{type_of_columns}
 use Rattle.schema_check.specs.ColumnSchema.{SchemaOf}
 use Rattle.arr_move.specs.TreeActs.{Columns, Distinct, cut}

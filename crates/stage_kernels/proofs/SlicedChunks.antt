@@ -10,8 +10,8 @@ use Rattle.raw_array.specs.Members.{ArrayTree, Cost, windowed}
 use Rattle.raw_array.specs.Windows.{Window, is_whole}
 use Rattle.schema_check.specs.ColumnKinds.{type_of_columns}
 use Rattle.schema_check.specs.Kinds.{KindTree}
-use Rattle.layout_check.specs.Values.{rows_of, tree_items}
-use Rattle.layout_check.specs.Walk.{ChunkOk, LayoutOk}
+use Rattle.layout_rules.specs.Values.{rows_of, tree_items}
+use Rattle.layout_rules.specs.Walk.{ChunkOk, LayoutOk}
 use Rattle.stage_model.specs.Stages.{is_within, sliced, sliced_chunks, unless_empty, window_end, window_start}
 use Rattle.stream_face.specs.Calls.{Answers}
 use Rattle.stream_face.specs.Lawful.{DictsAreFull, IsChunkOf}

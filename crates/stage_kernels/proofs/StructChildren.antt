@@ -11,9 +11,9 @@ use Rattle.tree_model.proofs.Measures.{Depth-get_or}
 use Rattle.raw_array.specs.Members.{ArrayTree, Cost, cost_of_all, members_of}
 use Rattle.raw_array.specs.Windows.{Window}
 use Rattle.schema_check.specs.Kinds.{KindTree}
-use Rattle.layout_check.specs.Layout.{end, first, items, natural}
-use Rattle.layout_check.specs.Values.{tree_items}
-use Rattle.layout_check.specs.Walk.{ChunkOk, LayoutOk}
+use Rattle.layout_rules.specs.Layout.{end, first, items, natural}
+use Rattle.layout_rules.specs.Values.{tree_items}
+use Rattle.layout_rules.specs.Walk.{ChunkOk, LayoutOk}
 use Rattle.schema_check.specs.ColumnKinds.{table_type, type_of_column, type_of_columns, type_of_kind, types_of_columns}
 use Rattle.arr_export.specs.ArrayTrees.{IsColumn, table_tree}
 use Rattle.arr_move.specs.TreeActs.{FitParentWindow, struct_members}

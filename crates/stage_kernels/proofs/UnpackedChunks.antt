@@ -12,8 +12,8 @@ use Rattle.tree_model.proofs.Lists.{tree_list-trees}
 use Rattle.raw_array.specs.Members.{ArrayTree, Cost, members_of}
 use Rattle.unit_pass.specs.Tally.{Tally, risen}
 use Rattle.schema_check.specs.Kinds.{KindTree}
-use Rattle.layout_check.specs.Walk.{ChunkOk, LayoutOk}
-use Rattle.layout_check.specs.Values.{rows_of}
+use Rattle.layout_rules.specs.Walk.{ChunkOk, LayoutOk}
+use Rattle.layout_rules.specs.Values.{rows_of}
 use Rattle.schema_check.specs.ColumnKinds.{table_type, type_of_column, type_of_columns, types_of_columns}
 use Rattle.column_laws.specs.Picking.{Unpacked, cut_children}
 use Rattle.stage_model.specs.Stages.{chunks_after}

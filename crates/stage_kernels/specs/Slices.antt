@@ -6,7 +6,7 @@ use Rattle.fmt_string.specs.declared.kind.ColumnType.{ColumnType}
 use Rattle.tree_model.specs.Tree.{Released}
 use Rattle.raw_array.specs.Members.{ArrayTree}
 use Rattle.raw_array.specs.Windows.{Window}
-use Rattle.layout_check.specs.Values.{tree_items}
+use Rattle.layout_rules.specs.Values.{tree_items}
 
 -- the columns that are kept are those that come
 pub record SliceFits (kept : List ColumnType) (before : List Column) : Type 0 where

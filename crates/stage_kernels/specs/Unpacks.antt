@@ -8,7 +8,7 @@ use Rattle.tree_model.specs.Tree.{IsLive, children_of, child_at}
 use Rattle.raw_array.specs.Members.{ArrayTree, members_of}
 use Rattle.raw_array.specs.Windows.{FitsWindow, Window}
 use Rattle.schema_check.specs.ColumnKinds.{type_of_columns}
-use Rattle.layout_check.specs.Walk.{ChunkOk}
+use Rattle.layout_rules.specs.Walk.{ChunkOk}
 use Rattle.stage_model.specs.Typing.{column_at}
 use Rattle.plan_laws.specs.Structs.{column_structs, most_structs}
 

@@ -3,12 +3,12 @@ ghost use Rattle.std.specs.Prelude.{◌≤◌, ◌+◌, ◌*◌, List, All};
 ghost use Rattle.fmt_string.specs.ColumnForms.{AreColumnKinds};
 ghost use Rattle.fmt_string.specs.Table.{Column};
 ghost use Rattle.schema_check.specs.ColumnKinds.{type_of_columns};
-ghost use Rattle.layout_check.specs.Walk.{ChunkOk};
+ghost use Rattle.layout_rules.specs.Walk.{ChunkOk};
 ghost use Rattle.raw_array.specs.Members.{ArrayTree, Cost};
 ghost use Rattle.plan_laws.specs.Structs.{column_structs};
 ghost use Rattle.stream_face.specs.Lawful.{DictsHaveBytes, column_leaves};
 
-use layout_check::lawful_trees;
+use layout_rules::lawful_trees;
 
 /// A law: a chunk of columns costs at most seven units a column of plain or dictionary values, two a struct, and two of its own.
 pub fn chunks_are_small()

@@ -6,7 +6,7 @@ ghost use Rattle.raw_array.specs.Members.{ArrayTree, Cost};
 ghost use Rattle.unit_pass.specs.Tally.{risen};
 ghost use Rattle.unit_pass.specs.declared.pass.TheConstants.{SUPPLY};
 ghost use Rattle.schema_check.specs.ColumnKinds.{type_of_columns};
-ghost use Rattle.layout_check.specs.Walk.{ChunkOk};
+ghost use Rattle.layout_rules.specs.Walk.{ChunkOk};
 ghost use Rattle.arr_move.specs.TreeActs.{Columns, Distinct};
 ghost use Rattle.stage_model.specs.Stages.{chunks_after};
 ghost use Rattle.stage_model.specs.declared.stage.Step.TheVariants as steps;
@@ -16,7 +16,7 @@ ghost use Rattle.stage_kernels.specs.Picks.{PickFits, picked_columns, picked_row
 use arr_move::take_columns;
 use column_laws::columns_of_a_table;
 use edge_io::Gate;
-use layout_check::lawful_trees;
+use layout_rules::lawful_trees;
 use raw_array::RawArray;
 use raw_schema::RawSchema;
 use stages::{OutColumns, Work};

@@ -6,7 +6,7 @@ ghost use Rattle.raw_array.specs.Members.{ArrayTree, Cost, cost_of_all, members_
 ghost use Rattle.raw_array.specs.Windows.{FitsWindow, Window};
 ghost use Rattle.unit_pass.specs.Tally.{risen};
 ghost use Rattle.unit_pass.specs.declared.pass.TheConstants.{SUPPLY};
-ghost use Rattle.layout_check.specs.Layout.{natural};
+ghost use Rattle.layout_rules.specs.Layout.{natural};
 ghost use Rattle.arr_export.specs.ArrayTrees.{IsColumn};
 ghost use Rattle.column_laws.specs.Picking.{Unpacked, cut_children};
 ghost use Rattle.stage_kernels.specs.Unpacks.{HasStruct, ShowsChildren, ShowsInner};

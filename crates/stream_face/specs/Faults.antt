@@ -3,9 +3,9 @@ use Rattle.std.specs.Prelude.{◌≡◌, ◌≢◌, ℕ, ℤ, pos, List, Option,
 use Rattle.raw_array.specs.Members.{ArrayTree}
 use Rattle.raw_schema.specs.Members.{SchemaTree}
 use Rattle.schema_check.specs.Kinds.{KindTree}
-use Rattle.layout_check.specs.Found.{fault_of}
+use Rattle.layout_rules.specs.Found.{fault_of}
 use Rattle.schema_check.specs.SchemaAnswers.{IsFirstFault}
-use Rattle.layout_check.specs.Walk.{first_chunk_fault}
+use Rattle.layout_rules.specs.Walk.{first_chunk_fault}
 use Rattle.schema_check.specs.declared.schema.SchemaFault.TheVariants as schemas
 use Rattle.stream_face.specs.declared.fault.StartFault.{StartFault}
 use Rattle.stream_face.specs.declared.fault.StartFault.TheVariants as start

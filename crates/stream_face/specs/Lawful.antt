@@ -15,8 +15,8 @@ use Rattle.unit_pass.specs.declared.pass.TheConstants.{CHUNK}
 use Rattle.schema_check.specs.ColumnKinds.{type_of_columns}
 use Rattle.schema_check.specs.ColumnSchema.{SchemaOf}
 use Rattle.schema_check.specs.Schemas.{TypedOf}
-use Rattle.layout_check.specs.Values.{rows_of, values_of}
-use Rattle.layout_check.specs.Walk.{ChunkOk}
+use Rattle.layout_rules.specs.Values.{rows_of, values_of}
+use Rattle.layout_rules.specs.Walk.{ChunkOk}
 
 -- ---- its columns
 

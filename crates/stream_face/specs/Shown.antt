@@ -5,7 +5,7 @@ use Rattle.tree_model.specs.Tree.{Released, Live, Trees, no_trees, more_trees, M
 use Rattle.raw_array.specs.Members.{ArrayTree}
 use Rattle.raw_schema.specs.Members.{SchemaMembers, SchemaTree}
 use Rattle.schema_check.specs.Kinds.{KindTree}
-use Rattle.layout_check.specs.Values.{rows_of}
+use Rattle.layout_rules.specs.Values.{rows_of}
 use Rattle.schema_check.specs.ColumnKinds.{type_of_columns}
 use Rattle.schema_check.specs.ColumnSchema.{SchemaOf}
 

@@ -3,7 +3,8 @@ ghost use Rattle.std.specs.Prelude.{◌≡◌, ◌≢◌, ◌≤ℤ◌, pos};
 ghost use Rattle.stream_face.specs.Faults.{code_of, own_text};
 
 use fmt_string::RowFault;
-use layout_check::{LayoutFault, SchemaFault};
+use layout_rules::LayoutFault;
+use schema_check::SchemaFault;
 use std::fmt;
 
 /// Why a stream was not started.

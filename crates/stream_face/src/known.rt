@@ -9,8 +9,8 @@ ghost use Rattle.schema_check.specs.TypedView.{typed_of};
 ghost use Rattle.schema_check.specs.declared.schema.SchemaFault.TheVariants as schemas;
 ghost use Rattle.unit_pass.specs.declared.pass.TheConstants.{SUPPLY};
 
-use layout_check::{SchemaFault, Typed, check_schema, one_schema_answer};
 use raw_schema::RawSchema;
+use schema_check::{SchemaFault, Typed, check_schema, one_schema_answer};
 use std::alloc::Global;
 use std::marker::Model;
 use unit_pass::{Pass, SUPPLY};

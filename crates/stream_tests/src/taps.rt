@@ -1,10 +1,11 @@
 //! A table is shown twice, and what was kept is compared value by value.
 use crate::streams::{array, few_schema_levels, listed};
 use fmt_string::DataType;
-use layout_check::{check_chunk, check_schema};
+use layout_check::check_chunk;
 use raw_array::RawArray;
 use raw_schema::{RawSchema, SchemaParts};
 use record_tap::{OwnedValue, RecordTap, SeenChunk};
+use schema_check::check_schema;
 use std::alloc::Global;
 use std::process::Abort;
 use stream_face::Tap;

@@ -13,7 +13,7 @@ use Rattle.unit_pass.specs.Tally.{Tally, risen}
 use Rattle.unit_pass.specs.declared.no_memory.NoMemory.{NoMemory}
 use Rattle.csv_model.specs.Text.{row_fields, rows_text}
 use Rattle.schema_check.specs.Kinds.{KindTree}
-use Rattle.layout_check.specs.Values.{rows_of}
+use Rattle.layout_rules.specs.Values.{rows_of}
 use Rattle.schema_check.specs.ColumnKinds.{type_of_columns}
 use Rattle.arr_import.specs.Window.{Window, whole}
 use Rattle.csv_write.specs.CsvTexts.{HasText, rows_in}

@@ -1,8 +1,9 @@
 //! Texts with their reports or their faults, as they are printed, and with the blocks and nodes that they make.
 
-use layout_check::{check_array, check_schema};
+use layout_check::check_array;
 use raw_array::RawArray;
 use raw_schema::RawSchema;
+use schema_check::check_schema;
 use std::alloc::{AllocError, Global};
 use std::str::from_utf8;
 use std::test::Fail;

@@ -11,8 +11,8 @@ use Rattle.fmt_string.specs.Table.{Column, Kind, Row}
 use Rattle.fmt_string.specs.declared.kind.ColumnType.{ColumnType}
 use Rattle.fmt_string.specs.declared.row_fault.RowFault.{RowFault}
 use Rattle.schema_check.specs.ColumnKinds.{type_of_columns}
-use Rattle.layout_check.specs.Values.{rows_of}
-use Rattle.layout_check.specs.Walk.{ChunkOk}
+use Rattle.layout_rules.specs.Values.{rows_of}
+use Rattle.layout_rules.specs.Walk.{ChunkOk}
 use Rattle.raw_array.specs.Members.{ArrayTree, Cost}
 use Rattle.tree_model.specs.Tree.{IsLive, Released, child_at}
 use Rattle.unit_pass.specs.Tally.{Tally, risen}

@@ -8,7 +8,7 @@ use Rattle.fmt_string.specs.Table.{Row}
 use Rattle.fmt_string.specs.Value.{Value, Null, Whole}
 use Rattle.raw_array.specs.Members.{ArrayTree}
 use Rattle.schema_check.specs.Kinds.{KindTree}
-use Rattle.layout_check.specs.Values.{each, row_items}
+use Rattle.layout_rules.specs.Values.{each, row_items}
 use Rattle.arr_import.specs.Window.{Window, item_at, whole}
 use Rattle.stage_model.specs.Stages.{number_if, numbers_at}
 use Rattle.total_stage.specs.Sums.{AreSums}

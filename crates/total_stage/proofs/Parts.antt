@@ -8,7 +8,7 @@ use Rattle.fmt_string.specs.Table.{Row}
 use Rattle.fmt_string.specs.Value.{Null}
 use Rattle.raw_array.specs.Members.{ArrayTree}
 use Rattle.schema_check.specs.Kinds.{KindTree}
-use Rattle.layout_check.specs.Values.{each, row_items, rows_of, tree_items}
+use Rattle.layout_rules.specs.Values.{each, row_items, rows_of, tree_items}
 use Rattle.array_laws.specs.Pieces.{border, joined_pieces}
 use Rattle.array_laws.proofs.WindowItems.{part-each}
 use Rattle.arr_import.specs.Window.{Window, item_at}

@@ -14,8 +14,8 @@ use Rattle.raw_array.specs.Members.{ArrayTree, Cost}
 use Rattle.tree_model.specs.Tree.{IsLive}
 use Rattle.schema_check.specs.ColumnKinds.{type_of_columns}
 use Rattle.schema_check.specs.Kinds.{KindTree, TypedOk}
-use Rattle.layout_check.specs.Values.{rows_of}
-use Rattle.layout_check.specs.Walk.{ChunkOk}
+use Rattle.layout_rules.specs.Values.{rows_of}
+use Rattle.layout_rules.specs.Walk.{ChunkOk}
 use Rattle.column_fill.proofs.Counts.{kids-long}
 use Rattle.stage_kernels.proofs.Runs.{Called, Ran, Ran-fresh}
 use Rattle.stage_model.specs.Typing.{is_summed, no_column}

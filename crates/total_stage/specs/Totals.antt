@@ -2,7 +2,7 @@
 use Rattle.std.specs.Prelude.{◌≡◌, ℕ, ◌+◌, ◌-◌, ◌^◌, ℤ, pos, negsuc, ◌+ℤ◌, ◌≤ℤ◌, List, length, Option, None, Some}
 use Rattle.std.specs.List.{AllByRecursion, filter_map, fold}
 use Rattle.fmt_string.specs.Value.{Value, Null, Whole}
-use Rattle.layout_check.specs.Values.{each}
+use Rattle.layout_rules.specs.Values.{each}
 use Rattle.arr_import.specs.Window.{Window, item_at}
 use Rattle.stage_model.specs.Stages.{greater, lesser, number_if, sum_of}
 use Rattle.total_stage.specs.declared.numbers.Totals.{Totals}

@@ -3,7 +3,7 @@ ghost use Rattle.std.specs.Prelude.{◌≡◌, ◌≤◌, ◌+◌, ◌*◌, ◌^
 ghost use Rattle.fmt_string.specs.Table.{Row};
 ghost use Rattle.raw_array.specs.Members.{Cost};
 ghost use Rattle.schema_check.specs.TypedView.{typed_of};
-ghost use Rattle.layout_check.specs.Values.{rows_of};
+ghost use Rattle.layout_rules.specs.Values.{rows_of};
 ghost use Rattle.total_stage.specs.Sums.{AreParts, AreSums, CanAdd, HaveBegun};
 
 use crate::job::SumJob;
@@ -11,8 +11,8 @@ use crate::numbers::Totals;
 use array_laws::pieces_are_the_whole;
 use edge_io::Gate;
 use fan_out::{fan_out, pieces_are_in_order};
-use layout_check::Typed;
 use raw_array::RawArray;
+use schema_check::Typed;
 use std::alloc::Global;
 use std::thread::Threads;
 use unit_pass::{NoMemory, Pass};

@@ -3,12 +3,12 @@ use Rattle.std.proofs.Common.{◌≡◌, ◌≢◌, ◌∙◌, ℕ, List, None, 
 use Rattle.raw_schema.specs.Members.{SchemaTree}
 use Rattle.raw_array.specs.Members.{ArrayTree}
 use Rattle.schema_check.specs.Ways.{steps_of}
-use Rattle.layout_check.specs.Found.{fault_of}
+use Rattle.layout_rules.specs.Found.{fault_of}
 use Rattle.schema_check.specs.Kinds.{KindTree}
 use Rattle.schema_check.specs.SchemaAnswers.{IsFirstFault}
 use Rattle.schema_check.specs.Schemas.{TypedOf}
-use Rattle.layout_check.specs.Walk.{first_fault}
-use Rattle.layout_check.specs.declared.rule.LayoutFault.{LayoutFault}
+use Rattle.layout_rules.specs.Walk.{first_fault}
+use Rattle.layout_rules.specs.declared.rule.LayoutFault.{LayoutFault}
 use Rattle.schema_check.specs.declared.schema.SchemaFault.{SchemaFault}
 use Rattle.schema_check.specs.declared.schema.SchemaFault.TheVariants as schemas
 use Rattle.tree_text.specs.Answers.{Reads}

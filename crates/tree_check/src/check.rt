@@ -4,9 +4,10 @@ ghost use Rattle.unit_pass.specs.declared.pass.TheConstants.{ROOM};
 ghost use Rattle.tree_check.specs.Checks.{ChecksTo, CountsTrees, IsToldOf, TreesCome};
 
 use crate::fault::CheckFault;
-use layout_check::{check_array, check_schema};
+use layout_check::check_array;
 use raw_array::RawArray;
 use raw_schema::RawSchema;
+use schema_check::check_schema;
 use std::alloc::Global;
 use tree_text::{read_tree, report};
 use unit_pass::{Pass, ROOM};

@@ -3,7 +3,8 @@ ghost use Rattle.std.specs.Prelude.{◌≡◌};
 ghost use Rattle.schema_check.specs.Ways.{steps_of};
 ghost use Rattle.tree_check.specs.Checks.{path_of};
 
-use layout_check::{LayoutFault, Path, SchemaFault, SchemaRule};
+use layout_rules::LayoutFault;
+use schema_check::{Path, SchemaFault, SchemaRule};
 use std::fmt;
 use tree_text::TextFault;
 use unit_pass::NoMemory;

@@ -9,5 +9,5 @@ pub fn one_check()
 {
     fmt_string::one_reading();
     tree_text::one_reading();
-    layout_check::one_schema_answer();
+    schema_check::one_schema_answer();
 }

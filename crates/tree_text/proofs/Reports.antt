@@ -8,11 +8,11 @@ use Rattle.raw_array.specs.Members.{ArrayTree, members_of}
 use Rattle.schema_check.specs.declared.typed.Typed.{Typed, out-Typed}
 use Rattle.schema_check.specs.TypedView.{typed_of, kind_of}
 use Rattle.layout_check.specs.NodeView.{live_node}
-use Rattle.layout_check.specs.Layout.{layout_of}
-use Rattle.layout_check.specs.Rules.{null_items}
+use Rattle.layout_rules.specs.Layout.{layout_of}
+use Rattle.layout_rules.specs.Rules.{null_items}
 use Rattle.schema_check.specs.Kinds.{KindTree}
 use Rattle.schema_check.specs.Ways.{Steps}
-use Rattle.layout_check.specs.Walk.{Visit, visits, walks_of, walk_children, nulls_in}
+use Rattle.layout_rules.specs.Walk.{Visit, visits, walks_of, walk_children, nulls_in}
 use Rattle.schema_check.proofs.Levels.{typed_out}
 use Rattle.tree_text.specs.Report.{visits_text, visit_text, node_line}
 use Rattle.tree_text.specs.Below.{children_visits, dictionary_visits}

@@ -6,7 +6,7 @@ use Rattle.raw_array.specs.Members.{ArrayTree}
 use Rattle.schema_check.specs.declared.typed.Typed.{Typed}
 use Rattle.schema_check.specs.TypedView.{typed_of, dict_in}
 use Rattle.schema_check.specs.Ways.{Steps}
-use Rattle.layout_check.specs.Walk.{Visit, walks_of, walk_of, walk_children, walk_dictionary}
+use Rattle.layout_rules.specs.Walk.{Visit, walks_of, walk_of, walk_children, walk_dictionary}
 
 -- the visits of a node's children, from one of them on
 abbrev pub children_visits : List Typed → ℕ → Steps → ArrayTree → List Visit

@@ -6,10 +6,10 @@ use Rattle.fmt_string.specs.Spelling.{spelling_of}
 use Rattle.raw_array.specs.Members.{ArrayTree}
 use Rattle.schema_check.specs.FaultTexts.{way_text}
 use Rattle.schema_check.specs.Kinds.{KindTree}
-use Rattle.layout_check.specs.Layout.{layout_of}
-use Rattle.layout_check.specs.Rules.{Node, null_items}
+use Rattle.layout_rules.specs.Layout.{layout_of}
+use Rattle.layout_rules.specs.Rules.{Node, null_items}
 use Rattle.schema_check.specs.Ways.{Steps}
-use Rattle.layout_check.specs.Walk.{Visit, visits}
+use Rattle.layout_rules.specs.Walk.{Visit, visits}
 use Rattle.tree_text.specs.TreeText.{token, spaced}
 
 -- the way to a node, its format, its length and the number of its null items

@@ -7,10 +7,10 @@ use Rattle.tree_model.specs.Tree.{Released, Live, Trees, no_trees, more_trees, M
 use Rattle.raw_schema.specs.Members.{SchemaMembers, SchemaTree}
 use Rattle.raw_array.specs.Members.{Buffer, ArrayMembers, ArrayTree, whole}
 use Rattle.raw_array.specs.declared.array.ReleaseKind.TheVariants.{Exported}
-use Rattle.layout_check.specs.declared.rule.LayoutRule.TheVariants as rules
+use Rattle.layout_rules.specs.declared.rule.LayoutRule.TheVariants as rules
 use Rattle.schema_check.specs.Kinds.{KindTree}
-use Rattle.layout_check.specs.Walk.{first_fault}
-use Rattle.layout_check.specs.WorkedArrays.{faulty}
+use Rattle.layout_rules.specs.Walk.{first_fault}
+use Rattle.layout_rules.specs.WorkedArrays.{faulty}
 use Rattle.tree_text.specs.TreeText.{TreeIs}
 use Rattle.tree_text.specs.Standing.{TreeLineIs, read_token, read_number, read_buffer_line}
 use Rattle.tree_text.specs.Report.{ReportOf}

@@ -8,7 +8,7 @@ ghost use Rattle.schema_check.specs.Ways.{steps_of};
 
 use crate::tokens::{is_plain, upper_digit};
 use itoa::Buffer;
-use layout_check::Path;
+use schema_check::Path;
 use std::alloc::Global;
 use unit_pass::NoMemory;
 

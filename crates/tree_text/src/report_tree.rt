@@ -9,14 +9,16 @@ ghost use Rattle.schema_check.specs.Kinds.{KindTree, NodesOk, AllNodesOk, DictNo
 ghost use Rattle.schema_check.specs.TypedView.{typed_of, dict_in};
 ghost use Rattle.layout_check.specs.NodeView.{live_node};
 ghost use Rattle.schema_check.specs.Ways.{steps_of};
-ghost use Rattle.layout_check.specs.Walk.{LayoutOk, visits};
+ghost use Rattle.layout_rules.specs.Walk.{LayoutOk, visits};
 ghost use Rattle.tree_text.specs.Report.{node_line, visits_text, ReportOf};
 ghost use Rattle.tree_text.specs.Below.{children_visits, dictionary_visits};
 
 use crate::report_text::push_line;
 use fmt_string::write_format;
-use layout_check::{DICTIONARY_STEP, Path, Typed, lawful_parts, lawful_root, nulls_of};
+use layout_check::nulls_of;
+use layout_rules::{lawful_parts, lawful_root};
 use raw_array::RawArray;
+use schema_check::{DICTIONARY_STEP, Path, Typed};
 use std::alloc::Global;
 use unit_pass::NoMemory;
 

@@ -3,7 +3,7 @@ use Rattle.fmt_string.specs.Value.{Whole}
 use Rattle.fmt_string.specs.declared.kind.DataType.TheVariants as kinds
 use Rattle.column_tests.proofs.TestColumns.{fitting, items-of}
 use Rattle.arr_export.specs.ArrayTrees.{IsPlaceOf}
-use Rattle.layout_check.specs.Values.{tree_items}
+use Rattle.layout_rules.specs.Values.{tree_items}
 use Rattle.std.proofs.lemmas.List.Elements.{All-from_recursion}
 use Rattle.tree_model.specs.Tree.{IsLive}
 use Rattle.column_tests.proofs.arrays.places.Goals as goal

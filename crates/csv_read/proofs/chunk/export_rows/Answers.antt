@@ -4,7 +4,7 @@ use Rattle.std.proofs.lemmas.Int.{ints}
 use Rattle.std.proofs.lemmas.Slice.Zip.{AllZip-long}
 use Rattle.unit_pass.specs.Tally.{risen}
 use Rattle.arr_export.specs.ArrayTrees.{IsColumn, table_tree}
-use Rattle.layout_check.specs.Layout.{natural}
+use Rattle.layout_rules.specs.Layout.{natural}
 use Rattle.csv_read.specs.Chunks.{IsColumnOf, all_blocks}
 use Rattle.csv_read.proofs.EmptiedBuilders.{emptied-spent}
 use Rattle.csv_read.proofs.HeldRows.{are-columns, blocks-are, columns-are, from-each, held-fit, held-some}

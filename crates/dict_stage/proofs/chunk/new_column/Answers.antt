@@ -5,8 +5,8 @@ use Rattle.fmt_string.specs.Value.{Value}
 use Rattle.tree_model.specs.Tree.{children_of}
 use Rattle.schema_check.specs.Kinds.{KindTree}
 use Rattle.schema_check.specs.TypedView.{typed_of}
-use Rattle.layout_check.specs.Values.{rows_of}
-use Rattle.layout_check.specs.Walk.{LayoutOk}
+use Rattle.layout_rules.specs.Values.{rows_of}
+use Rattle.layout_rules.specs.Walk.{LayoutOk}
 use Rattle.arr_import.specs.Cols.{window_of}
 use Rattle.arr_import.specs.Window.{IsStruct}
 use Rattle.column_fill.proofs.Counts.{kids-long}

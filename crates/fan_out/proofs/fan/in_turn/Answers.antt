@@ -1,7 +1,7 @@
 use Rattle.std.proofs.lemmas.Grind.{common_steps}
 use Rattle.std.proofs.Common.{length, arith}
 use Rattle.schema_check.specs.TypedView.{typed_of}
-use Rattle.layout_check.specs.Values.{rows_of}
+use Rattle.layout_rules.specs.Values.{rows_of}
 use Rattle.fan_out.specs.Pieces.{GivesPiece}
 use Rattle.fan_out.proofs.Lists.{pushed}
 use Rattle.fan_out.proofs.Collecting.{given_more}

@@ -3,7 +3,7 @@ use Rattle.std.proofs.Common.{◌≡◌, ℕ, ◌+◌, ◌-◌, ◌*◌, ◌<◌
 use Rattle.std.proofs.Math.Nat.{mul-le-mul_right}
 use Rattle.raw_array.specs.Members.{LeastAmount, Lowered, LoweredBy}
 use Rattle.schema_check.specs.TypedView.{typed_of}
-use Rattle.layout_check.specs.Values.{rows_of}
+use Rattle.layout_rules.specs.Values.{rows_of}
 use Rattle.fan_out.proofs.Lists.{last_is, one_more}
 use Rattle.fan_out.proofs.Ready.{chunk_again, none_ready, ready_push, unspent}
 use Rattle.fan_out.proofs.pieces.make_pieces.Goals as goal

@@ -1,9 +1,9 @@
 use Rattle.std.proofs.Common.{rules, ◌≡◌, ℕ, zero, suc, ◌+◌, ◌*◌, ◌<◌, ◌≤◌, None, false, arith}
 use Rattle.raw_array.specs.Members.{members_of}
-use Rattle.layout_check.specs.declared.layout.Layout.TheVariants.{ByOffsets}
-use Rattle.layout_check.specs.Layout.{end, offsets_need}
-use Rattle.layout_check.specs.Rules.{first_below, buffer_absent, buffer_short}
-use Rattle.layout_check.proofs.Long.{long-bytes}
+use Rattle.layout_rules.specs.declared.layout.Layout.TheVariants.{ByOffsets}
+use Rattle.layout_rules.specs.Layout.{end, offsets_need}
+use Rattle.layout_rules.specs.Rules.{first_below, buffer_absent, buffer_short}
+use Rattle.layout_rules.proofs.Long.{long-bytes}
 use Rattle.layout_check.proofs.tests.both_ways.Goals as goal
 
 all_of : (places size : ℕ) → 0 < places → offsets_need false places ≤ size → (places + 1) * 4 ≤ size

@@ -1,5 +1,5 @@
 use Rattle.std.proofs.Common.{arith}
-use Rattle.layout_check.proofs.TextData.{naturals}
+use Rattle.layout_rules.proofs.TextData.{naturals}
 use Rattle.layout_check.proofs.texts.data_between.Goals as goal
 
 pub data_place-here-requires-clause-buffers : goal.data_place-here-requires-clause-buffers

@@ -1,11 +1,11 @@
 use Rattle.std.proofs.Common.{◌≡◌, ◌<◌, ◌∙◌, ℕ, None, length, refl, subst, sym, arith}
 use Rattle.raw_array.specs.Members.{members_of}
-use Rattle.layout_check.specs.Layout.{items, end, bytes}
-use Rattle.layout_check.specs.Rules.{not_text, first_below}
-use Rattle.layout_check.proofs.Firsts.{first_below-none, first_below-some}
+use Rattle.layout_rules.specs.Layout.{items, end, bytes}
+use Rattle.layout_rules.specs.Rules.{not_text, first_below}
+use Rattle.layout_rules.proofs.Firsts.{first_below-none, first_below-some}
 use Rattle.layout_check.proofs.Loops.{at_last}
 use Rattle.layout_check.proofs.Readable.{need_some, end_some}
-use Rattle.layout_check.proofs.TextData.{offsets-from, offsets-rise, offsets-within}
+use Rattle.layout_rules.proofs.TextData.{offsets-from, offsets-rise, offsets-within}
 use Rattle.layout_check.proofs.texts.first_bad_text.Goals as goal
 
 below_some : (i n : ℕ) → i < n → 0 < n

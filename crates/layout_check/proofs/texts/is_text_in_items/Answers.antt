@@ -2,11 +2,11 @@ use Rattle.std.proofs.Common.{◌≤◌, ◌<◌, ◌+◌, ◌*◌, ◌^◌, pos
 use Rattle.std.specs.Prelude.{IsUtf8, ◌≤ℤ◌}
 use Rattle.bit_pack.specs.Packed.{offset_width}
 use Rattle.raw_array.specs.Members.{members_of}
-use Rattle.layout_check.specs.Layout.{bytes, first, end, items, natural, offset}
+use Rattle.layout_rules.specs.Layout.{bytes, first, end, items, natural, offset}
 use Rattle.layout_check.specs.Scans.{AreBorders}
 use Rattle.layout_check.proofs.Readable.{need_some, end_some, window, offsets_before, window_end, few_offsets}
 use Rattle.layout_check.proofs.Scanned.{borders-pass}
-use Rattle.layout_check.proofs.TextData.{border-from}
+use Rattle.layout_rules.proofs.TextData.{border-from}
 use Rattle.layout_check.proofs.texts.is_text_in_items.Goals as goal
 
 pub data_place-base-requires-clause-long : goal.data_place-base-requires-clause-long

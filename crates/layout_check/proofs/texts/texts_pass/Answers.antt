@@ -1,5 +1,5 @@
 use Rattle.std.proofs.Common.{arith}
-use Rattle.layout_check.proofs.Long.{long}
+use Rattle.layout_rules.proofs.Long.{long}
 use Rattle.layout_check.proofs.texts.texts_pass.Goals as goal
 
 pub view_texts_pass-requires-clause-validity : goal.view_texts_pass-requires-clause-validity

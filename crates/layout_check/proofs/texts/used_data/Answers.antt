@@ -2,9 +2,9 @@ use Rattle.std.proofs.Common.{◌≤◌, ◌+◌, ◌*◌, pos, length, ap, subs
 use Rattle.std.specs.Prelude.{◌≤ℤ◌}
 use Rattle.bit_pack.specs.Packed.{offset_width}
 use Rattle.raw_array.specs.Members.{members_of}
-use Rattle.layout_check.specs.Layout.{first, end, bytes, offset, data_between}
+use Rattle.layout_rules.specs.Layout.{first, end, bytes, offset, data_between}
 use Rattle.layout_check.proofs.Readable.{need_some, end_some, window}
-use Rattle.layout_check.proofs.TextData.{border-from, border-rise, border-within}
+use Rattle.layout_rules.proofs.TextData.{border-from, border-rise, border-within}
 use Rattle.layout_check.proofs.texts.used_data.Goals as goal
 
 pub data_between-requires-clause-order : goal.data_between-requires-clause-order

@@ -3,10 +3,10 @@ use Rattle.std.specs.Prelude.{IsUtf8, ◌≤ℤ◌}
 use Rattle.std.specs.Str.{IsCharBoundary}
 use Rattle.bit_pack.specs.Packed.{offset_width}
 use Rattle.raw_array.specs.Members.{members_of}
-use Rattle.layout_check.specs.Layout.{bytes, end, natural, offset}
+use Rattle.layout_rules.specs.Layout.{bytes, end, natural, offset}
 use Rattle.layout_check.proofs.MarkedText.{border-to, buffer-text, used-text}
 use Rattle.layout_check.proofs.Readable.{need_some, end_some, window, offsets_before}
-use Rattle.layout_check.proofs.TextData.{border-from}
+use Rattle.layout_rules.proofs.TextData.{border-from}
 use Rattle.layout_check.proofs.texts.used_is_text.Goals as goal
 
 pub returns-then-not-buffer_is_text : goal.returns-then-not-buffer_is_text

@@ -1,10 +1,10 @@
-use Rattle.layout_check.proofs.Placed.{placed}
-use Rattle.layout_check.proofs.TextData.{items_lie}
+use Rattle.layout_rules.proofs.Placed.{placed}
+use Rattle.layout_rules.proofs.TextData.{items_lie}
 use Rattle.std.proofs.Common.{rules, ◌≡◌, ◌<◌, Some, sym, arith}
 use Rattle.raw_array.specs.Members.{members_of}
-use Rattle.layout_check.specs.Layout.{items}
-use Rattle.layout_check.specs.Rules.{view_not_text}
-use Rattle.layout_check.proofs.Firsts.{first_below-some}
+use Rattle.layout_rules.specs.Layout.{items}
+use Rattle.layout_rules.specs.Rules.{view_not_text}
+use Rattle.layout_rules.proofs.Firsts.{first_below-some}
 use Rattle.layout_check.proofs.view_texts.first_bad_text.Goals as goal
 
 pub returns-in-Some : goal.returns-in-Some

@@ -1,7 +1,7 @@
 use Rattle.std.proofs.Common.{◌<◌, subst, sym}
 use Rattle.raw_array.specs.Members.{members_of}
-use Rattle.layout_check.specs.Layout.{data_buffers}
-use Rattle.layout_check.specs.Views.{view_length, view_buffer}
+use Rattle.layout_rules.specs.Layout.{data_buffers}
+use Rattle.layout_rules.specs.Views.{view_length, view_buffer}
 use Rattle.layout_check.proofs.Casts.{cast_is, cast_fits, is_longer-gt}
 use Rattle.layout_check.proofs.view_texts.names_large.Goals as goal
 

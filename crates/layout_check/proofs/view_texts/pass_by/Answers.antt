@@ -1,9 +1,9 @@
 use Rattle.std.proofs.Common.{subst}
 use Rattle.raw_array.specs.Members.{members_of}
-use Rattle.layout_check.specs.Layout.{items}
+use Rattle.layout_rules.specs.Layout.{items}
 use Rattle.layout_check.specs.Scans.{PassOne}
 use Rattle.layout_check.proofs.Loops.{below_within, at_last}
-use Rattle.layout_check.proofs.Placed.{view-within}
+use Rattle.layout_rules.proofs.Placed.{view-within}
 use Rattle.layout_check.proofs.ViewPasses.{PassOne-none, PassOne-more}
 use Rattle.layout_check.proofs.view_texts.pass_by.Goals as goal
 

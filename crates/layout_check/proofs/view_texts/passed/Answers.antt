@@ -1,9 +1,9 @@
 use Rattle.std.proofs.Common.{◌<◌, ◌≤◌, ◌∙◌, ℕ, subst, arith}
 use Rattle.raw_array.specs.Members.{members_of}
-use Rattle.layout_check.specs.Layout.{items}
+use Rattle.layout_rules.specs.Layout.{items}
 use Rattle.layout_check.specs.Scans.{PassBefore}
 use Rattle.layout_check.proofs.Loops.{at_last, below_within}
-use Rattle.layout_check.proofs.Placed.{view-within}
+use Rattle.layout_rules.proofs.Placed.{view-within}
 use Rattle.layout_check.proofs.ViewPasses.{PassAlone-fewer, PassBefore-none, PassBefore-more, passes-all}
 use Rattle.layout_check.proofs.view_texts.passed.Goals as goal
 

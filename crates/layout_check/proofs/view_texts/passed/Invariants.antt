@@ -1,6 +1,6 @@
 use Rattle.std.proofs.Common.{◌≤◌}
 use Rattle.raw_array.specs.Members.{members_of}
-use Rattle.layout_check.specs.Layout.{items}
+use Rattle.layout_rules.specs.Layout.{items}
 use Rattle.layout_check.specs.Scans.{PassAlone, PassBefore}
 use Rattle.layout_check.proofs.view_texts.passed.Given as goal
 

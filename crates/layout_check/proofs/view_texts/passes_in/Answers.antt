@@ -1,8 +1,8 @@
 use Rattle.std.proofs.Common.{rules, subst, sym, ◌∙◌, take, drop, nat_abs, of_z, to_z, w64}
 use Rattle.std.specs.Prelude.{IsTrue, IsUtf8}
 use Rattle.raw_array.specs.Members.{members_of}
-use Rattle.layout_check.specs.Layout.{natural, is_valid}
-use Rattle.layout_check.specs.Views.{view_length, view_buffer, view_offset}
+use Rattle.layout_rules.specs.Layout.{natural, is_valid}
+use Rattle.layout_rules.specs.Views.{view_length, view_buffer, view_offset}
 use Rattle.layout_check.proofs.Casts.{cast_is, cast_fits, is_longer, is_shorter, word_is, word_isnt}
 use Rattle.layout_check.proofs.LongViews.{view-named, part-within}
 use Rattle.layout_check.proofs.ViewPasses.{other-passes, null-passes, short-passes, part-passes}

@@ -1,7 +1,7 @@
 use Rattle.std.proofs.Common.{◌≡◌, ◌+◌, ◌≤◌, ◌&&◌, ◌==◌, ℕ, ℤ, pos, not, Bool, true, ap, subst, sym, ◌∙◌, arith}
 use Rattle.raw_array.specs.Members.{members_of}
-use Rattle.layout_check.specs.Views.{view_length, view_prefix, view_data, is_long}
-use Rattle.layout_check.specs.Rules.{fault_if}
+use Rattle.layout_rules.specs.Views.{view_length, view_prefix, view_data, is_long}
+use Rattle.layout_rules.specs.Rules.{fault_if}
 use Rattle.layout_check.proofs.Casts.{is_longer-gt}
 use Rattle.bit_pack.specs.Packed.{number_at}
 use Rattle.layout_check.proofs.views.prefix_wrong.Goals as goal

@@ -1,8 +1,8 @@
 use Rattle.std.proofs.lemmas.Grind.{common_steps}
 use Rattle.std.proofs.Common.{◌<◌, ◌+◌, ◌-◌, ◌≡◌, ℕ, Fits, length, w64, arith}
 use Rattle.raw_array.specs.Members.{members_of}
-use Rattle.layout_check.specs.Layout.{natural}
-use Rattle.layout_check.specs.Views.{view_length, view_buffer, view_offset}
+use Rattle.layout_rules.specs.Layout.{natural}
+use Rattle.layout_rules.specs.Views.{view_length, view_buffer, view_offset}
 use Rattle.layout_check.proofs.Casts.{cast_is, cast_below, cast_fits, sum_fits, is_longer-gt}
 use Rattle.layout_check.proofs.views.view_data.Goals as goal
 

@@ -1,5 +1,5 @@
 use Rattle.std.proofs.Common.{arith}
-use Rattle.layout_check.proofs.Long.{long}
+use Rattle.layout_rules.proofs.Long.{long}
 use Rattle.layout_check.proofs.views.views_pass.Goals as goal
 
 pub all_are_placed-requires-clause-validity : goal.all_are_placed-requires-clause-validity

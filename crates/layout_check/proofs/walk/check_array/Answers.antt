@@ -1,4 +1,4 @@
-use Rattle.layout_check.proofs.Lawful.{lawful}
+use Rattle.layout_rules.proofs.Lawful.{lawful}
 use Rattle.std.proofs.Common.{arith}
 use Rattle.std.proofs.lemmas.Grind.{common_steps}
 use Rattle.layout_check.proofs.walk.check_array.Goals as goal

@@ -2,9 +2,9 @@ use Rattle.std.proofs.lemmas.Grind.{common_steps}
 use Rattle.std.proofs.Common.{◌≡◌, subst, arith}
 use Rattle.std.specs.Prelude.{is_none}
 use Rattle.raw_array.specs.Members.{ArrayTree}
-use Rattle.layout_check.specs.Rules.{buffer_rules, item_rules}
+use Rattle.layout_rules.specs.Rules.{buffer_rules, item_rules}
 use Rattle.layout_check.specs.NodeView.{live_node}
-use Rattle.layout_check.specs.Walk.{rules_fault}
+use Rattle.layout_rules.specs.Walk.{rules_fault}
 use Rattle.layout_check.proofs.Passes.{none-own}
 use Rattle.layout_check.proofs.walk.own_passes.Goals as goal
 

@@ -6,7 +6,7 @@ use Rattle.tree_model.specs.Tree.{children_of}
 use Rattle.unit_pass.specs.Tally.{risen}
 use Rattle.schema_check.specs.ColumnKinds.{type_of_columns}
 use Rattle.schema_check.specs.Kinds.{KindTree}
-use Rattle.layout_check.specs.Values.{rows_of}
+use Rattle.layout_rules.specs.Values.{rows_of}
 use Rattle.arr_import.specs.Window.{IsStruct}
 use Rattle.stage_model.specs.Stages.{rows_after}
 use Rattle.stage_model.specs.Traffic.{Moved, table_blocks}

@@ -8,7 +8,7 @@ use Rattle.fmt_string.specs.Value.{Value}
 use Rattle.fmt_string.specs.declared.kind.DataType.{DataType}
 use Rattle.schema_check.specs.ColumnKinds.{type_of_kind}
 use Rattle.schema_check.specs.TypedView.{typed_of}
-use Rattle.layout_check.specs.Values.{value_at}
+use Rattle.layout_rules.specs.Values.{value_at}
 use Rattle.stage_filter.specs.Kept.{values_at}
 use Rattle.column_fill.specs.Takes.{Takes}
 use Rattle.column_fill.proofs.ItemsMoved.{item-of, one-more, takes-next}

@@ -11,7 +11,7 @@ use Rattle.tree_model.specs.Tree.{IsLive, Released, child_at, children_of, trees
 use Rattle.raw_array.specs.Members.{ArrayTree, cost_of_all, members_of}
 use Rattle.schema_check.specs.ColumnKinds.{type_of_columns, type_of_kind}
 use Rattle.schema_check.specs.Kinds.{TypedOk}
-use Rattle.layout_check.specs.Layout.{first, natural}
+use Rattle.layout_rules.specs.Layout.{first, natural}
 use Rattle.schema_check.specs.declared.typed.Typed.{out-Typed}
 use Rattle.schema_check.specs.TypedView.{kids_of, typed_of}
 use Rattle.arr_export.specs.ArrayTrees.{IsColumn}

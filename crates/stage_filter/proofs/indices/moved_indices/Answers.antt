@@ -7,7 +7,7 @@ use Rattle.col_build.specs.Holding.{Holds, Takes}
 use Rattle.fmt_string.specs.Table.{Dict}
 use Rattle.fmt_string.specs.Value.{Value}
 use Rattle.schema_check.specs.ColumnKinds.{type_of_kind}
-use Rattle.layout_check.specs.Values.{value_at}
+use Rattle.layout_rules.specs.Values.{value_at}
 use Rattle.stage_filter.specs.KeptTrees.{index_type, indices_at}
 use Rattle.stage_filter.proofs.IndexedItems.{has-dictionary, index-kind, index-values, next-place}
 use Rattle.column_fill.proofs.ItemsMoved.{holds-wholes, one-more, taken, takes-next}

@@ -4,7 +4,7 @@ use Rattle.std.proofs.Math.Seq.{get_or-append_seam}
 use Rattle.raw_array.specs.Members.{ArrayTree}
 use Rattle.schema_check.specs.Kinds.{KindTree}
 use Rattle.schema_check.specs.TypedView.{typed_of}
-use Rattle.layout_check.specs.Values.{rows_of, tree_items}
+use Rattle.layout_rules.specs.Values.{rows_of, tree_items}
 use Rattle.arr_import.specs.Cols.{window_of}
 use Rattle.arr_import.specs.Window.{Window, child_window, whole}
 use Rattle.column_fill.proofs.Counts.{count-is}

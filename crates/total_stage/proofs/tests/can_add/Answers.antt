@@ -6,8 +6,8 @@ use Rattle.tree_model.specs.Tree.{children_of}
 use Rattle.raw_array.specs.Members.{ArrayTree}
 use Rattle.schema_check.specs.Kinds.{KindTree}
 use Rattle.schema_check.specs.TypedView.{typed_of}
-use Rattle.layout_check.specs.Values.{row_items, rows_of, tree_items}
-use Rattle.layout_check.specs.Walk.{ChunkOk}
+use Rattle.layout_rules.specs.Values.{row_items, rows_of, tree_items}
+use Rattle.layout_rules.specs.Walk.{ChunkOk}
 use Rattle.arr_import.specs.Cols.{window_of}
 use Rattle.arr_import.specs.Window.{Window, child_window, item_at}
 use Rattle.column_fill.proofs.Counts.{count-is}

@@ -6,7 +6,7 @@ use Rattle.schema_check.specs.declared.typed.Typed.{Typed, out-Typed}
 use Rattle.schema_check.specs.Ways.{steps_of}
 use Rattle.schema_check.specs.Kinds.{KindTree, AllNodesOk}
 use Rattle.schema_check.specs.TypedView.{typed_of}
-use Rattle.layout_check.specs.Walk.{LayoutOk}
+use Rattle.layout_rules.specs.Walk.{LayoutOk}
 use Rattle.schema_check.proofs.Levels.{levels-kid, levels-typed, kid-ok, kids-ok, get_or-typed}
 use Rattle.tree_text.proofs.Reports.{child_more, children_end, tree_steps}
 use Rattle.tree_text.proofs.report_tree.+report.Goals as goal

@@ -2,9 +2,9 @@ use Rattle.std.proofs.Common.{◌≡◌, ℕ, ◌+◌, ◌<◌, ◌≤◌, lengt
 use Rattle.tree_model.specs.Tree.{Released, child_at, children_of}
 use Rattle.raw_array.specs.Members.{members_of}
 use Rattle.schema_check.specs.TypedView.{typed_of, kids_of}
-use Rattle.layout_check.specs.Layout.{first, end}
-use Rattle.layout_check.specs.Rules.{items_need}
-use Rattle.layout_check.specs.Values.{value_at, tree_items}
+use Rattle.layout_rules.specs.Layout.{first, end}
+use Rattle.layout_rules.specs.Rules.{items_need}
+use Rattle.layout_rules.specs.Values.{value_at, tree_items}
 use Rattle.arr_import.proofs.Reading.{struct-typed, kids-typed, row-field}
 use Rattle.arr_import.proofs.col.Col.fields_are_there.Goals as goal
 

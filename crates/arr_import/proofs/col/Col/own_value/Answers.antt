@@ -1,5 +1,5 @@
 use Rattle.std.proofs.Common.{◌≡◌, ◌+◌, sym, subst, true}
-use Rattle.layout_check.specs.Layout.{is_valid}
+use Rattle.layout_rules.specs.Layout.{is_valid}
 use Rattle.raw_array.specs.Members.{members_of}
 use Rattle.arr_import.specs.Shown.{Shows}
 use Rattle.arr_import.proofs.Reading.{value-item}

@@ -10,7 +10,7 @@ use Rattle.raw_array.specs.Members.{ArrayTree}
 use Rattle.unit_pass.specs.Tally.{risen}
 use Rattle.schema_check.specs.ColumnKinds.{type_of_columns}
 use Rattle.schema_check.specs.TypedView.{typed_of}
-use Rattle.layout_check.specs.Values.{rows_of}
+use Rattle.layout_rules.specs.Values.{rows_of}
 use Rattle.column_laws.specs.Picking.{Replaced}
 use Rattle.stage_model.specs.Traffic.{Made, kind_blocks, kind_nodes}
 use Rattle.stage_model.specs.Typing.{column_at}

@@ -4,7 +4,7 @@ use Rattle.tree_model.specs.Tree.{IsLive, Depth}
 use Rattle.fmt_string.specs.ColumnView.{column_of}
 use Rattle.fmt_string.specs.Parts.{AreWithin}
 use Rattle.schema_check.specs.Kinds.{TypedOk}
-use Rattle.layout_check.specs.Walk.{ChunkOk}
+use Rattle.layout_rules.specs.Walk.{ChunkOk}
 use Rattle.schema_check.specs.ColumnKinds.{type_of_columns}
 use Rattle.arr_move.specs.TreeActs.{Distinct}
 use Rattle.column_laws.specs.Picking.{Packed}

@@ -3,7 +3,7 @@ use Rattle.std.proofs.Common.{rules, ◌≡◌, ◌≤◌, ◌∙◌, pos, IsTru
 use Rattle.tree_model.specs.Tree.{IsLive}
 use Rattle.raw_array.specs.Members.{Cost}
 use Rattle.fmt_string.specs.Parts.{AreWithin}
-use Rattle.layout_check.specs.Walk.{ChunkOk}
+use Rattle.layout_rules.specs.Walk.{ChunkOk}
 use Rattle.schema_check.specs.ColumnKinds.{type_of_columns}
 use Rattle.arr_move.specs.TreeActs.{Columns}
 use Rattle.stream_face.specs.Meaning.{meaning}

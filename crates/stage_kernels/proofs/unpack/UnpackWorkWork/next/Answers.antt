@@ -2,7 +2,7 @@ use Rattle.std.proofs.lemmas.Grind.{common_steps}
 use Rattle.std.proofs.Common.{rules, ◌≡◌, ◌≤◌, ◌∙◌, pos, map, IsTrue, sym, ap, subst, arith}
 use Rattle.tree_model.specs.Tree.{IsLive}
 use Rattle.raw_array.specs.Members.{Cost}
-use Rattle.layout_check.specs.Walk.{ChunkOk}
+use Rattle.layout_rules.specs.Walk.{ChunkOk}
 use Rattle.schema_check.specs.ColumnKinds.{type_of_columns}
 use Rattle.column_laws.specs.Picking.{Unpacked}
 use Rattle.fmt_string.specs.ColumnView.{column_of}

@@ -4,7 +4,7 @@ use Rattle.raw_schema.specs.Members.{Nodes}
 use Rattle.schema_check.specs.ColumnKinds.{type_of_columns}
 use Rattle.schema_check.specs.ColumnSchema.{SchemaOf}
 use Rattle.schema_check.specs.Schemas.{TypedOf}
-use Rattle.layout_check.specs.Walk.{ChunkOk}
+use Rattle.layout_rules.specs.Walk.{ChunkOk}
 use Rattle.stream_face.specs.Calls.{IsCode, IsRowFault, Shows, Tells}
 use Rattle.stream_face.specs.Failures.{why}
 use Rattle.stream_face.specs.Raw.{refusal_or}

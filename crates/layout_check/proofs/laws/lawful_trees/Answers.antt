@@ -1,5 +1,0 @@
-use Rattle.layout_check.proofs.TreeLaws.{root_holds, parts_hold, items_hold}
-use Rattle.layout_check.proofs.laws.lawful_trees.Goals as goal
-
-pub returns : goal.returns
-returns c = record { root = root_holds; parts = parts_hold; items = items_hold }

@@ -1,0 +1,10 @@
+pub mod Walks
+pub mod Firsts
+pub mod Lawful
+pub mod Long
+pub mod TextData
+pub mod Roots
+pub mod Named
+pub mod Placed
+pub mod ReadWithin
+pub mod TreeLaws

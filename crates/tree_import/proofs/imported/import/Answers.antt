@@ -1,0 +1,69 @@
+use Rattle.std.proofs.lemmas.Grind.{common_steps}
+use Rattle.std.proofs.Common.{◌≡◌, Ok, Err, refl, sym, subst, true≢false, arith}
+use Rattle.schema_check.specs.declared.schema.SchemaFault.{SchemaFault}
+use Rattle.schema_check.specs.declared.schema.SchemaFault.TheVariants.{At, NoMemory}
+use Rattle.schema_check.specs.Kinds.{KindTree}
+use Rattle.schema_check.specs.Schemas.{TypedOf}
+use Rattle.schema_check.specs.SchemaAnswers.{Gives}
+use Rattle.schema_check.specs.TypedView.{typed_of}
+use Rattle.layout_rules.specs.Walk.{LayoutOk}
+use Rattle.tree_import.specs.declared.imported.ImportFault.TheVariants.{Schema}
+use Rattle.tree_import.proofs.imported.import.Goals as goal
+
+memory : (fault : SchemaFault) (typed : KindTree) → Gives (Err fault) (Ok typed) → Schema fault ≡ Schema NoMemory
+memory (At path rule) typed e = absurd (cc)
+memory NoMemory typed e = refl
+
+pub returns-in-Err-clause-only : goal.returns-in-Err-clause-only
+returns-in-Err-clause-only c =
+    λ (typed : KindTree) (kinds : TypedOf c.args.schema typed) (lawful : LayoutOk typed c.args.array).
+    memory c.in-Err.fault typed (c.in-Err.ensures.only (Ok typed) kinds)
+
+pub returns-in-Err-check_array-clause-only : goal.returns-in-Err-check_array-clause-only
+returns-in-Err-check_array-clause-only c =
+    λ (typed : KindTree) (kinds : TypedOf c.args.schema typed) (lawful : LayoutOk typed c.args.array).
+    let given : Gives (Ok c.in-Ok.typed) (Ok typed) = c.in-Ok.ensures.only (Ok typed) kinds in
+    let same : typed ≡ typed_of c.in-Ok.typed = cc given in
+    absurd (true≢false (sym (c.in-Err-check_array.ensures.lawful.1 (subst (λ t. LayoutOk t c.args.array) same lawful))))
+
+pub one_schema_answer-requires : goal.one_schema_answer-requires
+one_schema_answer-requires c = grind (arith, common_steps)
+
+pub check_schema-requires : goal.check_schema-requires
+check_schema-requires c = grind (arith, common_steps)
+
+pub returns-in-Err-clause-taken : goal.returns-in-Err-clause-taken
+returns-in-Err-clause-taken c = grind (arith, common_steps)
+
+pub returns-in-Err-clause-back : goal.returns-in-Err-clause-back
+returns-in-Err-clause-back c = grind (arith, common_steps)
+
+pub returns-in-Err-clause-fault : goal.returns-in-Err-clause-fault
+returns-in-Err-clause-fault c = grind (arith, common_steps)
+
+pub check_array-requires : goal.check_array-requires
+check_array-requires c = grind (arith, common_steps)
+
+pub invariant_of-result : goal.invariant_of-result
+invariant_of-result c = grind (arith, common_steps)
+
+pub returns-in-Ok-check_array-clause-taken : goal.returns-in-Ok-check_array-clause-taken
+returns-in-Ok-check_array-clause-taken c = grind (arith, common_steps)
+
+pub returns-in-Ok-check_array-clause-back : goal.returns-in-Ok-check_array-clause-back
+returns-in-Ok-check_array-clause-back c = grind (arith, common_steps)
+
+pub returns-in-Ok-check_array-clause-fault : goal.returns-in-Ok-check_array-clause-fault
+returns-in-Ok-check_array-clause-fault c = grind (arith, common_steps)
+
+pub returns-in-Ok-check_array-clause-only : goal.returns-in-Ok-check_array-clause-only
+returns-in-Ok-check_array-clause-only c = grind (arith, common_steps)
+
+pub returns-in-Err-check_array-clause-taken : goal.returns-in-Err-check_array-clause-taken
+returns-in-Err-check_array-clause-taken c = grind (arith, common_steps)
+
+pub returns-in-Err-check_array-clause-back : goal.returns-in-Err-check_array-clause-back
+returns-in-Err-check_array-clause-back c = grind (arith, common_steps)
+
+pub returns-in-Err-check_array-clause-fault : goal.returns-in-Err-check_array-clause-fault
+returns-in-Err-check_array-clause-fault c = grind (arith, common_steps)

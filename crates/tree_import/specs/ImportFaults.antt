@@ -1,0 +1,16 @@
+-- Why two structures are not taken.
+use Rattle.std.specs.Prelude.{◌≡◌, Some}
+use Rattle.raw_array.specs.Members.{ArrayTree}
+use Rattle.raw_schema.specs.Members.{SchemaTree}
+use Rattle.schema_check.specs.Kinds.{KindTree}
+use Rattle.schema_check.specs.Schemas.{TypedOf}
+use Rattle.schema_check.specs.SchemaAnswers.{IsFirstFault}
+use Rattle.layout_rules.specs.Found.{fault_of}
+use Rattle.layout_rules.specs.Walk.{first_fault}
+use Rattle.tree_import.specs.declared.imported.ImportFault.{ImportFault}
+use Rattle.tree_import.specs.declared.imported.ImportFault.TheVariants.{Schema, Layout}
+
+-- the schema's first fault, or want of memory; else the array's first fault by the schema's kinds
+abbrev pub IsImportFault : SchemaTree → ArrayTree → ImportFault → Type 0
+IsImportFault schema array (Schema fault) = IsFirstFault schema fault
+IsImportFault schema array (Layout fault) = (typed : KindTree) × TypedOf schema typed × (first_fault typed array ≡ Some (fault_of fault))

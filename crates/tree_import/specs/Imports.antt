@@ -1,0 +1,19 @@
+-- What contracts see of an import: the two trees, and the kinds of the schema.
+use Rattle.raw_array.specs.Members.{ArrayTree}
+use Rattle.raw_schema.specs.Members.{SchemaTree}
+use Rattle.schema_check.specs.declared.typed.Typed.{Typed}
+use Rattle.schema_check.specs.Kinds.{TypedOk}
+use Rattle.schema_check.specs.Schemas.{TypedOf}
+use Rattle.schema_check.specs.TypedView.{typed_of}
+use Rattle.layout_rules.specs.Walk.{LayoutOk}
+
+pub record ImportedTrees : Type 0 where
+  pub schema : SchemaTree
+  pub array : ArrayTree
+  pub typed : Typed
+
+-- both checks accept them
+pub record AreChecked (schema : SchemaTree) (array : ArrayTree) (typed : Typed) : Type 0 where
+  pub kinds : TypedOf schema (typed_of typed)
+  pub types : TypedOk (typed_of typed)
+  pub lawful : LayoutOk (typed_of typed) array
