@@ -10,10 +10,11 @@ use Rattle.fmt_string.specs.declared.fault.FormatRule.{FormatRule}
 use Rattle.fmt_string.specs.declared.fault.FormatRule.TheVariants as rules
 use Rattle.fmt_string.specs.declared.fault.FormatFault.{FormatFault}
 use Rattle.fmt_string.specs.declared.fault.FormatFault.TheVariants.{At}
-use Rattle.fmt_string.specs.declared.kind.DataType.{DataType}
-use Rattle.fmt_string.specs.declared.kind.DataType.TheVariants as kinds
+use Rattle.data_types.specs.declared.kind.DataType.{DataType}
+use Rattle.data_types.specs.declared.kind.DataType.TheVariants as kinds
 use Rattle.fmt_string.specs.FormatString.{IsDigit, IsNumber, IsSigned, IsWidth, NoNumber, NumberThen, StartsWith, StartsWithDigit, comma, Parts, parts_text}
-use Rattle.fmt_string.specs.FormatString.{PartsAre, Ends, width_of, most_precise, DecimalIs, NumberPlace, numbers_before, IsNumberPlace, Misses, KnownWidth}
+use Rattle.fmt_string.specs.FormatString.{PartsAre, Ends, width_of, DecimalIs, NumberPlace, numbers_before, IsNumberPlace, Misses, KnownWidth}
+use Rattle.data_types.specs.Kinds.{most_precise}
 use Rattle.fmt_string.specs.FormatString.{most_at, WidthFails, RangeFails, NumbersFail}
 use Rattle.fmt_string.specs.FormatString.NumberPlace.{AtPrecision, AtScale, AtWidth}
 use Rattle.fmt_string.specs.Decimal.{signed_value, width_value}

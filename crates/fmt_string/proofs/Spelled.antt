@@ -5,14 +5,14 @@ use Rattle.std.specs.Prelude.{Contains, FitsSigned, ◌⊎◌, decimal}
 use Rattle.std.specs.Int.{w32}
 use Rattle.std.specs.Fmt.{signed_decimal}
 use Rattle.std.proofs.lemmas.Fmt.{decimal_is_IsNumeral, decimal_digit, first_decimal}
-use Rattle.fmt_string.specs.declared.kind.DataType.{DataType}
-use Rattle.fmt_string.specs.declared.kind.DataType.TheVariants as kinds
-use Rattle.fmt_string.specs.declared.kind.Tick.{Tick}
-use Rattle.fmt_string.specs.declared.kind.Tick.TheVariants.{Second, Milli, Micro, Nano}
+use Rattle.data_types.specs.declared.kind.DataType.{DataType}
+use Rattle.data_types.specs.declared.kind.DataType.TheVariants as kinds
+use Rattle.data_types.specs.declared.kind.Tick.{Tick}
+use Rattle.data_types.specs.declared.kind.Tick.TheVariants.{Second, Milli, Micro, Nano}
 use Rattle.fmt_string.specs.Keywords.{keywords}
 use Rattle.fmt_string.specs.Keywords.Behind.{Alone, Zone, BinarySize, ListSize, Numbers}
-use Rattle.fmt_string.specs.FormatString.{IsNumber, IsSigned, IsWidth, comma, width_of, most_precise, DecimalIs, FormatIs}
-use Rattle.fmt_string.specs.Kinds.{KindOk}
+use Rattle.fmt_string.specs.FormatString.{IsNumber, IsSigned, IsWidth, comma, width_of, DecimalIs, FormatIs}
+use Rattle.data_types.specs.Kinds.{KindOk, most_precise}
 use Rattle.fmt_string.specs.Spelling.{int_word, float_word, width_text, spelling_of}
 
 -- ---- numbers

@@ -1,11 +1,9 @@
--- The texts of faults.
+-- The texts of faults of format strings.
 use Rattle.std.specs.Prelude.{ℕ, ◌++◌, List, codes, decimal}
 use Rattle.fmt_string.specs.declared.fault.FormatFault.{FormatFault}
 use Rattle.fmt_string.specs.declared.fault.FormatFault.TheVariants as faults
 use Rattle.fmt_string.specs.declared.fault.FormatRule.{FormatRule}
 use Rattle.fmt_string.specs.declared.fault.FormatRule.TheVariants as rules
-use Rattle.fmt_string.specs.declared.row_fault.RowFault.{RowFault}
-use Rattle.fmt_string.specs.declared.row_fault.RowFault.TheVariants as rows
 
 -- a rule's name
 abbrev pub rule_text : FormatRule → List ℕ
@@ -19,8 +17,3 @@ rule_text rules.Unsupported = codes "Unsupported"
 abbrev pub format_fault_text : FormatFault → List ℕ
 format_fault_text (faults.At rule place) = rule_text rule ++ codes " at " ++ decimal place
 format_fault_text faults.NoMemory = codes "out of memory"
-
--- why a record spells no row
-abbrev pub row_fault_text : RowFault → List ℕ
-row_fault_text (rows.Ragged row found) = codes "record " ++ decimal row ++ codes ": " ++ decimal found ++ codes " fields"
-row_fault_text (rows.Field row column) = codes "record " ++ decimal row ++ codes ", column " ++ decimal column ++ codes ": not a value of its type"

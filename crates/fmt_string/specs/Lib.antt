@@ -1,15 +1,7 @@
 pub mod Keywords
 pub mod FormatString
 pub mod Decimal
-pub mod Kinds
 pub mod Spelling
 pub mod Meaning
 pub mod Answer
-pub mod Value
-pub mod Table
-pub mod Storage
-pub mod FieldText
-pub mod ColumnView
-pub mod ColumnForms
-pub mod Parts
 pub mod FaultTexts

@@ -2,10 +2,10 @@
 use Rattle.std.specs.Prelude.{ℕ, Bool, true, false, List, [], ◌++◌, codes, decimal, if◌then◌else◌, ◌==◌}
 use Rattle.std.specs.Fmt.{signed_decimal}
 use Rattle.fmt_string.specs.FormatString.{comma}
-use Rattle.fmt_string.specs.declared.kind.DataType.{DataType}
-use Rattle.fmt_string.specs.declared.kind.DataType.TheVariants as kinds
-use Rattle.fmt_string.specs.declared.kind.Tick.{Tick}
-use Rattle.fmt_string.specs.declared.kind.Tick.TheVariants.{Second, Milli, Micro, Nano}
+use Rattle.data_types.specs.declared.kind.DataType.{DataType}
+use Rattle.data_types.specs.declared.kind.DataType.TheVariants as kinds
+use Rattle.data_types.specs.declared.kind.Tick.{Tick}
+use Rattle.data_types.specs.declared.kind.Tick.TheVariants.{Second, Milli, Micro, Nano}
 
 abbrev pub int_word : ℕ → Bool → List ℕ
 int_word bits true = if bits == 8 then codes "c" else if bits == 16 then codes "s" else if bits == 32 then codes "i" else codes "l"

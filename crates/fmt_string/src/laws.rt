@@ -1,9 +1,9 @@
 //! Why reading may be trusted: one answer for each text, one text for each type, and numbers in their ranges.
 ghost use Rattle.std.specs.Prelude.{◌≡◌, ℕ, List, Result};
-ghost use Rattle.fmt_string.specs.declared.kind.DataType.{DataType};
+ghost use Rattle.data_types.specs.declared.kind.DataType.{DataType};
 ghost use Rattle.fmt_string.specs.declared.fault.FormatFault.{FormatFault};
 ghost use Rattle.fmt_string.specs.FormatString.{FormatIs};
-ghost use Rattle.fmt_string.specs.Kinds.{KindOk};
+ghost use Rattle.data_types.specs.Kinds.{KindOk};
 ghost use Rattle.fmt_string.specs.Spelling.{spelling_of};
 ghost use Rattle.fmt_string.specs.Answer.{Reads};
 

@@ -2,10 +2,10 @@
 ghost use Rattle.std.specs.Prelude.{◌≡◌, ◌++◌, decimal, codes, IfOk};
 ghost use Rattle.std.specs.Fmt.{signed_decimal};
 ghost use Rattle.fmt_string.specs.FormatString.{comma, FormatIs};
-ghost use Rattle.fmt_string.specs.Kinds.{KindOk};
+ghost use Rattle.data_types.specs.Kinds.{KindOk};
 ghost use Rattle.fmt_string.specs.Spelling.{int_word, float_word, time_word, timestamp_word, duration_word, word_of, width_text, rest_of, spelling_of};
 
-use crate::{DataType, Tick};
+use data_types::{DataType, Tick};
 use itoa::Buffer;
 use std::alloc::Global;
 use unit_pass::NoMemory;

@@ -1,6 +1,4 @@
-pub mod Levels
 pub mod SchemaFails
 pub mod SchemaParts
 pub mod SchemaOne
 pub mod SchemaValid
-pub mod MadeTypes

@@ -1,7 +1,7 @@
 -- The rules that fail at a live node of a schema, and the words of the code's tests.
 use Rattle.std.proofs.Common.{rules, ◌≡◌, ℕ, ◌≤◌, List, [], ◌∷◌, length, get_or, Option, None, Some, refl, sym, ap, subst, ◌∙◌, arith}
 use Rattle.std.specs.Prelude.{codes, Bool, true, false, IsTrue}
-use Rattle.fmt_string.specs.declared.kind.DataType.{DataType}
+use Rattle.data_types.specs.declared.kind.DataType.{DataType}
 use Rattle.fmt_string.specs.declared.fault.FormatRule.{FormatRule}
 use Rattle.fmt_string.specs.declared.fault.FormatFault.TheVariants as format
 use Rattle.fmt_string.specs.FormatString.{FormatIs, FormatFaultIs}
@@ -14,7 +14,7 @@ use Rattle.tree_model.proofs.Lists.{trees-tree_list}
 use Rattle.raw_schema.specs.Members.{SchemaMembers, SchemaTree, members_of}
 use Rattle.schema_check.specs.declared.rule.SchemaRule.{SchemaRule}
 use Rattle.schema_check.specs.declared.rule.SchemaRule.TheVariants as rules
-use Rattle.schema_check.specs.Kinds.{tree_count}
+use Rattle.kind_tree.specs.Kinds.{tree_count}
 use Rattle.schema_check.specs.Schemas.{MetaFits, ChildrenFit, IndexFits, IsPairNode, IsPairSchema, MapFits, FailsHere}
 use Rattle.schema_check.specs.SchemaAnswers.{MetaRefused}
 

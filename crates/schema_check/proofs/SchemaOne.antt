@@ -2,7 +2,7 @@
 use Rattle.std.proofs.Common.{◌≡◌, ℕ, suc, ◌+◌, ◌<◌, ◌≤◌, List, [], ◌∷◌, Option, Some, Result, Ok, Err, refl, sym, ap, subst, ◌∙◌, inl, inr, arith}
 use Rattle.std.specs.Prelude.{IfOk, IfErr}
 use Rattle.std.proofs.lemmas.Bool.{cases_lt}
-use Rattle.fmt_string.specs.declared.kind.DataType.{DataType}
+use Rattle.data_types.specs.declared.kind.DataType.{DataType}
 use Rattle.fmt_string.specs.declared.fault.FormatRule.{FormatRule}
 use Rattle.fmt_string.specs.declared.fault.FormatFault.{FormatFault}
 use Rattle.fmt_string.specs.declared.fault.FormatFault.TheVariants as format
@@ -18,10 +18,10 @@ use Rattle.schema_check.specs.declared.rule.SchemaRule.{SchemaRule}
 use Rattle.schema_check.specs.declared.rule.SchemaRule.TheVariants as rules
 use Rattle.schema_check.specs.declared.schema.SchemaFault.{SchemaFault}
 use Rattle.schema_check.specs.declared.schema.SchemaFault.TheVariants.{At, NoMemory}
-use Rattle.schema_check.specs.declared.typed.Typed.{Typed}
-use Rattle.schema_check.specs.Kinds.{KindTree}
-use Rattle.schema_check.specs.TypedView.{typed_of}
-use Rattle.schema_check.specs.Ways.{Steps, dictionary_step, steps_of}
+use Rattle.kind_tree.specs.declared.typed.Typed.{Typed}
+use Rattle.kind_tree.specs.Kinds.{KindTree}
+use Rattle.kind_tree.specs.TypedView.{typed_of}
+use Rattle.kind_tree.specs.Ways.{Steps, dictionary_step, steps_of}
 use Rattle.schema_check.specs.Schemas.{MetaFits, ChildrenFit, IndexFits, MapFits, NodeIs, KidsTyped, DictTyped, TypedFrom, TypedOf, FailsHere, FaultFrom}
 use Rattle.schema_check.specs.Schemas.{KidFault, DictFault}
 use Rattle.schema_check.specs.SchemaAnswers.{FirstFault, SchemaReads, Gives, IsFirstFault}

@@ -3,20 +3,20 @@ use Rattle.std.proofs.Common.{◌≡◌, ℕ, zero, suc, ◌+◌, ◌<◌, List,
 use Rattle.std.proofs.Common.{append_assoc, inl, inr, arith}
 use Rattle.std.proofs.lemmas.List.{append-nil, map-append, take_more}
 use Rattle.std.specs.Global.{Box}
-use Rattle.fmt_string.specs.declared.kind.DataType.{DataType}
+use Rattle.data_types.specs.declared.kind.DataType.{DataType}
 use Rattle.tree_model.specs.Tree.{Released, Live, Trees, trees, maybe_tree, IsLive, children_of, dictionary_of}
 use Rattle.tree_model.proofs.Lists.{trees-tree_list}
 use Rattle.raw_schema.specs.Members.{SchemaTree, members_of}
 use Rattle.schema_check.specs.declared.rule.SchemaRule.{SchemaRule}
 use Rattle.schema_check.specs.declared.schema.SchemaFault.{SchemaFault}
 use Rattle.schema_check.specs.declared.schema.SchemaFault.TheVariants.{At, NoMemory}
-use Rattle.schema_check.specs.declared.typed.Typed.{Typed}
-use Rattle.schema_check.specs.declared.typed.Typed.TheOpen.{Typed-F}
-use Rattle.schema_check.specs.declared.typed.Typed.TheViews.{roll-Typed}
-use Rattle.schema_check.specs.declared.typed.Typed.TheFolds.{map-Typed, fold-roll-Typed}
-use Rattle.schema_check.specs.Kinds.{KindTree}
-use Rattle.schema_check.specs.TypedView.{typed_of, layer, dict_of, dict_in}
-use Rattle.schema_check.specs.Ways.{Steps, dictionary_step}
+use Rattle.kind_tree.specs.declared.typed.Typed.{Typed}
+use Rattle.kind_tree.specs.declared.typed.Typed.TheOpen.{Typed-F}
+use Rattle.kind_tree.specs.declared.typed.Typed.TheViews.{roll-Typed}
+use Rattle.kind_tree.specs.declared.typed.Typed.TheFolds.{map-Typed, fold-roll-Typed}
+use Rattle.kind_tree.specs.Kinds.{KindTree}
+use Rattle.kind_tree.specs.TypedView.{typed_of, layer, dict_of, dict_in}
+use Rattle.kind_tree.specs.Ways.{Steps, dictionary_step}
 use Rattle.schema_check.specs.Schemas.{KidsTyped, DictTyped, TypedFrom, FaultFrom, KidFault}
 use Rattle.schema_check.specs.SchemaAnswers.{NodeOf, FaultHere, FaultBelow, FaultInKids, FaultInDict}
 use Rattle.schema_check.proofs.SchemaFails.{same_dictionary}

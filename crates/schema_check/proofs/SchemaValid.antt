@@ -1,13 +1,13 @@
 -- The kinds of a schema that meets each rule are valid.
 use Rattle.std.proofs.Common.{◌≡◌, ℕ, ◌+◌, ◌≤◌, List, refl, sym, subst, ◌∙◌, arith}
-use Rattle.fmt_string.specs.declared.kind.DataType.{DataType}
-use Rattle.fmt_string.specs.declared.kind.DataType.TheVariants as kinds
+use Rattle.data_types.specs.declared.kind.DataType.{DataType}
+use Rattle.data_types.specs.declared.kind.DataType.TheVariants as kinds
 use Rattle.fmt_string.specs.FormatString.{FormatIs}
-use Rattle.fmt_string.specs.Kinds.{KindOk}
+use Rattle.data_types.specs.Kinds.{KindOk}
 use Rattle.fmt_string.specs.Spelling.{spelling_of}
 use Rattle.tree_model.specs.Tree.{Released, Live, Trees, no_trees, more_trees, MaybeTree, absent, present, Depth, depth_of_all, depth_of_maybe}
 use Rattle.raw_schema.specs.Members.{SchemaMembers, SchemaTree}
-use Rattle.schema_check.specs.Kinds.{KindTree, tree_count, IsPairOfColumns, IsOneChild, IsNoChild, KidsOk, DictOk, NodesOk, AllNodesOk, DictNodesOk, TypedOk}
+use Rattle.kind_tree.specs.Kinds.{KindTree, tree_count, IsPairOfColumns, IsOneChild, IsNoChild, KidsOk, DictOk, NodesOk, AllNodesOk, DictNodesOk, TypedOk}
 use Rattle.schema_check.specs.Schemas.{ChildrenFit, IndexFits, MapFits, IsPairNode, IsPairSchema, KidsTyped, DictTyped, TypedFrom, TypedOf}
 use Rattle.schema_check.proofs.SchemaOne.{FormatLaw, one_kind}
 

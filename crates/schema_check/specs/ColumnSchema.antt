@@ -1,10 +1,10 @@
 -- The schema of columns ("The Arrow C Data Interface", "The ArrowSchema structure").
 use Rattle.std.specs.Prelude.{ℕ, ℤ, pos, List, [], map, codes, Option, None, Some}
-use Rattle.fmt_string.specs.declared.kind.DataType.{DataType}
+use Rattle.data_types.specs.declared.kind.DataType.{DataType}
 -- the numbers of a column's types are in their ranges
-pub use Rattle.fmt_string.specs.ColumnForms.{KindsOk, MembersOk}
+pub use Rattle.data_types.specs.ColumnForms.{KindsOk, MembersOk}
 use Rattle.fmt_string.specs.Spelling.{spelling_of}
-use Rattle.fmt_string.specs.Table.{Column, Kind, Flat, Dict, Columns, Members, no_members, more_members}
+use Rattle.data_types.specs.Table.{Column, Kind, Flat, Dict, Columns, Members, no_members, more_members}
 use Rattle.tree_model.specs.Tree.{Live, Trees, no_trees, more_trees, MaybeTree, absent, present, trees}
 use Rattle.raw_schema.specs.Members.{SchemaMembers, SchemaTree}
 

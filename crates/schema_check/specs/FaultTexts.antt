@@ -1,19 +1,11 @@
--- The texts of ways to nodes, and of faults of schemas: the way to the node, and the rule's name.
-use Rattle.std.specs.Prelude.{ℕ, ◌==◌, ◌++◌, if◌then◌else◌, List, [], ◌∷◌, flat_map, codes, decimal}
+-- The texts of faults of schemas: the way to the node, and the rule's name.
+use Rattle.std.specs.Prelude.{ℕ, ◌++◌, List, codes}
 use Rattle.schema_check.specs.declared.rule.SchemaRule.{SchemaRule}
 use Rattle.schema_check.specs.declared.rule.SchemaRule.TheVariants as schema
 use Rattle.schema_check.specs.declared.schema.SchemaFault.{SchemaFault}
 use Rattle.schema_check.specs.declared.schema.SchemaFault.TheVariants as faults
-use Rattle.schema_check.specs.Ways.{Steps, dictionary_step, steps_of}
-
--- a step to a child or to the dictionary
-abbrev pub step_text : ℕ → List ℕ
-step_text step = if step == dictionary_step then codes "/d" else codes "/" ++ decimal step
-
--- the way to a node
-abbrev pub way_text : Steps → List ℕ
-way_text [] = codes "/"
-way_text (step ∷ steps) = flat_map step_text (step ∷ steps)
+use Rattle.kind_tree.specs.Ways.{steps_of}
+use Rattle.kind_tree.specs.WayTexts.{way_text}
 
 -- a rule's name, without the fault that it holds
 abbrev pub schema_rule_text : SchemaRule → List ℕ

@@ -1,6 +1,6 @@
 -- What the answers of the check of a schema say, at a node, at its children, and of the whole.
 use Rattle.std.specs.Prelude.{◌≡◌, ℕ, List, ◌∷◌, ◌++◌, Option, None, Some, Result, Ok, Err}
-use Rattle.fmt_string.specs.declared.kind.DataType.{DataType}
+use Rattle.data_types.specs.declared.kind.DataType.{DataType}
 use Rattle.schema_meta.specs.declared.fault.MetaFault.{MetaFault}
 use Rattle.schema_meta.specs.Meta.{MetaFaultIs}
 use Rattle.tree_model.specs.Tree.{trees, maybe_tree, children_of, dictionary_of}
@@ -8,10 +8,10 @@ use Rattle.raw_schema.specs.Members.{SchemaTree, members_of}
 use Rattle.schema_check.specs.declared.rule.SchemaRule.{SchemaRule}
 use Rattle.schema_check.specs.declared.schema.SchemaFault.{SchemaFault}
 use Rattle.schema_check.specs.declared.schema.SchemaFault.TheVariants.{At, NoMemory}
-use Rattle.schema_check.specs.declared.typed.Typed.{Typed}
-use Rattle.schema_check.specs.Kinds.{KindTree}
-use Rattle.schema_check.specs.TypedView.{typed_of}
-use Rattle.schema_check.specs.Ways.{Steps, dictionary_step, steps_of}
+use Rattle.kind_tree.specs.declared.typed.Typed.{Typed}
+use Rattle.kind_tree.specs.Kinds.{KindTree}
+use Rattle.kind_tree.specs.TypedView.{typed_of}
+use Rattle.kind_tree.specs.Ways.{Steps, dictionary_step, steps_of}
 use Rattle.schema_check.specs.Schemas.{NodeIs, FailsHere, FaultFrom, KidFault, DictFault, TypedOf, SchemaFaultIs}
 
 -- ---- the whole

@@ -1,8 +1,8 @@
 -- What a schema must meet at each node, the kinds of one that does, and the first fault of one that doesn't ("The Arrow C
 -- Data Interface", "The ArrowSchema structure").
 use Rattle.std.specs.Prelude.{◌≡◌, ◌⊎◌, ℕ, suc, ◌+◌, ◌≤◌, ◌<◌, List, [], ◌∷◌, Option, Some, None, codes}
-use Rattle.fmt_string.specs.declared.kind.DataType.{DataType}
-use Rattle.fmt_string.specs.declared.kind.DataType.TheVariants as kinds
+use Rattle.data_types.specs.declared.kind.DataType.{DataType}
+use Rattle.data_types.specs.declared.kind.DataType.TheVariants as kinds
 use Rattle.fmt_string.specs.declared.fault.FormatFault.TheVariants as format
 use Rattle.fmt_string.specs.FormatString.{FormatIs, FormatFaultIs}
 use Rattle.schema_meta.specs.declared.pair.Pair.{Pair}
@@ -12,8 +12,8 @@ use Rattle.tree_model.specs.Tree.{Released, Live, Trees, no_trees, more_trees, M
 use Rattle.raw_schema.specs.Members.{SchemaMembers, SchemaTree}
 use Rattle.schema_check.specs.declared.rule.SchemaRule.{SchemaRule}
 use Rattle.schema_check.specs.declared.rule.SchemaRule.TheVariants as rules
-use Rattle.schema_check.specs.Kinds.{KindTree, tree_count}
-use Rattle.schema_check.specs.Ways.{Steps, dictionary_step}
+use Rattle.kind_tree.specs.Kinds.{KindTree, tree_count}
+use Rattle.kind_tree.specs.Ways.{Steps, dictionary_step}
 
 -- ---- the rules of one node, as what it meets
 

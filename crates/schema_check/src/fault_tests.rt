@@ -1,19 +1,9 @@
-//! Ways to nodes and faults of schemas of each kind as they are printed.
-use crate::{DICTIONARY_STEP, Path, SchemaFault, SchemaRule};
+//! Faults of schemas of each kind as they are printed.
+use crate::{SchemaFault, SchemaRule};
 use fmt_string::{FormatFault, FormatRule};
+use kind_tree::Path;
 use schema_meta::MetaFault;
 use std::test::Fail;
-
-#[test]
-fn a_way_names_each_step(rt: HostRuntime) -> Result<(), Fail> {
-    let alloc = rt.alloc();
-    let root = Path::root();
-    let below = root.down(0).down(DICTIONARY_STEP).down(12);
-    assert_eq!(rt; root.to_string(alloc)?.as_str(), "/");
-    assert_eq!(rt; root.down(3).to_string(alloc)?.as_str(), "/3");
-    assert_eq!(rt; below.to_string(alloc)?.as_str(), "/0/d/12");
-    Ok(())
-}
 
 #[test]
 fn faults_of_schemas_have_their_texts(rt: HostRuntime) -> Result<(), Fail> {

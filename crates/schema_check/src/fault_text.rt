@@ -1,43 +1,10 @@
-//! The texts of ways to nodes, and of faults of schemas: where the node stands, and which rule it breaks.
+//! The texts of faults of schemas: where the node stands, and which rule it breaks.
 ghost use Rattle.std.specs.Prelude.{Some};
-ghost use Rattle.schema_check.specs.FaultTexts.{step_text, way_text, schema_rule_text, schema_fault_text};
-ghost use Rattle.schema_check.specs.Ways.{steps_of};
+ghost use Rattle.schema_check.specs.FaultTexts.{schema_rule_text, schema_fault_text};
 
-use crate::rule::{DICTIONARY_STEP, Path, SchemaRule};
+use crate::rule::SchemaRule;
 use crate::schema::SchemaFault;
 use std::fmt;
-
-/// One step of a way.
-#[derive(Clone, Copy)]
-struct Step(u32);
-
-impl fmt::Display for Step {
-    ghost output = { λ step. Some (step_text step.0) };
-
-    fn fmt<W: fmt::Write>(&self, f: &mut fmt::Formatter<W>) -> fmt::Result {
-        if self.0 == DICTIONARY_STEP {
-            f.write_str("/d")
-        } else {
-            write!(f, "/{}", self.0)
-        }
-    }
-}
-
-impl fmt::Display for Path {
-    ghost output = { λ path. Some (way_text (steps_of path)) };
-
-    fn fmt<W: fmt::Write>(&self, f: &mut fmt::Formatter<W>) -> fmt::Result {
-        let way = self.way();
-        if way.is_empty() {
-            return f.write_str("/");
-        }
-        for step in way {
-            let step = Step(*step);
-            write!(f, "{step}")?;
-        }
-        Ok(())
-    }
-}
 
 impl fmt::Display for SchemaRule {
     ghost output = { λ rule. Some (schema_rule_text rule) };

@@ -1,9 +1,4 @@
-//! The rules of schemas, and the way to the node where one fails.
-ghost use Rattle.std.specs.Prelude.{◌≡◌, ◌↔◌, ◌+◌, ◌<◌, ◌≤◌, ℕ, [], ◌∷◌, ◌++◌, IsTrue, nat_eq};
-ghost use Rattle.std.specs.Cmp.{on_equiv, on_per, partial_equiv_from_equiv};
-ghost use Rattle.std.specs.Cmp.Lexicographic.{nat_list_eq_equiv, pointwise};
-ghost use Rattle.schema_check.specs.Ways.{Steps, steps_of};
-
+//! The rules of schemas.
 use fmt_string::FormatFault;
 use schema_meta::MetaFault;
 
@@ -24,87 +19,4 @@ pub enum SchemaRule {
     MapShape,
     /// The node's level is above 64.
     Deep,
-}
-
-/// Where a node stands: the numbers of the children on the way to it, or [`DICTIONARY_STEP`]. The first `depth` of the
-/// steps lead there; what stands behind them means nothing, and two paths are equal where their steps are.
-#[derive(Clone, Copy, Debug)]
-pub struct Path {
-    pub depth: u8,
-    pub steps: [u32; 64],
-}
-
-/// The step to a node's dictionary.
-pub const DICTIONARY_STEP: u32 = u32::MAX;
-
-impl Path {
-    /// The way to the root.
-    pub fn root() -> Path
-        ensures way { steps_of result ≡ [] }
-        ensures depth { result.depth ≡ 0 }
-    {
-        Path {
-            depth: 0,
-            steps: [0; 64],
-        }
-    }
-
-    /// The way to a part of the node there.
-    pub fn down(&self, step: u32) -> Path
-        requires { self.now.depth < 64 }
-        ensures way { steps_of result ≡ steps_of self.now ++ step ∷ [] }
-        ensures depth { result.depth ≡ self.now.depth + 1 }
-    {
-        let mut steps = self.steps;
-        steps[self.depth as usize] = step;
-        Path {
-            depth: self.depth + 1,
-            steps,
-        }
-    }
-
-    /// Goes down to a part of the node there.
-    pub fn push(&mut self, step: u32)
-        requires { self.old.depth < 64 }
-        ensures way { steps_of self.new ≡ steps_of self.old ++ step ∷ [] }
-        ensures depth { self.new.depth ≡ self.old.depth + 1 }
-    {
-        self.steps[self.depth as usize] = step;
-        self.depth += 1;
-    }
-
-    /// Goes back up to the node that the last step led from.
-    pub fn pop(&mut self)
-        requires some { 1 ≤ self.old.depth }
-        requires within { self.old.depth ≤ 64 }
-        ensures way { (way : Steps) (step : ℕ) → steps_of self.old ≡ way ++ step ∷ [] → steps_of self.new ≡ way }
-        ensures depth { self.new.depth + 1 ≡ self.old.depth }
-    {
-        self.depth -= 1;
-    }
-
-    /// The steps from the root to the node.
-    pub fn way(&self) -> &[u32]
-        ensures { result.now ≡ steps_of self.now }
-    {
-        let depth = (self.depth as usize).min(64);
-        &self.steps[..depth]
-    }
-}
-
-impl PartialEq for Path {
-    ghost eq = { λ a b. pointwise nat_eq (steps_of a) (steps_of b) };
-
-    ghost laws = { on_per steps_of (partial_equiv_from_equiv nat_list_eq_equiv) };
-
-    fn eq(&self, other: &Path) -> bool
-        ensures decided { result ≡ pointwise nat_eq (steps_of self.now) (steps_of other.now) }
-        ensures exact { IsTrue result ↔ (steps_of self.now ≡ steps_of other.now) }
-    {
-        self.way() == other.way()
-    }
-}
-
-impl Eq for Path {
-    ghost laws = { on_equiv steps_of nat_list_eq_equiv };
 }

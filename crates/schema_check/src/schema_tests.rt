@@ -2,10 +2,11 @@
 ghost use Rattle.std.specs.Prelude.{◌≤◌};
 ghost use Rattle.tree_model.specs.Tree.{trees, maybe_tree, depth_of_all, depth_of_maybe};
 
-use crate::rule::{DICTIONARY_STEP, SchemaRule};
+use crate::rule::SchemaRule;
 use crate::schema::{SchemaFault, check_schema};
-use crate::typed::Typed;
-use fmt_string::{DataType, FormatFault, FormatRule};
+use data_types::DataType;
+use fmt_string::{FormatFault, FormatRule};
+use kind_tree::{DICTIONARY_STEP, Typed};
 use raw_schema::{RawSchema, SchemaParts};
 use schema_meta::MetaFault;
 use std::alloc::Global;

@@ -1,0 +1,5 @@
+pub mod FieldLaws
+pub mod FieldValues
+pub mod StructColumns
+pub mod HexPairs
+pub mod ColumnCopies

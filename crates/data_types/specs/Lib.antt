@@ -1,0 +1,9 @@
+pub mod Value
+pub mod Table
+pub mod Storage
+pub mod FieldText
+pub mod Kinds
+pub mod ColumnView
+pub mod ColumnForms
+pub mod Parts
+pub mod FaultTexts

@@ -1,5 +1,0 @@
-use Rattle.fmt_string.proofs.FieldValues.{read_is_value}
-use Rattle.fmt_string.proofs.field_text.fields_are_values.Goals as goal
-
-pub returns : goal.returns
-returns c = read_is_value c.args.kind.now

@@ -1,0 +1,5 @@
+pub mod Kinds
+pub mod TypedView
+pub mod Ways
+pub mod WayTexts
+pub mod ColumnKinds

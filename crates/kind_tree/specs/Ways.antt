@@ -1,0 +1,12 @@
+-- The way from the root to a node, as its steps.
+use Rattle.std.specs.Prelude.{ℕ, ◌-◌, ◌^◌, List, take}
+use Rattle.kind_tree.specs.declared.path.Path.{Path}
+
+abbrev pub Steps : Type 0
+Steps = List ℕ
+
+abbrev pub dictionary_step : ℕ
+dictionary_step = 2 ^ 32 - 1
+
+abbrev pub steps_of : Path → Steps
+steps_of path = take path.depth path.steps
