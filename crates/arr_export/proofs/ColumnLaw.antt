@@ -5,13 +5,13 @@ use Rattle.std.proofs.lemmas.List.Elements.{All-cons, All-nil}
 use Rattle.raw_array.specs.Members.{ArrayMembers, ArrayTree, Buffer}
 use Rattle.raw_array.specs.declared.array.ReleaseKind.TheVariants.{Exported}
 use Rattle.tree_model.specs.Tree.{Live, absent, no_trees}
-use Rattle.fmt_string.specs.Value.{Value, Null, Truth}
-use Rattle.fmt_string.specs.declared.kind.DataType.{DataType}
+use Rattle.data_types.specs.Value.{Value, Null, Truth}
+use Rattle.data_types.specs.declared.kind.DataType.{DataType}
 use Rattle.col_build.specs.Encoding.{Fits, is_null, null_total}
-use Rattle.schema_check.specs.Kinds.{KindTree}
+use Rattle.kind_tree.specs.Kinds.{KindTree}
 use Rattle.layout_rules.specs.Rules.{count_wrong, indices_wrong, length_if, one_if}
 use Rattle.layout_rules.specs.Values.{item, value_at, values_of}
-use Rattle.schema_check.specs.Ways.{Steps}
+use Rattle.kind_tree.specs.Ways.{Steps}
 use Rattle.layout_rules.specs.Walk.{LayoutOk, node_fault, visit_fault}
 use Rattle.arr_export.specs.ArrayTrees.{column_members, column_tree, flat_type}
 use Rattle.arr_export.proofs.ColumnReads.{Reads, reads}

@@ -7,12 +7,12 @@ use Rattle.std.specs.Str.{is_utf8}
 use Rattle.std.specs.Str.Lossy.{utf8_valid_len}
 use Rattle.raw_array.specs.Members.{ArrayMembers, Buffer}
 use Rattle.bit_pack.specs.Packed.{IsWidth}
-use Rattle.fmt_string.specs.FieldText.{Form, Truths, Wholes, FloatBits, Text, HexBytes, SizedHex, Decimals, form_of, places}
+use Rattle.data_types.specs.FieldText.{Form, Truths, Wholes, FloatBits, Text, HexBytes, SizedHex, Decimals, form_of, places}
 use Rattle.std.proofs.lemmas.Bool.{ltb-true}
-use Rattle.fmt_string.specs.Value.{Value, Null, Truth, Whole, Bytes}
-use Rattle.fmt_string.specs.declared.kind.DataType.{DataType}
-use Rattle.fmt_string.specs.declared.kind.DataType.TheVariants as kinds
-use Rattle.fmt_string.specs.declared.kind.Tick.TheVariants as ticks
+use Rattle.data_types.specs.Value.{Value, Null, Truth, Whole, Bytes}
+use Rattle.data_types.specs.declared.kind.DataType.{DataType}
+use Rattle.data_types.specs.declared.kind.DataType.TheVariants as kinds
+use Rattle.data_types.specs.declared.kind.Tick.TheVariants as ticks
 use Rattle.col_build.specs.Encoding.{Fits, buffers_if, bytes_of, encoded, fault_if, in_place as in_place_bytes, is_null, is_by_offsets, is_wide, is_within}
 use Rattle.col_build.specs.Encoding.{stored_item}
 use Rattle.layout_rules.specs.Layout.{bytes, data_of, is_valid, layout_of, stored_number}

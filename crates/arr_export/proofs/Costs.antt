@@ -1,9 +1,9 @@
 -- What the schemas of columns cost, column by column.
 use Rattle.std.proofs.Common.{◌≡◌, ◌∙◌, ◌+◌, ◌<◌, ◌≤◌, ℕ, zero, suc, List, [], ◌∷◌, ◌++◌, length, map, take, get_or, refl, ap, arith}
 use Rattle.std.proofs.lemmas.List.{map-append, take_more}
-use Rattle.fmt_string.specs.ColumnView.{column_of}
-use Rattle.fmt_string.specs.Table.{Kind, Flat, Dict, Columns}
-use Rattle.fmt_string.specs.declared.kind.ColumnType.{ColumnType}
+use Rattle.data_types.specs.ColumnView.{column_of}
+use Rattle.data_types.specs.Table.{Kind, Flat, Dict, Columns}
+use Rattle.data_types.specs.declared.kind.ColumnType.{ColumnType}
 use Rattle.tree_model.specs.Tree.{Depth, depth_of_all, trees}
 use Rattle.raw_schema.specs.Members.{Nodes, SchemaTree, nodes_of_all}
 use Rattle.schema_check.specs.ColumnSchema.{column_schema, schema_of_column}

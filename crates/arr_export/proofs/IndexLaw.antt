@@ -7,15 +7,15 @@ use Rattle.std.proofs.lemmas.Bool.{lt-ltb}
 use Rattle.std.proofs.lemmas.List.{get_or-map, length-map}
 use Rattle.tree_model.specs.Tree.{Released, Live, no_trees, present}
 use Rattle.raw_array.specs.Members.{ArrayMembers, ArrayTree}
-use Rattle.fmt_string.specs.Value.{Value, Null, Truth, Whole}
-use Rattle.fmt_string.specs.declared.kind.DataType.{DataType}
-use Rattle.fmt_string.specs.declared.kind.DataType.TheVariants as kinds
+use Rattle.data_types.specs.Value.{Value, Null, Truth, Whole}
+use Rattle.data_types.specs.declared.kind.DataType.{DataType}
+use Rattle.data_types.specs.declared.kind.DataType.TheVariants as kinds
 use Rattle.col_build.specs.Encoding.{Fits, is_null}
-use Rattle.schema_check.specs.Kinds.{KindTree}
+use Rattle.kind_tree.specs.Kinds.{KindTree}
 use Rattle.layout_rules.specs.Layout.{is_valid, natural, stored_number}
 use Rattle.layout_rules.specs.Rules.{index_wrong, indices_wrong, is_outside, live_length}
 use Rattle.layout_rules.specs.Values.{each, tree_items, value_at, values_of}
-use Rattle.schema_check.specs.Ways.{dictionary_step}
+use Rattle.kind_tree.specs.Ways.{dictionary_step}
 use Rattle.layout_rules.specs.Walk.{LayoutOk, first_some, node_fault, visit_fault, visits}
 use Rattle.layout_rules.proofs.Lawful.{first_fault-lawful, lawful-first_fault}
 use Rattle.arr_export.specs.ArrayTrees.{AreIndices, IsPlaceOf, column_members, column_tree, flat_type, looked_up}

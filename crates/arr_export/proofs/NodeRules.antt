@@ -7,15 +7,15 @@ use Rattle.std.proofs.lemmas.Bool.Decides.{Decides-int_eq}
 use Rattle.std.specs.Option.{option_or}
 use Rattle.std.specs.Ordering.{int_eq}
 use Rattle.raw_array.specs.Members.{Buffer, ArrayMembers, ArrayTree, bytes_in}
-use Rattle.fmt_string.specs.Value.{Value}
-use Rattle.fmt_string.specs.declared.kind.DataType.{DataType}
+use Rattle.data_types.specs.Value.{Value}
+use Rattle.data_types.specs.declared.kind.DataType.{DataType}
 use Rattle.col_build.specs.Encoding.{if_some, null_total, validity_of}
-use Rattle.schema_check.specs.Kinds.{KindTree}
+use Rattle.kind_tree.specs.Kinds.{KindTree}
 use Rattle.layout_rules.specs.Layout.{bits_need, buffer, buffer_count, bytes, bytes_or_none, end, layout_of, need}
 use Rattle.layout_rules.specs.Rules.{Node, buffer_absent, buffer_short, count_wrong, fails, fault_if, first_below, in_order, indices_wrong, is_behind_offsets}
 use Rattle.layout_rules.specs.Rules.{length_if, null_count_wrong, null_count_wrong_in, offsets_fall_if, one_if, prefixes_wrong, texts_wrong, views_misplaced}
 use Rattle.layout_rules.specs.Rules.{null_total as null_items}
-use Rattle.schema_check.specs.Ways.{Steps}
+use Rattle.kind_tree.specs.Ways.{Steps}
 use Rattle.layout_rules.specs.Walk.{fault_at, fault_by, first_some, node_fault}
 use Rattle.layout_rules.specs.declared.layout.Layout.{Layout}
 use Rattle.layout_rules.specs.declared.rule.LayoutRule.{LayoutRule}

@@ -6,7 +6,7 @@ use Rattle.std.proofs.lemmas.Bool.{eqb-true}
 use Rattle.std.proofs.lemmas.List.{get_or-map, length-map, take_more, take_all}
 use Rattle.raw_array.specs.Members.{Buffer, ArrayMembers, bytes_in}
 use Rattle.raw_array.specs.declared.array.ReleaseKind.TheVariants.{Exported}
-use Rattle.fmt_string.specs.Value.{Value, Null, Truth}
+use Rattle.data_types.specs.Value.{Value, Null, Truth}
 use Rattle.col_build.specs.Encoding.{bit_value, bit_bytes, is_null, null_total, validity_of}
 use Rattle.layout_rules.specs.Layout.{is_valid, is_valid_by}
 use Rattle.layout_rules.specs.Rules.{null_total as null_items}

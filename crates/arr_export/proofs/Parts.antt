@@ -9,9 +9,9 @@ use Rattle.tree_model.specs.Tree.{Live, cost_of_maybe, depth_of_all, depth_of_ma
 use Rattle.raw_array.specs.declared.array.ReleaseKind.TheVariants.{Exported}
 use Rattle.raw_array.specs.Members.{ArrayTree, Buffer, Cost, holds, holds_of}
 use Rattle.raw_array.specs.View.{buffer_of, buffer_if, buffers_of}
-use Rattle.fmt_string.specs.FieldText.{Form, Truths, Wholes, form_of}
-use Rattle.fmt_string.specs.Value.{Value}
-use Rattle.fmt_string.specs.declared.kind.DataType.{DataType}
+use Rattle.data_types.specs.FieldText.{Form, Truths, Wholes, form_of}
+use Rattle.data_types.specs.Value.{Value}
+use Rattle.data_types.specs.declared.kind.DataType.{DataType}
 use Rattle.col_build.specs.Encoding.{buffers_by, buffers_if, encoded, is_wide, null_total}
 use Rattle.col_build.specs.Finished.{AreMade, IsLaidOut, IsMade, IsWhole}
 use Rattle.col_build.specs.declared.built.Laid.{Laid}

@@ -1,6 +1,6 @@
 -- The structures and the levels of the schema of columns.
 use Rattle.std.proofs.Common.{◌≡◌, ◌+◌, ◌≤◌, ℕ, zero, suc, List, [], ◌∷◌, length, map, ap, arith}
-use Rattle.fmt_string.specs.Table.{Column, Kind, Flat, Dict, Columns, Members, no_members, more_members}
+use Rattle.data_types.specs.Table.{Column, Kind, Flat, Dict, Columns, Members, no_members, more_members}
 use Rattle.tree_model.specs.Tree.{Depth, depth_of_all, trees}
 use Rattle.raw_schema.specs.Members.{Nodes, nodes_of_all}
 use Rattle.schema_check.specs.ColumnSchema.{SchemaOf, column_schema, member_schemas, schema_of_column}

@@ -2,10 +2,10 @@
 use Rattle.std.proofs.Common.{◌≡◌, ℕ, suc, List, [], ◌∷◌, ◌++◌, refl, Option, None, Some}
 use Rattle.tree_model.specs.Tree.{Released, Live, Trees, no_trees, more_trees, MaybeTree, absent, present, tree_list, option_tree}
 use Rattle.raw_array.specs.Members.{ArrayTree}
-use Rattle.fmt_string.specs.declared.kind.DataType.{DataType}
-use Rattle.schema_check.specs.Kinds.{KindTree}
+use Rattle.data_types.specs.declared.kind.DataType.{DataType}
+use Rattle.kind_tree.specs.Kinds.{KindTree}
 use Rattle.layout_rules.specs.Rules.{Node, fails, in_order}
-use Rattle.schema_check.specs.Ways.{Steps, dictionary_step}
+use Rattle.kind_tree.specs.Ways.{Steps, dictionary_step}
 use Rattle.layout_rules.specs.Walk.{Walk, fault_at, fault_by, first_some, node_fault, node_of, visit_fault, visits, walk_below}
 use Rattle.layout_rules.specs.Walk.{walk_children, walk_dictionary, walk_of, walks_of}
 use Rattle.layout_rules.specs.declared.rule.LayoutRule.{LayoutRule}

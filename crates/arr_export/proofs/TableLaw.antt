@@ -9,19 +9,19 @@ use Rattle.std.proofs.lemmas.List.Elements.{All-head, All-tail}
 use Rattle.tree_model.specs.Tree.{IsLive, Released, Live, absent, trees, tree_list}
 use Rattle.tree_model.proofs.Lists.{tree_list-trees}
 use Rattle.raw_array.specs.Members.{ArrayTree}
-use Rattle.fmt_string.specs.Value.{Value, Null}
-use Rattle.fmt_string.specs.declared.kind.DataType.TheVariants as kinds
-use Rattle.schema_check.specs.Kinds.{KindTree}
+use Rattle.data_types.specs.Value.{Value, Null}
+use Rattle.data_types.specs.declared.kind.DataType.TheVariants as kinds
+use Rattle.kind_tree.specs.Kinds.{KindTree}
 use Rattle.layout_rules.specs.Layout.{natural}
 use Rattle.layout_rules.specs.Rules.{child_short, count_wrong, fault_if, in_order, is_negative, live_length, null_count_wrong, null_total, short_child}
 use Rattle.layout_rules.specs.Values.{field_items, readers, row_items, rows_of, tree_items, value_at}
-use Rattle.schema_check.specs.Ways.{Steps}
+use Rattle.kind_tree.specs.Ways.{Steps}
 use Rattle.layout_rules.specs.Walk.{ChunkOk, LayoutOk, fault_at, first_some, node_fault, node_of, top_fault, visit_fault, visits, walk_below}
 use Rattle.layout_rules.specs.Walk.{walk_children, walk_of, walks_of}
 use Rattle.layout_rules.specs.declared.rule.LayoutRule.TheVariants as rules
 use Rattle.layout_rules.specs.declared.rule.Numbers.{Numbers}
 use Rattle.layout_rules.proofs.Lawful.{first_fault-lawful, lawful-first_fault, left-none}
-use Rattle.schema_check.specs.ColumnKinds.{table_type}
+use Rattle.kind_tree.specs.ColumnKinds.{table_type}
 use Rattle.arr_export.specs.ArrayTrees.{AreLawful, HaveValues, rows_of_columns, rows_of_values, table_members, table_tree}
 use Rattle.arr_export.proofs.Each.{each-same, length-each, value-there}
 use Rattle.arr_export.proofs.NodeRules.{both-none, no-fault, passes}

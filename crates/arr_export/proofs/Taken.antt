@@ -7,8 +7,8 @@ use Rattle.std.proofs.lemmas.List.{length-replicate}
 use Rattle.std.proofs.lemmas.Nat.{pow-add}
 use Rattle.bit_pack.specs.Packed.{IsWidth, le_bytes, meant, stored}
 use Rattle.bit_pack.proofs.NumberFacts.{meant_back}
-use Rattle.fmt_string.specs.FieldText.{Form, Truths, Wholes, FloatBits, Text, HexBytes, SizedHex, Decimals, in_range}
-use Rattle.fmt_string.specs.Value.{Value, Null, Truth, Whole, Bits, Bytes}
+use Rattle.data_types.specs.FieldText.{Form, Truths, Wholes, FloatBits, Text, HexBytes, SizedHex, Decimals, in_range}
+use Rattle.data_types.specs.Value.{Value, Null, Truth, Whole, Bits, Bytes}
 use Rattle.col_build.specs.Encoding.{bit_value, bytes_of, byte_total, fault_if, is_form, is_null, is_set, is_storable, is_text, is_within, stored_item}
 use Rattle.col_build.specs.declared.item.PushFault.{PushFault}
 use Rattle.col_build.specs.declared.item.PushFault.TheVariants.{WrongKind, OutOfRange, NotText}

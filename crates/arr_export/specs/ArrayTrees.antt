@@ -1,17 +1,17 @@
 -- Columns and tables as array trees ("The Arrow C Data Interface", "The ArrowArray structure"; "Arrow Columnar Format",
 -- "Dictionary-encoded Layout" and "Struct Layout").
 use Rattle.std.specs.Prelude.{◌≡◌, ◌≤◌, ◌<◌, ℕ, pos, List, [], ◌∷◌, map, get_or, Option, None, Some, All}
-use Rattle.fmt_string.specs.declared.kind.DataType.{DataType}
-use Rattle.fmt_string.specs.declared.kind.DataType.TheVariants as kinds
-use Rattle.fmt_string.specs.Table.{Row}
-use Rattle.fmt_string.specs.Value.{Value, Null, Whole}
+use Rattle.data_types.specs.declared.kind.DataType.{DataType}
+use Rattle.data_types.specs.declared.kind.DataType.TheVariants as kinds
+use Rattle.data_types.specs.Table.{Row}
+use Rattle.data_types.specs.Value.{Value, Null, Whole}
 use Rattle.tree_model.specs.Tree.{Live, no_trees, trees, absent, maybe_tree, IsLive, Depth}
 use Rattle.raw_array.specs.Members.{Buffer, ArrayMembers, ArrayTree, whole}
 use Rattle.raw_array.specs.declared.array.ReleaseKind.TheVariants.{Exported, Assembled}
 use Rattle.col_build.specs.Encoding.{Fits, encoded}
 use Rattle.col_build.specs.Finished.{IsEncoded}
 use Rattle.col_build.specs.declared.built.Built.{Built}
-use Rattle.schema_check.specs.Kinds.{KindTree}
+use Rattle.kind_tree.specs.Kinds.{KindTree}
 use Rattle.layout_rules.specs.Values.{each, field_items, tree_items, value_at, values_of}
 use Rattle.layout_rules.specs.Walk.{LayoutOk}
 

@@ -1,7 +1,7 @@
 -- The schemas of the columns that the code keeps.
 use Rattle.std.specs.Prelude.{List, map, All}
-use Rattle.fmt_string.specs.declared.kind.ColumnType.{ColumnType}
-use Rattle.fmt_string.specs.ColumnView.{kind_of}
+use Rattle.data_types.specs.declared.kind.ColumnType.{ColumnType}
+use Rattle.data_types.specs.ColumnView.{kind_of}
 use Rattle.tree_model.specs.Tree.{Trees, trees}
 use Rattle.raw_schema.specs.Members.{SchemaMembers, SchemaTree}
 use Rattle.schema_check.specs.ColumnSchema.{KindsOk, column_schema}

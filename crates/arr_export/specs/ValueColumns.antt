@@ -1,11 +1,11 @@
 -- Columns that are made of values, with their types and their trees.
 use Rattle.std.specs.Prelude.{ℕ, ◌≤◌, List, length, map, Option, None, Some, All}
 use Rattle.std.specs.Option.{option_map}
-use Rattle.fmt_string.specs.declared.kind.DataType.{DataType}
-use Rattle.fmt_string.specs.Value.{Value}
+use Rattle.data_types.specs.declared.kind.DataType.{DataType}
+use Rattle.data_types.specs.Value.{Value}
 use Rattle.raw_array.specs.Members.{ArrayTree}
 use Rattle.col_build.specs.Encoding.{Fits}
-use Rattle.schema_check.specs.Kinds.{KindTree}
+use Rattle.kind_tree.specs.Kinds.{KindTree}
 use Rattle.arr_export.specs.ArrayTrees.{IsIndexKind, IsPlaceOf, column_tree, flat_type, looked_up}
 
 -- a type, and values of it

@@ -1,8 +1,8 @@
 //! The array of a column.
 ghost use Rattle.std.specs.Prelude.{◌≡◌, ◌+◌, ◌-◌, ◌^◌, ◌<◌, ◌≤◌, List, None, length, if◌then◌else◌, is_ok, IfOk, IfErr};
 ghost use Rattle.unit_pass.specs.Tally.{risen};
-ghost use Rattle.fmt_string.specs.Value.{Value};
-ghost use Rattle.fmt_string.specs.declared.kind.DataType.{DataType};
+ghost use Rattle.data_types.specs.Value.{Value};
+ghost use Rattle.data_types.specs.declared.kind.DataType.{DataType};
 ghost use Rattle.tree_model.specs.Tree.{cost_of_maybe, depth_of_maybe, maybe_tree};
 ghost use Rattle.raw_array.specs.Members.{Cost, holds};
 ghost use Rattle.col_build.specs.Finished.{IsEncoded, IsLaidOut};

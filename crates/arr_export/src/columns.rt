@@ -2,9 +2,9 @@
 ghost use Rattle.std.specs.Prelude.{◌≡◌, ◌+◌, ◌-◌, ◌^◌, ◌<◌, ◌≤◌, length, map, if◌then◌else◌, is_ok, IfOk, OnOk};
 ghost use Rattle.unit_pass.specs.Tally.{risen};
 ghost use Rattle.unit_pass.specs.declared.pass.TheConstants.{CHUNK};
-ghost use Rattle.fmt_string.specs.ColumnView.{kind_of};
-ghost use Rattle.fmt_string.specs.Kinds.{KindOk};
-ghost use Rattle.fmt_string.specs.Table.{Dict};
+ghost use Rattle.data_types.specs.ColumnView.{kind_of};
+ghost use Rattle.data_types.specs.Kinds.{KindOk};
+ghost use Rattle.data_types.specs.Table.{Dict};
 ghost use Rattle.tree_model.specs.Tree.{Depth, depth_of_all, absent};
 ghost use Rattle.raw_schema.specs.Members.{Nodes, nodes_of_all};
 ghost use Rattle.raw_schema.specs.View.{bytes_of};
@@ -12,7 +12,8 @@ ghost use Rattle.schema_check.specs.ColumnSchema.{KindsOk, column_schema, node, 
 ghost use Rattle.arr_export.specs.CodeSchema.{ColumnsOk, code_schema, code_schemas};
 
 use crate::built::built;
-use fmt_string::{ColKind, ColumnType, DataType, write_format};
+use data_types::{ColKind, ColumnType, DataType};
+use fmt_string::write_format;
 use raw_schema::{RawSchema, SchemaParts, release_all};
 use std::alloc::Global;
 use unit_pass::{CHUNK, NoMemory, Pass};

@@ -1,13 +1,13 @@
 //! What the trees that are handed out mean.
 ghost use Rattle.std.specs.Prelude.{◌≡◌, ◌^◌, ◌≤◌, ℕ, List, map, length, None, Some, All};
-ghost use Rattle.fmt_string.specs.Value.{Value};
-ghost use Rattle.fmt_string.specs.declared.kind.DataType.{DataType};
+ghost use Rattle.data_types.specs.Value.{Value};
+ghost use Rattle.data_types.specs.declared.kind.DataType.{DataType};
 ghost use Rattle.raw_array.specs.Members.{ArrayTree};
 ghost use Rattle.col_build.specs.Encoding.{Fits};
-ghost use Rattle.schema_check.specs.Kinds.{KindTree};
+ghost use Rattle.kind_tree.specs.Kinds.{KindTree};
 ghost use Rattle.layout_rules.specs.Values.{rows_of, tree_items, values_of};
 ghost use Rattle.layout_rules.specs.Walk.{ChunkOk, LayoutOk};
-ghost use Rattle.schema_check.specs.ColumnKinds.{table_type};
+ghost use Rattle.kind_tree.specs.ColumnKinds.{table_type};
 ghost use Rattle.arr_export.specs.ArrayTrees.{AreIndices, AreLawful, HaveValues, column_tree, flat_type, looked_up, rows_of_columns, rows_of_values};
 ghost use Rattle.arr_export.specs.ArrayTrees.{table_tree};
 ghost use Rattle.arr_export.specs.ValueColumns.{IsValueColumn, ValueColumn, items_of, tree_of, type_of};

@@ -2,13 +2,13 @@
 ghost use Rattle.std.specs.Prelude.{◌≡◌, ◌+◌, ◌≤◌, All, map, if◌then◌else◌, is_ok, IfOk, OnOk};
 ghost use Rattle.unit_pass.specs.Tally.{risen};
 ghost use Rattle.unit_pass.specs.declared.pass.TheConstants.{CHUNK};
-ghost use Rattle.fmt_string.specs.ColumnView.{column_of};
+ghost use Rattle.data_types.specs.ColumnView.{column_of};
 ghost use Rattle.tree_model.specs.Tree.{Depth};
 ghost use Rattle.raw_schema.specs.Members.{Nodes};
 ghost use Rattle.schema_check.specs.ColumnSchema.{KindsOk, SchemaOf};
 
 use crate::columns::struct_schema;
-use fmt_string::ColumnType;
+use data_types::ColumnType;
 use raw_schema::RawSchema;
 use std::alloc::Global;
 use unit_pass::{CHUNK, NoMemory, Pass};

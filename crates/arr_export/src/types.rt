@@ -1,10 +1,10 @@
 //! The types that the schema of columns names.
 ghost use Rattle.std.specs.Prelude.{◌≤◌, List, All};
-ghost use Rattle.fmt_string.specs.Table.{Column};
+ghost use Rattle.data_types.specs.Table.{Column};
 ghost use Rattle.tree_model.specs.Tree.{Depth};
 ghost use Rattle.schema_check.specs.Schemas.{TypedOf};
-ghost use Rattle.schema_check.specs.ColumnKinds.{type_of_columns};
-ghost use Rattle.fmt_string.specs.ColumnForms.{AreColumnKinds};
+ghost use Rattle.kind_tree.specs.ColumnKinds.{type_of_columns};
+ghost use Rattle.data_types.specs.ColumnForms.{AreColumnKinds};
 ghost use Rattle.schema_check.specs.ColumnSchema.{SchemaOf};
 
 use fmt_string::spelling_reads_back;

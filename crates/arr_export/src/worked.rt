@@ -1,7 +1,7 @@
 //! Trees and rows that the definitions compute as they stand here.
 ghost use Rattle.std.specs.Prelude.{◌≡◌, pos, negsuc, true, false, [], ◌∷◌, map, None, Some, codes};
-ghost use Rattle.fmt_string.specs.declared.kind.DataType.TheVariants.{Int, Utf8};
-ghost use Rattle.fmt_string.specs.Value.{Null, Whole, Bytes};
+ghost use Rattle.data_types.specs.declared.kind.DataType.TheVariants.{Int, Utf8};
+ghost use Rattle.data_types.specs.Value.{Null, Whole, Bytes};
 ghost use Rattle.tree_model.specs.Tree.{Live, absent, no_trees, more_trees};
 ghost use Rattle.raw_array.specs.declared.array.ReleaseKind.TheVariants.{Assembled, Exported};
 ghost use Rattle.arr_export.specs.ArrayTrees.{column_tree, looked_up, rows_of_values, table_tree};

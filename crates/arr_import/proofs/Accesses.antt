@@ -2,9 +2,9 @@
 use Rattle.std.proofs.Common.{◌≡◌, ℕ, Bool, true, false, Option, None, Some, refl, ap}
 use Rattle.std.specs.Prelude.{◌==◌, is_some, if◌then◌else◌}
 use Rattle.std.proofs.lemmas.Bool.{eqb-true}
-use Rattle.schema_check.specs.Kinds.{KindTree}
-use Rattle.fmt_string.specs.declared.storage.Storage.{Storage}
-use Rattle.fmt_string.specs.declared.storage.Storage.TheVariants as storages
+use Rattle.kind_tree.specs.Kinds.{KindTree}
+use Rattle.data_types.specs.declared.storage.Storage.{Storage}
+use Rattle.data_types.specs.declared.storage.Storage.TheVariants as storages
 use Rattle.arr_import.specs.declared.access.Access.{Access}
 use Rattle.arr_import.specs.declared.access.Access.TheVariants.{Truths, Int32, Int64, Int128, Between32, Other}
 use Rattle.arr_import.specs.Accesses.{access_of, access_of_bits, IsNumber}

@@ -1,11 +1,11 @@
 -- What a column keeps of its items, where all are there and no dictionary stands behind them.
 use Rattle.std.proofs.Common.{◌≡◌, ℕ, ◌+◌, ◌<◌, List, ap, ◌∙◌, sym, subst, arith}
-use Rattle.fmt_string.specs.declared.storage.Storage.{Storage}
-use Rattle.fmt_string.specs.Value.{Value}
+use Rattle.data_types.specs.declared.storage.Storage.{Storage}
+use Rattle.data_types.specs.Value.{Value}
 use Rattle.tree_model.specs.Tree.{children_of, trees}
 use Rattle.raw_array.specs.Members.{members_of}
 use Rattle.layout_rules.specs.Layout.{bytes, first}
-use Rattle.schema_check.specs.TypedView.{kids_of}
+use Rattle.kind_tree.specs.TypedView.{kids_of}
 use Rattle.layout_rules.specs.Values.{readers}
 use Rattle.arr_import.specs.declared.col.Col.{Col}
 use Rattle.arr_import.specs.StoredItems.{stored_item, IsThere}

@@ -7,24 +7,24 @@ use Rattle.std.proofs.lemmas.Bool.{cases_eq}
 use Rattle.std.proofs.lemmas.List.{get_or-map, length-map}
 use Rattle.std.proofs.Math.Logic.{∥∥₁_elim, ∥∥₁_map}
 use Rattle.std.proofs.Props.{props}
-use Rattle.fmt_string.specs.declared.kind.DataType.{DataType}
-use Rattle.fmt_string.specs.declared.kind.DataType.TheVariants as kinds
-use Rattle.fmt_string.specs.declared.kind.Tick.TheVariants as ticks
-use Rattle.fmt_string.specs.Kinds.{KindOk}
-use Rattle.fmt_string.specs.Storage.{storage_of}
-use Rattle.fmt_string.specs.Value.{values}
-use Rattle.fmt_string.specs.Value.Value.{Null, Fields}
+use Rattle.data_types.specs.declared.kind.DataType.{DataType}
+use Rattle.data_types.specs.declared.kind.DataType.TheVariants as kinds
+use Rattle.data_types.specs.declared.kind.Tick.TheVariants as ticks
+use Rattle.data_types.specs.Kinds.{KindOk}
+use Rattle.data_types.specs.Storage.{storage_of}
+use Rattle.data_types.specs.Value.{values}
+use Rattle.data_types.specs.Value.Value.{Null, Fields}
 use Rattle.bit_pack.specs.Packed.{IsWidth}
 use Rattle.tree_model.specs.Tree.{Released, Live, IsLive, absent, present, trees, maybe_tree, tree_list, children_of, child_at, dictionary_of, Depth}
 use Rattle.raw_array.specs.Members.{ArrayMembers, ArrayTree, members_of}
-use Rattle.schema_check.specs.declared.typed.Typed.{Typed, out-Typed}
+use Rattle.kind_tree.specs.declared.typed.Typed.{Typed, out-Typed}
 use Rattle.layout_rules.specs.declared.layout.Layout.TheVariants.{ByChildren}
-use Rattle.schema_check.specs.Kinds.{KindTree, NodesOk, AllNodesOk, DictNodesOk, KidsOk, DictOk, IsOneChild, IsPairOfColumns}
-use Rattle.schema_check.specs.TypedView.{typed_of, kind_of, kids_of, dict_in}
+use Rattle.kind_tree.specs.Kinds.{KindTree, NodesOk, AllNodesOk, DictNodesOk, KidsOk, DictOk, IsOneChild, IsPairOfColumns}
+use Rattle.kind_tree.specs.TypedView.{typed_of, kind_of, kids_of, dict_in}
 use Rattle.layout_rules.specs.Layout.{layout_of, bytes, first, is_valid}
 use Rattle.layout_rules.specs.Values.{Reader, each, child_item, field_items, row_items, item, item_or_entry, value_at, readers, reader_of, tree_items}
 use Rattle.layout_rules.specs.Within.{StoredWithin, ItemsWithin, IndexWithin, ViewWithin, DataWithin}
-use Rattle.fmt_string.specs.declared.storage.Storage.{Storage}
+use Rattle.data_types.specs.declared.storage.Storage.{Storage}
 use Rattle.arr_import.specs.StoredItems.{stored_item, IsThere, NumberThere, IsListStorage, IsViewStorage, AreItemsThere, IsIndexThere, IsOwn}
 use Rattle.arr_import.specs.Window.{Window, Home, IsDictionary, IsStruct, IsStructValue, index_at, home_from, home_of}
 

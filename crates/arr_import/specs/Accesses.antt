@@ -1,7 +1,7 @@
 -- Which items are read in a way of their own: those of the common types, without a dictionary.
 use Rattle.std.specs.Prelude.{ℕ, ◌==◌, Bool, true, false, if◌then◌else◌}
-use Rattle.fmt_string.specs.declared.storage.Storage.{Storage}
-use Rattle.fmt_string.specs.declared.storage.Storage.TheVariants as storages
+use Rattle.data_types.specs.declared.storage.Storage.{Storage}
+use Rattle.data_types.specs.declared.storage.Storage.TheVariants as storages
 use Rattle.arr_import.specs.declared.access.Access.{Access}
 use Rattle.arr_import.specs.declared.access.Access.TheVariants.{Truths, Int32, Int64, Int128, Between32, Other}
 

@@ -1,10 +1,10 @@
 -- That a window has all items of a dictionary is a fact with one proof at most.
 use Rattle.std.specs.Prelude.{ℕ, Option, refl}
 use Rattle.std.specs.Coded.{Coded, Coded-set, code_by, coded×, coded_ℕ, coded_option}
-use Rattle.fmt_string.specs.contracts.kind.DataType as kinds
+use Rattle.data_types.specs.contracts.kind.DataType as kinds
 use Rattle.tree_model.specs.Stored.{coded_tree}
 use Rattle.raw_array.specs.Members.{ArrayTree, coded_array}
-use Rattle.schema_check.specs.Kinds.{KindTree}
+use Rattle.kind_tree.specs.Kinds.{KindTree}
 use Rattle.arr_import.specs.Window.{Window, IsDictionary}
 
 abbrev coded_kinds : Coded KindTree

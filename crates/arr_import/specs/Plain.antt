@@ -1,14 +1,14 @@
 -- Columns that are read with nothing to look up but the place: each item is there, and all are stored in one common way
 -- ("Arrow Columnar Format", "Fixed-size primitive layout" and "Variable-size binary layout").
 use Rattle.std.specs.Prelude.{◌≡◌, ◌==◌, ◌⊎◌, ℕ, ◌+◌, ◌-◌, ◌*◌, ◌^◌, ◌<◌, ◌≤◌, ◌≤ℤ◌, pos, true, false, List, length, take, drop, None}
-use Rattle.fmt_string.specs.Storage.{storage_of}
-use Rattle.fmt_string.specs.declared.storage.Storage.TheVariants as storages
-use Rattle.fmt_string.specs.Value.{Value}
-use Rattle.fmt_string.specs.Value.Value.{Truth, Whole, Bits, Bytes}
+use Rattle.data_types.specs.Storage.{storage_of}
+use Rattle.data_types.specs.declared.storage.Storage.TheVariants as storages
+use Rattle.data_types.specs.Value.{Value}
+use Rattle.data_types.specs.Value.Value.{Truth, Whole, Bits, Bytes}
 use Rattle.bit_pack.specs.Packed.{IsWidth, bit, meant, number_at}
 use Rattle.tree_model.specs.Tree.{dictionary_of}
 use Rattle.raw_array.specs.Members.{members_of}
-use Rattle.schema_check.specs.Kinds.{kind_in}
+use Rattle.kind_tree.specs.Kinds.{kind_in}
 use Rattle.layout_rules.specs.Layout.{buffer, natural, offset_in}
 use Rattle.layout_rules.specs.Within.{OffsetsRise}
 use Rattle.arr_import.specs.declared.plain.Texts.{Texts}

@@ -1,15 +1,15 @@
 -- How the items of a type are stored ("Arrow Columnar Format", "Physical memory layout").
 use Rattle.std.specs.Prelude.{◌≡◌, ◌==◌, ℕ, ◌+◌, ◌*◌, ◌/◌, ◌<◌, ◌≤◌, pos, ◌≤ℤ◌, Bool, false, IsTrue, List, length}
-use Rattle.fmt_string.specs.Value.{Value, values}
-use Rattle.fmt_string.specs.Value.Value.{Null, Truth, Whole, Bits, Bytes, Items, Fields}
+use Rattle.data_types.specs.Value.{Value, values}
+use Rattle.data_types.specs.Value.Value.{Null, Truth, Whole, Bits, Bytes, Items, Fields}
 use Rattle.bit_pack.specs.Packed.{IsWidth, bit, offset_width}
 use Rattle.raw_array.specs.Members.{ArrayMembers, ArrayTree}
 use Rattle.layout_rules.specs.Layout.{first, bytes, natural, offset_in, stored_number, stored_bytes, data_of, view_width}
 use Rattle.layout_rules.specs.Views.{view_data}
 use Rattle.layout_rules.specs.Values.{Reader, each, child_item, field_items, listed}
 use Rattle.layout_rules.specs.Within.{OffsetsRise}
-use Rattle.fmt_string.specs.declared.storage.Storage.{Storage}
-use Rattle.fmt_string.specs.declared.storage.Storage.TheVariants as storages
+use Rattle.data_types.specs.declared.storage.Storage.{Storage}
+use Rattle.data_types.specs.declared.storage.Storage.TheVariants as storages
 
 -- the item of an array whose items are stored so
 abbrev pub stored_item : Storage → List Reader → ArrayMembers → List ArrayTree → ℕ → Value

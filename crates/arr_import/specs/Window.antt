@@ -1,13 +1,13 @@
 -- A column as contracts see it: a window over the items of an array, which are themselves those of the array's own window
 -- ("Arrow Columnar Format", "Physical memory layout").
 use Rattle.std.specs.Prelude.{◌≡◌, ℕ, ◌+◌, ◌/◌, List, Option, Some, if◌then◌else◌}
-use Rattle.fmt_string.specs.declared.kind.DataType.{DataType}
-use Rattle.fmt_string.specs.declared.kind.DataType.TheVariants as kinds
-use Rattle.fmt_string.specs.Value.{Value, values}
-use Rattle.fmt_string.specs.Value.Value.{Fields}
+use Rattle.data_types.specs.declared.kind.DataType.{DataType}
+use Rattle.data_types.specs.declared.kind.DataType.TheVariants as kinds
+use Rattle.data_types.specs.Value.{Value, values}
+use Rattle.data_types.specs.Value.Value.{Fields}
 use Rattle.tree_model.specs.Tree.{Live, present, child_at}
 use Rattle.raw_array.specs.Members.{ArrayMembers, ArrayTree, members_of}
-use Rattle.schema_check.specs.Kinds.{KindTree}
+use Rattle.kind_tree.specs.Kinds.{KindTree}
 use Rattle.layout_rules.specs.Layout.{first, natural, is_valid, stored_number}
 use Rattle.layout_rules.specs.Values.{each, value_at, row_items, tree_items}
 

@@ -2,7 +2,7 @@
 ghost use Rattle.std.specs.Prelude.{◌≡◌};
 ghost use Rattle.arr_import.specs.Accesses.{access_of};
 
-use fmt_string::Storage;
+use data_types::Storage;
 
 /// How the items of a column are read: in one of the common ways, each with its width, or in any other. It is found once for
 /// a column, so that an item costs one test of it. No dictionary stands behind numbers that are read in a common way.

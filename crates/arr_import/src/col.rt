@@ -2,22 +2,22 @@
 ghost use Rattle.std.specs.Prelude.{◌≡◌, IsTrue, is_none, is_some, ◌+◌, ◌<◌, ◌≤◌, ◌^◌};
 ghost use Rattle.tree_model.specs.Tree.{IsLive, dictionary_of};
 ghost use Rattle.raw_array.specs.Members.{members_of};
-ghost use Rattle.schema_check.specs.Kinds.{NodesOk, kind_in};
-ghost use Rattle.schema_check.specs.TypedView.{typed_of, kind_of, dict_in};
-ghost use Rattle.schema_check.specs.declared.typed.Typed.{out-Typed};
+ghost use Rattle.kind_tree.specs.Kinds.{NodesOk, kind_in};
+ghost use Rattle.kind_tree.specs.TypedView.{typed_of, kind_of, dict_in};
+ghost use Rattle.kind_tree.specs.declared.typed.Typed.{out-Typed};
 ghost use Rattle.arr_import.specs.Accesses.{access_of};
 ghost use Rattle.layout_rules.specs.Layout.{buffer, bytes, first};
 ghost use Rattle.layout_rules.specs.Walk.{first_fault};
 ghost use Rattle.layout_rules.specs.Values.{tree_items};
 ghost use Rattle.arr_import.specs.Lent.{lent_bytes};
-ghost use Rattle.fmt_string.specs.Storage.{storage_of as storage_is};
+ghost use Rattle.data_types.specs.Storage.{storage_of as storage_is};
 ghost use Rattle.std.proofs.Props.{props};
 
 use crate::access::{Access, access_of};
-use fmt_string::{Storage, storage_of};
+use data_types::{Storage, storage_of};
+use kind_tree::{Typed, kinds_of_typed};
 use layout_rules::{lawful_has_no_fault, lawful_root};
 use raw_array::RawArray;
-use schema_check::{Typed, kinds_of_typed};
 
 /// A column: a window over the items of a lawful array, read in place. Its buffers are looked up once.
 #[derive(Clone, Copy)]
@@ -75,7 +75,7 @@ pub(crate) fn buffer_bytes(array: &RawArray, k: usize) -> &[u8]
 
 impl<'a> Col<'a> {
     ghost use Rattle.std.specs.Prelude.{pos};
-    ghost use Rattle.schema_check.specs.Kinds.{TypedOk};
+    ghost use Rattle.kind_tree.specs.Kinds.{TypedOk};
     ghost use Rattle.layout_rules.specs.Walk.{LayoutOk};
     ghost use Rattle.layout_rules.specs.Values.{values_of};
     ghost use Rattle.arr_import.specs.Window.{whole, items_of};

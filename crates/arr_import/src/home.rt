@@ -2,9 +2,9 @@
 ghost use Rattle.std.specs.Prelude.{◌≡◌, true, None, MatchOption, ◌+◌, ◌<◌, ◌≤ℤ◌, pos};
 ghost use Rattle.tree_model.specs.Tree.{dictionary_of};
 ghost use Rattle.raw_array.specs.Members.{members_of};
-ghost use Rattle.fmt_string.specs.declared.storage.Storage.TheVariants as storages;
-ghost use Rattle.schema_check.specs.declared.typed.Typed.{out-Typed};
-ghost use Rattle.schema_check.specs.TypedView.{kind_of, dict_in};
+ghost use Rattle.data_types.specs.declared.storage.Storage.TheVariants as storages;
+ghost use Rattle.kind_tree.specs.declared.typed.Typed.{out-Typed};
+ghost use Rattle.kind_tree.specs.TypedView.{kind_of, dict_in};
 ghost use Rattle.layout_rules.specs.Layout.{is_valid as is_valid_at, natural};
 ghost use Rattle.arr_import.specs.Window.{IsDictionary, home_of, index_at, item_at};
 ghost use Rattle.arr_import.specs.Cols.{window_of};
@@ -14,9 +14,9 @@ ghost use Rattle.arr_import.specs.Shown.{Shows};
 use crate::col::Col;
 use crate::stored::whole_at;
 use crate::value_ref::ValueRef;
-use fmt_string::Storage;
+use data_types::Storage;
+use kind_tree::kinds_of_typed;
 use layout_rules::{lawful_has_no_fault, lawful_items_lie_within, lawful_parts, lawful_root};
-use schema_check::kinds_of_typed;
 
 impl<'a> Col<'a> {
     /// The dictionary, where there is one.

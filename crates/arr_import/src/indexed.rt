@@ -1,16 +1,16 @@
 //! A column of indices with the column of its dictionary, which is found once and not for each item.
 ghost use Rattle.std.specs.Prelude.{◌≡◌, true, false, None, ◌≤ℤ◌, ◌<ℤ◌, ℕ, List, IfSome, IfNone, pos, ◌<◌, ◌≢◌};
-ghost use Rattle.fmt_string.specs.Value.Value.{Null, Bytes};
+ghost use Rattle.data_types.specs.Value.Value.{Null, Bytes};
 ghost use Rattle.tree_model.specs.Tree.{dictionary_of};
-ghost use Rattle.schema_check.specs.TypedView.{dict_in};
-ghost use Rattle.schema_check.specs.declared.typed.Typed.{out-Typed};
+ghost use Rattle.kind_tree.specs.TypedView.{dict_in};
+ghost use Rattle.kind_tree.specs.declared.typed.Typed.{out-Typed};
 ghost use Rattle.layout_rules.specs.Layout.{natural};
 ghost use Rattle.arr_import.specs.Window.{IsDictionary, item_at};
 ghost use Rattle.arr_import.specs.Cols.{window_of};
 ghost use Rattle.arr_import.specs.Dictionaries.{IsDictionary-prop};
 
 use crate::col::Col;
-use fmt_string::Storage;
+use data_types::Storage;
 use layout_rules::{lawful_has_no_fault, lawful_root};
 
 /// A column of indices with the column of its dictionary.

@@ -3,13 +3,13 @@ ghost use Rattle.std.specs.Prelude.{◌≡◌, true, ◌==◌, ◌+◌, ◌*◌,
 ghost use Rattle.bit_pack.specs.Packed.{bit};
 ghost use Rattle.raw_array.specs.Members.{members_of};
 ghost use Rattle.tree_model.specs.Tree.{Released, children_of, child_at, trees};
-ghost use Rattle.schema_check.specs.TypedView.{kind_of, kids_of};
+ghost use Rattle.kind_tree.specs.TypedView.{kind_of, kids_of};
 ghost use Rattle.layout_rules.specs.Layout.{first, is_valid as is_valid_at};
 ghost use Rattle.layout_rules.specs.Values.{each, child_item, listed, readers, tree_items};
 ghost use Rattle.arr_import.specs.StoredItems.{stored_item, IsThere, IsListStorage, AreItemsThere};
-ghost use Rattle.fmt_string.specs.declared.storage.Storage.TheVariants as storages;
-ghost use Rattle.fmt_string.specs.Value.{values};
-ghost use Rattle.fmt_string.specs.Value.Value.{Items};
+ghost use Rattle.data_types.specs.declared.storage.Storage.TheVariants as storages;
+ghost use Rattle.data_types.specs.Value.{values};
+ghost use Rattle.data_types.specs.Value.Value.{Items};
 ghost use Rattle.arr_import.specs.Window.{items_of};
 ghost use Rattle.arr_import.specs.Cols.{window_of};
 ghost use Rattle.arr_import.specs.Shown.{Shows};
@@ -18,9 +18,9 @@ use crate::col::Col;
 use crate::stored::{bits_at, bytes_at, start_at, text_at, truth_at, whole_at};
 use crate::value_ref::ValueRef;
 use bit_pack::bit_at;
-use fmt_string::Storage;
+use data_types::Storage;
+use kind_tree::kinds_of_typed;
 use layout_rules::{lawful_has_no_fault, lawful_items_lie_within, lawful_parts, lawful_root};
-use schema_check::kinds_of_typed;
 
 impl<'a> Col<'a> {
     /// What the buffers have of an item.

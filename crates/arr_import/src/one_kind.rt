@@ -1,14 +1,14 @@
 //! The items of one kind alone: truth values, whole numbers, the bits of floats, and bytes. A column's access decides first, so
 //! that the common types have a short way of their own; any other is read by how it is stored, and an index by its entry.
 ghost use Rattle.std.specs.Prelude.{◌≡◌, ◌≢◌, true, false, None, ◌≤ℤ◌, ◌<ℤ◌, Bool, ℕ, ℤ, List, IfSome, IfNone, pos, ◌+◌, ◌<◌, if◌then◌else◌};
-ghost use Rattle.fmt_string.specs.Value.Value.{Null, Truth, Whole, Bits, Bytes};
-ghost use Rattle.fmt_string.specs.declared.storage.Storage.TheVariants as storages;
+ghost use Rattle.data_types.specs.Value.Value.{Null, Truth, Whole, Bits, Bytes};
+ghost use Rattle.data_types.specs.declared.storage.Storage.TheVariants as storages;
 ghost use Rattle.arr_import.specs.declared.access.Access.TheVariants as accesses;
 ghost use Rattle.arr_import.specs.Accesses.{IsNumber};
 ghost use Rattle.tree_model.specs.Tree.{children_of, trees};
 ghost use Rattle.raw_array.specs.Members.{members_of};
-ghost use Rattle.schema_check.specs.TypedView.{dict_in, kids_of};
-ghost use Rattle.schema_check.specs.declared.typed.Typed.{out-Typed};
+ghost use Rattle.kind_tree.specs.TypedView.{dict_in, kids_of};
+ghost use Rattle.kind_tree.specs.declared.typed.Typed.{out-Typed};
 ghost use Rattle.layout_rules.specs.Layout.{natural, is_valid as is_valid_at};
 ghost use Rattle.layout_rules.specs.Values.{readers};
 ghost use Rattle.arr_import.specs.StoredItems.{stored_item, AreBetween, IsOwn, IsViewStorage};
@@ -18,9 +18,9 @@ ghost use Rattle.arr_import.specs.Cols.{window_of};
 use crate::access::Access;
 use crate::col::Col;
 use crate::stored::{bits_at, bytes_at, text_at, truth_at, whole_at};
-use fmt_string::Storage;
+use data_types::Storage;
+use kind_tree::kinds_of_typed;
 use layout_rules::{lawful_has_no_fault, lawful_root};
-use schema_check::kinds_of_typed;
 
 impl<'a> Col<'a> {
     /// Item `i` where it is a truth value, also through a dictionary; none where it is null or of any other kind.

@@ -1,14 +1,14 @@
 //! Columns without nulls that are stored in a common way, read with nothing to look up but the place. All else is settled
 //! once, when the column is asked for.
 ghost use Rattle.std.specs.Prelude.{◌≡◌, ◌↔◌, None, IsTrue, ◌+◌, ◌^◌, ◌<◌, ◌≤◌, ℕ, IfSome, IfNone};
-ghost use Rattle.fmt_string.specs.Value.{Value};
-ghost use Rattle.fmt_string.specs.Value.Value.{Truth, Whole, Bits, Bytes};
+ghost use Rattle.data_types.specs.Value.{Value};
+ghost use Rattle.data_types.specs.Value.Value.{Truth, Whole, Bits, Bytes};
 ghost use Rattle.tree_model.specs.Tree.{children_of, trees};
 ghost use Rattle.raw_array.specs.Members.{members_of};
 ghost use Rattle.layout_rules.specs.Layout.{buffer, first};
-ghost use Rattle.schema_check.specs.TypedView.{dict_in, kids_of};
+ghost use Rattle.kind_tree.specs.TypedView.{dict_in, kids_of};
 ghost use Rattle.layout_rules.specs.Values.{readers};
-ghost use Rattle.schema_check.specs.declared.typed.Typed.{out-Typed};
+ghost use Rattle.kind_tree.specs.declared.typed.Typed.{out-Typed};
 ghost use Rattle.arr_import.specs.StoredItems.{IsThere, stored_item};
 ghost use Rattle.arr_import.specs.Window.{item_at};
 ghost use Rattle.arr_import.specs.Cols.{window_of};
@@ -16,9 +16,9 @@ ghost use Rattle.arr_import.specs.Plain.{IsCommonWidth, AreTexts, AreWholes, Are
 
 use crate::col::Col;
 use crate::stored::{bits_at, text_at, truth_at, whole_at};
-use fmt_string::Storage;
+use data_types::Storage;
+use kind_tree::kinds_of_typed;
 use layout_rules::{lawful_has_no_fault, lawful_items_lie_within, lawful_root};
-use schema_check::kinds_of_typed;
 
 /// Texts or bytes between offsets of 32 bits.
 #[derive(Clone, Copy)]

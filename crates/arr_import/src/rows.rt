@@ -6,8 +6,8 @@ ghost use Rattle.arr_import.specs.Window.{IsStruct};
 ghost use Rattle.arr_import.specs.Cols.{window_of};
 
 use crate::col::Col;
+use kind_tree::kinds_of_typed;
 use layout_rules::{lawful_has_no_fault, lawful_root};
-use schema_check::kinds_of_typed;
 
 impl<'a> Col<'a> {
     /// A law: a row of a struct has an item of each child ("Struct Layout"). The call does nothing.

@@ -1,11 +1,11 @@
 //! What a column shows.
 ghost use Rattle.std.specs.Prelude.{◌≡◌, ◌≢◌, true, None, ◌≤ℤ◌, ◌<ℤ◌, Bool, ℕ, ℤ, List, IfSome, IfNone, pos, ◌+◌, ◌<◌, ◌≤◌, length, get_or};
-ghost use Rattle.fmt_string.specs.Value.{Value};
-ghost use Rattle.fmt_string.specs.Value.Value.{Null, Truth, Whole, Bits, Bytes};
+ghost use Rattle.data_types.specs.Value.{Value};
+ghost use Rattle.data_types.specs.Value.Value.{Null, Truth, Whole, Bits, Bytes};
 ghost use Rattle.tree_model.specs.Tree.{Released, child_at, children_of};
 ghost use Rattle.raw_array.specs.Members.{members_of};
-ghost use Rattle.schema_check.specs.TypedView.{typed_of, kids_of, dict_in};
-ghost use Rattle.schema_check.specs.declared.typed.Typed.{out-Typed};
+ghost use Rattle.kind_tree.specs.TypedView.{typed_of, kids_of, dict_in};
+ghost use Rattle.kind_tree.specs.declared.typed.Typed.{out-Typed};
 ghost use Rattle.layout_rules.specs.Layout.{first, natural, is_valid as is_valid_at};
 ghost use Rattle.layout_rules.specs.Values.{row_items, tree_items};
 ghost use Rattle.arr_import.specs.Window.{IsRow, IsStruct, IsStructValue, child_window, home_of, item_at};
@@ -14,8 +14,8 @@ ghost use Rattle.arr_import.specs.Shown.{Shows};
 
 use crate::col::Col;
 use crate::value_ref::ValueRef;
+use kind_tree::kinds_of_typed;
 use layout_rules::{lawful_has_no_fault, lawful_items_lie_within, lawful_root};
-use schema_check::kinds_of_typed;
 
 impl<'a> Col<'a> {
     /// Item `i`. Bytes are lent from the array's blocks, an index gives the dictionary's item, a list gives the window of

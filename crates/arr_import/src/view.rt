@@ -11,8 +11,8 @@ ghost use Rattle.arr_import.specs.StoredItems.{IsViewStorage};
 
 use crate::col::{Col, buffer_bytes};
 use bit_pack::offset_at;
+use kind_tree::kinds_of_typed;
 use layout_rules::{lawful_has_no_fault, lawful_items_lie_within, lawful_root};
-use schema_check::kinds_of_typed;
 
 /// The longest item that stands in its view.
 const MOST_IN_VIEW: i64 = 12;

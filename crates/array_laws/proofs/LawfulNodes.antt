@@ -1,7 +1,7 @@
 -- What holds of the root of a lawful array: no rule fails there, and its numbers are not negative.
 use Rattle.std.proofs.Common.{◌≡◌, ℕ, ◌≤◌, ℤ, pos, negsuc, false, [], None, Some, refl, arith}
 use Rattle.std.specs.Prelude.{nat_lt}
-use Rattle.fmt_string.specs.declared.kind.DataType.{DataType}
+use Rattle.data_types.specs.declared.kind.DataType.{DataType}
 use Rattle.tree_model.specs.Tree.{IsLive, Released, Live, Trees, MaybeTree, tree_list, option_tree}
 use Rattle.raw_array.specs.Members.{ArrayMembers, ArrayTree}
 use Rattle.layout_rules.specs.Layout.{end, first, items, natural}

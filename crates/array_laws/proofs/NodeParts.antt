@@ -5,7 +5,7 @@ use Rattle.layout_rules.specs.declared.rule.LayoutRule.{LayoutRule}
 use Rattle.layout_rules.specs.declared.rule.LayoutRule.TheVariants as rules
 use Rattle.layout_rules.specs.declared.rule.Numbers.{Numbers}
 use Rattle.layout_rules.specs.Rules.{Node, fails, fault_if, first_below, in_order}
-use Rattle.schema_check.specs.Ways.{Steps}
+use Rattle.kind_tree.specs.Ways.{Steps}
 use Rattle.layout_rules.specs.Walk.{fault_at, fault_by, first_some, node_fault}
 use Rattle.layout_rules.proofs.Firsts.{first_below-none_at}
 use Rattle.layout_rules.proofs.Lawful.{left-none, right-none}

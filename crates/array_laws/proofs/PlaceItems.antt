@@ -1,11 +1,11 @@
 -- An item is read of the buffers' bytes and a place alone.
 use Rattle.std.proofs.Common.{◌≡◌, ◌∙◌, ℕ, ◌+◌, ◌-◌, ◌*◌, ◌/◌, Bool, true, false, ◌==◌, List, take, drop, Option, None, Some, refl, ap, sym}
 use Rattle.std.specs.Prelude.{if◌then◌else◌}
-use Rattle.fmt_string.specs.declared.kind.DataType.{DataType}
-use Rattle.fmt_string.specs.declared.kind.DataType.TheVariants as kinds
+use Rattle.data_types.specs.declared.kind.DataType.{DataType}
+use Rattle.data_types.specs.declared.kind.DataType.TheVariants as kinds
 use Rattle.bit_pack.specs.Packed.{bit, meant, number_at}
-use Rattle.fmt_string.specs.Value.{Value, values}
-use Rattle.fmt_string.specs.Value.Value.{Null, Truth, Whole, Bits, Bytes, Items, Fields}
+use Rattle.data_types.specs.Value.{Value, values}
+use Rattle.data_types.specs.Value.Value.{Null, Truth, Whole, Bits, Bytes, Items, Fields}
 use Rattle.raw_array.specs.Members.{ArrayMembers, ArrayTree}
 use Rattle.layout_rules.specs.Layout.{buffer, bytes_or_none, first, is_valid, is_valid_by, natural, offset_in, time_width}
 use Rattle.array_laws.proofs.PlaceRules.{Buffers, data_at, view_at}

@@ -4,8 +4,8 @@ use Rattle.std.proofs.Common.{refl, sym, arith}
 use Rattle.std.specs.Prelude.{if◌then◌else◌, int_lt, nat_lt}
 use Rattle.std.specs.Str.{is_utf8}
 use Rattle.std.specs.Str.Lossy.{utf8_valid_len}
-use Rattle.fmt_string.specs.declared.kind.DataType.{DataType}
-use Rattle.fmt_string.specs.declared.kind.DataType.TheVariants as kinds
+use Rattle.data_types.specs.declared.kind.DataType.{DataType}
+use Rattle.data_types.specs.declared.kind.DataType.TheVariants as kinds
 use Rattle.bit_pack.specs.Packed.{meant, number_at}
 use Rattle.raw_array.specs.Members.{ArrayMembers}
 use Rattle.layout_rules.specs.declared.layout.Layout.{Layout}

@@ -5,12 +5,12 @@ use Rattle.std.specs.Prelude.{◌+ℤ◌, if◌then◌else◌, ◌&&◌, nat_lt,
 use Rattle.std.specs.Ordering.{int_eq}
 use Rattle.std.proofs.Math.Seq.{take-length}
 use Rattle.std.proofs.lemmas.Bool.Decides.{Decides-int_eq}
-use Rattle.fmt_string.specs.declared.kind.DataType.{DataType}
-use Rattle.fmt_string.specs.Value.{Null}
+use Rattle.data_types.specs.declared.kind.DataType.{DataType}
+use Rattle.data_types.specs.Value.{Null}
 use Rattle.tree_model.specs.Tree.{IsLive, Released, Live, Trees, MaybeTree}
 use Rattle.raw_array.specs.Members.{ArrayMembers, ArrayTree, members_of, windowed}
 use Rattle.raw_array.specs.Windows.{FitsWindow, Window}
-use Rattle.schema_check.specs.Kinds.{KindTree}
+use Rattle.kind_tree.specs.Kinds.{KindTree}
 use Rattle.layout_rules.specs.Layout.{first, items, natural}
 use Rattle.layout_rules.specs.Rules.{null_total}
 use Rattle.layout_rules.specs.Values.{each, row_items, rows_of, tree_items, value_at, values_of}

@@ -2,16 +2,16 @@
 -- two bytes, numbers of one byte with a null, and views of texts ("Arrow Columnar Format", "Variable-size binary view
 -- layout").
 use Rattle.std.specs.Prelude.{◌≡◌, ℕ, ℤ, pos, negsuc, true, false, List, [], ◌∷◌, ◌++◌, Option, None, Some}
-use Rattle.fmt_string.specs.declared.kind.DataType.TheVariants as kinds
-use Rattle.fmt_string.specs.Table.{Row}
-use Rattle.fmt_string.specs.Value.{Value, Bytes, Whole}
+use Rattle.data_types.specs.declared.kind.DataType.TheVariants as kinds
+use Rattle.data_types.specs.Table.{Row}
+use Rattle.data_types.specs.Value.{Value, Bytes, Whole}
 use Rattle.tree_model.specs.Tree.{Live, no_trees, absent, trees}
 use Rattle.raw_array.specs.Members.{Buffer, ArrayTree}
 use Rattle.raw_array.specs.declared.array.ReleaseKind.TheVariants.{Assembled, Exported}
-use Rattle.schema_check.specs.Kinds.{KindTree}
+use Rattle.kind_tree.specs.Kinds.{KindTree}
 use Rattle.layout_rules.specs.Values.{rows_of}
 use Rattle.layout_rules.specs.Walk.{first_chunk_fault}
-use Rattle.schema_check.specs.ColumnKinds.{table_type}
+use Rattle.kind_tree.specs.ColumnKinds.{table_type}
 
 abbrev pub bytes : List ℕ → Option Buffer
 bytes bs = Some (record { bytes = bs; amount = 7 })

@@ -1,14 +1,14 @@
 //! Laws on trees of arrays: what a reader sees of them, and windows on them.
 ghost use Rattle.std.specs.Prelude.{◌≡◌, ◌≤◌, ◌<◌, ◌≤ℤ◌, ◌+◌, ◌-◌, ◌^◌, ℕ, pos, List, take, drop, length, get_or, ◌++◌};
-ghost use Rattle.fmt_string.specs.Table.{Row};
+ghost use Rattle.data_types.specs.Table.{Row};
 ghost use Rattle.tree_model.specs.Tree.{Depth, IsLive, Released, child_at, children_of};
 ghost use Rattle.raw_array.specs.Members.{ArrayTree, Like, Lowered, LoweredBy, ShareOf, members_of};
-ghost use Rattle.schema_check.specs.Kinds.{KindTree, NodesOk};
+ghost use Rattle.kind_tree.specs.Kinds.{KindTree, NodesOk};
 ghost use Rattle.layout_rules.specs.Layout.{end};
 ghost use Rattle.layout_rules.specs.Values.{rows_of, tree_items, values_of};
 ghost use Rattle.layout_rules.specs.Walk.{ChunkOk, LayoutOk, first_chunk_fault, first_fault};
 ghost use Rattle.raw_array.specs.Windows.{FitsWindow, Window};
-ghost use Rattle.schema_check.specs.ColumnKinds.{table_type};
+ghost use Rattle.kind_tree.specs.ColumnKinds.{table_type};
 ghost use Rattle.array_laws.specs.Shown.{SameShown};
 ghost use Rattle.array_laws.specs.Pieces.{border, joined_pieces, piece, rows_of_pieces};
 

@@ -7,9 +7,9 @@ use Rattle.std.proofs.lemmas.List.Elements.{All-head, All-tail}
 use Rattle.std.specs.List.{All, flat_map}
 use Rattle.std.specs.Prelude.{map, None}
 use Rattle.bit_pack.specs.Packed.{le_bytes, offset_width, stored}
-use Rattle.fmt_string.specs.Storage.{storage_of}
-use Rattle.fmt_string.specs.Value.{Value, Null, Truth, Whole, Bits, Bytes, Items, Fields, bytes_of}
-use Rattle.fmt_string.specs.declared.kind.DataType.{DataType}
+use Rattle.data_types.specs.Storage.{storage_of}
+use Rattle.data_types.specs.Value.{Value, Null, Truth, Whole, Bits, Bytes, Items, Fields, bytes_of}
+use Rattle.data_types.specs.declared.kind.DataType.{DataType}
 use Rattle.col_build.specs.Encoding.{Fits, ends, offset_bytes, stored_item}
 use Rattle.col_build.specs.Holding.{HasBytes, Holds, bytes_in, kept_bytes, offsets_in}
 use Rattle.col_build.specs.Settled.{HoldsWhole, IsNumbers}

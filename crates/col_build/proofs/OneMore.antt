@@ -7,9 +7,9 @@ use Rattle.std.specs.List.{All, concat, flat_map}
 use Rattle.std.specs.Prelude.{ℤ, map, None}
 use Rattle.std.proofs.Math.Nat.{suc-mul}
 use Rattle.bit_pack.specs.Packed.{IsWidth, le_bytes}
-use Rattle.fmt_string.specs.FieldText.{form_of, in_range}
-use Rattle.fmt_string.specs.Value.{Value, Truth, Whole, bytes_of}
-use Rattle.fmt_string.specs.declared.kind.DataType.{DataType}
+use Rattle.data_types.specs.FieldText.{form_of, in_range}
+use Rattle.data_types.specs.Value.{Value, Truth, Whole, bytes_of}
+use Rattle.data_types.specs.declared.kind.DataType.{DataType}
 use Rattle.col_build.specs.Encoding.{bit_bytes, if_some, is_null, is_set, is_wide, null_total, offset_bytes, push_fault, stored_item, validity_of}
 use Rattle.col_build.specs.Holding.{HasBytes, HasOffsets, Holds, HoldsFloats, HoldsSome, HoldsWholes, ShapeOk, Takes, bytes_in, kept_bytes, kept_offsets}
 use Rattle.col_build.specs.Holding.{offsets_in}

@@ -5,14 +5,14 @@ use Rattle.std.specs.Prelude.{Option, None, Some, All}
 use Rattle.std.specs.List.{concat, flat_map}
 use Rattle.std.specs.Str.{is_utf8}
 use Rattle.bit_pack.specs.Packed.{le_bytes, stored, offset_width}
-use Rattle.fmt_string.specs.FieldText.{Form, Truths, Wholes, FloatBits, Text, HexBytes, SizedHex, Decimals, form_of, in_range}
-use Rattle.fmt_string.specs.Kinds.{KindOk}
-use Rattle.fmt_string.specs.Value.{Value, Null, Truth, Whole, Bits, Bytes}
+use Rattle.data_types.specs.FieldText.{Form, Truths, Wholes, FloatBits, Text, HexBytes, SizedHex, Decimals, form_of, in_range}
+use Rattle.data_types.specs.Kinds.{KindOk}
+use Rattle.data_types.specs.Value.{Value, Null, Truth, Whole, Bits, Bytes}
 -- whether a value is null, the bytes that stand between two offsets, and how many there are of a column's values
-pub use Rattle.fmt_string.specs.Value.{is_null, bytes_of, byte_total}
-pub use Rattle.fmt_string.specs.ColumnForms.{HasForm}
-use Rattle.fmt_string.specs.declared.kind.DataType.{DataType}
-use Rattle.fmt_string.specs.declared.kind.DataType.TheVariants as kinds
+pub use Rattle.data_types.specs.Value.{is_null, bytes_of, byte_total}
+pub use Rattle.data_types.specs.ColumnForms.{HasForm}
+use Rattle.data_types.specs.declared.kind.DataType.{DataType}
+use Rattle.data_types.specs.declared.kind.DataType.TheVariants as kinds
 use Rattle.col_build.specs.declared.item.PushFault.{PushFault}
 use Rattle.col_build.specs.declared.item.PushFault.TheVariants.{WrongKind, OutOfRange, NotText}
 

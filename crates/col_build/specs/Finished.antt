@@ -2,8 +2,8 @@
 use Rattle.std.specs.Prelude.{◌≡◌, ℕ, ◌+◌, pos, List, [], ◌∷◌, length, Option, None, Some}
 use Rattle.buf_block.specs.declared.hold.BufView.{BufView}
 use Rattle.buf_block.specs.declared.hold.TheConstants.{AMOUNT}
-use Rattle.fmt_string.specs.Value.{Value}
-use Rattle.fmt_string.specs.declared.kind.DataType.{DataType}
+use Rattle.data_types.specs.Value.{Value}
+use Rattle.data_types.specs.declared.kind.DataType.{DataType}
 use Rattle.col_build.specs.Encoding.{encoded}
 use Rattle.col_build.specs.declared.built.Built.{Built}
 use Rattle.col_build.specs.declared.built.Laid.{Laid}

@@ -2,10 +2,10 @@
 use Rattle.std.specs.Prelude.{◌≡◌, ◌≢◌, ◌⊎◌, ℕ, ◌+◌, ◌*◌, ◌^◌, ◌<◌, Bool, false, IsTrue, List, [], ◌∷◌, ◌++◌, length, map, take, None, Result}
 use Rattle.std.specs.List.{concat, flat_map}
 use Rattle.bit_pack.specs.Packed.{IsWidth}
-use Rattle.fmt_string.specs.Storage.{storage_of}
-use Rattle.fmt_string.specs.declared.storage.Storage.TheVariants as stored
-use Rattle.fmt_string.specs.Value.{Value, bytes_of}
-use Rattle.fmt_string.specs.declared.kind.DataType.{DataType}
+use Rattle.data_types.specs.Storage.{storage_of}
+use Rattle.data_types.specs.declared.storage.Storage.TheVariants as stored
+use Rattle.data_types.specs.Value.{Value, bytes_of}
+use Rattle.data_types.specs.declared.kind.DataType.{DataType}
 use Rattle.col_build.specs.Encoding.{Fits, bit_bytes, if_some, is_set, null_total, offset_bytes, push_fault, stored_item, validity_of}
 use Rattle.col_build.specs.Shapes.{IsAnswer, shape_in}
 use Rattle.col_build.specs.declared.builder.Builder.{Builder}

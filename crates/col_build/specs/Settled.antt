@@ -1,8 +1,8 @@
 -- What a builder holds that has made nothing ahead of further items.
 use Rattle.std.specs.Prelude.{◌≡◌, ◌^◌, ◌<◌, ℕ, Bool, false, List, [], ◌∷◌, ◌++◌, length, Result}
-use Rattle.fmt_string.specs.Storage.{storage_of}
-use Rattle.fmt_string.specs.Value.{Value}
-use Rattle.fmt_string.specs.declared.kind.DataType.{DataType}
+use Rattle.data_types.specs.Storage.{storage_of}
+use Rattle.data_types.specs.Value.{Value}
+use Rattle.data_types.specs.declared.kind.DataType.{DataType}
 use Rattle.col_build.specs.Encoding.{Fits, if_some, null_total, push_fault, validity_of}
 use Rattle.col_build.specs.Holding.{HasBytes, Holds}
 use Rattle.col_build.specs.Shapes.{IsAnswer, shape_in}

@@ -1,8 +1,8 @@
 //! Columns that items are added to, beside columns of the same items that are pushed to alone.
 ghost use Rattle.std.specs.Prelude.{◌≡◌, ◌≤◌, ◌<◌, ◌^◌, ◌⊎◌, [], List, length, OnOk};
-ghost use Rattle.fmt_string.specs.FieldText.{form_of};
-ghost use Rattle.fmt_string.specs.Kinds.{KindOk};
-ghost use Rattle.fmt_string.specs.Value.{Value, Bits, Whole};
+ghost use Rattle.data_types.specs.FieldText.{form_of};
+ghost use Rattle.data_types.specs.Kinds.{KindOk};
+ghost use Rattle.data_types.specs.Value.{Value, Bits, Whole};
 ghost use Rattle.col_build.specs.Encoding.{HasForm};
 ghost use Rattle.col_build.specs.Holding.{Adds, Holds, Takes};
 ghost use Rattle.col_build.specs.Items.{value_of};
@@ -10,7 +10,7 @@ ghost use Rattle.col_build.specs.Items.{value_of};
 use crate::Item::{Bits, Bytes, Null, Truth, Whole};
 use crate::tests::{decimal, expect_finish, int};
 use crate::{Builder, Item};
-use fmt_string::{DataType, Storage, clone_kind, storage_of};
+use data_types::{DataType, Storage, clone_kind, storage_of};
 use std::alloc::Global;
 use std::process::Abort;
 use unit_pass::{NoMemory, open_desk};

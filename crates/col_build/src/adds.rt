@@ -1,10 +1,10 @@
 //! Values added to a column that takes them. Where no null stands before it, a number or a short text costs one test and the
 //! stores, since its place was made ahead.
 ghost use Rattle.std.specs.Prelude.{◌≡◌, ◌≢◌, ◌≤◌, ◌<◌, ◌^◌, ◌+◌, ◌*◌, ◌⊎◌, ◌∷◌, [], Bool, List, true, length, take, vec_len, IfOk, OnOk, OnErr};
-ghost use Rattle.fmt_string.specs.FieldText.{form_of};
-ghost use Rattle.fmt_string.specs.Kinds.{KindOk};
-ghost use Rattle.fmt_string.specs.Value.{Value, Null, Truth, Whole, Bits, Bytes, bytes_of};
-ghost use Rattle.fmt_string.specs.declared.kind.DataType.{DataType};
+ghost use Rattle.data_types.specs.FieldText.{form_of};
+ghost use Rattle.data_types.specs.Kinds.{KindOk};
+ghost use Rattle.data_types.specs.Value.{Value, Null, Truth, Whole, Bits, Bytes, bytes_of};
+ghost use Rattle.data_types.specs.declared.kind.DataType.{DataType};
 ghost use Rattle.col_build.specs.Encoding.{HasForm, is_null};
 ghost use Rattle.col_build.specs.Holding.{HasBytes, bytes_in, offsets_in};
 ghost use Rattle.col_build.specs.Items.{value_of};
@@ -14,7 +14,7 @@ use crate::bits::push_bit;
 use crate::shape::{Shape, shape_of};
 use crate::validity::{make_room, push_validity};
 use crate::{Builder, Item, PushFault};
-use fmt_string::DataType;
+use data_types::DataType;
 use std::alloc::Global;
 use unit_pass::NoMemory;
 

@@ -2,7 +2,7 @@
 //! that finds its place there is stored without a look at the vector's room.
 ghost use Rattle.std.specs.Prelude.{◌≡◌, ◌≤◌, ◌^◌, ◌+◌, ◌*◌, ◌++◌, ◌⊎◌, Bool, true, OnOk, OnErr, length, take, vec_len};
 ghost use Rattle.bit_pack.specs.Packed.{le_bytes, stored};
-ghost use Rattle.fmt_string.specs.FieldText.{in_range};
+ghost use Rattle.data_types.specs.FieldText.{in_range};
 ghost use Rattle.col_build.specs.Holding.{ShapeOk, bytes_in, offsets_in};
 
 use crate::shape::Shape;

@@ -1,11 +1,11 @@
 //! A flat column in the making: items pushed one by one, and the column of them.
 ghost use Rattle.std.specs.Prelude.{◌≡◌, ◌≤◌, ◌<◌, ◌^◌, ◌+◌, ◌∷◌, [], List, Bool, true, pos, length, map, if◌then◌else◌, is_ok, IfOk, IfErr, OnOk, OnErr};
 ghost use Rattle.unit_pass.specs.Tally.{risen};
-ghost use Rattle.fmt_string.specs.FieldText.{form_of};
-ghost use Rattle.fmt_string.specs.Kinds.{KindOk};
-ghost use Rattle.fmt_string.specs.Value.{Value, Bytes};
+ghost use Rattle.data_types.specs.FieldText.{form_of};
+ghost use Rattle.data_types.specs.Kinds.{KindOk};
+ghost use Rattle.data_types.specs.Value.{Value, Bytes};
 ghost use Rattle.std.specs.Str.{is_utf8};
-ghost use Rattle.fmt_string.specs.declared.kind.DataType.{DataType};
+ghost use Rattle.data_types.specs.declared.kind.DataType.{DataType};
 ghost use Rattle.col_build.specs.Encoding.{Fits, HasForm, is_null};
 ghost use Rattle.col_build.specs.Items.{value_of};
 
@@ -15,7 +15,7 @@ use crate::shape::{Shape, shape_of};
 use crate::store::store;
 use crate::validity::{make_room, push_validity};
 use crate::{Built, Item, Laid, PushFault};
-use fmt_string::DataType;
+use data_types::DataType;
 use std::alloc::Global;
 use unit_pass::{NoMemory, Pass};
 

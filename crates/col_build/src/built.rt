@@ -1,6 +1,6 @@
 //! A finished column: its type, its counts and the views of its buffers.
 use buf_block::BufView;
-use fmt_string::DataType;
+use data_types::DataType;
 
 /// The buffers of a finished column ("Arrow Columnar Format", "Physical memory layout"): the validity bitmap, then the data,
 /// or the offsets and the data. A buffer of no bytes is absent, but an offsets buffer is always there. It can't be dropped,

@@ -257,8 +257,8 @@ impl Builder {
     ghost use Rattle.col_build.specs.Finished.{IsLaidOut, blocks_of};
     ghost use Rattle.col_build.specs.Holding.{Holds, HoldsSome, Keeps};
     ghost use Rattle.col_build.specs.Settled.{HoldsSomeWhole, HoldsWhole, KeepsWhole};
-    ghost use Rattle.fmt_string.specs.Value.{Value};
-    ghost use Rattle.fmt_string.specs.declared.kind.DataType.{DataType};
+    ghost use Rattle.data_types.specs.Value.{Value};
+    ghost use Rattle.data_types.specs.declared.kind.DataType.{DataType};
 
     /// Moves the buffers of a column with nothing ahead into blocks. Where there is no memory the builder holds the same.
     #[inline(always)]

@@ -1,7 +1,7 @@
 //! Encodings that the definitions compute as they stand here.
 ghost use Rattle.std.specs.Prelude.{◌≡◌, pos, negsuc, true, false, [], ◌∷◌, None, Some, codes};
-ghost use Rattle.fmt_string.specs.declared.kind.DataType.TheVariants.{Bool, Int, Float, Utf8, FixedBinary};
-ghost use Rattle.fmt_string.specs.Value.{Null, Truth, Whole, Bits, Bytes};
+ghost use Rattle.data_types.specs.declared.kind.DataType.TheVariants.{Bool, Int, Float, Utf8, FixedBinary};
+ghost use Rattle.data_types.specs.Value.{Null, Truth, Whole, Bits, Bytes};
 ghost use Rattle.col_build.specs.Encoding.{bit_bytes, encoded, push_fault};
 ghost use Rattle.col_build.specs.declared.item.PushFault.TheVariants.{WrongKind, OutOfRange, NotText};
 

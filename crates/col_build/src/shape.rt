@@ -1,11 +1,11 @@
 //! How the items of a type are laid out ("Arrow Columnar Format", "Physical memory layout").
 ghost use Rattle.std.specs.Prelude.{◌≡◌};
-ghost use Rattle.fmt_string.specs.FieldText.{form_of};
-ghost use Rattle.fmt_string.specs.Storage.{storage_of};
+ghost use Rattle.data_types.specs.FieldText.{form_of};
+ghost use Rattle.data_types.specs.Storage.{storage_of};
 ghost use Rattle.col_build.specs.Encoding.{HasForm};
 ghost use Rattle.col_build.specs.Shapes.{shape_in};
 
-use fmt_string::{DataType, Storage, storage_of};
+use data_types::{DataType, Storage, storage_of};
 
 /// What an item of a column is, and how it lies in the buffers.
 #[derive(Clone, Copy)]

@@ -3,7 +3,7 @@ ghost use Rattle.std.specs.Prelude.{◌≡◌, ◌≢◌, ◌==◌, ◌⊎◌, �
 ghost use Rattle.std.specs.Prelude.{OnErr, IfErr};
 ghost use Rattle.std.specs.List.{concat};
 ghost use Rattle.bit_pack.specs.Packed.{IsWidth, le_bytes, offset_width};
-ghost use Rattle.fmt_string.specs.Value.{Value, bytes_of};
+ghost use Rattle.data_types.specs.Value.{Value, bytes_of};
 ghost use Rattle.col_build.specs.Encoding.{bit_bytes, is_set, offset_bytes, stored_item};
 ghost use Rattle.col_build.specs.Items.{value_of};
 ghost use Rattle.col_build.specs.Holding.{HasBytes, HasOffsets, ShapeOk};

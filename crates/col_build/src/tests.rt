@@ -1,21 +1,21 @@
 //! Columns of a few items, whose buffers were written by hand.
 ghost use Rattle.std.specs.Prelude.{◌≡◌, ◌+◌, ◌<◌, ◌≤◌, [], ◌∷◌, List, length, pos, false};
 ghost use Rattle.unit_pass.specs.declared.pass.TheConstants.{SUPPLY};
-ghost use Rattle.fmt_string.specs.FieldText.{form_of};
-ghost use Rattle.fmt_string.specs.Kinds.{KindOk};
-ghost use Rattle.fmt_string.specs.Value.{Value};
-ghost use Rattle.fmt_string.specs.declared.kind.DataType.{DataType};
+ghost use Rattle.data_types.specs.FieldText.{form_of};
+ghost use Rattle.data_types.specs.Kinds.{KindOk};
+ghost use Rattle.data_types.specs.Value.{Value};
+ghost use Rattle.data_types.specs.declared.kind.DataType.{DataType};
 ghost use Rattle.col_build.specs.Encoding.{HasForm};
 ghost use Rattle.col_build.specs.Finished.{IsEncoded, IsLaidOut, blocks_of};
 ghost use Rattle.col_build.specs.Holding.{Adds, Holds, HoldsFew, HoldsSome, Keeps};
 ghost use Rattle.col_build.specs.Items.{value_of};
-ghost use Rattle.fmt_string.specs.declared.kind.DataType.TheVariants.{Decimal, Int};
+ghost use Rattle.data_types.specs.declared.kind.DataType.TheVariants.{Decimal, Int};
 
 use crate::Item::{Bits, Bytes, Null, Truth, Whole};
 use crate::PushFault::{NotText, OutOfRange, WrongKind};
 use crate::{Builder, Built, Item, Laid, PushFault, Spares};
 use buf_block::{BufView, let_go_all};
-use fmt_string::{DataType, Tick};
+use data_types::{DataType, Tick};
 use std::alloc::Global;
 use std::process::Abort;
 use std::test::Fail;

@@ -1,9 +1,9 @@
 //! Texts that aren't tested again, beside those that are.
 ghost use Rattle.std.specs.Prelude.{◌≡◌, [], pos, false};
-ghost use Rattle.fmt_string.specs.FieldText.{form_of};
-ghost use Rattle.fmt_string.specs.Kinds.{KindOk};
-ghost use Rattle.fmt_string.specs.Value.{Bytes};
-ghost use Rattle.fmt_string.specs.declared.kind.DataType.{DataType};
+ghost use Rattle.data_types.specs.FieldText.{form_of};
+ghost use Rattle.data_types.specs.Kinds.{KindOk};
+ghost use Rattle.data_types.specs.Value.{Bytes};
+ghost use Rattle.data_types.specs.declared.kind.DataType.{DataType};
 ghost use Rattle.col_build.specs.Encoding.{HasForm};
 ghost use Rattle.col_build.specs.Holding.{Adds, Holds, HoldsFew};
 
@@ -11,7 +11,7 @@ use crate::Item::{Bytes, Null};
 use crate::PushFault::{OutOfRange, WrongKind};
 use crate::tests::{decimal, expect_column, expect_finish, int, push_one};
 use crate::{Builder, PushFault, is_text};
-use fmt_string::DataType;
+use data_types::DataType;
 use std::alloc::Global;
 use std::process::Abort;
 use std::test::Fail;

@@ -1,6 +1,6 @@
 //! Validity bits, which begin with the first null ("Arrow Columnar Format", "Validity bitmaps").
 ghost use Rattle.std.specs.Prelude.{◌≡◌, ◌≢◌, ◌+◌, ◌/◌, ◌≤◌, ◌++◌, ◌∷◌, [], Bool, List, true, OnOk, IfErr, vec_len, vec_capacity};
-ghost use Rattle.fmt_string.specs.Value.{Value};
+ghost use Rattle.data_types.specs.Value.{Value};
 ghost use Rattle.col_build.specs.Encoding.{if_some, is_null, validity_of};
 ghost use Rattle.col_build.specs.Holding.{HasValidity};
 ghost use Rattle.col_build.specs.declared.item.PushFault.TheVariants.{NoMemory};

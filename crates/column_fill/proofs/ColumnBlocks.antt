@@ -8,13 +8,13 @@ use Rattle.std.proofs.lemmas.Bool.Decides.{nat_tests}
 use Rattle.std.proofs.lemmas.List.{length-append, length-replicate}
 use Rattle.std.proofs.lemmas.List.Elements.{All-head, All-tail}
 use Rattle.bit_pack.specs.Packed.{le_bytes, stored}
-use Rattle.fmt_string.specs.ColumnForms.{HasForm, IsColumnKind}
-use Rattle.fmt_string.specs.FieldText.{Form, Truths, Wholes, FloatBits, Text, HexBytes, SizedHex, Decimals, IsOfForm, IsOfSome, IsValueOf, form_of}
-use Rattle.fmt_string.specs.Kinds.{KindOk}
-use Rattle.fmt_string.specs.Value.{Value, Null, Truth, Whole, Bits, Bytes, Items, Fields, bytes_of, is_null}
-use Rattle.fmt_string.specs.declared.kind.DataType.{DataType}
-use Rattle.fmt_string.specs.declared.kind.DataType.TheVariants as kinds
-use Rattle.fmt_string.specs.declared.kind.Tick.TheVariants as ticks
+use Rattle.data_types.specs.ColumnForms.{HasForm, IsColumnKind}
+use Rattle.data_types.specs.FieldText.{Form, Truths, Wholes, FloatBits, Text, HexBytes, SizedHex, Decimals, IsOfForm, IsOfSome, IsValueOf, form_of}
+use Rattle.data_types.specs.Kinds.{KindOk}
+use Rattle.data_types.specs.Value.{Value, Null, Truth, Whole, Bits, Bytes, Items, Fields, bytes_of, is_null}
+use Rattle.data_types.specs.declared.kind.DataType.{DataType}
+use Rattle.data_types.specs.declared.kind.DataType.TheVariants as kinds
+use Rattle.data_types.specs.declared.kind.Tick.TheVariants as ticks
 use Rattle.col_build.specs.Encoding.{bit_bytes, buffers_by, buffers_if, if_some, in_place, is_set, is_wide, null_total, stored_item, validity_of}
 use Rattle.col_build.specs.Finished.{blocks_of, present_count}
 use Rattle.stage_model.specs.Traffic.{flat_blocks, form_blocks, one_if_any, row_blocks, validity_blocks}

@@ -1,9 +1,9 @@
 -- What a finished column costs: a node, and a hold for each buffer of its encoding.
 use Rattle.std.proofs.Common.{◌≡◌, ◌∙◌, ◌≤◌, ◌+◌, ℕ, Bool, List, [], ◌∷◌, length, Option, None, Some, refl, ap, arith}
 use Rattle.buf_block.specs.declared.hold.BufView.{BufView}
-use Rattle.fmt_string.specs.FieldText.{Form, Truths, Wholes, FloatBits, Text, HexBytes, SizedHex, Decimals, form_of}
-use Rattle.fmt_string.specs.Value.{Value}
-use Rattle.fmt_string.specs.declared.kind.DataType.{DataType}
+use Rattle.data_types.specs.FieldText.{Form, Truths, Wholes, FloatBits, Text, HexBytes, SizedHex, Decimals, form_of}
+use Rattle.data_types.specs.Value.{Value}
+use Rattle.data_types.specs.declared.kind.DataType.{DataType}
 use Rattle.tree_model.specs.Tree.{maybe_tree}
 use Rattle.raw_array.specs.Members.{ArrayTree, Cost, cost_of_maybe, holds_of}
 use Rattle.raw_array.specs.View.{buffers_of}

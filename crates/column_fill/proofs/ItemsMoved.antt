@@ -2,19 +2,19 @@
 use Rattle.std.proofs.Common.{◌≡◌, ◌≢◌, ◌∙◌, ◌≤◌, ◌<◌, ◌+◌, ◌*◌, ◌^◌, ◌++◌, ℕ, ℤ, Bool, List, [], ◌∷◌, length, map, take, get_or}
 use Rattle.std.proofs.Common.{refl, sym, ap, subst, arith}
 use Rattle.std.proofs.lemmas.List.{get_or-map, length-map, length-take, map_more, take-map}
-use Rattle.fmt_string.specs.ColumnForms.{IsColumnKind}
-use Rattle.fmt_string.specs.FieldText.{IsValueOf}
-use Rattle.fmt_string.specs.Storage.{storage_of}
-use Rattle.fmt_string.specs.Table.{Kind}
-use Rattle.fmt_string.specs.Value.{Value, Null, Truth, Whole, byte_total, bytes_of}
-use Rattle.fmt_string.specs.declared.kind.DataType.{DataType}
-use Rattle.fmt_string.specs.declared.storage.Storage.{Storage}
-use Rattle.fmt_string.specs.declared.storage.Storage.TheVariants as stored
+use Rattle.data_types.specs.ColumnForms.{IsColumnKind}
+use Rattle.data_types.specs.FieldText.{IsValueOf}
+use Rattle.data_types.specs.Storage.{storage_of}
+use Rattle.data_types.specs.Table.{Kind}
+use Rattle.data_types.specs.Value.{Value, Null, Truth, Whole, byte_total, bytes_of}
+use Rattle.data_types.specs.declared.kind.DataType.{DataType}
+use Rattle.data_types.specs.declared.storage.Storage.{Storage}
+use Rattle.data_types.specs.declared.storage.Storage.TheVariants as stored
 use Rattle.col_build.specs.Holding.{Holds, HoldsWholes, Takes as IsTaken}
 use Rattle.col_build.specs.declared.builder.Builder.{Builder}
 use Rattle.raw_array.specs.Members.{ArrayTree}
-use Rattle.schema_check.specs.ColumnKinds.{type_of_kind}
-use Rattle.schema_check.specs.Kinds.{KindTree}
+use Rattle.kind_tree.specs.ColumnKinds.{type_of_kind}
+use Rattle.kind_tree.specs.Kinds.{KindTree}
 use Rattle.layout_rules.specs.Values.{value_at}
 use Rattle.arr_import.specs.Window.{Window, item_at, whole}
 use Rattle.stream_face.specs.Lawful.{AreValues}

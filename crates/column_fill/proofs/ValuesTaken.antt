@@ -6,16 +6,16 @@ use Rattle.std.proofs.lemmas.Bool.Decides.{nat_tests}
 use Rattle.std.specs.Prelude.{Option, None, Some, ℤ, pos, negsuc, nat_abs, nat_lt, not, ◌==◌, ◌&&◌, if◌then◌else◌}
 use Rattle.std.specs.List.{concat}
 use Rattle.std.proofs.lemmas.List.{length-append}
-use Rattle.fmt_string.specs.ColumnForms.{IsColumnKind}
-use Rattle.fmt_string.specs.FieldText.{Form, Truths, Wholes, FloatBits, Text, HexBytes, SizedHex, Decimals, IsOfForm, IsOfSome, IsValueOf}
-use Rattle.fmt_string.specs.FieldText.{form_of, in_range, stored_form}
-use Rattle.fmt_string.specs.Kinds.{KindOk}
-use Rattle.fmt_string.specs.Storage.{storage_of}
-use Rattle.fmt_string.specs.Value.{Value, Null, Truth, Whole, Bits, Bytes, Items, Fields, byte_total, bytes_of}
-use Rattle.fmt_string.specs.declared.kind.DataType.{DataType}
-use Rattle.fmt_string.specs.declared.kind.DataType.TheVariants as kinds
-use Rattle.fmt_string.specs.declared.storage.Storage.{Storage}
-use Rattle.fmt_string.specs.declared.storage.Storage.TheVariants as stored
+use Rattle.data_types.specs.ColumnForms.{IsColumnKind}
+use Rattle.data_types.specs.FieldText.{Form, Truths, Wholes, FloatBits, Text, HexBytes, SizedHex, Decimals, IsOfForm, IsOfSome, IsValueOf}
+use Rattle.data_types.specs.FieldText.{form_of, in_range, stored_form}
+use Rattle.data_types.specs.Kinds.{KindOk}
+use Rattle.data_types.specs.Storage.{storage_of}
+use Rattle.data_types.specs.Value.{Value, Null, Truth, Whole, Bits, Bytes, Items, Fields, byte_total, bytes_of}
+use Rattle.data_types.specs.declared.kind.DataType.{DataType}
+use Rattle.data_types.specs.declared.kind.DataType.TheVariants as kinds
+use Rattle.data_types.specs.declared.storage.Storage.{Storage}
+use Rattle.data_types.specs.declared.storage.Storage.TheVariants as stored
 use Rattle.col_build.specs.Encoding.{Fits, are_bounded, are_within, fault_if, is_by_offsets, is_wide, is_within, push_fault}
 use Rattle.col_build.specs.declared.item.PushFault.TheVariants.{WrongKind, OutOfRange, NotText}
 use Rattle.stream_face.specs.Lawful.{AreValues}

@@ -1,7 +1,7 @@
 //! Items that are moved into a column in the making.
 ghost use Rattle.std.specs.Prelude.{◌≡◌, ◌<◌, ◌^◌, ◌*◌, Bool, true, OnErr, OnOk};
-ghost use Rattle.fmt_string.specs.declared.storage.Storage.{Storage as AStorage};
-ghost use Rattle.fmt_string.specs.declared.storage.Storage.TheVariants.{Between, Truths, Wholes};
+ghost use Rattle.data_types.specs.declared.storage.Storage.{Storage as AStorage};
+ghost use Rattle.data_types.specs.declared.storage.Storage.TheVariants.{Between, Truths, Wholes};
 ghost use Rattle.col_build.specs.Holding.{Adds, Keeps};
 ghost use Rattle.col_build.specs.Items.{value_of};
 ghost use Rattle.arr_import.specs.Cols.{window_of};
@@ -10,7 +10,7 @@ ghost use Rattle.column_fill.specs.Takes.{IsStored, Takes};
 
 use arr_import::Col;
 use col_build::{Builder, Item, PushFault};
-use fmt_string::Storage;
+use data_types::Storage;
 use unit_pass::NoMemory;
 
 /// An item of a column whose items are null or stored so.

@@ -1,14 +1,14 @@
 -- The types of columns that are picked, packed and unpacked.
 use Rattle.std.proofs.Common.{◌≡◌, ℕ, zero, suc, ◌<◌, List, [], ◌∷◌, length, get_or, refl, ap, arith}
-use Rattle.fmt_string.specs.Table.{Column, Kind, Flat, Dict, Columns, Members, no_members, more_members}
-use Rattle.fmt_string.specs.ColumnView.{members}
-use Rattle.fmt_string.specs.declared.kind.DataType.{DataType}
-use Rattle.fmt_string.specs.declared.kind.DataType.TheVariants as kinds
+use Rattle.data_types.specs.Table.{Column, Kind, Flat, Dict, Columns, Members, no_members, more_members}
+use Rattle.data_types.specs.ColumnView.{members}
+use Rattle.data_types.specs.declared.kind.DataType.{DataType}
+use Rattle.data_types.specs.declared.kind.DataType.TheVariants as kinds
 use Rattle.tree_model.specs.Tree.{IsLive, Live, Released, absent, Trees, trees, more_trees}
-use Rattle.schema_check.specs.Kinds.{AllNodesOk, KindTree, NodesOk}
-use Rattle.schema_check.specs.ColumnKinds.{table_type, type_of_column, type_of_kind, types_of_columns, types_of_members}
+use Rattle.kind_tree.specs.Kinds.{AllNodesOk, KindTree, NodesOk}
+use Rattle.kind_tree.specs.ColumnKinds.{table_type, type_of_column, type_of_kind, types_of_columns, types_of_members}
 use Rattle.column_laws.proofs.PickedColumns.{head-within, tail-within}
-use Rattle.fmt_string.specs.Parts.{AreWithin, member_columns, picked}
+use Rattle.data_types.specs.Parts.{AreWithin, member_columns, picked}
 use Rattle.column_laws.specs.Picking.{AreLive}
 
 kind-live : (kind : Kind) → IsLive (type_of_kind kind)

@@ -1,19 +1,19 @@
 -- Another column in the place of one.
 use Rattle.std.proofs.Common.{◌≡◌, ◌∙◌, ℕ, zero, suc, ◌+◌, ◌<◌, ◌≤◌, List, [], ◌∷◌, ◌++◌, length, map, get_or, take, drop, refl, ap, sym, arith}
 use Rattle.std.proofs.lemmas.List.Elements.{All-cons}
-use Rattle.fmt_string.specs.Value.{Value, Null}
+use Rattle.data_types.specs.Value.{Value, Null}
 use Rattle.tree_model.specs.Tree.{IsLive}
 use Rattle.raw_array.specs.Members.{ArrayTree}
-use Rattle.schema_check.specs.Kinds.{KindTree}
+use Rattle.kind_tree.specs.Kinds.{KindTree}
 use Rattle.layout_rules.specs.Values.{each, field_items, row_items, rows_of, tree_items, value_at, values_of}
 use Rattle.layout_rules.specs.Walk.{ChunkOk, LayoutOk}
-use Rattle.schema_check.specs.ColumnKinds.{table_type}
+use Rattle.kind_tree.specs.ColumnKinds.{table_type}
 use Rattle.column_laws.proofs.PackedColumns.{like-chunk, like-rows}
 use Rattle.column_laws.proofs.PickedColumns.{map-each}
 use Rattle.column_laws.proofs.StructRows.{CutFacts, all-append, all-drop, all-take, cut-facts, lawful-append, lawful-drop, lawful-take, row-append, row-drop}
 use Rattle.column_laws.proofs.StructRows.{row-take}
 use Rattle.array_laws.proofs.WindowItems.{each-same, length-each}
-use Rattle.fmt_string.specs.Parts.{replaced}
+use Rattle.data_types.specs.Parts.{replaced}
 use Rattle.column_laws.specs.Picking.{AreLive, Replaced, cut_children}
 use Rattle.array_laws.proofs.StructLaw.{AreLawful}
 

@@ -1,12 +1,12 @@
 -- Trees of columns that are picked, packed, unpacked and replaced ("The Arrow C Data Interface", "Moving child arrays"; "Arrow
 -- Columnar Format", "Struct Layout").
 use Rattle.std.specs.Prelude.{◌<◌, ◌+◌, ℕ, List, [], ◌∷◌, ◌++◌, get_or, length, map, take, drop}
-use Rattle.fmt_string.specs.Parts.{picked, replaced}
+use Rattle.data_types.specs.Parts.{picked, replaced}
 use Rattle.tree_model.specs.Tree.{IsLive, Released, Live, absent, trees, children_of}
 use Rattle.raw_array.specs.Members.{ArrayTree, members_of}
 use Rattle.raw_array.specs.Windows.{Window}
-use Rattle.schema_check.specs.Kinds.{KindTree}
-use Rattle.schema_check.specs.ColumnKinds.{table_type}
+use Rattle.kind_tree.specs.Kinds.{KindTree}
+use Rattle.kind_tree.specs.ColumnKinds.{table_type}
 use Rattle.arr_move.specs.TreeActs.{Columns, cut, struct_members}
 
 -- no type is released

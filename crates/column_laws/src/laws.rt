@@ -1,16 +1,16 @@
 //! Laws on the columns of trees: picked, packed, unpacked and replaced.
 ghost use Rattle.std.specs.Prelude.{◌≡◌, ◌≤◌, ◌<◌, ◌+◌, ℕ, List, map, length, get_or, All, ◌++◌};
-ghost use Rattle.fmt_string.specs.ColumnView.{members};
-ghost use Rattle.fmt_string.specs.Parts.{AreWithin, IsFields, member_columns, packed, packed_columns, picked, replaced, unpacked, unpacked_columns};
-ghost use Rattle.fmt_string.specs.Table.{Column, Columns as StructOf, Members};
-ghost use Rattle.fmt_string.specs.Value.{Null};
+ghost use Rattle.data_types.specs.ColumnView.{members};
+ghost use Rattle.data_types.specs.Parts.{AreWithin, IsFields, member_columns, packed, packed_columns, picked, replaced, unpacked, unpacked_columns};
+ghost use Rattle.data_types.specs.Table.{Column, Columns as StructOf, Members};
+ghost use Rattle.data_types.specs.Value.{Null};
 ghost use Rattle.tree_model.specs.Tree.{Depth, IsLive, Released};
 ghost use Rattle.raw_array.specs.Members.{ArrayTree, Cost};
-ghost use Rattle.schema_check.specs.Kinds.{KindTree, NodesOk};
+ghost use Rattle.kind_tree.specs.Kinds.{KindTree, NodesOk};
 ghost use Rattle.layout_rules.specs.Values.{rows_of, tree_items, values_of};
 ghost use Rattle.layout_rules.specs.Walk.{ChunkOk, LayoutOk};
 ghost use Rattle.arr_move.specs.TreeActs.{Columns, Distinct, FitParentWindow, InRange};
-ghost use Rattle.schema_check.specs.ColumnKinds.{table_type, type_of_columns, type_of_kind, types_of_columns};
+ghost use Rattle.kind_tree.specs.ColumnKinds.{table_type, type_of_columns, type_of_kind, types_of_columns};
 ghost use Rattle.column_laws.specs.Picking.{AreLive, Packed, Replaced, Unpacked, packed_types, unpacked_types};
 
 /// A law: columns of a lawful struct can be taken: each pick is the place of a child, which has the items of the struct's

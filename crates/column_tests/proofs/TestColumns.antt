@@ -9,10 +9,10 @@ use Rattle.tree_model.specs.Tree.{IsLive, Released, Live}
 use Rattle.raw_array.specs.Members.{ArrayTree, members_of}
 use Rattle.layout_rules.specs.Layout.{natural}
 use Rattle.layout_rules.specs.Values.{tree_items}
-use Rattle.fmt_string.specs.FieldText.{Form, form_of}
-use Rattle.fmt_string.specs.Kinds.{KindOk}
-use Rattle.fmt_string.specs.Value.{Value}
-use Rattle.fmt_string.specs.declared.kind.DataType.{DataType}
+use Rattle.data_types.specs.FieldText.{Form, form_of}
+use Rattle.data_types.specs.Kinds.{KindOk}
+use Rattle.data_types.specs.Value.{Value}
+use Rattle.data_types.specs.declared.kind.DataType.{DataType}
 use Rattle.col_build.specs.Encoding.{Fits, HasForm, are_bounded, are_within, byte_total, is_by_offsets, is_wide, push_fault}
 
 within-by : (by_offsets : Bool) (total : ℕ) → total < 2 ^ 31 → (if by_offsets then nat_lt total (2 ^ 31) else true) ≡ true

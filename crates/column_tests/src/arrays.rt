@@ -1,15 +1,15 @@
 //! Columns, dictionaries and a table as arrays, against the layouts that the standard shows.
 ghost use Rattle.std.specs.Prelude.{◌≡◌, ◌≤ℤ◌, ◌++◌, pos, List, [], ◌∷◌, Some};
 ghost use Rattle.layout_rules.specs.Layout.{natural};
-ghost use Rattle.fmt_string.specs.Value.{Value};
-ghost use Rattle.fmt_string.specs.declared.kind.DataType.{DataType};
+ghost use Rattle.data_types.specs.Value.{Value};
+ghost use Rattle.data_types.specs.declared.kind.DataType.{DataType};
 ghost use Rattle.col_build.specs.Finished.{IsMade, IsLaidOut};
 ghost use Rattle.arr_export.specs.ArrayTrees.{HasValues, IsColumn};
 
 use arr_export::{export_column, export_laid, export_table};
 use buf_block::{BufView, make};
 use col_build::{Built, Laid};
-use fmt_string::DataType;
+use data_types::DataType;
 use raw_array::RawArray;
 use std::alloc::Global;
 use std::process::Abort;

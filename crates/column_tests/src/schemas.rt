@@ -1,6 +1,6 @@
 //! The schema of a table, node by node: formats, names and flags.
 use arr_export::export_schema;
-use fmt_string::{ColKind, ColumnType, DataType};
+use data_types::{ColKind, ColumnType, DataType};
 use raw_schema::RawSchema;
 use std::alloc::Global;
 use std::process::Abort;

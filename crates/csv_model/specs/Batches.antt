@@ -1,9 +1,9 @@
 -- The rows of a text in batches: chunks of at most so many rows, and how they end.
 use Rattle.std.specs.Prelude.{ℕ, ◌+◌, ◌-◌, ◌==◌, List, [], ◌∷◌, length, Option, None, Some, Result, Ok, Err, if◌then◌else◌}
 use Rattle.std.specs.List.{filter, onto_first}
-use Rattle.fmt_string.specs.Table.{Column, Row}
+use Rattle.data_types.specs.Table.{Column, Row}
 use Rattle.csv_model.specs.Reading.{Record, behind_header, body, records_of, row_of}
-use Rattle.fmt_string.specs.declared.row_fault.RowFault.{RowFault}
+use Rattle.data_types.specs.declared.row_fault.RowFault.{RowFault}
 
 -- the rows of chunks, one behind the other, and how they end: by a fault, or well
 pub record Chunks : Type 0 where

@@ -11,7 +11,7 @@ mod laws;
 
 ghost use Rattle.std.specs.Prelude.{◌≡◌, ◌∷◌, ◌++◌, [], codes};
 ghost use Rattle.csv_model.specs.Examples.{echo, NoHeader, Refused, Text};
-ghost use Rattle.fmt_string.specs.declared.row_fault.RowFault.TheVariants as row;
+ghost use Rattle.data_types.specs.declared.row_fault.RowFault.TheVariants as row;
 
 pub use fault::HeaderFault;
 pub use header::worked_headers;

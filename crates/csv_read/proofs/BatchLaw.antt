@@ -5,8 +5,8 @@ use Rattle.std.proofs.lemmas.Bool.{cases_Bool, eqb-true}
 use Rattle.std.proofs.lemmas.List.{take-append-drop}
 use Rattle.std.specs.List.{filter, onto_first}
 use Rattle.col_build.specs.declared.builder.Builder.{Builder}
-use Rattle.fmt_string.specs.Table.{Column, Row}
-use Rattle.fmt_string.specs.declared.row_fault.RowFault.{RowFault}
+use Rattle.data_types.specs.Table.{Column, Row}
+use Rattle.data_types.specs.declared.row_fault.RowFault.{RowFault}
 use Rattle.csv_model.specs.Batches.{Chunks, batches_if, cut, rows_before, whole_batches}
 use Rattle.csv_model.specs.Reading.{Record, body_from}
 use Rattle.csv_read.specs.BatchesLeft.{BatchesLeft, IsNextBatch, batches_left, behind, columns_in}

@@ -5,10 +5,10 @@ use Rattle.std.proofs.lemmas.List.{map-append, take-append-drop}
 use Rattle.std.proofs.lemmas.List.Folds.{concat-append}
 use Rattle.std.specs.List.{concat}
 use Rattle.col_build.specs.declared.builder.Builder.{Builder}
-use Rattle.fmt_string.specs.Table.{Column, Kind, Row}
-use Rattle.fmt_string.specs.Value.{Value, Null, byte_total, bytes_of}
+use Rattle.data_types.specs.Table.{Column, Kind, Row}
+use Rattle.data_types.specs.Value.{Value, Null, byte_total, bytes_of}
 use Rattle.csv_model.specs.Reading.{Record, body_from, row_of, with_row}
-use Rattle.fmt_string.specs.declared.row_fault.RowFault.{RowFault}
+use Rattle.data_types.specs.declared.row_fault.RowFault.{RowFault}
 use Rattle.csv_read.specs.Body.{HoldEach, HoldsBody, HoldsKind, IsBodyFault, column_values}
 use Rattle.csv_read.specs.BodyRows.{AddsRow, HasBatch, HasRoomFor, HasRows, IsColumnOf, IsRowsFault, RefusesRow, RowsSoFar, with_rows}
 use Rattle.csv_read.specs.RecordReader.{RecordsLeft, Takes}

@@ -9,15 +9,15 @@ use Rattle.std.proofs.lemmas.List.Elements.{All-get_or}
 use Rattle.std.specs.Prelude.{◌==◌, All}
 use Rattle.col_build.specs.Holding.{Holds, HoldsSome}
 use Rattle.col_build.specs.declared.builder.Builder.{Builder}
-use Rattle.fmt_string.specs.declared.kind.DataType.{DataType}
-use Rattle.fmt_string.specs.declared.kind.ColumnType.{ColumnType}
-use Rattle.fmt_string.specs.ColumnView.{column_of}
-use Rattle.fmt_string.specs.FieldText.{read_field}
-use Rattle.fmt_string.specs.Table.{Column, Columns, Flat, Kind, Row, no_members}
-use Rattle.fmt_string.specs.Value.{Value, Null, bytes_of}
+use Rattle.data_types.specs.declared.kind.DataType.{DataType}
+use Rattle.data_types.specs.declared.kind.ColumnType.{ColumnType}
+use Rattle.data_types.specs.ColumnView.{column_of}
+use Rattle.data_types.specs.FieldText.{read_field}
+use Rattle.data_types.specs.Table.{Column, Columns, Flat, Kind, Row, no_members}
+use Rattle.data_types.specs.Value.{Value, Null, bytes_of}
 use Rattle.csv_model.specs.Reading.{Record, field_in, row_of, values_from, values_step, with_value}
-use Rattle.fmt_string.specs.declared.row_fault.RowFault.{RowFault}
-use Rattle.fmt_string.specs.declared.row_fault.RowFault.TheVariants as row
+use Rattle.data_types.specs.declared.row_fault.RowFault.{RowFault}
+use Rattle.data_types.specs.declared.row_fault.RowFault.TheVariants as row
 use Rattle.csv_read.specs.Body.{column_values}
 use Rattle.csv_read.specs.BodyRows.{AddsField, AddsFields, AddsRow, HasField, HasFields, HasRoom, HasRoomFor, HasRows, HoldRows, IsColumnOf}
 use Rattle.csv_read.specs.ColumnForms.{AreBegun, AreForms, EachOf}

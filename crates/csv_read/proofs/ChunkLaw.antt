@@ -1,15 +1,15 @@
 -- The chunk of rows meets the rules of a chunk, and its rows are these.
 use Rattle.std.proofs.Common.{◌≡◌, ◌∙◌, ◌≤◌, ◌<◌, ◌+◌, ℕ, zero, suc, List, [], ◌∷◌, length, map, get_or, None, All, refl, ap, arith}
 use Rattle.std.proofs.lemmas.List.{get_or-map, length-map}
-use Rattle.fmt_string.specs.Table.{Column, Row, Kind, Flat, Dict, Columns}
-use Rattle.fmt_string.specs.Value.{Value, Null}
-use Rattle.fmt_string.specs.declared.kind.DataType.{DataType}
+use Rattle.data_types.specs.Table.{Column, Row, Kind, Flat, Dict, Columns}
+use Rattle.data_types.specs.Value.{Value, Null}
+use Rattle.data_types.specs.declared.kind.DataType.{DataType}
 use Rattle.tree_model.specs.Tree.{IsLive}
 use Rattle.col_build.specs.Encoding.{Fits}
 use Rattle.layout_rules.specs.Values.{each, tree_items, values_of}
 use Rattle.layout_rules.specs.Walk.{LayoutOk}
 use Rattle.arr_export.specs.ArrayTrees.{AreLawful, HaveValues, column_tree, flat_type, rows_of_values}
-use Rattle.schema_check.specs.ColumnKinds.{type_of_kind, types_of_columns}
+use Rattle.kind_tree.specs.ColumnKinds.{type_of_kind, types_of_columns}
 use Rattle.csv_read.specs.Body.{column_values}
 use Rattle.csv_read.specs.Chunks.{FitFrom, FitsKind, column_array, column_arrays}
 

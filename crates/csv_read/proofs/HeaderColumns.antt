@@ -7,9 +7,9 @@ use Rattle.std.proofs.lemmas.Slice.Eq.{bytes_eq-Decides}
 use Rattle.std.specs.List.{AllPairs}
 use Rattle.std.specs.Prelude.{if◌then◌else◌}
 use Rattle.std.specs.Str.{bytes_eq}
-use Rattle.fmt_string.specs.declared.kind.DataType.{DataType}
-use Rattle.fmt_string.specs.declared.kind.DataType.TheVariants as kinds
-use Rattle.fmt_string.specs.Table.{Column}
+use Rattle.data_types.specs.declared.kind.DataType.{DataType}
+use Rattle.data_types.specs.declared.kind.DataType.TheVariants as kinds
+use Rattle.data_types.specs.Table.{Column}
 use Rattle.csv_model.specs.Header.{Entry, column_for, fault_at, first_not_text, first_twice, header_columns, is_among, names_fault, twice_behind, twice_fault}
 use Rattle.csv_model.specs.Header.{type_for, unknown_fault}
 use Rattle.csv_model.specs.Reading.{Record}

@@ -2,12 +2,12 @@
 use Rattle.std.proofs.Common.{◌≡◌, ◌∙◌, ◌*◌, ◌/◌, ℕ, Bool, true, false, Some, ap, inl, inr, refl, subst, sym}
 use Rattle.col_build.specs.Holding.{HoldsFloats, HoldsWholes}
 use Rattle.col_build.specs.declared.builder.Builder.{Builder}
-use Rattle.fmt_string.specs.FieldText.{Decimals, FloatBits, IsFlatForm, Wholes, form_of, stored_form}
-use Rattle.fmt_string.specs.Storage.{storage_of}
-use Rattle.fmt_string.specs.declared.kind.DataType.{DataType}
-use Rattle.fmt_string.specs.declared.kind.DataType.TheVariants as kinds
-use Rattle.fmt_string.specs.declared.storage.Storage.{Storage}
-use Rattle.fmt_string.specs.declared.storage.Storage.TheVariants as stored
+use Rattle.data_types.specs.FieldText.{Decimals, FloatBits, IsFlatForm, Wholes, form_of, stored_form}
+use Rattle.data_types.specs.Storage.{storage_of}
+use Rattle.data_types.specs.declared.kind.DataType.{DataType}
+use Rattle.data_types.specs.declared.kind.DataType.TheVariants as kinds
+use Rattle.data_types.specs.declared.storage.Storage.{Storage}
+use Rattle.data_types.specs.declared.storage.Storage.TheVariants as stored
 use Rattle.csv_read.specs.BodyRows.{HasRoom, IsOfForm}
 use Rattle.field_codec.specs.FieldForms.{form_in}
 use Rattle.field_codec.specs.declared.form.FieldForm.{FieldForm}

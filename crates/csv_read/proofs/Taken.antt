@@ -12,11 +12,11 @@ use Rattle.std.specs.Str.Parse.{digits_value, signed_digits_value, starts_with_m
 use Rattle.col_build.specs.Encoding.{fault_if, is_by_offsets, is_wide, is_within, push_fault}
 use Rattle.col_build.specs.declared.item.PushFault.{PushFault}
 use Rattle.col_build.specs.declared.item.PushFault.TheVariants.{WrongKind, OutOfRange, NotText}
-use Rattle.fmt_string.proofs.FieldValues.{read_is_value}
-use Rattle.fmt_string.specs.declared.kind.DataType.{DataType}
-use Rattle.fmt_string.specs.FieldText.{Form, Truths, Wholes, FloatBits, Text, HexBytes, SizedHex, Decimals, IsFlatForm, IsOfSome, IsSomeFlat, IsValueOf}
-use Rattle.fmt_string.specs.FieldText.{form_of, hex_bytes, in_range, is_numeral, read_field, read_form, read_text, read_unscaled}
-use Rattle.fmt_string.specs.Value.{Value, Null, Truth, Whole, Bits, Bytes, byte_total, bytes_of}
+use Rattle.data_types.proofs.FieldValues.{read_is_value}
+use Rattle.data_types.specs.declared.kind.DataType.{DataType}
+use Rattle.data_types.specs.FieldText.{Form, Truths, Wholes, FloatBits, Text, HexBytes, SizedHex, Decimals, IsFlatForm, IsOfSome, IsSomeFlat, IsValueOf}
+use Rattle.data_types.specs.FieldText.{form_of, hex_bytes, in_range, is_numeral, read_field, read_form, read_text, read_unscaled}
+use Rattle.data_types.specs.Value.{Value, Null, Truth, Whole, Bits, Bytes, byte_total, bytes_of}
 
 -- ---- what an answer comes from
 

@@ -2,11 +2,11 @@
 use Rattle.std.proofs.Common.{◌≡◌, ◌+◌, ℕ, zero, suc, List, [], ◌∷◌, length, All, Option, None, Some, Result, Ok, Err, refl, inl, inr, ap, sym, subst, arith}
 use Rattle.std.proofs.lemmas.Bool.{cases_Bool, eqb-true}
 use Rattle.std.specs.Prelude.{◌==◌}
-use Rattle.fmt_string.specs.Table.{Column, Row}
-use Rattle.fmt_string.specs.Value.{Value}
+use Rattle.data_types.specs.Table.{Column, Row}
+use Rattle.data_types.specs.Value.{Value}
 use Rattle.csv_model.specs.Reading.{Record, body_from, field_in, row_of, values_from, values_step, with_row, with_value}
-use Rattle.fmt_string.specs.declared.row_fault.RowFault.{RowFault}
-use Rattle.fmt_string.specs.declared.row_fault.RowFault.TheVariants as row
+use Rattle.data_types.specs.declared.row_fault.RowFault.{RowFault}
+use Rattle.data_types.specs.declared.row_fault.RowFault.TheVariants as row
 
 ok-cons : (value : Value) (spelled : Result Row RowFault) (values : Row) → with_value value spelled ≡ Ok values
     → (rest : Row) × (spelled ≡ Ok rest) × (length values ≡ suc (length rest))

@@ -1,9 +1,9 @@
 -- A text whose rows are read in batches: what is left of it, and what the next batch is.
 use Rattle.std.specs.Prelude.{◌≡◌, ◌≤◌, ◌+◌, ◌^◌, ℕ, List, [], ◌∷◌, length, map, take, drop, Ok}
 use Rattle.col_build.specs.declared.builder.Builder.{Builder}
-use Rattle.fmt_string.specs.ColumnView.{column_of}
-use Rattle.fmt_string.specs.Table.{Column, Row}
-use Rattle.fmt_string.specs.declared.kind.ColumnType.{ColumnType}
+use Rattle.data_types.specs.ColumnView.{column_of}
+use Rattle.data_types.specs.Table.{Column, Row}
+use Rattle.data_types.specs.declared.kind.ColumnType.{ColumnType}
 use Rattle.csv_model.specs.Batches.{Chunks, batches_if, rows_before}
 use Rattle.csv_model.specs.Reading.{Record, body_from}
 use Rattle.csv_read.specs.BodyRows.{IsRowsFault}

@@ -3,12 +3,12 @@ use Rattle.std.specs.Prelude.{◌≡◌, ◌≤◌, ◌<◌, ◌+◌, ◌^◌, �
 use Rattle.col_build.specs.Holding.{Adds, Holds}
 pub use Rattle.col_build.specs.Holding.{Takes}
 use Rattle.col_build.specs.declared.builder.Builder.{Builder}
-use Rattle.fmt_string.specs.declared.kind.DataType.{DataType}
-use Rattle.fmt_string.specs.FieldText.{form_of, read_field}
-use Rattle.fmt_string.specs.Table.{Column, Flat, Row}
-use Rattle.fmt_string.specs.Value.{Value, Null, byte_total, bytes_of}
+use Rattle.data_types.specs.declared.kind.DataType.{DataType}
+use Rattle.data_types.specs.FieldText.{form_of, read_field}
+use Rattle.data_types.specs.Table.{Column, Flat, Row}
+use Rattle.data_types.specs.Value.{Value, Null, byte_total, bytes_of}
 use Rattle.csv_model.specs.Reading.{Record, body_from, row_of, values_from}
-use Rattle.fmt_string.specs.declared.row_fault.RowFault.{RowFault}
+use Rattle.data_types.specs.declared.row_fault.RowFault.{RowFault}
 use Rattle.csv_read.specs.Body.{column_values}
 use Rattle.field_codec.specs.FieldForms.{IsProper, form_in}
 use Rattle.csv_read.specs.RecordReader.{RecordsLeft}

@@ -1,10 +1,10 @@
 -- The chunk of rows: a struct with a column for each column of the table ("Arrow Columnar Format", "Struct Layout").
 use Rattle.std.specs.Prelude.{◌≡◌, ℕ, ◌+◌, List, [], ◌∷◌, length, None}
 use Rattle.std.specs.List.{AllZip, sum_by}
-use Rattle.fmt_string.specs.Table.{Column, Row, Kind, Flat}
-use Rattle.fmt_string.specs.Value.{Value}
+use Rattle.data_types.specs.Table.{Column, Row, Kind, Flat}
+use Rattle.data_types.specs.Value.{Value}
 use Rattle.tree_model.specs.Tree.{Released}
-use Rattle.fmt_string.specs.declared.kind.DataType.{DataType}
+use Rattle.data_types.specs.declared.kind.DataType.{DataType}
 use Rattle.raw_array.specs.Members.{ArrayTree, holds, members_of}
 use Rattle.col_build.specs.Encoding.{Fits}
 use Rattle.col_build.specs.Finished.{blocks_of}

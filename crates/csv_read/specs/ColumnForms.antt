@@ -2,10 +2,10 @@
 use Rattle.std.specs.Prelude.{◌≡◌, ◌<◌, ◌⊎◌, ℕ, Bool, true, false, List, [], length, get_or, Some}
 use Rattle.col_build.specs.Holding.{Holds}
 use Rattle.col_build.specs.declared.builder.Builder.{Builder}
-use Rattle.fmt_string.specs.declared.kind.DataType.{DataType}
-use Rattle.fmt_string.specs.FieldText.{form_of}
-use Rattle.fmt_string.specs.Table.{Column, Flat}
-use Rattle.fmt_string.specs.Value.{Value}
+use Rattle.data_types.specs.declared.kind.DataType.{DataType}
+use Rattle.data_types.specs.FieldText.{form_of}
+use Rattle.data_types.specs.Table.{Column, Flat}
+use Rattle.data_types.specs.Value.{Value}
 use Rattle.field_codec.specs.FieldForms.{IsProper, form_in}
 use Rattle.field_codec.specs.declared.form.FieldForm.{FieldForm}
 use Rattle.field_codec.specs.declared.form.FieldForm.TheVariants as forms

@@ -1,6 +1,6 @@
 -- The texts of faults.
 use Rattle.std.specs.Prelude.{ℕ, List, codes}
-use Rattle.fmt_string.specs.FaultTexts.{row_fault_text}
+use Rattle.data_types.specs.FaultTexts.{row_fault_text}
 use Rattle.csv_read.specs.declared.body.BodyFault.{BodyFault}
 use Rattle.csv_read.specs.declared.body.BodyFault.TheVariants as faults
 

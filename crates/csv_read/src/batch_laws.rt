@@ -1,9 +1,9 @@
 //! A law of reading in batches.
 ghost use Rattle.std.specs.Prelude.{◌≡◌, ◌≤◌, ℕ, List, [], map, None, Some};
 ghost use Rattle.col_build.specs.declared.builder.Builder.{Builder};
-ghost use Rattle.fmt_string.specs.ColumnView.{column_of};
-ghost use Rattle.fmt_string.specs.declared.kind.ColumnType.{ColumnType};
-ghost use Rattle.fmt_string.specs.declared.row_fault.RowFault.{RowFault};
+ghost use Rattle.data_types.specs.ColumnView.{column_of};
+ghost use Rattle.data_types.specs.declared.kind.ColumnType.{ColumnType};
+ghost use Rattle.data_types.specs.declared.row_fault.RowFault.{RowFault};
 ghost use Rattle.csv_model.specs.Batches.{Batches};
 ghost use Rattle.csv_model.specs.Reading.{behind_header, records_of};
 ghost use Rattle.csv_read.specs.BatchesLeft.{BatchesLeft, IsNextBatch, IsNextFault, all_left, batches_left, behind};

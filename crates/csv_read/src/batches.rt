@@ -1,7 +1,7 @@
 //! The rows of a text, read into builders a batch a call. The reader keeps its place between two calls.
 ghost use Rattle.std.specs.Prelude.{◌≡◌, ◌≤◌, ◌<◌, ◌+◌, ◌*◌, ◌^◌, [], List, map, length, pos, false, true, Ok, IfErr, IfOk, OnErr, OnOk};
-ghost use Rattle.fmt_string.specs.ColumnView.{column_of};
-ghost use Rattle.fmt_string.specs.Table.{Row};
+ghost use Rattle.data_types.specs.ColumnView.{column_of};
+ghost use Rattle.data_types.specs.Table.{Row};
 ghost use Rattle.field_codec.specs.TextColumns.{AreAllowed, AreProper};
 ghost use Rattle.raw_array.specs.Members.{Cost};
 ghost use Rattle.unit_pass.specs.Tally.{risen};
@@ -13,7 +13,7 @@ use crate::body::{BodyFault, read_rows};
 use crate::body_columns::BodyColumns;
 use crate::records::Records;
 use col_build::{Builder, Spares};
-use fmt_string::ColumnType;
+use data_types::ColumnType;
 use raw_array::RawArray;
 use std::alloc::Global;
 use std::marker::Model;
@@ -47,8 +47,8 @@ pub struct BatchReader<'a> {
 impl<'a> Model for BatchReader<'a> {
     ghost use Rattle.std.specs.Prelude.{◌≤◌, ◌+◌, ◌^◌, map};
     ghost use Rattle.std.specs.Coded.{codes};
-    ghost use Rattle.fmt_string.specs.ColumnView.{column_of};
-    ghost use Rattle.fmt_string.specs.contracts.kind.ColumnType as kinds;
+    ghost use Rattle.data_types.specs.ColumnView.{column_of};
+    ghost use Rattle.data_types.specs.contracts.kind.ColumnType as kinds;
     ghost use Rattle.col_build.specs.contracts.builder.Builder as builders;
     ghost use Rattle.field_codec.specs.TextColumns.{AreAllowed, AreProper};
     ghost use Rattle.csv_read.specs.BatchesLeft.{BatchesLeft};

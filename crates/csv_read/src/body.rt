@@ -1,7 +1,7 @@
 //! The body of a text: the rows of the records behind its header.
 ghost use Rattle.std.specs.Prelude.{◌≡◌, ◌≤◌, ◌+◌, ◌^◌, [], List, map, IfErr, IfOk, OnOk};
-ghost use Rattle.fmt_string.specs.ColumnView.{column_of};
-ghost use Rattle.fmt_string.specs.Table.{Column};
+ghost use Rattle.data_types.specs.ColumnView.{column_of};
+ghost use Rattle.data_types.specs.Table.{Column};
 ghost use Rattle.csv_read.specs.Body.{HoldsBody, IsBodyFault};
 ghost use Rattle.csv_read.specs.BodyRows.{HasRows, ReadsBatch, RefusesBatch};
 ghost use Rattle.field_codec.specs.TextColumns.{AreAllowed, AreProper};
@@ -10,7 +10,7 @@ ghost use Rattle.csv_read.specs.declared.body.BodyFault.TheVariants.{NoMemory};
 use crate::body_columns::BodyColumns;
 use crate::records::Records;
 use col_build::Builder;
-use fmt_string::{ColumnType, RowFault};
+use data_types::{ColumnType, RowFault};
 use std::alloc::Global;
 use std::fmt;
 use unit_pass::NoMemory;

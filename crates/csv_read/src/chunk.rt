@@ -1,6 +1,6 @@
 //! The chunk of the rows that builders hold.
 ghost use Rattle.std.specs.Prelude.{◌≡◌, ◌+◌, ◌-◌, ◌*◌, ◌<◌, ◌≤◌, ◌^◌, ◌++◌, ◌∷◌, [], List, None, pos, length, All, IfOk, OnOk, OnErr, count_by, is_some};
-ghost use Rattle.fmt_string.specs.Table.{Column, Row};
+ghost use Rattle.data_types.specs.Table.{Column, Row};
 ghost use Rattle.tree_model.specs.Tree.{trees};
 ghost use Rattle.unit_pass.specs.Tally.{risen};
 ghost use Rattle.unit_pass.specs.declared.pass.TheConstants.{SUPPLY};
@@ -9,7 +9,7 @@ ghost use Rattle.col_build.specs.Holding.{HoldsSome};
 ghost use Rattle.col_build.specs.declared.builder.Builder.{Builder as ABuilder};
 ghost use Rattle.layout_rules.specs.Values.{rows_of};
 ghost use Rattle.layout_rules.specs.Walk.{ChunkOk};
-ghost use Rattle.schema_check.specs.ColumnKinds.{type_of_columns};
+ghost use Rattle.kind_tree.specs.ColumnKinds.{type_of_columns};
 ghost use Rattle.csv_read.specs.Body.{HoldRows};
 ghost use Rattle.csv_read.specs.Emptied.{AreEmptied, AreSpent, IsEmptied, IsSpent};
 ghost use Rattle.csv_read.specs.Chunks.{AreColumnsOf, FitFrom, IsColumnOf, all_blocks, chunk_blocks, chunk_of, own_blocks};

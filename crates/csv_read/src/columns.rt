@@ -2,12 +2,12 @@
 ghost use Rattle.std.specs.Prelude.{◌≡◌, All, IfOk, map, option_map};
 ghost use Rattle.std.specs.List.{find};
 ghost use Rattle.std.specs.Str.{bytes_eq};
-ghost use Rattle.fmt_string.specs.ColumnView.{column_of};
-ghost use Rattle.fmt_string.specs.Kinds.{KindOk};
+ghost use Rattle.data_types.specs.ColumnView.{column_of};
+ghost use Rattle.data_types.specs.Kinds.{KindOk};
 ghost use Rattle.csv_model.specs.Header.{column_for, header_columns, type_for};
 ghost use Rattle.csv_read.specs.Entries.{entries_of, texts};
 
-use fmt_string::{ColKind, ColumnType, DataType, clone_kind};
+use data_types::{ColKind, ColumnType, DataType, clone_kind};
 use stage_plan::TypeEntry;
 use std::alloc::Global;
 use unit_pass::{Name, NoMemory};

@@ -5,8 +5,8 @@ ghost use Rattle.std.specs.Str.{bytes_eq, is_utf8};
 ghost use Rattle.csv.specs.Records.{fields_of};
 ghost use Rattle.col_build.specs.Holding.{HoldsFloats, HoldsWholes};
 ghost use Rattle.col_build.specs.Items.{value_of};
-ghost use Rattle.fmt_string.specs.FieldText.{Decimals, FloatBits, HexBytes, IsFlatForm, SizedHex, Text, Truths, Wholes, read_form};
-ghost use Rattle.fmt_string.specs.declared.row_fault.RowFault.TheVariants as row;
+ghost use Rattle.data_types.specs.FieldText.{Decimals, FloatBits, HexBytes, IsFlatForm, SizedHex, Text, Truths, Wholes, read_form};
+ghost use Rattle.data_types.specs.declared.row_fault.RowFault.TheVariants as row;
 ghost use Rattle.csv_read.specs.BodyRows.{AddsField, AddsFields, AddsSome, HasRoom, HasRoomFor, IsOfForm, RefusesFields, SpellsNone, TakesSome};
 ghost use Rattle.csv_read.specs.ColumnForms.{is_text_form};
 ghost use Rattle.csv_read.specs.Texts.{AreTexts};
@@ -20,8 +20,8 @@ use crate::items::{bytes, sized_bytes};
 use crate::row::field;
 use col_build::{Builder, Item, is_text};
 use csv::ByteRecord;
+use data_types::RowFault;
 use field_codec::{FieldForm, read_bits, read_decimal, read_eight, read_truth, read_whole};
-use fmt_string::RowFault;
 use unit_pass::NoMemory;
 
 /// What became of a field.

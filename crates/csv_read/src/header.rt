@@ -1,8 +1,8 @@
 //! The header of a text.
 ghost use Rattle.std.specs.Prelude.{◌≡◌, ◌≢◌, ◌≤◌, vec_len, All, Ok, Err, IfOk, IfErr, OnOk, OnErr, [], map, length, nat_le, true, false};
 ghost use Rattle.csv.specs.Records.{fields_of};
-ghost use Rattle.fmt_string.specs.ColumnView.{column_of};
-ghost use Rattle.fmt_string.specs.Kinds.{KindOk};
+ghost use Rattle.data_types.specs.ColumnView.{column_of};
+ghost use Rattle.data_types.specs.Kinds.{KindOk};
 ghost use Rattle.csv_model.specs.Header.{header_of, most_columns};
 ghost use Rattle.csv_model.specs.Reading.{behind_header};
 ghost use Rattle.csv_read.specs.Entries.{entries_of};
@@ -14,7 +14,7 @@ use crate::records::Records;
 use crate::row::fields;
 use csv::ByteRecord;
 use csv_model::HeaderFault;
-use fmt_string::ColumnType;
+use data_types::ColumnType;
 use stage_plan::TypeEntry;
 use std::alloc::Global;
 

@@ -1,7 +1,7 @@
 //! The items of bytes that fields spell.
 ghost use Rattle.std.specs.Prelude.{◌≡◌, option_map, IfOk};
 ghost use Rattle.col_build.specs.Items.{value_of};
-ghost use Rattle.fmt_string.specs.FieldText.{HexBytes, SizedHex, read_form};
+ghost use Rattle.data_types.specs.FieldText.{HexBytes, SizedHex, read_form};
 
 use col_build::Item;
 use field_codec::read_bytes;

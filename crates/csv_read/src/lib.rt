@@ -6,7 +6,7 @@
 //! fault of the first record that spells no row; only want of memory is free. Which types are asked for is read by
 //! `stage_plan`, and how a column is stored and finished is `col_build`'s.
 //!
-//! Which value a field spells in a column is `fmt_string`'s table of the flat types, read by `field_codec`; a field that equals
+//! Which value a field spells in a column is `data_types`'s table of the flat types, read by `field_codec`; a field that equals
 //! the mark is null. A [`BatchReader`] reads the rows in batches. [`export_rows`] makes the chunk of the rows that builders hold.
 #![tactic(auto)]
 

@@ -11,11 +11,11 @@ use Rattle.col_build.specs.Encoding.{bit_bytes, buffers_if, if_some, is_set, is_
 use Rattle.col_build.specs.Finished.{blocks_of, present_count}
 use Rattle.csv_read.specs.Body.{column_values}
 use Rattle.csv_read.specs.Chunks.{blocks_from, chunk_blocks, column_blocks}
-use Rattle.fmt_string.specs.FieldText.{Form, Truths, Wholes, FloatBits, Text, HexBytes, SizedHex, Decimals, IsFlatKind, IsOfSome, IsSomeFlat, IsValueOf}
-use Rattle.fmt_string.specs.FieldText.{form_of}
-use Rattle.fmt_string.specs.Table.{Column, Kind, Flat, Row}
-use Rattle.fmt_string.specs.Value.{Value, Null, Truth, Whole, Bits, Bytes, Items, Fields, bytes_of, is_null}
-use Rattle.fmt_string.specs.declared.kind.DataType.{DataType}
+use Rattle.data_types.specs.FieldText.{Form, Truths, Wholes, FloatBits, Text, HexBytes, SizedHex, Decimals, IsFlatKind, IsOfSome, IsSomeFlat, IsValueOf}
+use Rattle.data_types.specs.FieldText.{form_of}
+use Rattle.data_types.specs.Table.{Column, Kind, Flat, Row}
+use Rattle.data_types.specs.Value.{Value, Null, Truth, Whole, Bits, Bytes, Items, Fields, bytes_of, is_null}
+use Rattle.data_types.specs.declared.kind.DataType.{DataType}
 use Rattle.stage_model.specs.Traffic.{Made, blocks_from as made_from, flat_blocks, form_blocks, kind_blocks, made_blocks, one_if_any, validity_blocks}
 use Rattle.stream_face.specs.Lawful.{AreItems, AreValues, IsTable}
 use Rattle.csv_source.proofs.PlainKinds.{IsPlain}

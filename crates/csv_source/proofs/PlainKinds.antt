@@ -3,15 +3,15 @@ use Rattle.std.proofs.Common.{◌≡◌, ◌<◌, ◌∙◌, zero, suc, true, fa
 use Rattle.std.proofs.lemmas.Bool.{false≢true}
 use Rattle.std.proofs.lemmas.List.{get_or-map, length-map}
 use Rattle.std.specs.Prelude.{is_some}
-use Rattle.fmt_string.specs.ColumnForms.{AreColumnKinds, HasForm, IsColumnKind}
-use Rattle.fmt_string.specs.ColumnView.{column_of}
-use Rattle.fmt_string.specs.FieldText.{Form, IsFlatKind, form_of}
-use Rattle.fmt_string.specs.Kinds.{KindOk, is_column_type}
-use Rattle.fmt_string.specs.Table.{Column, Kind, Flat}
-use Rattle.fmt_string.specs.declared.kind.ColumnType.{ColumnType}
-use Rattle.fmt_string.specs.declared.kind.DataType.{DataType}
-use Rattle.fmt_string.specs.declared.kind.DataType.TheVariants as kinds
-use Rattle.fmt_string.specs.declared.kind.Tick.TheVariants as ticks
+use Rattle.data_types.specs.ColumnForms.{AreColumnKinds, HasForm, IsColumnKind}
+use Rattle.data_types.specs.ColumnView.{column_of}
+use Rattle.data_types.specs.FieldText.{Form, IsFlatKind, form_of}
+use Rattle.data_types.specs.Kinds.{KindOk, is_column_type}
+use Rattle.data_types.specs.Table.{Column, Kind, Flat}
+use Rattle.data_types.specs.declared.kind.ColumnType.{ColumnType}
+use Rattle.data_types.specs.declared.kind.DataType.{DataType}
+use Rattle.data_types.specs.declared.kind.DataType.TheVariants as kinds
+use Rattle.data_types.specs.declared.kind.Tick.TheVariants as ticks
 use Rattle.field_codec.specs.TextColumns.{AreAllowed, AreProper}
 use Rattle.arr_export.specs.SchemaSize.{AreFlat}
 use Rattle.schema_check.specs.ColumnSchema.{KindsOk}

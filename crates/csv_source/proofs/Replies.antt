@@ -3,8 +3,8 @@ use Rattle.std.proofs.Common.{◌≡◌, ◌+◌, ◌∙◌, ℕ, ℤ, pos, List
 use Rattle.csv_model.specs.Batches.{batches_if, rows_before}
 use Rattle.csv_model.specs.Reading.{Record, body_from}
 use Rattle.csv_read.specs.BatchesLeft.{BatchesLeft, batches_left, columns_in}
-use Rattle.fmt_string.specs.Table.{Row}
-use Rattle.fmt_string.specs.declared.row_fault.RowFault.{RowFault}
+use Rattle.data_types.specs.Table.{Row}
+use Rattle.data_types.specs.declared.row_fault.RowFault.{RowFault}
 use Rattle.raw_array.specs.Members.{ArrayTree}
 use Rattle.stream_face.specs.Calls.{Answers}
 use Rattle.stream_face.specs.Lawful.{IsChunkOf}

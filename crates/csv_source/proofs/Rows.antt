@@ -4,12 +4,12 @@ use Rattle.std.proofs.Common.{Result, Ok, Err, refl, sym, ap, subst, arith, inl,
 use Rattle.std.proofs.lemmas.Bool.{cases_Bool, eqb-true}
 use Rattle.std.specs.Prelude.{◌==◌}
 use Rattle.std.specs.List.{AllByRecursion, concat}
-use Rattle.fmt_string.specs.FieldText.{Form, IsFlatForm, IsSomeFlat, IsValueOf, form_of, read_field}
-use Rattle.fmt_string.specs.Table.{Column, Kind, Flat, Row}
-use Rattle.fmt_string.specs.Value.{Value, Null, bytes_of}
-use Rattle.fmt_string.specs.declared.row_fault.RowFault.{RowFault}
-use Rattle.fmt_string.specs.declared.row_fault.RowFault.TheVariants as row
-use Rattle.fmt_string.proofs.FieldValues.{read_is_value}
+use Rattle.data_types.specs.FieldText.{Form, IsFlatForm, IsSomeFlat, IsValueOf, form_of, read_field}
+use Rattle.data_types.specs.Table.{Column, Kind, Flat, Row}
+use Rattle.data_types.specs.Value.{Value, Null, bytes_of}
+use Rattle.data_types.specs.declared.row_fault.RowFault.{RowFault}
+use Rattle.data_types.specs.declared.row_fault.RowFault.TheVariants as row
+use Rattle.data_types.proofs.FieldValues.{read_is_value}
 use Rattle.csv_model.specs.Batches.{row_before, rows_before}
 use Rattle.csv_model.specs.Reading.{Record, body_from, field_in, row_of, values_from, values_step, with_row, with_value}
 use Rattle.csv_read.specs.RecordReader.{field_bytes}

@@ -5,9 +5,9 @@ use Rattle.std.proofs.lemmas.List.Sums.{sum_by-cons}
 use Rattle.std.specs.List.{sum_by}
 use Rattle.csv_model.specs.Batches.{Chunks}
 use Rattle.csv_read.specs.BatchesLeft.{BatchesLeft, batches_left, columns_in}
-use Rattle.fmt_string.specs.ColumnView.{column_of}
-use Rattle.fmt_string.specs.Table.{Column, Row}
-use Rattle.fmt_string.specs.declared.kind.ColumnType.{ColumnType}
+use Rattle.data_types.specs.ColumnView.{column_of}
+use Rattle.data_types.specs.Table.{Column, Row}
+use Rattle.data_types.specs.declared.kind.ColumnType.{ColumnType}
 use Rattle.raw_array.specs.Members.{ArrayTree}
 use Rattle.stage_model.specs.Traffic.{made_blocks, made_nodes}
 use Rattle.stream_face.specs.Calls.{Counts, Shows}

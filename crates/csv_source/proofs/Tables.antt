@@ -4,11 +4,11 @@ use Rattle.std.proofs.Common.{refl, sym, ap, subst, arith, inl, inr, length-appe
 use Rattle.std.proofs.lemmas.Bool.{cases_Bool}
 use Rattle.std.proofs.lemmas.List.Elements.{All-from_recursion}
 use Rattle.std.specs.List.{AllByRecursion, concat, filter}
-use Rattle.fmt_string.specs.FieldText.{IsValueOf}
-use Rattle.fmt_string.specs.Parts.{column_values, joined_rows}
-use Rattle.fmt_string.specs.Table.{Column, Kind, Row}
-use Rattle.fmt_string.specs.Value.{Null, byte_total, bytes_of}
-use Rattle.fmt_string.specs.declared.row_fault.RowFault.{RowFault}
+use Rattle.data_types.specs.FieldText.{IsValueOf}
+use Rattle.data_types.specs.Parts.{column_values, joined_rows}
+use Rattle.data_types.specs.Table.{Column, Kind, Row}
+use Rattle.data_types.specs.Value.{Null, byte_total, bytes_of}
+use Rattle.data_types.specs.declared.row_fault.RowFault.{RowFault}
 use Rattle.csv_model.specs.Batches.{batches_if, cut, rows_before}
 use Rattle.csv_model.specs.Reading.{body_from}
 use Rattle.csv_read.specs.BatchesLeft.{BatchesLeft, batches_left, columns_in}

@@ -4,8 +4,8 @@ use Rattle.csv_model.specs.Batches.{Chunks}
 use Rattle.csv_model.specs.Reading.{Record}
 use Rattle.csv_read.specs.BatchesLeft.{BatchesLeft, batches_left, behind, columns_in}
 use Rattle.csv_read.specs.RecordReader.{field_bytes}
-use Rattle.fmt_string.specs.Table.{Row}
-use Rattle.fmt_string.specs.declared.row_fault.RowFault.{RowFault}
+use Rattle.data_types.specs.Table.{Row}
+use Rattle.data_types.specs.declared.row_fault.RowFault.{RowFault}
 use Rattle.raw_array.specs.Members.{ArrayTree}
 use Rattle.stage_model.specs.Traffic.{made_blocks, made_nodes}
 use Rattle.stream_face.specs.Lawful.{IsChunkOf}

@@ -2,7 +2,7 @@
 use Rattle.std.specs.Prelude.{◌≡◌, Option, None, Some}
 use Rattle.csv_read.specs.declared.body.BodyFault.{BodyFault}
 use Rattle.csv_read.specs.declared.body.BodyFault.TheVariants as faults
-use Rattle.fmt_string.specs.declared.row_fault.RowFault.{RowFault}
+use Rattle.data_types.specs.declared.row_fault.RowFault.{RowFault}
 use Rattle.stream_face.specs.Texts.{Refusal, refused_row, wanting}
 use Rattle.csv_source.specs.declared.refused.Refused.{Refused}
 use Rattle.csv_source.specs.declared.refused.Refused.TheVariants as refused

@@ -3,7 +3,7 @@ use Rattle.std.specs.Prelude.{ℕ, true, not, List, [], None}
 use Rattle.std.specs.List.{sum_by}
 use Rattle.csv_model.specs.Batches.{Chunks}
 use Rattle.csv_read.specs.BatchesLeft.{batches_left, columns_in}
-use Rattle.fmt_string.specs.Table.{Column, Row}
+use Rattle.data_types.specs.Table.{Column, Row}
 use Rattle.stage_model.specs.Traffic.{made_blocks, made_nodes}
 use Rattle.stream_face.specs.Shown.{Shown}
 use Rattle.stream_face.specs.Streams.{Stream, Traffic}

@@ -4,7 +4,7 @@ ghost use Rattle.csv_model.specs.Header.{most_columns};
 ghost use Rattle.csv_read.specs.BatchesLeft.{batches_left, columns_in};
 ghost use Rattle.csv_read.specs.Body.{HoldRows};
 ghost use Rattle.csv_source.specs.NextChunks.{AreShort, EndsAt, IsNextChunk, ending_of, no_batches};
-ghost use Rattle.fmt_string.specs.Table.{Column, Row};
+ghost use Rattle.data_types.specs.Table.{Column, Row};
 ghost use Rattle.raw_array.specs.Members.{Cost};
 ghost use Rattle.tree_model.specs.Tree.{IsLive, Released};
 ghost use Rattle.unit_pass.specs.declared.pass.TheConstants.{CHUNK};

@@ -1,9 +1,9 @@
 //! Why the source refused, and what is told of it.
 ghost use Rattle.std.specs.Prelude.{◌≡◌, IfOk, string_bytes};
-ghost use Rattle.fmt_string.specs.FaultTexts.{row_fault_text};
+ghost use Rattle.data_types.specs.FaultTexts.{row_fault_text};
 
 use csv_read::BodyFault;
-use fmt_string::RowFault;
+use data_types::RowFault;
 use std::alloc::Global;
 use unit_pass::NoMemory;
 

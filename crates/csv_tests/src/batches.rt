@@ -3,7 +3,7 @@ ghost use Rattle.std.specs.Prelude.{◌≤◌, length};
 
 use crate::bodies::{expect_lengths, header_of};
 use csv_read::{BatchReader, BodyFault, Records};
-use fmt_string::RowFault;
+use data_types::RowFault;
 use std::alloc::Global;
 use std::process::Abort;
 use std::test::Fail;

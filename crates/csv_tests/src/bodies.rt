@@ -1,13 +1,13 @@
 //! Tests of bodies: the rows of records, each in its column, and the first record that spells none.
 ghost use Rattle.std.specs.Prelude.{◌≤◌, List, length, map, IfOk};
-ghost use Rattle.fmt_string.specs.ColumnView.{column_of};
-ghost use Rattle.fmt_string.specs.Table.{Column, Row};
+ghost use Rattle.data_types.specs.ColumnView.{column_of};
+ghost use Rattle.data_types.specs.Table.{Column, Row};
 ghost use Rattle.csv_read.specs.Body.{HoldEach};
 ghost use Rattle.field_codec.specs.TextColumns.{AreAllowed, AreProper};
 
 use col_build::Builder;
 use csv_read::{BodyFault, Records, read_body, read_header};
-use fmt_string::{ColumnType, RowFault};
+use data_types::{ColumnType, RowFault};
 use stage_plan::read_types;
 use std::alloc::Global;
 use std::process::Abort;

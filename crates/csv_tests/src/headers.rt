@@ -1,7 +1,7 @@
 //! Tests of headers: the columns that they name, and their first faults.
 use crate::bodies::header_of;
 use csv_read::{HeaderFault, Records, read_header};
-use fmt_string::{ColKind, ColumnType};
+use data_types::{ColKind, ColumnType};
 use stage_plan::read_types;
 use std::alloc::{AllocError, Global};
 use std::process::Abort;

@@ -5,11 +5,11 @@ ghost use Rattle.unit_pass.specs.declared.pass.TheConstants.{ROOM};
 
 use csv_read::{Records, read_header};
 use csv_source::CsvSource;
+use data_types::RowFault;
 use edge_io::OpenGate;
-use fmt_string::RowFault;
+use kind_tree::Typed;
 use raw_array::{Acted, RawArray};
 use raw_schema::RawSchema;
-use schema_check::Typed;
 use stage_plan::read_types;
 use std::alloc::Global;
 use std::fmt::Debug;

@@ -1,13 +1,13 @@
 //! Tests of the text of tables: columns of each form, nulls, dictionaries, and chunks that are added in turn.
 ghost use Rattle.std.specs.Prelude.{◌≡◌, ◌≤◌, All, map};
-ghost use Rattle.fmt_string.specs.ColumnView.{column_of};
+ghost use Rattle.data_types.specs.ColumnView.{column_of};
 ghost use Rattle.raw_schema.specs.Members.{Nodes};
 ghost use Rattle.tree_model.specs.Tree.{Depth, trees, maybe_tree, depth_of_all, depth_of_maybe};
 ghost use Rattle.unit_pass.specs.declared.pass.TheConstants.{CHUNK};
-ghost use Rattle.schema_check.specs.Kinds.{TypedOk};
-ghost use Rattle.schema_check.specs.TypedView.{typed_of};
-ghost use Rattle.fmt_string.specs.ColumnForms.{AreColumnKinds};
-ghost use Rattle.schema_check.specs.ColumnKinds.{type_of_columns};
+ghost use Rattle.kind_tree.specs.Kinds.{TypedOk};
+ghost use Rattle.kind_tree.specs.TypedView.{typed_of};
+ghost use Rattle.data_types.specs.ColumnForms.{AreColumnKinds};
+ghost use Rattle.kind_tree.specs.ColumnKinds.{type_of_columns};
 ghost use Rattle.schema_check.specs.ColumnSchema.{KindsOk, SchemaOf};
 ghost use Rattle.field_codec.specs.TextColumns.{HaveTexts};
 
@@ -16,11 +16,12 @@ use arr_export::{column_schemas_are_lawful, export_schema};
 use arr_import::Col;
 use buf_block::{BufView, make};
 use csv_write::CsvText;
-use fmt_string::{ColKind, ColumnType, DataType, Tick};
+use data_types::{ColKind, ColumnType, DataType, Tick};
+use kind_tree::Typed;
 use layout_check::check_array;
 use raw_array::{ArrayParts, RawArray, ReleaseKind};
 use raw_schema::RawSchema;
-use schema_check::{Typed, check_schema};
+use schema_check::check_schema;
 use std::alloc::Global;
 use std::process::Abort;
 use unit_pass::{CHUNK, Desk, Name, Pass, SUPPLY, open_desk};

@@ -7,17 +7,17 @@ use Rattle.std.proofs.lemmas.List.{length-append, length-map, map-append, get_or
 use Rattle.std.proofs.Math.Seq.{get_or-append_seam}
 use Rattle.std.proofs.lemmas.List.Folds.{concat-append}
 use Rattle.csv.specs.Writing.{default_writer, row_text}
-use Rattle.fmt_string.specs.FieldText.{Form, Truths, Wholes, FloatBits, Text, HexBytes, SizedHex, Decimals, form_of, written_field, written_form, written_if}
-use Rattle.fmt_string.specs.FieldText.{written_text}
-use Rattle.fmt_string.specs.declared.kind.DataType.{DataType}
-use Rattle.fmt_string.specs.declared.kind.DataType.TheVariants as kinds
-use Rattle.fmt_string.specs.Table.{Column, Kind, Flat, Dict, Columns}
-use Rattle.fmt_string.specs.Value.{Value, Null, Truth, Whole, Bits, Bytes, Items, Fields}
+use Rattle.data_types.specs.FieldText.{Form, Truths, Wholes, FloatBits, Text, HexBytes, SizedHex, Decimals, form_of, written_field, written_form, written_if}
+use Rattle.data_types.specs.FieldText.{written_text}
+use Rattle.data_types.specs.declared.kind.DataType.{DataType}
+use Rattle.data_types.specs.declared.kind.DataType.TheVariants as kinds
+use Rattle.data_types.specs.Table.{Column, Kind, Flat, Dict, Columns}
+use Rattle.data_types.specs.Value.{Value, Null, Truth, Whole, Bits, Bytes, Items, Fields}
 use Rattle.csv_model.specs.Text.{row_fields, rows_text}
 use Rattle.tree_model.specs.Tree.{children_of, tree_list, trees}
-use Rattle.schema_check.specs.Kinds.{KindTree}
+use Rattle.kind_tree.specs.Kinds.{KindTree}
 use Rattle.layout_rules.specs.Values.{each, row_items}
-use Rattle.schema_check.specs.ColumnKinds.{type_of_column, type_of_columns, types_of_columns}
+use Rattle.kind_tree.specs.ColumnKinds.{type_of_column, type_of_columns, types_of_columns}
 use Rattle.arr_import.specs.Cols.{window_of}
 use Rattle.arr_import.specs.Window.{Window, child_window, item_at}
 use Rattle.csv_write.specs.ChunkTexts.{AreChildren, HasRow, IsChild, row_at, rows_at, text_in}

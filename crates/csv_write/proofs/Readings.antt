@@ -1,8 +1,8 @@
 -- What is read of a column's items, place by place.
 use Rattle.std.proofs.Common.{◌≡◌, ◌<◌, ℕ, zero, suc, List, [], ◌∷◌, length, get_or, refl, sym, ap, subst, arith, ◌∙◌}
 use Rattle.std.specs.List.{AllZip}
-use Rattle.fmt_string.specs.FieldText.{Form}
-use Rattle.fmt_string.specs.Value.{Value}
+use Rattle.data_types.specs.FieldText.{Form}
+use Rattle.data_types.specs.Value.{Value}
 use Rattle.arr_import.specs.Cols.{window_of}
 use Rattle.arr_import.specs.Window.{item_at}
 use Rattle.field_codec.specs.FieldForms.{form_in, written_in}

@@ -1,7 +1,7 @@
 -- The texts of the items of a chunk's columns, under a mark for null.
 use Rattle.std.specs.Prelude.{◌≡◌, ◌<◌, ◌+◌, ◌^◌, ℕ, List, map, length, get_or, IfSome}
-use Rattle.fmt_string.specs.FieldText.{Text}
-use Rattle.fmt_string.specs.Value.{Null}
+use Rattle.data_types.specs.FieldText.{Text}
+use Rattle.data_types.specs.Value.{Null}
 use Rattle.layout_rules.specs.Values.{each, row_items}
 use Rattle.arr_import.specs.Cols.{window_of}
 use Rattle.arr_import.specs.Indexing.{shown_by}

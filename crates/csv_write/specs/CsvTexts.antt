@@ -1,8 +1,8 @@
 -- What contracts see of the text of a table in the making.
 use Rattle.std.specs.Prelude.{◌≡◌, ℕ, List, Some}
 use Rattle.std.specs.List.{AllZip}
-use Rattle.fmt_string.specs.FieldText.{form_of}
-use Rattle.fmt_string.specs.Table.{Column, Row, Kind, Flat, Dict, Columns}
+use Rattle.data_types.specs.FieldText.{form_of}
+use Rattle.data_types.specs.Table.{Column, Row, Kind, Flat, Dict, Columns}
 use Rattle.layout_rules.specs.Values.{each, row_items}
 use Rattle.arr_import.specs.Window.{Window}
 use Rattle.field_codec.specs.FieldForms.{IsProper, form_in}

@@ -1,8 +1,8 @@
 -- How the items of a column are read: what a reading shows are the column's items, and it is written in the column's form.
 use Rattle.std.specs.Prelude.{◌≡◌, ℕ, true, List}
 use Rattle.std.specs.List.{AllZip}
-use Rattle.fmt_string.specs.FieldText.{Form, Truths, Wholes, FloatBits, Text, HexBytes, Decimals}
-use Rattle.fmt_string.specs.Value.{Value}
+use Rattle.data_types.specs.FieldText.{Form, Truths, Wholes, FloatBits, Text, HexBytes, Decimals}
+use Rattle.data_types.specs.Value.{Value}
 use Rattle.arr_import.specs.Cols.{window_of}
 use Rattle.arr_import.specs.Indexing.{shown_by}
 use Rattle.arr_import.specs.Plain.{ShowsTexts, ShowsWholes, ShowsTruths, ShowsDoubles}

@@ -1,6 +1,6 @@
 //! The columns of a chunk, and the texts of their items.
 ghost use Rattle.std.specs.Prelude.{◌≡◌, ◌<◌, ◌≤ℤ◌, ◌<ℤ◌, pos, ◌^◌, All, length, IfOk, IfSome};
-ghost use Rattle.fmt_string.specs.FieldText.Form.{Text};
+ghost use Rattle.data_types.specs.FieldText.Form.{Text};
 ghost use Rattle.tree_model.specs.Tree.{children_of};
 ghost use Rattle.arr_import.specs.Cols.{window_of};
 ghost use Rattle.arr_import.specs.Window.{IsStruct, item_at};

@@ -1,9 +1,9 @@
 //! How the columns of a table are written: their names, and the form of their fields.
 ghost use Rattle.std.specs.Prelude.{◌≡◌, ◌++◌, ℕ, List, Some, map, IfOk, OnOk};
-ghost use Rattle.fmt_string.specs.ColumnView.{column_of, kind_of};
-ghost use Rattle.fmt_string.specs.FieldText.{form_of};
+ghost use Rattle.data_types.specs.ColumnView.{column_of, kind_of};
+ghost use Rattle.data_types.specs.FieldText.{form_of};
 ghost use Rattle.csv_model.specs.Text.{header_text};
-ghost use Rattle.fmt_string.specs.ColumnForms.{IsColumnKind};
+ghost use Rattle.data_types.specs.ColumnForms.{IsColumnKind};
 ghost use Rattle.csv_write.specs.CsvTexts.{AreFormsOf, IsFormOf};
 ghost use Rattle.field_codec.specs.FieldForms.{IsProper, form_in};
 ghost use Rattle.csv_write.specs.Lines.{HasLines};
@@ -11,8 +11,8 @@ ghost use Rattle.field_codec.specs.TextColumns.{HasTexts, HaveTexts};
 
 use crate::writer::{end_line, write_text};
 use csv::Writer;
+use data_types::{ColKind, ColumnType};
 use field_codec::{FieldForm, flat_form};
-use fmt_string::{ColKind, ColumnType};
 use std::alloc::Global;
 use unit_pass::NoMemory;
 

@@ -6,10 +6,10 @@
 //! of the text. Whether a chunk is lawful is for `layout_check` to find before. A row is written of each item of the
 //! chunk's window, whether or not the struct's item is null.
 ghost use Rattle.std.specs.Prelude.{◌≡◌, ◌++◌, ℕ, List, map, IfOk, OnOk};
-ghost use Rattle.fmt_string.specs.ColumnView.{column_of};
-ghost use Rattle.fmt_string.specs.Table.{Column};
+ghost use Rattle.data_types.specs.ColumnView.{column_of};
+ghost use Rattle.data_types.specs.Table.{Column};
 ghost use Rattle.csv_model.specs.Text.{header_text, rows_text};
-ghost use Rattle.schema_check.specs.ColumnKinds.{type_of_columns};
+ghost use Rattle.kind_tree.specs.ColumnKinds.{type_of_columns};
 ghost use Rattle.arr_import.specs.Cols.{window_of};
 ghost use Rattle.csv_write.specs.CsvTexts.{HasText, rows_in};
 ghost use Rattle.csv_write.specs.Readings.{ReadsChildren};
@@ -22,8 +22,8 @@ use crate::rows::write_rows;
 use crate::writer::{finish_lines, new_writer};
 use arr_import::Col;
 use csv::Writer;
+use data_types::ColumnType;
 use field_codec::FieldForm;
-use fmt_string::ColumnType;
 use std::alloc::Global;
 use unit_pass::{Name, NoMemory};
 

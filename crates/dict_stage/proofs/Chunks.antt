@@ -1,14 +1,14 @@
 -- A column of a chunk, as a window over its items and as the values of the chunk's rows.
 use Rattle.std.proofs.Common.{◌≡◌, ◌∙◌, ◌+◌, ℕ, zero, suc, List, ◌∷◌, length, map, get_or, refl, sym, ap, subst, arith}
 use Rattle.std.proofs.lemmas.List.{length-map}
-use Rattle.fmt_string.specs.Parts.{column_values}
-use Rattle.fmt_string.specs.Table.{Column, Row, Kind, Flat, Dict, Columns}
-use Rattle.fmt_string.specs.Value.{Value, Null}
-use Rattle.fmt_string.specs.declared.kind.DataType.{DataType}
+use Rattle.data_types.specs.Parts.{column_values}
+use Rattle.data_types.specs.Table.{Column, Row, Kind, Flat, Dict, Columns}
+use Rattle.data_types.specs.Value.{Value, Null}
+use Rattle.data_types.specs.declared.kind.DataType.{DataType}
 use Rattle.tree_model.specs.Tree.{Released, Live, children_of}
 use Rattle.raw_array.specs.Members.{ArrayTree, members_of}
-use Rattle.schema_check.specs.ColumnKinds.{type_of_columns}
-use Rattle.schema_check.specs.Kinds.{KindTree}
+use Rattle.kind_tree.specs.ColumnKinds.{type_of_columns}
+use Rattle.kind_tree.specs.Kinds.{KindTree}
 use Rattle.layout_rules.specs.Layout.{natural}
 use Rattle.layout_rules.specs.Values.{each, row_items, rows_of, tree_items, value_at}
 use Rattle.arr_export.specs.ArrayTrees.{IsColumn}

@@ -7,13 +7,13 @@ use Rattle.std.specs.Prelude.{if◌then◌else◌}
 use Rattle.std.specs.List.{concat}
 use Rattle.std.specs.Str.{bytes_eq}
 use Rattle.std.proofs.lemmas.Bool.{lt-ltb}
-use Rattle.fmt_string.specs.ColumnForms.{IsColumnKind}
-use Rattle.fmt_string.specs.FieldText.{IsValueOf}
-use Rattle.fmt_string.specs.Storage.{storage_of}
-use Rattle.fmt_string.specs.Value.{Value, Null, Truth, Whole, Bits, Bytes, Items, Fields, byte_total, bytes_of}
-use Rattle.fmt_string.specs.declared.kind.DataType.{DataType}
-use Rattle.fmt_string.specs.declared.kind.DataType.TheVariants as kinds
-use Rattle.fmt_string.specs.declared.storage.Storage.{Storage}
+use Rattle.data_types.specs.ColumnForms.{IsColumnKind}
+use Rattle.data_types.specs.FieldText.{IsValueOf}
+use Rattle.data_types.specs.Storage.{storage_of}
+use Rattle.data_types.specs.Value.{Value, Null, Truth, Whole, Bits, Bytes, Items, Fields, byte_total, bytes_of}
+use Rattle.data_types.specs.declared.kind.DataType.{DataType}
+use Rattle.data_types.specs.declared.kind.DataType.TheVariants as kinds
+use Rattle.data_types.specs.declared.storage.Storage.{Storage}
 use Rattle.col_build.specs.Holding.{Adds, Holds, Takes as IsTaken}
 use Rattle.col_build.specs.declared.builder.Builder.{Builder}
 use Rattle.layout_rules.specs.Values.{each, value_at}

@@ -7,11 +7,11 @@ use Rattle.std.specs.Prelude.{Option, if◌then◌else◌}
 use Rattle.std.specs.List.{list_any}
 use Rattle.std.specs.Str.{bytes_eq}
 use Rattle.std.proofs.lemmas.Slice.Eq.{bytes_eq-Decides}
-use Rattle.fmt_string.specs.ColumnForms.{IsColumnKind}
-use Rattle.fmt_string.specs.FieldText.{IsValueOf}
-use Rattle.fmt_string.specs.Table.{Flat, Dict}
-use Rattle.fmt_string.specs.Value.{Value, Null, Truth, Whole, Bits, Bytes, Items, Fields, is_null}
-use Rattle.fmt_string.specs.declared.kind.DataType.{DataType}
+use Rattle.data_types.specs.ColumnForms.{IsColumnKind}
+use Rattle.data_types.specs.FieldText.{IsValueOf}
+use Rattle.data_types.specs.Table.{Flat, Dict}
+use Rattle.data_types.specs.Value.{Value, Null, Truth, Whole, Bits, Bytes, Items, Fields, is_null}
+use Rattle.data_types.specs.declared.kind.DataType.{DataType}
 use Rattle.tree_model.specs.Tree.{maybe_tree}
 use Rattle.unit_pass.specs.Tally.{Tally, risen}
 use Rattle.raw_array.specs.Members.{ArrayTree, Cost, cost_of_maybe, holds_of}

@@ -4,18 +4,18 @@ use Rattle.std.proofs.Common.{true, false, not, List, [], ◌∷◌, ◌++◌, l
 use Rattle.std.proofs.Common.{None, Some, refl, sym, ap, subst, arith}
 use Rattle.std.proofs.lemmas.List.{drop-map, length-map, map-append, take-map}
 use Rattle.std.specs.List.{AllByRecursion}
-use Rattle.fmt_string.specs.ColumnForms.{AreColumnKinds}
-use Rattle.fmt_string.specs.Parts.{column_values, replaced}
-use Rattle.fmt_string.specs.Table.{Column, Flat, Dict, Row}
-use Rattle.fmt_string.specs.Value.{Value, Null}
-use Rattle.fmt_string.specs.declared.kind.DataType.{DataType}
+use Rattle.data_types.specs.ColumnForms.{AreColumnKinds}
+use Rattle.data_types.specs.Parts.{column_values, replaced}
+use Rattle.data_types.specs.Table.{Column, Flat, Dict, Row}
+use Rattle.data_types.specs.Value.{Value, Null}
+use Rattle.data_types.specs.declared.kind.DataType.{DataType}
 use Rattle.tree_model.specs.Tree.{Depth, IsLive, Released, child_at, children_of, dictionary_at}
 use Rattle.unit_pass.specs.declared.pass.TheConstants.{CHUNK}
 use Rattle.raw_array.specs.Members.{ArrayTree, Cost, members_of}
 use Rattle.col_build.specs.Encoding.{Fits}
-use Rattle.schema_check.specs.ColumnKinds.{table_type, type_of_column, type_of_columns, type_of_kind, types_of_columns}
+use Rattle.kind_tree.specs.ColumnKinds.{table_type, type_of_column, type_of_columns, type_of_kind, types_of_columns}
 use Rattle.schema_check.specs.ColumnSchema.{SchemaOf}
-use Rattle.schema_check.specs.Kinds.{KindTree}
+use Rattle.kind_tree.specs.Kinds.{KindTree}
 use Rattle.schema_check.specs.Schemas.{TypedOf}
 use Rattle.raw_schema.specs.Members.{Nodes}
 use Rattle.layout_rules.specs.Values.{rows_of, tree_items, values_of}

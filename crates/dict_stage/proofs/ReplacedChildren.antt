@@ -4,7 +4,7 @@ use Rattle.std.proofs.Common.{ℤ, pos, negsuc, List, [], ◌∷◌, ◌++◌, l
 use Rattle.std.proofs.Common.{refl, sym, ap, subst, append_assoc}
 use Rattle.std.proofs.lemmas.Int.{ints}
 use Rattle.std.proofs.lemmas.List.{get_or-map, length-map, length-drop, take-map, take_rest, drop-drop, drop-map}
-use Rattle.fmt_string.specs.Parts.{replaced}
+use Rattle.data_types.specs.Parts.{replaced}
 use Rattle.tree_model.specs.Tree.{Depth, Released, Live, absent, children_of, child_at, trees}
 use Rattle.tree_model.proofs.Lists.{tree_list-trees}
 use Rattle.raw_array.specs.Members.{ArrayTree, members_of}

@@ -6,22 +6,22 @@ use Rattle.std.specs.List.{sum_by}
 use Rattle.std.proofs.Math.Logic.{∥∥₁_elim}
 use Rattle.std.proofs.Props.{props}
 use Rattle.std.proofs.lemmas.List.Sums.{sum_by-cons}
-use Rattle.fmt_string.specs.ColumnForms.{AreColumnKinds}
-use Rattle.fmt_string.specs.ColumnView.{column_of}
-use Rattle.fmt_string.specs.Parts.{column_values}
-use Rattle.fmt_string.specs.Table.{Column, Row, Kind, Flat, Dict, Columns}
-use Rattle.fmt_string.specs.Value.{Value}
-use Rattle.fmt_string.specs.declared.kind.ColumnType.{ColumnType}
-use Rattle.fmt_string.specs.declared.kind.DataType.{DataType}
-use Rattle.fmt_string.specs.declared.kind.DataType.TheVariants as kinds
+use Rattle.data_types.specs.ColumnForms.{AreColumnKinds}
+use Rattle.data_types.specs.ColumnView.{column_of}
+use Rattle.data_types.specs.Parts.{column_values}
+use Rattle.data_types.specs.Table.{Column, Row, Kind, Flat, Dict, Columns}
+use Rattle.data_types.specs.Value.{Value}
+use Rattle.data_types.specs.declared.kind.ColumnType.{ColumnType}
+use Rattle.data_types.specs.declared.kind.DataType.{DataType}
+use Rattle.data_types.specs.declared.kind.DataType.TheVariants as kinds
 use Rattle.tree_model.specs.Tree.{Depth, Released, IsLive, child_at}
 use Rattle.unit_pass.specs.Tally.{Tally, risen}
 use Rattle.unit_pass.specs.declared.pass.TheConstants.{CHUNK}
 use Rattle.raw_array.specs.Members.{ArrayTree}
 use Rattle.raw_schema.specs.Members.{Nodes}
-use Rattle.schema_check.specs.ColumnKinds.{type_of_columns}
+use Rattle.kind_tree.specs.ColumnKinds.{type_of_columns}
 use Rattle.schema_check.specs.ColumnSchema.{SchemaOf}
-use Rattle.schema_check.specs.Kinds.{KindTree}
+use Rattle.kind_tree.specs.Kinds.{KindTree}
 use Rattle.schema_check.specs.Schemas.{TypedOf}
 use Rattle.layout_rules.specs.Values.{rows_of}
 use Rattle.column_laws.specs.Picking.{Replaced}

@@ -1,10 +1,10 @@
 -- What the works ask of the columns before them.
 use Rattle.std.specs.Prelude.{◌≡◌, ◌<◌, ◌≤◌, ℕ, true, List, length, map}
-use Rattle.fmt_string.specs.ColumnView.{column_of}
-use Rattle.fmt_string.specs.Parts.{replaced}
-use Rattle.fmt_string.specs.Table.{Column, Flat, Dict}
-use Rattle.fmt_string.specs.declared.kind.ColumnType.{ColumnType}
-use Rattle.fmt_string.specs.declared.kind.DataType.{DataType}
+use Rattle.data_types.specs.ColumnView.{column_of}
+use Rattle.data_types.specs.Parts.{replaced}
+use Rattle.data_types.specs.Table.{Column, Flat, Dict}
+use Rattle.data_types.specs.declared.kind.ColumnType.{ColumnType}
+use Rattle.data_types.specs.declared.kind.DataType.{DataType}
 use Rattle.stage_model.specs.Typing.{column, column_at, is_bytes}
 use Rattle.plan_laws.specs.Structs.{column_structs, most_structs}
 

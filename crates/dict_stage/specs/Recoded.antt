@@ -1,14 +1,14 @@
 -- A column that is made anew, and the chunk with it in the place of another.
 use Rattle.std.specs.Prelude.{◌≡◌, ℕ, ◌+◌, ◌^◌, ◌<◌, ◌≤◌, Bool, true, false, not, List, length}
-use Rattle.fmt_string.specs.ColumnForms.{IsColumnKind}
-use Rattle.fmt_string.specs.Parts.{column_values, replaced}
-use Rattle.fmt_string.specs.Table.{Column, Kind, Flat, Dict, Columns}
-use Rattle.fmt_string.specs.declared.kind.DataType.{DataType}
-use Rattle.fmt_string.specs.Value.{Value}
+use Rattle.data_types.specs.ColumnForms.{IsColumnKind}
+use Rattle.data_types.specs.Parts.{column_values, replaced}
+use Rattle.data_types.specs.Table.{Column, Kind, Flat, Dict, Columns}
+use Rattle.data_types.specs.declared.kind.DataType.{DataType}
+use Rattle.data_types.specs.Value.{Value}
 use Rattle.unit_pass.specs.Tally.{Tally, risen}
 use Rattle.raw_array.specs.Members.{ArrayTree, Cost}
-use Rattle.schema_check.specs.ColumnKinds.{type_of_columns}
-use Rattle.schema_check.specs.Kinds.{KindTree}
+use Rattle.kind_tree.specs.ColumnKinds.{type_of_columns}
+use Rattle.kind_tree.specs.Kinds.{KindTree}
 use Rattle.layout_rules.specs.Values.{rows_of}
 use Rattle.layout_rules.specs.Walk.{ChunkOk}
 use Rattle.arr_import.specs.Window.{Window}

@@ -1,13 +1,13 @@
 //! The chunk with a column made anew.
 ghost use Rattle.std.specs.Prelude.{◌≡◌, ◌+◌, ◌<◌, ◌≤◌, length, map, IfOk, MatchResult, OnErr};
-ghost use Rattle.fmt_string.specs.ColumnView.{column_of, kind_of};
-ghost use Rattle.fmt_string.specs.Parts.{column_values};
+ghost use Rattle.data_types.specs.ColumnView.{column_of, kind_of};
+ghost use Rattle.data_types.specs.Parts.{column_values};
 ghost use Rattle.unit_pass.specs.Tally.{risen};
 ghost use Rattle.unit_pass.specs.declared.pass.TheConstants.{SUPPLY};
 ghost use Rattle.tree_model.specs.Tree.{child_at};
 ghost use Rattle.raw_array.specs.Members.{Cost};
-ghost use Rattle.schema_check.specs.Kinds.{TypedOk};
-ghost use Rattle.schema_check.specs.TypedView.{typed_of};
+ghost use Rattle.kind_tree.specs.Kinds.{TypedOk};
+ghost use Rattle.kind_tree.specs.TypedView.{typed_of};
 ghost use Rattle.layout_rules.specs.Values.{rows_of};
 ghost use Rattle.column_laws.specs.Picking.{Replaced};
 ghost use Rattle.stage_model.specs.Traffic.{Made, kind_blocks, kind_nodes};
@@ -18,9 +18,9 @@ ghost use Rattle.dict_stage.specs.Recoded.{CanRecodeChunk, IsRecoded};
 use crate::column::recoded_column;
 use crate::replaced::replaced;
 use arr_import::Col;
-use fmt_string::{ColKind, ColumnType};
+use data_types::{ColKind, ColumnType};
+use kind_tree::Typed;
 use raw_array::RawArray;
-use schema_check::Typed;
 use std::alloc::Global;
 use unit_pass::{NoMemory, Pass, SUPPLY};
 

@@ -1,7 +1,7 @@
 //! A dictionary in the making, and the indices of values into it.
 ghost use Rattle.std.specs.Prelude.{◌≡◌, ℕ, List, [], ◌∷◌, not, IfOk, OnOk};
-ghost use Rattle.fmt_string.specs.Value.{Bytes};
-ghost use Rattle.fmt_string.specs.declared.kind.DataType.{DataType as AType};
+ghost use Rattle.data_types.specs.Value.{Bytes};
+ghost use Rattle.data_types.specs.declared.kind.DataType.{DataType as AType};
 ghost use Rattle.col_build.specs.Holding.{Adds, Holds, HoldsWholes, Takes};
 ghost use Rattle.col_build.specs.Items.{value_of};
 ghost use Rattle.arr_import.specs.Cols.{window_of};
@@ -13,7 +13,7 @@ ghost use Rattle.dict_stage.specs.Texts.{Codes, HasTexts, IsText, index_by, numb
 use crate::item::{count, item_of};
 use arr_import::Col;
 use col_build::{Builder, Item};
-use fmt_string::{DataType, clone_kind};
+use data_types::{DataType, clone_kind};
 use indexmap::IndexSet;
 use std::alloc::Global;
 use unit_pass::NoMemory;

@@ -1,7 +1,7 @@
 //! A column that is made anew: of its values as they are, or of their indices into a dictionary.
 ghost use Rattle.std.specs.Prelude.{◌≡◌, ◌+◌, ◌≤◌, IfOk, OnErr};
-ghost use Rattle.fmt_string.specs.ColumnView.{kind_of};
-ghost use Rattle.fmt_string.specs.Table.{Flat, Dict};
+ghost use Rattle.data_types.specs.ColumnView.{kind_of};
+ghost use Rattle.data_types.specs.Table.{Flat, Dict};
 ghost use Rattle.unit_pass.specs.declared.pass.TheConstants.{SUPPLY};
 ghost use Rattle.col_build.specs.Holding.{Holds};
 ghost use Rattle.arr_import.specs.Cols.{window_of};
@@ -14,7 +14,7 @@ use crate::item::{count, item_of};
 use arr_import::Col;
 use col_build::Builder;
 use column_fill::{built_column, push};
-use fmt_string::{ColKind, DataType, clone_kind, storage_of};
+use data_types::{ColKind, DataType, clone_kind, storage_of};
 use raw_array::RawArray;
 use std::alloc::Global;
 use unit_pass::{NoMemory, Pass, SUPPLY};

@@ -1,12 +1,12 @@
 //! What the columns and the chunks that are made anew mean.
 ghost use Rattle.std.specs.Prelude.{◌≡◌, ◌≢◌, ◌^◌, ◌≤◌, ◌<◌, ℕ, Bool, List, length, All};
-ghost use Rattle.fmt_string.specs.Parts.{column_values};
-ghost use Rattle.fmt_string.specs.Table.{Column, Flat, Dict, Row};
-ghost use Rattle.fmt_string.specs.Value.{Value, Null};
-ghost use Rattle.fmt_string.specs.declared.kind.DataType.{DataType as AType};
+ghost use Rattle.data_types.specs.Parts.{column_values};
+ghost use Rattle.data_types.specs.Table.{Column, Flat, Dict, Row};
+ghost use Rattle.data_types.specs.Value.{Value, Null};
+ghost use Rattle.data_types.specs.declared.kind.DataType.{DataType as AType};
 ghost use Rattle.tree_model.specs.Tree.{dictionary_at};
 ghost use Rattle.raw_array.specs.Members.{ArrayTree};
-ghost use Rattle.schema_check.specs.ColumnKinds.{type_of_kind};
+ghost use Rattle.kind_tree.specs.ColumnKinds.{type_of_kind};
 ghost use Rattle.layout_rules.specs.Values.{values_of};
 ghost use Rattle.layout_rules.specs.Walk.{LayoutOk};
 ghost use Rattle.column_laws.specs.Picking.{Replaced};

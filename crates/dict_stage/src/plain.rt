@@ -1,6 +1,6 @@
 //! The work that takes a column's dictionary away.
 ghost use Rattle.std.specs.Prelude.{◌≡◌, map};
-ghost use Rattle.fmt_string.specs.ColumnView.{column_of};
+ghost use Rattle.data_types.specs.ColumnView.{column_of};
 ghost use Rattle.plan_laws.specs.Dues.{due_with};
 ghost use Rattle.stage_model.specs.Stages.{chunks_after};
 ghost use Rattle.stage_model.specs.declared.stage.Step.TheVariants as steps;

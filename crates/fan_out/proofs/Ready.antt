@@ -2,9 +2,9 @@
 use Rattle.std.proofs.Common.{◌≡◌, ℕ, List, [], ◌∷◌, ◌++◌, All, ◌<◌, ◌≤◌, arith, length, subst, sym, ◌∙◌}
 use Rattle.std.proofs.lemmas.List.Elements.{All-push}
 use Rattle.unit_pass.specs.declared.pass.TheConstants.{SUPPLY}
-use Rattle.fmt_string.specs.Table.{Row}
+use Rattle.data_types.specs.Table.{Row}
 use Rattle.raw_array.specs.Members.{ArrayTree, Cost}
-use Rattle.schema_check.specs.Kinds.{KindTree}
+use Rattle.kind_tree.specs.Kinds.{KindTree}
 use Rattle.layout_rules.specs.Values.{rows_of}
 use Rattle.fan_out.specs.declared.piece.Piece.{Piece}
 use Rattle.fan_out.specs.Pieces.{IsChunk}

@@ -1,8 +1,8 @@
 -- The answers of a job on the pieces of a chunk.
 use Rattle.std.specs.Prelude.{◌<◌, slice_index_or, ◌≡◌, ℕ, ℤ, pos, ◌+◌, List, length}
-use Rattle.fmt_string.specs.Table.{Row}
+use Rattle.data_types.specs.Table.{Row}
 use Rattle.raw_array.specs.Members.{ArrayTree, Cost}
-use Rattle.schema_check.specs.Kinds.{KindTree}
+use Rattle.kind_tree.specs.Kinds.{KindTree}
 use Rattle.layout_rules.specs.Values.{rows_of}
 use Rattle.layout_rules.specs.Walk.{ChunkOk}
 use Rattle.array_laws.specs.Pieces.{border}

@@ -2,10 +2,10 @@
 use Rattle.std.specs.Prelude.{◌<◌, ◌≤◌, ◌≡◌, ℕ, ℤ, ◌+◌, ◌==◌, if◌then◌else◌, List, length, slice_index_or}
 use Rattle.std.specs.Prelude.{Some, Ok, IfOk, IfSome, IsSome}
 use Rattle.unit_pass.specs.declared.pass.TheConstants.{SUPPLY}
-use Rattle.fmt_string.specs.Table.{Row}
+use Rattle.data_types.specs.Table.{Row}
 use Rattle.tree_model.specs.Tree.{Released}
 use Rattle.raw_array.specs.Members.{Cost}
-use Rattle.schema_check.specs.Kinds.{KindTree}
+use Rattle.kind_tree.specs.Kinds.{KindTree}
 use Rattle.layout_rules.specs.Values.{rows_of}
 use Rattle.layout_rules.specs.Walk.{ChunkOk}
 use Rattle.fan_out.specs.Pieces.{GivesPiece, IsChunk}

@@ -1,8 +1,8 @@
 //! A chunk read by workers.
 ghost use Rattle.std.specs.Prelude.{◌≡◌, ◌-◌, ◌*◌, ◌<◌, ◌≤◌, length, IfOk, OnOk};
 ghost use Rattle.raw_array.specs.Members.{Cost, LeastAmount, Like, LoweredBy};
-ghost use Rattle.schema_check.specs.Kinds.{TypedOk};
-ghost use Rattle.schema_check.specs.TypedView.{typed_of};
+ghost use Rattle.kind_tree.specs.Kinds.{TypedOk};
+ghost use Rattle.kind_tree.specs.TypedView.{typed_of};
 ghost use Rattle.layout_rules.specs.Values.{rows_of};
 ghost use Rattle.layout_rules.specs.Walk.{ChunkOk};
 ghost use Rattle.fan_out.specs.Pieces.{GivesPieces};
@@ -13,8 +13,8 @@ use crate::pieces::make_pieces;
 use crate::run::run_pieces;
 use array_laws::{shares_show_the_same, trees_that_show_the_same};
 use edge_io::Gate;
+use kind_tree::Typed;
 use raw_array::{RawArray, like_trees_are_ordered, shares_add_up};
-use schema_check::Typed;
 use std::alloc::Global;
 use std::thread::Threads;
 use unit_pass::{NoMemory, Pass};

@@ -1,13 +1,13 @@
 //! What is done on a window of a chunk's rows.
 ghost use Rattle.std.specs.Prelude.{◌≤ℤ◌, ℤ, pos, List, length, IfOk};
-ghost use Rattle.fmt_string.specs.Table.{Row};
-ghost use Rattle.schema_check.specs.Kinds.{KindTree, TypedOk};
-ghost use Rattle.schema_check.specs.TypedView.{typed_of};
+ghost use Rattle.data_types.specs.Table.{Row};
+ghost use Rattle.kind_tree.specs.Kinds.{KindTree, TypedOk};
+ghost use Rattle.kind_tree.specs.TypedView.{typed_of};
 ghost use Rattle.layout_rules.specs.Values.{rows_of};
 ghost use Rattle.layout_rules.specs.Walk.{ChunkOk};
 
+use kind_tree::Typed;
 use raw_array::RawArray;
-use schema_check::Typed;
 use unit_pass::NoMemory;
 
 /// Work on a window of a chunk's rows, which any thread may do. What it answers is said by the chunk's types and rows and by

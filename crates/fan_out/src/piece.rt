@@ -1,8 +1,8 @@
 //! One worker's piece.
 ghost use Rattle.std.specs.Prelude.{◌≡◌, ℕ, pos, ◌+◌, ◌<◌, ◌≤◌, ◌≤ℤ◌, length, IfOk};
-ghost use Rattle.schema_check.specs.Kinds.{TypedOk};
+ghost use Rattle.kind_tree.specs.Kinds.{TypedOk};
 ghost use Rattle.layout_rules.specs.Layout.{natural};
-ghost use Rattle.schema_check.specs.TypedView.{typed_of};
+ghost use Rattle.kind_tree.specs.TypedView.{typed_of};
 ghost use Rattle.layout_rules.specs.Values.{rows_of};
 ghost use Rattle.layout_rules.specs.Walk.{ChunkOk};
 ghost use Rattle.array_laws.specs.Pieces.{border};
@@ -11,9 +11,9 @@ ghost use Rattle.fan_out.specs.Workers.{CanRun, IsDone};
 
 use crate::job::Job;
 use edge_io::Gate;
+use kind_tree::Typed;
 use layout_check::count_rows;
 use raw_array::RawArray;
-use schema_check::Typed;
 use unit_pass::{NoMemory, Pass};
 
 /// A share of a chunk, or the chunk itself; the units of its worker; and the worker's answer, once it is there. Neither the

@@ -17,8 +17,8 @@ use Rattle.std.proofs.lemmas.Nat.{le_or_l, le_or_r, or_lt}
 use Rattle.std.proofs.lemmas.Str.{digit_value_digit}
 use Rattle.std.proofs.Math.Bool.{and-false}
 use Rattle.std.proofs.Math.Nat.{pow-succ', pow-zero, pow-le-pow_right, div-div-eq-div-mul}
-use Rattle.fmt_string.specs.FieldText.{hex_bytes, hex_text, last_digits, read_bits}
-use Rattle.fmt_string.specs.Value.{Bits}
+use Rattle.data_types.specs.FieldText.{hex_bytes, hex_text, last_digits, read_bits}
+use Rattle.data_types.specs.Value.{Bits}
 
 -- ---- the number of digits in front
 

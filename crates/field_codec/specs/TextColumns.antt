@@ -1,10 +1,10 @@
 -- What the columns of a text are: read, they are plain values, under names that differ.
 use Rattle.std.specs.Prelude.{◌≡◌, ◌≢◌, List, All, true}
 use Rattle.std.specs.List.{AllPairs}
-use Rattle.fmt_string.specs.declared.kind.DataType.{DataType}
-use Rattle.fmt_string.specs.Kinds.{KindOk, is_column_type}
-use Rattle.fmt_string.specs.Table.{Column, Kind, Flat, Dict, Columns}
-use Rattle.fmt_string.specs.ColumnForms.{IsColumnKind}
+use Rattle.data_types.specs.declared.kind.DataType.{DataType}
+use Rattle.data_types.specs.Kinds.{KindOk, is_column_type}
+use Rattle.data_types.specs.Table.{Column, Kind, Flat, Dict, Columns}
+use Rattle.data_types.specs.ColumnForms.{IsColumnKind}
 
 -- a column of plain values, whose type has the property
 abbrev pub IsFlatOf : (DataType → Type 0) → Column → Type 0

@@ -4,8 +4,8 @@ ghost use Rattle.std.specs.Prelude.{Some, None};
 ghost use Rattle.std.specs.Char.{is_ascii_digit};
 ghost use Rattle.std.specs.List.{prefix_len};
 ghost use Rattle.std.specs.Str.Parse.{digits_value_after};
-ghost use Rattle.fmt_string.specs.FieldText.{read_decimal, read_unscaled};
-ghost use Rattle.fmt_string.specs.Value.{Whole};
+ghost use Rattle.data_types.specs.FieldText.{read_decimal, read_unscaled};
+ghost use Rattle.data_types.specs.Value.{Whole};
 ghost use Rattle.field_codec.specs.Fractions.{IsPastDecimals, fraction_text};
 
 use crate::number::{front, short_front, split_sign};

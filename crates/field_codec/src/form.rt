@@ -1,11 +1,11 @@
 //! The form of a column: how its fields are read and written.
 ghost use Rattle.std.specs.Prelude.{◌≡◌, option_map, IfSome, Some};
-ghost use Rattle.fmt_string.specs.FieldText.{form_of, places, stored_form};
-ghost use Rattle.fmt_string.specs.Kinds.{KindOk};
-ghost use Rattle.fmt_string.specs.ColumnForms.{IsColumnKind};
+ghost use Rattle.data_types.specs.FieldText.{form_of, places, stored_form};
+ghost use Rattle.data_types.specs.Kinds.{KindOk};
+ghost use Rattle.data_types.specs.ColumnForms.{IsColumnKind};
 ghost use Rattle.field_codec.specs.FieldForms.{IsProper, form_in};
 
-use fmt_string::{DataType, Storage, storage_of};
+use data_types::{DataType, Storage, storage_of};
 
 /// How the fields of a column are read and written: what of its type a field's text depends on. It is found once for a
 /// column, and copied for each field.

@@ -2,11 +2,11 @@
 ghost use Rattle.std.specs.Prelude.{◌≡◌, ◌∷◌, [], ◌*◌, ◌/◌, ◌<◌, ◌≤◌, if◌then◌else◌, false, length, option_map, IfOk};
 ghost use Rattle.std.specs.Fmt.{digit_glyph};
 ghost use Rattle.std.specs.Char.{is_ascii_hexdigit, digit_value};
-ghost use Rattle.fmt_string.specs.FieldText.{hex_bytes, hex_text, last_digits, read_bits};
-ghost use Rattle.fmt_string.specs.Value.{Bits};
+ghost use Rattle.data_types.specs.FieldText.{hex_bytes, hex_text, last_digits, read_bits};
+ghost use Rattle.data_types.specs.Value.{Bits};
 
 use crate::room::sized;
-use fmt_string::decode_hex;
+use data_types::decode_hex;
 use unit_pass::NoMemory;
 
 /// The value of each byte that is a digit, and 16 for any other.

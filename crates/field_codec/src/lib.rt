@@ -1,6 +1,6 @@
 //! The texts of values, both ways: what a field of text spells in a column of a flat type, and how a value is written.
 //!
-//! Which value a text spells, and how it is written, is `fmt_string`'s table of the flat types (`FieldText`). A column's
+//! Which value a text spells, and how it is written, is `data_types`'s table of the flat types (`FieldText`). A column's
 //! [`FieldForm`] is found once, by [`form_of`] or [`flat_form`]; each form then has a call a direction: truth values
 //! ([`read_truth`], [`truth_text`]), whole numbers ([`read_whole`], [`whole_text`]), decimals ([`read_decimal`],
 //! [`decimal_text`]), the bits of floats ([`read_bits`], [`bits_text`]) and bytes by hexadecimal digits ([`read_bytes`],

@@ -3,19 +3,19 @@ use Rattle.std.proofs.Common.{◌≡◌, ℕ, zero, suc, ◌≤◌, ◌&&◌, no
 use Rattle.std.specs.Prelude.{if◌then◌else◌, is_some, nat_lt}
 use Rattle.std.specs.Global.{Box}
 use Rattle.std.specs.Option.{option_or}
-use Rattle.fmt_string.specs.declared.kind.DataType.{DataType}
+use Rattle.data_types.specs.declared.kind.DataType.{DataType}
 use Rattle.tree_model.specs.Tree.{Released, Live, IsLive, Trees, trees, MaybeTree, maybe_tree}
 use Rattle.raw_array.specs.Members.{ArrayMembers, ArrayTree, members_of}
-use Rattle.schema_check.specs.declared.typed.Typed.{Typed, out-Typed}
+use Rattle.kind_tree.specs.declared.typed.Typed.{Typed, out-Typed}
 use Rattle.layout_rules.specs.declared.layout.Layout.{Layout}
 use Rattle.layout_rules.specs.declared.layout.Layout.TheVariants.{NoBuffers, FixedWidth, TruthBits, ByOffsets, ListOffsets, FixedItems, ByChildren, Views}
 use Rattle.layout_rules.specs.declared.rule.LayoutRule.TheVariants as rules
-use Rattle.schema_check.specs.Kinds.{KindTree}
-use Rattle.schema_check.specs.TypedView.{typed_of, kids_of, kind_of, dict_in}
+use Rattle.kind_tree.specs.Kinds.{KindTree}
+use Rattle.kind_tree.specs.TypedView.{typed_of, kids_of, kind_of, dict_in}
 use Rattle.layout_rules.specs.Layout.{layout_of, buffer_count, items, is_valid}
 use Rattle.layout_rules.specs.Rules.{null_total, null_items}
 use Rattle.layout_rules.specs.Walk.{ChunkOk, first_fault, first_chunk_fault, top_fault, root_fault, is_struct, is_absent, is_table, nulls_in}
-use Rattle.schema_check.proofs.Levels.{typed_out}
+use Rattle.kind_tree.proofs.Levels.{typed_out}
 use Rattle.layout_rules.proofs.Lawful.{first_fault-lawful, lawful-first_fault, left-none, right-none}
 
 -- ---- no fault of a chunk, exactly where it is lawful

@@ -6,8 +6,8 @@ use Rattle.layout_rules.specs.Layout.{buffer_count}
 use Rattle.layout_rules.specs.declared.layout.Layout.{Layout}
 use Rattle.layout_rules.specs.Rules.{Node, buffer_absent, buffer_short, first_below}
 use Rattle.layout_check.specs.declared.node.FormedNode.{FormedNode}
-use Rattle.schema_check.specs.declared.typed.Typed.{Typed, out-Typed}
-use Rattle.schema_check.specs.TypedView.{kind_of, kids_of, dict_in}
+use Rattle.kind_tree.specs.declared.typed.Typed.{Typed, out-Typed}
+use Rattle.kind_tree.specs.TypedView.{kind_of, kids_of, dict_in}
 
 abbrev pub own_of : FormedNode → ArrayMembers
 own_of node = members_of node.array.now

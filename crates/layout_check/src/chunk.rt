@@ -1,9 +1,9 @@
 //! Chunks: what is asked of an array that holds rows.
 ghost use Rattle.std.specs.Prelude.{◌≡◌, None, Some, IsOk, IsTrue, is_none, is_some, not, ◌&&◌, ◌↔◌, pos, ℕ, length, Option};
 ghost use Rattle.raw_array.specs.Members.{ArrayTree};
-ghost use Rattle.schema_check.specs.Kinds.{TypedOk};
-ghost use Rattle.schema_check.specs.declared.typed.Typed.{out-Typed};
-ghost use Rattle.schema_check.specs.TypedView.{typed_of};
+ghost use Rattle.kind_tree.specs.Kinds.{TypedOk};
+ghost use Rattle.kind_tree.specs.declared.typed.Typed.{out-Typed};
+ghost use Rattle.kind_tree.specs.TypedView.{typed_of};
 ghost use Rattle.layout_rules.specs.Layout.{layout_of, buffer_count};
 ghost use Rattle.layout_rules.specs.Found.{found};
 ghost use Rattle.layout_rules.specs.Values.{rows_of};
@@ -13,10 +13,10 @@ use crate::failing::Failing;
 use crate::node::FormedNode;
 use crate::nulls::null_total;
 use crate::walk::{check_array, passes};
-use fmt_string::DataType;
+use data_types::DataType;
+use kind_tree::{Path, Typed};
 use layout_rules::{LayoutFault, LayoutRule, Numbers, lawful_root, layout_of};
 use raw_array::RawArray;
-use schema_check::{Path, Typed};
 
 /// [`check_array`], and then at the root: the type is a struct without a dictionary, and no item is null. Takes no
 /// memory.

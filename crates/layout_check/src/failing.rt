@@ -3,10 +3,10 @@ ghost use Rattle.std.specs.Prelude.{◌≡◌, None, OnOk};
 ghost use Rattle.layout_rules.specs.Found.{fault_of};
 ghost use Rattle.layout_check.specs.FoundAt.{fault_there, found_at};
 ghost use Rattle.layout_rules.specs.Walk.{fault_at};
-ghost use Rattle.schema_check.specs.Ways.{Steps, steps_of};
+ghost use Rattle.kind_tree.specs.Ways.{Steps, steps_of};
 
+use kind_tree::Path;
 use layout_rules::{LayoutFault, LayoutRule, Numbers};
-use schema_check::Path;
 
 /// The rule that fails at a node, with the rule's place and numbers. It has no way to the node, so that it is small: a walk has
 /// one for all its nodes.

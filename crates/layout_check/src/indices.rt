@@ -1,7 +1,7 @@
 //! The rule on the indices of a dictionary-encoded array.
 ghost use Rattle.std.specs.Prelude.{◌≡◌, None, ◌⊎◌, ◌+◌, ◌*◌, ◌/◌, ◌<◌, ◌≤◌, pos, length, Option};
 ghost use Rattle.bit_pack.specs.Packed.{IsWidth};
-ghost use Rattle.fmt_string.specs.Kinds.{KindOk};
+ghost use Rattle.data_types.specs.Kinds.{KindOk};
 ghost use Rattle.tree_model.specs.Tree.{IsLive, dictionary_of};
 ghost use Rattle.raw_array.specs.Members.{ArrayTree};
 ghost use Rattle.layout_check.specs.NodeView.{AreReadable, own_of};
@@ -12,7 +12,7 @@ use crate::node::FormedNode;
 use crate::nulls::is_valid;
 use crate::scans::indices_inside;
 use bit_pack::int_at;
-use fmt_string::DataType;
+use data_types::DataType;
 use layout_rules::Numbers;
 use raw_array::RawArray;
 

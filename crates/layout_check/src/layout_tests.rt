@@ -1,9 +1,9 @@
 //! Tests of arrays by their layouts: lists and maps, bits, wide offsets, indices, and items without buffers.
 ghost use Rattle.std.specs.Prelude.{◌≡◌, ◌+◌, ◌≤◌, max};
-ghost use Rattle.fmt_string.specs.Kinds.{KindOk};
+ghost use Rattle.data_types.specs.Kinds.{KindOk};
 ghost use Rattle.tree_model.specs.Tree.{more_trees, no_trees, Depth};
-ghost use Rattle.schema_check.specs.Kinds.{KidsOk, NodesOk};
-ghost use Rattle.schema_check.specs.TypedView.{typed_of};
+ghost use Rattle.kind_tree.specs.Kinds.{KidsOk, NodesOk};
+ghost use Rattle.kind_tree.specs.TypedView.{typed_of};
 
 use crate::buffers::{buffers_absent, buffers_short};
 use crate::chunk::{count_rows, nulls_of};
@@ -13,10 +13,10 @@ use crate::tests::{
     int32, leaf, leaf_found, listed, node, parts_found, struct_of_two,
 };
 use crate::walk::check_array;
-use fmt_string::DataType;
+use data_types::DataType;
+use kind_tree::{DICTIONARY_STEP, Typed};
 use layout_rules::{Layout, LayoutRule};
 use raw_array::RawArray;
-use schema_check::{DICTIONARY_STEP, Typed};
 use std::alloc::Global;
 use std::process::Abort;
 use unit_pass::open_desk;

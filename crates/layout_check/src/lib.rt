@@ -12,8 +12,8 @@
 //!
 //! The calls on arrays take no memory, and none writes. Numbers of bytes and places are computed without bounds, so no sum
 //! wraps. What the rules say, and what a lawful array promises to its reader, is in `layout_rules`, whose types are named here
-//! too. Left to others: the check of schemas and the kinds that it answers (`schema_check`, whose calls are named here too),
-//! and whether an array is released, moved or shared in the right order.
+//! too. Left to others: the check of schemas (`schema_check`), the kinds that it answers (`kind_tree`, whose names are here
+//! too), and whether an array is released, moved or shared in the right order.
 #![tactic(auto)]
 
 mod buffers;
@@ -41,9 +41,6 @@ pub use buffers::{missing, too_short};
 pub use children::first_short;
 pub use chunk::{check_chunk, chunk_passes, count_rows, nulls_of};
 pub use counts::{negative, window_too_long, wrong_count};
+pub use kind_tree::{DICTIONARY_STEP, Path, Typed, kinds_of_typed};
 pub use layout_rules::{Layout, LayoutFault, LayoutRule, Numbers};
-pub use schema_check::{
-    DICTIONARY_STEP, Path, SchemaFault, SchemaRule, Typed, check_schema, kinds_are_valid,
-    kinds_of_typed, one_schema_answer,
-};
 pub use walk::check_array;

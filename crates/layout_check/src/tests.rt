@@ -1,10 +1,10 @@
 //! Tests of the check of arrays, by small trees.
 ghost use Rattle.std.specs.Prelude.{◌≡◌, ◌+◌, ◌≤◌, max, map, length, None, Option};
 ghost use Rattle.std.specs.Global.{Box};
-ghost use Rattle.fmt_string.specs.Kinds.{KindOk};
+ghost use Rattle.data_types.specs.Kinds.{KindOk};
 ghost use Rattle.tree_model.specs.Tree.{IsLive, Live, trees, maybe_tree, no_trees, absent, present, more_trees, depth_of_all, depth_of_maybe, Depth};
-ghost use Rattle.schema_check.specs.Kinds.{KidsOk, DictOk, NodesOk, AllNodesOk, DictNodesOk, IsPairOfColumns};
-ghost use Rattle.schema_check.specs.TypedView.{typed_of, dict_in};
+ghost use Rattle.kind_tree.specs.Kinds.{KidsOk, DictOk, NodesOk, AllNodesOk, DictNodesOk, IsPairOfColumns};
+ghost use Rattle.kind_tree.specs.TypedView.{typed_of, dict_in};
 
 use crate::buffers::{buffers_absent, buffers_short, first_fall, layout_falls};
 use crate::chunk::{check_chunk, chunk_passes, nulls_of};
@@ -12,17 +12,17 @@ use crate::node::FormedNode;
 use crate::texts::{first_bad_text, texts_wrong};
 use crate::walk::check_array;
 use buf_block::{BufView, make};
-use fmt_string::DataType;
+use data_types::DataType;
+use kind_tree::{DICTIONARY_STEP, Typed};
 use layout_rules::{Layout, LayoutFault, LayoutRule, buffer_count};
 use raw_array::{ArrayParts, RawArray, ReleaseKind};
-use schema_check::{DICTIONARY_STEP, Typed};
 use std::alloc::Global;
 use std::process::Abort;
 use unit_pass::{Desk, Pass, SUPPLY, open_desk};
 
 // ---- types
 
-#[tactic(auto, using(schema_check::proofs::MadeTypes::made))]
+#[tactic(auto, using(kind_tree::proofs::MadeTypes::made))]
 pub(crate) fn node(kind: DataType, kids: Vec<Typed>, dict: Option<Box<Typed>>) -> Typed
     requires type_ok { KindOk kind }
     requires kids_ok { KidsOk kind (trees (map typed_of kids.items)) }

@@ -16,7 +16,7 @@ use crate::nulls::is_valid;
 use crate::runs::is_border;
 use crate::scans::cut_between_characters;
 use crate::view_texts::{view_text_wrong, view_texts_pass};
-use fmt_string::DataType;
+use data_types::DataType;
 use layout_rules::Numbers;
 
 /// The place in the data at which an offset is.

@@ -1,14 +1,14 @@
 //! Hostile views, each with its rule, place and numbers, and lawful ones that look like them.
 ghost use Rattle.std.specs.Prelude.{◌≡◌, ◌≤◌};
-ghost use Rattle.schema_check.specs.Kinds.{NodesOk};
+ghost use Rattle.kind_tree.specs.Kinds.{NodesOk};
 ghost use Rattle.tree_model.specs.Tree.{Depth};
-ghost use Rattle.schema_check.specs.TypedView.{typed_of};
+ghost use Rattle.kind_tree.specs.TypedView.{typed_of};
 
 use crate::tests::{Want, closed, ended, flat, found, leaf, leaf_found, taken};
 use crate::walk::check_array;
-use fmt_string::DataType;
+use data_types::DataType;
+use kind_tree::Typed;
 use layout_rules::LayoutRule;
-use schema_check::Typed;
 use std::alloc::Global;
 use std::process::Abort;
 use unit_pass::open_desk;

@@ -3,16 +3,16 @@ ghost use Rattle.std.specs.Prelude.{◌≡◌, IsOk, IsTrue, is_none, ◌↔◌,
 ghost use Rattle.std.specs.Global.{Box};
 ghost use Rattle.tree_model.specs.Tree.{IsLive, children_of, dictionary_of, trees, maybe_tree, Depth, depth_of_all, depth_of_maybe};
 ghost use Rattle.raw_array.specs.Members.{ArrayTree, members_of};
-ghost use Rattle.schema_check.specs.Kinds.{NodesOk, AllNodesOk, DictNodesOk, TypedOk};
-ghost use Rattle.fmt_string.specs.Kinds.{KindOk};
+ghost use Rattle.kind_tree.specs.Kinds.{NodesOk, AllNodesOk, DictNodesOk, TypedOk};
+ghost use Rattle.data_types.specs.Kinds.{KindOk};
 ghost use Rattle.layout_rules.specs.Rules.{one_if, indices_wrong, length_if};
-ghost use Rattle.schema_check.specs.declared.typed.Typed.{out-Typed};
-ghost use Rattle.schema_check.specs.TypedView.{typed_of, kids_of, dict_in};
+ghost use Rattle.kind_tree.specs.declared.typed.Typed.{out-Typed};
+ghost use Rattle.kind_tree.specs.TypedView.{typed_of, kids_of, dict_in};
 ghost use Rattle.layout_check.specs.NodeView.{live_node};
 ghost use Rattle.layout_rules.specs.Layout.{layout_of, buffer_count};
 ghost use Rattle.layout_rules.specs.Rules.{buffer_rules, form_rules, item_rules, offsets_fall_if, is_behind_offsets};
 ghost use Rattle.layout_check.specs.NodeView.{AreReadable, own_of};
-ghost use Rattle.schema_check.specs.Ways.{steps_of, Steps};
+ghost use Rattle.kind_tree.specs.Ways.{steps_of, Steps};
 ghost use Rattle.layout_rules.specs.Found.{found};
 ghost use Rattle.layout_check.specs.FoundAt.{found_at};
 ghost use Rattle.layout_rules.specs.Walk.{LayoutOk, rules_fault, first_fault, fault_from, own_fault, children_fault, dictionary_fault};
@@ -26,10 +26,10 @@ use crate::node::FormedNode;
 use crate::nulls::nulls_wrong;
 use crate::texts::{texts_pass, texts_wrong};
 use crate::views::{prefixes_wrong, views_misplaced, views_pass};
-use fmt_string::DataType;
+use data_types::DataType;
+use kind_tree::{DICTIONARY_STEP, Path, Typed};
 use layout_rules::{LayoutFault, LayoutRule, Numbers, layout_of};
 use raw_array::RawArray;
-use schema_check::{DICTIONARY_STEP, Path, Typed};
 
 /// Checks an array against its kinds ("Arrow Columnar Format", "Physical memory layout"). The fault is the first rule of
 /// [`LayoutRule`] that fails at the first failing node in preorder: children by number, then the dictionary. Takes no

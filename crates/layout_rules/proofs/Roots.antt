@@ -1,25 +1,25 @@
 -- The root of a lawful array, over one level of a tree of kinds.
 use Rattle.std.proofs.Common.{◌≡◌, ℕ, zero, suc, ◌<◌, ◌≤◌, ℤ, pos, negsuc, List, [], ◌∷◌, length, drop, Option, Some, None, refl, ap, ◌∙◌, sym, subst, arith}
 use Rattle.std.specs.Prelude.{nat_lt, ◌≤ℤ◌, ◌^◌}
-use Rattle.fmt_string.specs.declared.kind.DataType.{DataType}
+use Rattle.data_types.specs.declared.kind.DataType.{DataType}
 use Rattle.tree_model.specs.Tree.{Released, Live, IsLive, Trees, trees, MaybeTree, maybe_tree, absent, present, tree_list, option_tree, children_of}
 use Rattle.tree_model.specs.Tree.{dictionary_of}
 use Rattle.tree_model.proofs.Lists.{tree_list-trees, trees-tree_list}
 use Rattle.raw_array.specs.Members.{ArrayMembers, ArrayTree, members_of}
-use Rattle.schema_check.specs.declared.typed.Typed.{Typed, out-Typed}
+use Rattle.kind_tree.specs.declared.typed.Typed.{Typed, out-Typed}
 use Rattle.layout_rules.specs.declared.rule.LayoutRule.{LayoutRule}
 use Rattle.layout_rules.specs.declared.rule.LayoutRule.TheVariants as rules
 use Rattle.layout_rules.specs.declared.rule.Numbers.{Numbers}
-use Rattle.schema_check.specs.Kinds.{KindTree}
-use Rattle.schema_check.specs.TypedView.{typed_of, kids_of, kind_of, dict_in}
+use Rattle.kind_tree.specs.Kinds.{KindTree}
+use Rattle.kind_tree.specs.TypedView.{typed_of, kids_of, kind_of, dict_in}
 use Rattle.layout_rules.specs.Layout.{layout_of, buffer_count, items, end, IsLongIfPresent}
 use Rattle.layout_rules.specs.Rules.{Node, fails, fault_if, count_wrong, is_negative, in_order, one_if, window_limit, first_below, buffer_absent, buffer_short}
 use Rattle.layout_rules.specs.Rules.{offsets_fall_if, is_behind_offsets, items_need, child_short, length_if, indices_wrong, views_misplaced}
 use Rattle.layout_rules.specs.Values.{tree_items}
-use Rattle.schema_check.specs.Ways.{Steps}
+use Rattle.kind_tree.specs.Ways.{Steps}
 use Rattle.layout_rules.specs.Walk.{LayoutOk, fault_from, own_fault, rules_fault, first_some, fault_by, fault_at, visit_fault, walk_below, walks_of}
 use Rattle.layout_rules.specs.Walk.{walk_of}
-use Rattle.schema_check.proofs.Levels.{typed_out}
+use Rattle.kind_tree.proofs.Levels.{typed_out}
 use Rattle.layout_rules.proofs.Long.{long-validity}
 use Rattle.layout_rules.proofs.Lawful.{lawful-first_fault, left-none, right-none}
 

@@ -1,11 +1,11 @@
 -- The first fault of a walk: that of the node, of its children, of its dictionary.
 use Rattle.std.proofs.Common.{◌≡◌, ℕ, suc, List, [], ◌∷◌, ◌++◌, Option, None, Some, refl, ap, ◌∙◌, sym}
 use Rattle.std.specs.Option.{option_or}
-use Rattle.fmt_string.specs.declared.kind.DataType.{DataType}
+use Rattle.data_types.specs.declared.kind.DataType.{DataType}
 use Rattle.tree_model.specs.Tree.{Live, Released, trees, maybe_tree, IsLive, children_of, dictionary_of}
 use Rattle.raw_array.specs.Members.{ArrayTree}
-use Rattle.schema_check.specs.Kinds.{KindTree}
-use Rattle.schema_check.specs.Ways.{Steps}
+use Rattle.kind_tree.specs.Kinds.{KindTree}
+use Rattle.kind_tree.specs.Ways.{Steps}
 use Rattle.layout_rules.specs.Walk.{Fault, visits, walks_of, walk_of, walk_children, walk_dictionary, first_some}
 use Rattle.layout_rules.specs.Walk.{visit_fault, fault_from, own_fault, children_fault, dictionary_fault}
 

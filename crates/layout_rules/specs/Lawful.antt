@@ -1,9 +1,9 @@
 -- What holds of a lawful array whose type is there: at its root, of its parts, and of its items.
 use Rattle.std.specs.Prelude.{◌≡◌, ℕ, ◌+◌, ◌^◌, ◌<◌, ◌≤◌, ◌≤ℤ◌, pos, length, Some, None}
-use Rattle.fmt_string.specs.declared.kind.DataType.TheVariants as kinds
+use Rattle.data_types.specs.declared.kind.DataType.TheVariants as kinds
 use Rattle.tree_model.specs.Tree.{IsLive, children_of, dictionary_of, child_at}
 use Rattle.raw_array.specs.Members.{ArrayTree, members_of}
-use Rattle.schema_check.specs.Kinds.{KindTree, kind_in}
+use Rattle.kind_tree.specs.Kinds.{KindTree, kind_in}
 use Rattle.layout_rules.specs.Layout.{layout_of, buffer_count, IsLongIfPresent, first, items, end}
 use Rattle.layout_rules.specs.Rules.{one_if, items_need, null_total}
 use Rattle.layout_rules.specs.Walk.{LayoutOk}

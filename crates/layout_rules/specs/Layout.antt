@@ -2,11 +2,11 @@
 -- ("Arrow Columnar Format", "Physical memory layout").
 use Rattle.std.specs.Prelude.{ℕ, zero, suc, ◌+◌, ◌-◌, ◌*◌, ◌≤◌, ◌/◌, ℤ, pos, negsuc, Bool, true, nat_lt, max, ◌==◌, ◌||◌, if◌then◌else◌, List, [], length, take}
 use Rattle.std.specs.Prelude.{drop, get_or, Option, Some, None}
-use Rattle.fmt_string.specs.declared.kind.DataType.{DataType}
-use Rattle.fmt_string.specs.declared.kind.Tick.{Tick}
-use Rattle.fmt_string.specs.declared.storage.Storage.{Storage}
-use Rattle.fmt_string.specs.declared.storage.Storage.TheVariants as stored
-use Rattle.fmt_string.specs.Storage.{storage_of, time_bits}
+use Rattle.data_types.specs.declared.kind.DataType.{DataType}
+use Rattle.data_types.specs.declared.kind.Tick.{Tick}
+use Rattle.data_types.specs.declared.storage.Storage.{Storage}
+use Rattle.data_types.specs.declared.storage.Storage.TheVariants as stored
+use Rattle.data_types.specs.Storage.{storage_of, time_bits}
 use Rattle.bit_pack.specs.Packed.{bit, number_at, meant, offset_width}
 use Rattle.raw_array.specs.Members.{ArrayMembers, bytes_in}
 use Rattle.layout_rules.specs.declared.layout.Layout.{Layout}

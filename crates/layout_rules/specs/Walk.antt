@@ -1,15 +1,15 @@
 -- The nodes in preorder, and the first fault.
 use Rattle.std.specs.Prelude.{◌≡◌, ℕ, ℤ, suc, pos, Bool, true, false, not, ◌&&◌, nat_lt, if◌then◌else◌, List, [], ◌∷◌, ◌++◌, Option, Some, None, All}
 use Rattle.std.specs.Option.{option_or}
-use Rattle.fmt_string.specs.declared.kind.DataType.{DataType}
-use Rattle.fmt_string.specs.declared.kind.DataType.TheVariants as kinds
+use Rattle.data_types.specs.declared.kind.DataType.{DataType}
+use Rattle.data_types.specs.declared.kind.DataType.TheVariants as kinds
 use Rattle.tree_model.specs.Tree.{Released, Live, Trees, no_trees, more_trees, MaybeTree, absent, present, tree_list, option_tree}
 use Rattle.raw_array.specs.Members.{ArrayTree}
 use Rattle.layout_rules.specs.declared.rule.LayoutRule.{LayoutRule}
 use Rattle.layout_rules.specs.declared.rule.LayoutRule.TheVariants as rules
 use Rattle.layout_rules.specs.declared.rule.Numbers.{Numbers}
-use Rattle.schema_check.specs.Kinds.{KindTree}
-use Rattle.schema_check.specs.Ways.{Steps, dictionary_step}
+use Rattle.kind_tree.specs.Kinds.{KindTree}
+use Rattle.kind_tree.specs.Ways.{Steps, dictionary_step}
 use Rattle.layout_rules.specs.Layout.{items, layout_of}
 use Rattle.layout_rules.specs.Rules.{Node, fails, in_order, null_total, null_items}
 

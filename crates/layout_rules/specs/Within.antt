@@ -1,8 +1,8 @@
 -- What is read of a lawful array lies within its buffers, its children and its dictionary ("Arrow Columnar Format",
 -- "Physical memory layout").
 use Rattle.std.specs.Prelude.{ℕ, ◌+◌, ◌*◌, ◌/◌, ◌<◌, ◌≤◌, ◌≤ℤ◌, pos, Bool, IsTrue, List, length}
-use Rattle.fmt_string.specs.declared.kind.DataType.{DataType}
-use Rattle.fmt_string.specs.declared.kind.DataType.TheVariants as kinds
+use Rattle.data_types.specs.declared.kind.DataType.{DataType}
+use Rattle.data_types.specs.declared.kind.DataType.TheVariants as kinds
 use Rattle.bit_pack.specs.Packed.{offset_width}
 use Rattle.raw_array.specs.Members.{ArrayMembers, ArrayTree}
 use Rattle.layout_rules.specs.declared.layout.Layout.{Layout}

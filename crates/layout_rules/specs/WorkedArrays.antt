@@ -1,13 +1,13 @@
 -- Small arrays with their types.
 use Rattle.std.specs.Prelude.{ℕ, ◌^◌, ℤ, pos, negsuc, true, false, List, [], ◌∷◌, Option, Some, None}
-use Rattle.fmt_string.specs.declared.kind.DataType.{DataType}
-use Rattle.fmt_string.specs.declared.kind.DataType.TheVariants as kinds
+use Rattle.data_types.specs.declared.kind.DataType.{DataType}
+use Rattle.data_types.specs.declared.kind.DataType.TheVariants as kinds
 use Rattle.tree_model.specs.Tree.{Live, no_trees, more_trees, absent, present}
 use Rattle.raw_array.specs.declared.array.ReleaseKind.TheVariants.{Exported}
 use Rattle.raw_array.specs.Members.{ArrayTree, ArrayMembers, Buffer}
 use Rattle.layout_rules.specs.declared.rule.LayoutRule.{LayoutRule}
-use Rattle.schema_check.specs.Kinds.{KindTree}
-use Rattle.schema_check.specs.Ways.{Steps}
+use Rattle.kind_tree.specs.Kinds.{KindTree}
+use Rattle.kind_tree.specs.Ways.{Steps}
 use Rattle.layout_rules.specs.Walk.{Fault}
 
 abbrev pub faulty : Steps → LayoutRule → ℕ → ℤ → ℤ → Option Fault

@@ -1,6 +1,6 @@
 //! Faults of arrays of each kind as they are printed, at the root and far below it.
 use crate::rule::{LayoutFault, LayoutRule};
-use schema_check::{DICTIONARY_STEP, Path};
+use kind_tree::{DICTIONARY_STEP, Path};
 use std::test::Fail;
 
 #[test]

@@ -1,9 +1,9 @@
 //! How the arrays of a type are laid out, and how many buffers they have.
 ghost use Rattle.std.specs.Prelude.{◌≡◌};
-ghost use Rattle.fmt_string.specs.Storage.{storage_of};
+ghost use Rattle.data_types.specs.Storage.{storage_of};
 ghost use Rattle.layout_rules.specs.Layout.{layout_of, buffer_count};
 
-use fmt_string::{DataType, Storage, storage_of};
+use data_types::{DataType, Storage, storage_of};
 
 /// How an array of a kind is laid out.
 #[derive(Clone, Copy, Debug, PartialEq, Eq)]

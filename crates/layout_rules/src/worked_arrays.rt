@@ -1,8 +1,8 @@
 //! Small arrays, computed from the definitions.
 ghost use Rattle.std.specs.Prelude.{◌≡◌, None, [], ◌∷◌, pos, negsuc};
-ghost use Rattle.fmt_string.specs.declared.kind.DataType.TheVariants as kinds;
-ghost use Rattle.fmt_string.specs.Value.{values};
-ghost use Rattle.fmt_string.specs.Value.Value.{Null, Whole, Bytes, Fields};
+ghost use Rattle.data_types.specs.declared.kind.DataType.TheVariants as kinds;
+ghost use Rattle.data_types.specs.Value.{values};
+ghost use Rattle.data_types.specs.Value.Value.{Null, Whole, Bytes, Fields};
 ghost use Rattle.layout_rules.specs.declared.rule.LayoutRule.TheVariants as rules;
 ghost use Rattle.layout_rules.specs.Walk.{first_fault};
 ghost use Rattle.layout_rules.specs.Values.{values_of};

@@ -3,10 +3,10 @@ use Rattle.std.proofs.Common.{◌≡◌, ◌≤◌, ◌+◌, ◌*◌, ℕ, suc, 
 use Rattle.std.proofs.lemmas.List.{length-append, length-map}
 use Rattle.std.proofs.lemmas.List.Sums.{sum_by-cons}
 use Rattle.std.specs.List.{flat_map, sum_by}
-use Rattle.fmt_string.specs.Parts.{picked}
-use Rattle.fmt_string.specs.ColumnView.{column_of}
-use Rattle.fmt_string.specs.Table.{Column, Row}
-use Rattle.fmt_string.specs.declared.kind.ColumnType.{ColumnType}
+use Rattle.data_types.specs.Parts.{picked}
+use Rattle.data_types.specs.ColumnView.{column_of}
+use Rattle.data_types.specs.Table.{Column, Row}
+use Rattle.data_types.specs.declared.kind.ColumnType.{ColumnType}
 use Rattle.plan_laws.specs.Distinct.{DistinctPicks}
 use Rattle.dict_stage.specs.Fits.{DictFits, PlainFits}
 use Rattle.stage_filter.specs.Filters.{FilterFits}

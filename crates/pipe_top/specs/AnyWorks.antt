@@ -1,7 +1,7 @@
 -- What the work of a step of any kind means.
 use Rattle.std.specs.Prelude.{List, map}
-use Rattle.fmt_string.specs.ColumnView.{column_of}
-use Rattle.fmt_string.specs.Table.{Column, Row}
+use Rattle.data_types.specs.ColumnView.{column_of}
+use Rattle.data_types.specs.Table.{Column, Row}
 use Rattle.raw_array.specs.Members.{ArrayTree}
 use Rattle.dict_stage.specs.Fits.{DictFits, PlainFits}
 use Rattle.dict_stage.specs.Indices.{HasColumn}

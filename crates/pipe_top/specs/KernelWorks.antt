@@ -1,7 +1,7 @@
 -- What the work of a step that moves columns or rows means.
 use Rattle.std.specs.Prelude.{List, length, map}
-use Rattle.fmt_string.specs.ColumnView.{column_of}
-use Rattle.fmt_string.specs.Table.{Column, Row}
+use Rattle.data_types.specs.ColumnView.{column_of}
+use Rattle.data_types.specs.Table.{Column, Row}
 use Rattle.raw_array.specs.Members.{ArrayTree}
 use Rattle.plan_laws.specs.Dues.{due_with}
 use Rattle.stage_kernels.specs.Packs.{PackFits}

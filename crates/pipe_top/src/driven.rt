@@ -2,7 +2,7 @@
 ghost use Rattle.std.specs.Prelude.{◌≡◌, ◌≤◌, ◌+◌, ◌*◌, List, None, Some, ℕ, [], IsTrue, IfErr, IfOk, OnErr, OnOk, length};
 ghost use Rattle.std.specs.Thread.{IsSync};
 ghost use Rattle.csv_model.specs.Text.{table_text};
-ghost use Rattle.fmt_string.specs.Parts.{joined_rows};
+ghost use Rattle.data_types.specs.Parts.{joined_rows};
 ghost use Rattle.plan_laws.specs.Structs.{column_structs};
 ghost use Rattle.stage_model.specs.Links.{Whole};
 ghost use Rattle.stage_model.specs.Stages.{table};

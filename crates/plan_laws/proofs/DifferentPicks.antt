@@ -10,7 +10,7 @@ use Rattle.std.proofs.lemmas.List.Sums.{passes_at_first}
 use Rattle.std.proofs.lemmas.Slice.Eq.{bytes_eq-Decides}
 use Rattle.arr_move.specs.TreeActs.{Distinct}
 use Rattle.csv_model.specs.Header.{is_among, twice_behind}
-use Rattle.fmt_string.specs.Table.{Column}
+use Rattle.data_types.specs.Table.{Column}
 use Rattle.stage_model.proofs.Numbers.{none-fails}
 use Rattle.stage_model.specs.Typing.{IsStageOver, Stage, column_named, has_twice, names_of, no_column, others, place_if, place_of, places_of, rest_of, rules_of}
 use Rattle.stage_model.specs.Typing.{step_of}

@@ -8,12 +8,12 @@ use Rattle.std.specs.Prelude.{FitsSigned, codes, ◌&&◌}
 use Rattle.std.proofs.lemmas.Bool.{ltb-false}
 use Rattle.std.proofs.lemmas.List.{drop_more, length-append, map-append}
 use Rattle.std.proofs.lemmas.List.Elements.{All-append, All-cons, All-drop, All-get_or, All-head, All-nil, All-tail, All-take}
-use Rattle.fmt_string.specs.ColumnForms.{AreColumnKinds}
-use Rattle.fmt_string.specs.ColumnView.{members}
-use Rattle.fmt_string.specs.Parts.{AreWithin, member_columns, packed_columns, picked, replaced, unpacked_columns}
-use Rattle.fmt_string.specs.Table.{Column, Kind, Flat, Dict, Columns, Members, no_members, more_members}
-use Rattle.fmt_string.specs.declared.kind.DataType.{DataType}
-use Rattle.fmt_string.specs.declared.kind.DataType.TheVariants as kinds
+use Rattle.data_types.specs.ColumnForms.{AreColumnKinds}
+use Rattle.data_types.specs.ColumnView.{members}
+use Rattle.data_types.specs.Parts.{AreWithin, member_columns, packed_columns, picked, replaced, unpacked_columns}
+use Rattle.data_types.specs.Table.{Column, Kind, Flat, Dict, Columns, Members, no_members, more_members}
+use Rattle.data_types.specs.declared.kind.DataType.{DataType}
+use Rattle.data_types.specs.declared.kind.DataType.TheVariants as kinds
 use Rattle.arr_move.specs.TreeActs.{Distinct}
 use Rattle.stage_model.specs.Typing.{FitsColumns, HasColumns, IsStageOver, Stage, column, column_at, columns_after, is_bytes}
 use Rattle.stage_model.specs.Typing.{is_summed, most_columns, no_column, rules_of}

@@ -1,7 +1,7 @@
 -- What a stage's calls still count.
 use Rattle.std.specs.Prelude.{◌+◌, List, Some}
 use Rattle.std.specs.List.{sum_by}
-use Rattle.fmt_string.specs.Table.{Column, Row}
+use Rattle.data_types.specs.Table.{Column, Row}
 use Rattle.stage_model.specs.Traffic.{made_blocks, made_nodes}
 use Rattle.stage_model.specs.declared.stage.Step.{Step}
 use Rattle.stream_face.specs.Streams.{Traffic}

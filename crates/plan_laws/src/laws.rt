@@ -1,7 +1,7 @@
 //! Laws on stages that no rule refuses, and on the schemas of their columns. The calls do nothing.
 ghost use Rattle.std.specs.Prelude.{◌≡◌, ◌≤◌, ◌+◌, ◌*◌, List, All, length};
-ghost use Rattle.fmt_string.specs.ColumnForms.{AreColumnKinds};
-ghost use Rattle.fmt_string.specs.Table.{Column};
+ghost use Rattle.data_types.specs.ColumnForms.{AreColumnKinds};
+ghost use Rattle.data_types.specs.Table.{Column};
 ghost use Rattle.tree_model.specs.Tree.{Depth};
 ghost use Rattle.raw_schema.specs.Members.{Nodes};
 ghost use Rattle.schema_check.specs.ColumnSchema.{SchemaOf};

@@ -1,11 +1,11 @@
 //! The kinds of a schema once more.
 ghost use Rattle.std.specs.Prelude.{◌≡◌, IfOk, map};
 ghost use Rattle.tree_model.specs.Tree.{trees};
-ghost use Rattle.schema_check.specs.Kinds.{AllNodesOk, NodesOk};
-ghost use Rattle.schema_check.specs.TypedView.{typed_of};
+ghost use Rattle.kind_tree.specs.Kinds.{AllNodesOk, NodesOk};
+ghost use Rattle.kind_tree.specs.TypedView.{typed_of};
 
-use fmt_string::clone_kind;
-use schema_check::{Typed, kinds_of_typed};
+use data_types::clone_kind;
+use kind_tree::{Typed, kinds_of_typed};
 use std::alloc::Global;
 use unit_pass::NoMemory;
 

@@ -1,7 +1,7 @@
 //! Values that are kept, each with its own memory.
 ghost use Rattle.std.specs.Prelude.{◌≡◌, ◌+◌, ◌<◌, ◌^◌, pos, map, IfOk};
-ghost use Rattle.fmt_string.specs.Value.{values};
-ghost use Rattle.fmt_string.specs.Value.Value.{Items, Fields};
+ghost use Rattle.data_types.specs.Value.{values};
+ghost use Rattle.data_types.specs.Value.Value.{Items, Fields};
 ghost use Rattle.layout_rules.specs.Layout.{natural};
 ghost use Rattle.layout_rules.specs.Values.{row_items};
 ghost use Rattle.arr_import.specs.Cols.{window_of};

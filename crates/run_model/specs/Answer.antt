@@ -1,8 +1,8 @@
 -- What a run is asked for by its words, or why they are refused; the form of an answer; the fault of a run by those of its parts,
 -- with the cause and the status of each.
 use Rattle.std.specs.Prelude.{◌≡◌, ℕ, ◌+◌, Bool, true, false, List, [], ◌∷◌, Option, None, Some, Result, Ok, Err, codes}
-use Rattle.fmt_string.specs.declared.row_fault.RowFault.{RowFault}
-use Rattle.fmt_string.specs.declared.row_fault.RowFault.TheVariants as row
+use Rattle.data_types.specs.declared.row_fault.RowFault.{RowFault}
+use Rattle.data_types.specs.declared.row_fault.RowFault.TheVariants as row
 use Rattle.csv_model.specs.declared.fault.HeaderFault.{HeaderFault}
 use Rattle.csv_model.specs.declared.fault.HeaderFault.TheVariants as header
 use Rattle.stage_model.specs.StageGrammar.{stage_of}

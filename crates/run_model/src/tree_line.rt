@@ -1,9 +1,10 @@
 //! The line of the fault of a tree. The way to a node may be long, so the line is written piece by piece and takes no memory.
 ghost use Rattle.std.specs.Prelude.{◌≡◌, ◌++◌, codes, decimal, flat_map};
 ghost use Rattle.std.specs.Fmt.{signed_decimal};
-ghost use Rattle.schema_check.specs.FaultTexts.{schema_rule_text, step_text, way_text};
+ghost use Rattle.schema_check.specs.FaultTexts.{schema_rule_text};
+ghost use Rattle.kind_tree.specs.WayTexts.{step_text, way_text};
 ghost use Rattle.layout_rules.specs.FaultTexts.{layout_fault_text, rule_text};
-ghost use Rattle.schema_check.specs.Ways.{steps_of};
+ghost use Rattle.kind_tree.specs.Ways.{steps_of};
 ghost use Rattle.tree_check.specs.FaultTexts.{tree_fault_text};
 ghost use Rattle.tree_text.specs.FaultTexts.{text_fault_text};
 ghost use Rattle.run_model.specs.Told.{Says, line_of};
@@ -11,8 +12,9 @@ ghost use Rattle.run_model.specs.Told.{Says, line_of};
 use crate::told::say;
 use edge_io::{Sink, WriteFault};
 use itoa::Buffer;
+use kind_tree::{DICTIONARY_STEP, Path};
 use layout_rules::{LayoutFault, LayoutRule};
-use schema_check::{DICTIONARY_STEP, Path, SchemaRule};
+use schema_check::SchemaRule;
 use tree_check::TreeFault;
 use tree_text::TextFault;
 

@@ -2,7 +2,7 @@
 use Rattle.std.proofs.Common.{◌≡◌, ◌∙◌, ◌⊎◌, ℕ, List, [], None, Some, Ok, IsTrue, ap, refl, subst, sym}
 use Rattle.csv_model.specs.Reading.{Record}
 use Rattle.csv_model.specs.Text.{table_text}
-use Rattle.fmt_string.specs.Parts.{joined_rows}
+use Rattle.data_types.specs.Parts.{joined_rows}
 use Rattle.plan_laws.specs.Structs.{column_structs}
 use Rattle.run_model.specs.Answer.{Fault, Request, Text}
 use Rattle.run_model.specs.declared.fault.RunFault.{RunFault}

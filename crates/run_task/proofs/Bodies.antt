@@ -8,9 +8,9 @@ use Rattle.csv_model.specs.declared.fault.HeaderFault.{HeaderFault}
 use Rattle.csv_model.specs.declared.fault.HeaderFault.TheVariants as header
 use Rattle.csv_read.specs.Entries.{entries_of}
 use Rattle.csv_source.specs.Sources.{stream_of}
-use Rattle.fmt_string.specs.Parts.{joined_rows}
-use Rattle.fmt_string.specs.Table.{Column, Row}
-use Rattle.fmt_string.specs.declared.row_fault.RowFault.{RowFault}
+use Rattle.data_types.specs.Parts.{joined_rows}
+use Rattle.data_types.specs.Table.{Column, Row}
+use Rattle.data_types.specs.declared.row_fault.RowFault.{RowFault}
 use Rattle.stream_text.specs.Faults.{IfRow}
 use Rattle.stream_text.specs.declared.fault.DriveFault.{DriveFault}
 use Rattle.stream_text.specs.declared.fault.DriveFault.TheVariants as chain

@@ -1,10 +1,10 @@
 -- The columns of a header are plain values.
 use Rattle.std.proofs.Common.{◌≡◌, ◌<◌, zero, suc, List, [], ◌∷◌, map, All, sym, subst, ap, refl, arith}
 use Rattle.std.proofs.lemmas.List.{get_or-map, length-map}
-use Rattle.fmt_string.specs.ColumnForms.{KindsOk}
-use Rattle.fmt_string.specs.ColumnView.{column_of, kind_of}
-use Rattle.fmt_string.specs.Table.{Column}
-use Rattle.fmt_string.specs.declared.kind.ColumnType.{ColumnType}
+use Rattle.data_types.specs.ColumnForms.{KindsOk}
+use Rattle.data_types.specs.ColumnView.{column_of, kind_of}
+use Rattle.data_types.specs.Table.{Column}
+use Rattle.data_types.specs.declared.kind.ColumnType.{ColumnType}
 use Rattle.field_codec.specs.TextColumns.{AreProper}
 use Rattle.plan_laws.specs.Structs.{column_structs, structs}
 

@@ -6,7 +6,7 @@ use Rattle.csv_model.specs.Header.{header_of}
 use Rattle.csv_model.specs.Reading.{Record, behind_header}
 use Rattle.csv_read.specs.Entries.{entries_of}
 use Rattle.csv_source.specs.Sources.{stream_of}
-use Rattle.fmt_string.specs.Table.{Column}
+use Rattle.data_types.specs.Table.{Column}
 use Rattle.stage_chain.specs.Chains.{chain_links, chain_traffic}
 use Rattle.stream_text.specs.Runs.{Counted}
 use Rattle.stage_model.specs.Links.{Link, Links, links_behind}

@@ -1,11 +1,11 @@
 -- What a run answers: the text of the table that was read or the report of the tree that was checked, or the first fault.
 use Rattle.std.specs.Prelude.{◌≡◌, ℕ, nat_lt, Bool, true, false, List, length, Option, None, Some, Result, Ok, Err}
-use Rattle.fmt_string.specs.Table.{Column, Row}
+use Rattle.data_types.specs.Table.{Column, Row}
 use Rattle.csv_read.specs.Entries.{entries_of}
 use Rattle.csv_model.specs.Header.{header_of}
 use Rattle.csv_model.specs.Reading.{Record, behind_header, body, records_of}
 use Rattle.csv_model.specs.Text.{table_text}
-use Rattle.fmt_string.specs.declared.row_fault.RowFault.{RowFault}
+use Rattle.data_types.specs.declared.row_fault.RowFault.{RowFault}
 use Rattle.csv_model.specs.declared.fault.HeaderFault.{HeaderFault}
 use Rattle.stream_text.specs.declared.fault.DriveFault.{DriveFault}
 use Rattle.stream_text.specs.declared.fault.DriveFault.TheVariants as chain

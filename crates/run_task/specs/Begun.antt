@@ -6,7 +6,7 @@ use Rattle.csv_model.specs.Reading.{Record, behind_header}
 use Rattle.csv_read.specs.Entries.{entries_of}
 use Rattle.csv_source.specs.Sources.{stream_of}
 use Rattle.field_codec.specs.TextColumns.{AreProper}
-use Rattle.fmt_string.specs.Table.{Column}
+use Rattle.data_types.specs.Table.{Column}
 use Rattle.run_model.specs.Answer.{Request}
 use Rattle.stage_plan.specs.PlanWords.{IsPlan}
 use Rattle.stage_plan.specs.declared.typing.Plan.{Plan}

@@ -5,7 +5,7 @@ use Rattle.csv_model.specs.Header.{header_of}
 use Rattle.csv_model.specs.Reading.{Record, behind_header, records_of}
 use Rattle.csv_model.specs.declared.fault.HeaderFault.{HeaderFault}
 use Rattle.csv_read.specs.Entries.{entries_of}
-use Rattle.fmt_string.specs.Table.{Column}
+use Rattle.data_types.specs.Table.{Column}
 use Rattle.stage_chain.specs.Chains.{link_shows}
 use Rattle.stream_text.specs.Runs.{ShowsAll, ShowsSome}
 use Rattle.stage_model.specs.Links.{Link, Links}

@@ -3,7 +3,7 @@ ghost use Rattle.std.specs.Prelude.{◌≡◌, ◌<◌, ◌≤◌, ◌*◌, ◌�
 ghost use Rattle.std.specs.Thread.{IsSync};
 ghost use Rattle.std.specs.Io.KnownBytes.{IsAtEnd, Keeps};
 ghost use Rattle.field_codec.specs.TextColumns.{IsAllowed};
-ghost use Rattle.fmt_string.specs.Kinds.{KindOk};
+ghost use Rattle.data_types.specs.Kinds.{KindOk};
 ghost use Rattle.edge_io.specs.Edge.{LosesPrefix, Rose};
 ghost use Rattle.unit_pass.specs.declared.pass.TheConstants.{ROOM};
 ghost use Rattle.made_table.specs.Made.{made};

@@ -6,10 +6,10 @@ use Rattle.std.proofs.lemmas.Bool.Decides.{eqb_tells}
 use Rattle.csv_model.specs.Text.{header_text, rows_text, table_text}
 use Rattle.csv_write.specs.CsvTexts.{HasText}
 use Rattle.csv_write.specs.declared.csv_text.CsvText.{CsvText}
-use Rattle.fmt_string.specs.Parts.{joined_rows}
-use Rattle.fmt_string.specs.Table.{Column, Row}
+use Rattle.data_types.specs.Parts.{joined_rows}
+use Rattle.data_types.specs.Table.{Column, Row}
 use Rattle.stage_model.specs.Links.{ChunksGiveTheWhole, Link, Whole, last_columns}
-use Rattle.fmt_string.specs.Table.{Table}
+use Rattle.data_types.specs.Table.{Table}
 use Rattle.stage_model.specs.Stages.{table}
 use Rattle.stage_model.specs.Typing.{Stage}
 use Rattle.stream_face.specs.Calls.{Begins}

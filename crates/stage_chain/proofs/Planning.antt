@@ -3,8 +3,8 @@ use Rattle.std.proofs.Common.{◌≡◌, ◌≤◌, ◌+◌, ◌∷◌, ℕ, zer
 use Rattle.std.proofs.Common.{false, ◌||◌, refl, sym, ◌∙◌, ap, subst, arith}
 use Rattle.std.specs.List.{list_any}
 use Rattle.field_codec.specs.TextColumns.{HasTexts, HaveTexts}
-use Rattle.fmt_string.specs.ColumnForms.{AreColumnKinds}
-use Rattle.fmt_string.specs.Table.{Column, Kind, Flat, Dict, Columns}
+use Rattle.data_types.specs.ColumnForms.{AreColumnKinds}
+use Rattle.data_types.specs.Table.{Column, Kind, Flat, Dict, Columns}
 use Rattle.stage_model.specs.Links.{last_columns}
 use Rattle.stage_model.specs.Typing.{IsStageOver, RuleTest, Stage, columns_after, first_failing, is_struct, plan_end, plan_from, plan_links, plan_steps}
 use Rattle.stage_model.specs.Typing.{rules_of, stage_over, stage_unless, step_of, with_stage}

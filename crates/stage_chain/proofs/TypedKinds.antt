@@ -1,9 +1,9 @@
 -- The types of columns that are in order.
 use Rattle.std.proofs.Common.{zero, suc, List, [], ◌∷◌, All, map, arith}
-use Rattle.fmt_string.specs.ColumnForms.{AreColumnKinds, KindsOk, MembersAreColumns, MembersOk}
-use Rattle.fmt_string.specs.ColumnView.{column_of}
-use Rattle.fmt_string.specs.Table.{Kind, Flat, Dict, Columns, Members, no_members, more_members}
-use Rattle.fmt_string.specs.declared.kind.ColumnType.{ColumnType}
+use Rattle.data_types.specs.ColumnForms.{AreColumnKinds, KindsOk, MembersAreColumns, MembersOk}
+use Rattle.data_types.specs.ColumnView.{column_of}
+use Rattle.data_types.specs.Table.{Kind, Flat, Dict, Columns, Members, no_members, more_members}
+use Rattle.data_types.specs.declared.kind.ColumnType.{ColumnType}
 
 mutual
   kind-ok : (kind : Kind) → AreColumnKinds kind → KindsOk kind

@@ -1,8 +1,8 @@
 -- What a chain of stages over a stream shows and counts.
 use Rattle.std.specs.Prelude.{ℕ, zero, suc, ◌+◌, ◌==◌, if◌then◌else◌, List, [], ◌∷◌, None}
 use Rattle.csv_model.specs.Batches.{Chunks}
-use Rattle.fmt_string.specs.Parts.{joined_rows}
-use Rattle.fmt_string.specs.Table.{Row}
+use Rattle.data_types.specs.Parts.{joined_rows}
+use Rattle.data_types.specs.Table.{Row}
 use Rattle.plan_laws.specs.Dues.{due_with}
 use Rattle.stage_model.specs.Links.{Link, Links, last_chunks, links_behind}
 use Rattle.stage_model.specs.Stages.{chunks_after}

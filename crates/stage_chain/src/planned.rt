@@ -2,7 +2,7 @@
 ghost use Rattle.std.specs.Prelude.{◌≡◌, ◌+◌, drop, length, IfOk};
 ghost use Rattle.stage_chain.specs.Plans.{plan_stages, stages_in};
 
-use fmt_string::ColumnType;
+use data_types::ColumnType;
 use stage_model::Step;
 use stage_plan::Plan;
 use std::alloc::Global;

@@ -1,6 +1,6 @@
 //! The stream of a stage.
 ghost use Rattle.std.specs.Prelude.{◌≡◌, ◌≤◌, All, IsTrue, None};
-ghost use Rattle.fmt_string.specs.ColumnForms.{AreColumnKinds};
+ghost use Rattle.data_types.specs.ColumnForms.{AreColumnKinds};
 ghost use Rattle.plan_laws.specs.Structs.{column_structs, most_structs};
 ghost use Rattle.stage_model.specs.Typing.{IsStageOver};
 ghost use Rattle.stages.specs.Stages.{stage_state};

@@ -1,7 +1,7 @@
 //! What the works of the steps are: each is made of its step, whatever the step's kind is.
 ghost use Rattle.std.specs.Prelude.{◌≡◌, ◌≤◌, List, map};
-ghost use Rattle.fmt_string.specs.ColumnView.{column_of};
-ghost use Rattle.fmt_string.specs.Table.{Column};
+ghost use Rattle.data_types.specs.ColumnView.{column_of};
+ghost use Rattle.data_types.specs.Table.{Column};
 ghost use Rattle.plan_laws.specs.Dues.{due_with};
 ghost use Rattle.plan_laws.specs.Structs.{column_structs, most_structs};
 ghost use Rattle.stage_model.specs.Stages.{chunks_after};

@@ -1,12 +1,12 @@
 -- The items of a struct are its rows.
 use Rattle.std.proofs.Common.{◌≡◌, ◌∙◌, ℕ, zero, suc, List, [], ◌∷◌, map, All, refl, ap}
 use Rattle.std.proofs.lemmas.List.Elements.{All-head, All-tail}
-use Rattle.fmt_string.specs.Parts.{fields_of, value_list}
-use Rattle.fmt_string.specs.Table.{Row}
-use Rattle.fmt_string.specs.Value.{Value, Values, Fields, no_values, more_values, values}
+use Rattle.data_types.specs.Parts.{fields_of, value_list}
+use Rattle.data_types.specs.Table.{Row}
+use Rattle.data_types.specs.Value.{Value, Values, Fields, no_values, more_values, values}
 use Rattle.raw_array.specs.Members.{ArrayTree}
-use Rattle.schema_check.specs.ColumnKinds.{table_type}
-use Rattle.schema_check.specs.Kinds.{KindTree}
+use Rattle.kind_tree.specs.ColumnKinds.{table_type}
+use Rattle.kind_tree.specs.Kinds.{KindTree}
 use Rattle.layout_rules.specs.Values.{each, row_items, rows_of, values_of}
 use Rattle.arr_export.specs.ArrayTrees.{table_tree}
 use Rattle.stream_face.specs.Lawful.{HasFields}

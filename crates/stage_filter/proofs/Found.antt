@@ -7,15 +7,15 @@ use Rattle.std.specs.List.{filter, flat_map}
 use Rattle.std.proofs.lemmas.List.{append-nil, length-drop, take_all, take_more}
 use Rattle.std.proofs.lemmas.Grind.{flat_map-append}
 use Rattle.std.proofs.lemmas.List.Elements.{filter-append}
-use Rattle.fmt_string.specs.Table.{Row}
-use Rattle.fmt_string.specs.Value.{Null}
+use Rattle.data_types.specs.Table.{Row}
+use Rattle.data_types.specs.Value.{Null}
 use Rattle.tree_model.specs.Tree.{IsLive, Live, Released, child_at, children_of, maybe_tree, trees}
 use Rattle.raw_array.specs.Members.{ArrayTree, members_of}
-use Rattle.schema_check.specs.Kinds.{KindTree}
+use Rattle.kind_tree.specs.Kinds.{KindTree}
 use Rattle.layout_rules.specs.Layout.{first}
-use Rattle.schema_check.specs.TypedView.{dict_in, kids_of, kind_of, typed_of}
+use Rattle.kind_tree.specs.TypedView.{dict_in, kids_of, kind_of, typed_of}
 use Rattle.layout_rules.specs.Values.{each, row_items, rows_of, tree_items, value_at}
-use Rattle.schema_check.specs.declared.typed.Typed.{Typed, out-Typed}
+use Rattle.kind_tree.specs.declared.typed.Typed.{Typed, out-Typed}
 use Rattle.array_laws.specs.Pieces.{border}
 use Rattle.arr_import.specs.Window.{Window, child_window, item_at, whole}
 use Rattle.arr_import.proofs.Reading.{kids-typed, row-field}

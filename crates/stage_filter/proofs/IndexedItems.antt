@@ -5,18 +5,18 @@ use Rattle.std.proofs.lemmas.List.{length-map}
 use Rattle.std.proofs.lemmas.List.Elements.{All-cons, All-head, All-tail}
 use Rattle.std.specs.Prelude.{◌≤ℤ◌, nat_lt, if◌then◌else◌}
 use Rattle.std.specs.List.{list_any}
-use Rattle.fmt_string.specs.ColumnForms.{IsColumnKind}
-use Rattle.fmt_string.specs.FieldText.{IsValueOf}
-use Rattle.fmt_string.specs.Table.{Dict}
-use Rattle.fmt_string.specs.Value.{Value, Null, Truth, Whole, Bits, Bytes, Items, Fields, byte_total, bytes_of, is_null}
-use Rattle.fmt_string.specs.declared.kind.DataType.{DataType}
+use Rattle.data_types.specs.ColumnForms.{IsColumnKind}
+use Rattle.data_types.specs.FieldText.{IsValueOf}
+use Rattle.data_types.specs.Table.{Dict}
+use Rattle.data_types.specs.Value.{Value, Null, Truth, Whole, Bits, Bytes, Items, Fields, byte_total, bytes_of, is_null}
+use Rattle.data_types.specs.declared.kind.DataType.{DataType}
 use Rattle.bit_pack.specs.Packed.{meant, number_at}
 use Rattle.tree_model.specs.Tree.{Depth, Released, Live, IsLive, Trees, no_trees, more_trees, absent, present, children_of, dictionary_at, dictionary_of}
 use Rattle.raw_array.specs.Members.{ArrayMembers, ArrayTree, members_of}
 use Rattle.col_build.specs.Encoding.{Fits}
 use Rattle.col_build.specs.Finished.{blocks_of}
-use Rattle.schema_check.specs.ColumnKinds.{type_of_kind}
-use Rattle.schema_check.specs.Kinds.{KindTree}
+use Rattle.kind_tree.specs.ColumnKinds.{type_of_kind}
+use Rattle.kind_tree.specs.Kinds.{KindTree}
 use Rattle.layout_rules.specs.Layout.{IsLong, buffer, bytes, end, first, is_valid, natural, stored_number}
 use Rattle.layout_rules.specs.Rules.{one_if}
 use Rattle.layout_rules.specs.Values.{each, tree_items, value_at, values_of}

@@ -1,11 +1,11 @@
 -- The arrays of some items are live, long enough and not too deep: a table may have them as columns.
 use Rattle.std.proofs.Common.{◌≡◌, ◌≤◌, ◌<◌, ◌+◌, ℕ, zero, suc, List, [], ◌∷◌, length, drop, get_or, All, None, refl, sym, ap, subst, arith}
 use Rattle.std.proofs.lemmas.List.{length-map}
-use Rattle.fmt_string.specs.Parts.{member_columns}
-use Rattle.fmt_string.specs.Table.{Column, Kind, Flat, Dict, Columns, Members, no_members, more_members}
+use Rattle.data_types.specs.Parts.{member_columns}
+use Rattle.data_types.specs.Table.{Column, Kind, Flat, Dict, Columns, Members, no_members, more_members}
 use Rattle.tree_model.specs.Tree.{Depth, IsLive, Released, children_of, depth_of_all, trees}
 use Rattle.raw_array.specs.Members.{ArrayTree, members_of}
-use Rattle.schema_check.specs.ColumnKinds.{type_of_kind, types_of_members, types_of_columns}
+use Rattle.kind_tree.specs.ColumnKinds.{type_of_kind, types_of_members, types_of_columns}
 use Rattle.layout_rules.specs.Layout.{first}
 use Rattle.layout_rules.specs.Values.{tree_items, value_at}
 use Rattle.arr_export.specs.ArrayTrees.{IsColumn, flat_type}

@@ -1,12 +1,12 @@
 -- The laws of the crates below that the proofs stand on.
 use Rattle.std.proofs.Common.{◌≡◌, ◌≤◌, ◌^◌, ℕ, List, length, map, All, None, Some}
-use Rattle.fmt_string.specs.Value.{Value}
-use Rattle.fmt_string.specs.declared.kind.DataType.{DataType}
+use Rattle.data_types.specs.Value.{Value}
+use Rattle.data_types.specs.declared.kind.DataType.{DataType}
 use Rattle.tree_model.specs.Tree.{IsLive}
 use Rattle.raw_array.specs.Members.{ArrayTree}
 use Rattle.col_build.specs.Encoding.{Fits}
-use Rattle.schema_check.specs.ColumnKinds.{table_type}
-use Rattle.schema_check.specs.Kinds.{KindTree}
+use Rattle.kind_tree.specs.ColumnKinds.{table_type}
+use Rattle.kind_tree.specs.Kinds.{KindTree}
 use Rattle.layout_rules.specs.Lawful.{ItemsHold, PartsHold, RootHolds}
 use Rattle.layout_rules.specs.Values.{rows_of, tree_items, values_of}
 use Rattle.layout_rules.specs.Walk.{ChunkOk, LayoutOk}

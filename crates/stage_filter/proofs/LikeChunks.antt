@@ -1,11 +1,11 @@
 -- A chunk that is like one which can be filtered can be filtered too.
 use Rattle.std.proofs.Common.{◌≡◌, ◌≢◌, ◌∙◌, ℕ, List, [], ◌∷◌, ◌≤◌, ◌^◌, length, get_or, All, drop, zero, suc, sym, ap, subst, refl}
-use Rattle.fmt_string.specs.Table.{Column, Row, Kind, Flat, Dict, Columns, Members, no_members, more_members}
-use Rattle.fmt_string.specs.Value.{Value, Null}
+use Rattle.data_types.specs.Table.{Column, Row, Kind, Flat, Dict, Columns, Members, no_members, more_members}
+use Rattle.data_types.specs.Value.{Value, Null}
 use Rattle.tree_model.specs.Tree.{Released, Live, Trees, no_trees, more_trees, absent, present, AllAlike, child_at, children_of, dictionary_at, tree_list}
 use Rattle.raw_array.specs.Members.{ArrayMembers, ArrayTree, Cost, Like, LikeMembers}
-use Rattle.schema_check.specs.ColumnKinds.{type_of_columns}
-use Rattle.schema_check.specs.Kinds.{KindTree}
+use Rattle.kind_tree.specs.ColumnKinds.{type_of_columns}
+use Rattle.kind_tree.specs.Kinds.{KindTree}
 use Rattle.layout_rules.specs.Values.{rows_of, values_of}
 use Rattle.layout_rules.specs.Walk.{ChunkOk}
 use Rattle.stream_face.specs.Lawful.{DictsAreFull, IsTable, MemberDictsAreFull}

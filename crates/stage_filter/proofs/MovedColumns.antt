@@ -1,12 +1,12 @@
 -- The array of a finished column is made of what its traffic says.
 use Rattle.std.proofs.Common.{◌≡◌, ◌∙◌, ◌≤◌, ◌+◌, ℕ, List, Option, None, Some, ap, arith}
-use Rattle.fmt_string.specs.Table.{Flat, Dict}
-use Rattle.fmt_string.specs.declared.kind.DataType.{DataType}
+use Rattle.data_types.specs.Table.{Flat, Dict}
+use Rattle.data_types.specs.declared.kind.DataType.{DataType}
 use Rattle.tree_model.specs.Tree.{dictionary_at}
 use Rattle.unit_pass.specs.Tally.{Tally, risen}
 use Rattle.raw_array.specs.Members.{ArrayTree, Cost}
 use Rattle.col_build.specs.Finished.{blocks_of}
-use Rattle.schema_check.specs.ColumnKinds.{type_of_kind}
+use Rattle.kind_tree.specs.ColumnKinds.{type_of_kind}
 use Rattle.arr_export.specs.ArrayTrees.{column_tree}
 use Rattle.stage_model.specs.Traffic.{Moved, kind_blocks}
 use Rattle.column_fill.proofs.ColumnBlocks.{blocks-are}

@@ -2,12 +2,12 @@
 use Rattle.std.proofs.Common.{◌≡◌, ◌∙◌, ◌+◌, ◌++◌, ℕ, List, [], ◌∷◌, length, drop, get_or, refl, sym, ap, arith}
 use Rattle.std.specs.List.{sum_by}
 use Rattle.std.proofs.lemmas.List.Sums.{sum_by_push}
-use Rattle.fmt_string.specs.Parts.{column_values}
-use Rattle.fmt_string.specs.Table.{Column, Row}
+use Rattle.data_types.specs.Parts.{column_values}
+use Rattle.data_types.specs.Table.{Column, Row}
 use Rattle.tree_model.specs.Tree.{Released, child_at, children_of}
 use Rattle.unit_pass.specs.Tally.{Tally, risen}
 use Rattle.raw_array.specs.Members.{ArrayTree, members_of}
-use Rattle.schema_check.specs.ColumnKinds.{type_of_kind}
+use Rattle.kind_tree.specs.ColumnKinds.{type_of_kind}
 use Rattle.layout_rules.specs.Layout.{first}
 use Rattle.stage_model.specs.Traffic.{Moved, blocks_from, kind_blocks, kind_nodes}
 use Rattle.stage_filter.specs.Kept.{values_at}

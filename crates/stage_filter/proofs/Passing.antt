@@ -1,14 +1,14 @@
 -- The rows of a chunk that pass, as those of the kept numbers.
 use Rattle.std.proofs.Common.{◌≡◌, ◌∙◌, ◌≤◌, ◌+◌, ◌-◌, ℕ, zero, suc, Bool, List, ◌∷◌, length, map, get_or, refl, sym, ap, subst, arith}
 use Rattle.std.specs.List.{filter}
-use Rattle.fmt_string.specs.Parts.{column_values}
-use Rattle.fmt_string.specs.Table.{Column, Row}
-use Rattle.fmt_string.specs.Value.{Null}
+use Rattle.data_types.specs.Parts.{column_values}
+use Rattle.data_types.specs.Table.{Column, Row}
+use Rattle.data_types.specs.Value.{Null}
 use Rattle.tree_model.specs.Tree.{IsLive, Released, child_at}
 use Rattle.tree_model.proofs.Lists.{tree_list-trees}
 use Rattle.raw_array.specs.Members.{ArrayTree, members_of}
-use Rattle.schema_check.specs.ColumnKinds.{type_of_columns, types_of_columns}
-use Rattle.schema_check.specs.Kinds.{KindTree}
+use Rattle.kind_tree.specs.ColumnKinds.{type_of_columns, types_of_columns}
+use Rattle.kind_tree.specs.Kinds.{KindTree}
 use Rattle.layout_rules.specs.Layout.{first}
 use Rattle.layout_rules.specs.Values.{each, row_items, rows_of, tree_items, value_at}
 use Rattle.arr_import.specs.Window.{child_window, item_at, whole}

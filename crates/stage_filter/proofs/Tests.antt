@@ -4,7 +4,7 @@ use Rattle.std.specs.Prelude.{Option, None, Some, if◌then◌else◌}
 use Rattle.std.specs.List.{filter}
 use Rattle.std.specs.Ordering.{is_some_and}
 use Rattle.std.specs.declared.cmp.Ordering.{Ordering}
-use Rattle.fmt_string.specs.Value.{Value, Null, Truth, Whole, Bits, Bytes, Items, Fields}
+use Rattle.data_types.specs.Value.{Value, Null, Truth, Whole, Bits, Bytes, Items, Fields}
 use Rattle.arr_import.specs.Window.{Window, item_at}
 use Rattle.stage_model.specs.Stages.{compared, passes}
 use Rattle.stage_model.specs.Typing.{compares}

@@ -1,13 +1,13 @@
 -- The arrays that are made of some items of an array, by numbers that are counted from an item of its window on: a struct is one
 -- of arrays of its columns ("Arrow Columnar Format", "Struct Layout" and "Dictionary-encoded Layout").
 use Rattle.std.specs.Prelude.{ℕ, ◌+◌, true, List, [], ◌∷◌, length, get_or, drop, None, Some}
-use Rattle.fmt_string.specs.Table.{Column, Kind, Flat, Dict, Columns, Members, no_members, more_members}
-use Rattle.fmt_string.specs.Value.{Value}
-use Rattle.fmt_string.specs.declared.kind.DataType.{DataType}
-use Rattle.fmt_string.specs.declared.kind.DataType.TheVariants as kinds
+use Rattle.data_types.specs.Table.{Column, Kind, Flat, Dict, Columns, Members, no_members, more_members}
+use Rattle.data_types.specs.Value.{Value}
+use Rattle.data_types.specs.declared.kind.DataType.{DataType}
+use Rattle.data_types.specs.declared.kind.DataType.TheVariants as kinds
 use Rattle.tree_model.specs.Tree.{Released, children_of, dictionary_at}
 use Rattle.raw_array.specs.Members.{ArrayTree, members_of}
-use Rattle.schema_check.specs.ColumnKinds.{type_of_kind}
+use Rattle.kind_tree.specs.ColumnKinds.{type_of_kind}
 use Rattle.layout_rules.specs.Layout.{first}
 use Rattle.arr_export.specs.ArrayTrees.{column_tree, flat_type, table_tree}
 use Rattle.stage_filter.specs.Kept.{values_at}

@@ -1,14 +1,14 @@
 -- The items of some numbers, moved from a column into a new one over the same dictionary.
 use Rattle.std.specs.Prelude.{◌≡◌, ◌+◌, ◌^◌, ◌<◌, ◌≤◌, ℕ, List, length, get_or, All}
 use Rattle.std.specs.List.{sum_by}
-use Rattle.fmt_string.specs.ColumnForms.{AreColumnKinds}
-use Rattle.fmt_string.specs.Parts.{column_values}
-use Rattle.fmt_string.specs.Table.{Column, Kind, Row}
+use Rattle.data_types.specs.ColumnForms.{AreColumnKinds}
+use Rattle.data_types.specs.Parts.{column_values}
+use Rattle.data_types.specs.Table.{Column, Kind, Row}
 use Rattle.tree_model.specs.Tree.{Depth, child_at, children_of}
 use Rattle.unit_pass.specs.Tally.{Tally, risen}
 use Rattle.unit_pass.specs.declared.pass.TheConstants.{CHUNK}
 use Rattle.raw_array.specs.Members.{ArrayTree, Cost, members_of}
-use Rattle.schema_check.specs.ColumnKinds.{type_of_columns, type_of_kind}
+use Rattle.kind_tree.specs.ColumnKinds.{type_of_columns, type_of_kind}
 use Rattle.layout_rules.specs.Layout.{first}
 use Rattle.layout_rules.specs.Values.{tree_items}
 use Rattle.layout_rules.specs.Walk.{LayoutOk}

@@ -1,22 +1,22 @@
 //! A new column of some items of a column of values.
 ghost use Rattle.std.specs.Prelude.{◌≡◌, ◌+◌, ◌≤◌, IfOk, OnErr};
-ghost use Rattle.fmt_string.specs.Table.{Flat};
+ghost use Rattle.data_types.specs.Table.{Flat};
 ghost use Rattle.unit_pass.specs.declared.pass.TheConstants.{SUPPLY};
 ghost use Rattle.raw_array.specs.Members.{Cost};
 ghost use Rattle.col_build.specs.Holding.{Holds};
-ghost use Rattle.schema_check.specs.ColumnKinds.{type_of_kind};
-ghost use Rattle.schema_check.specs.Kinds.{TypedOk};
-ghost use Rattle.schema_check.specs.TypedView.{typed_of};
+ghost use Rattle.kind_tree.specs.ColumnKinds.{type_of_kind};
+ghost use Rattle.kind_tree.specs.Kinds.{TypedOk};
+ghost use Rattle.kind_tree.specs.TypedView.{typed_of};
 ghost use Rattle.stage_filter.specs.Kept.{values_at};
 ghost use Rattle.stage_filter.specs.Moving.{CanMove, IsMoved};
 
 use arr_import::Col;
 use col_build::Builder;
 use column_fill::{built_column, push_item};
-use fmt_string::{DataType, clone_kind, storage_of};
+use data_types::{DataType, clone_kind, storage_of};
+use kind_tree::Typed;
 use layout_rules::lawful_trees;
 use raw_array::RawArray;
-use schema_check::Typed;
 use std::alloc::Global;
 use unit_pass::{NoMemory, Pass, SUPPLY};
 

@@ -1,13 +1,13 @@
 //! New columns of some items of columns, at all depths, in the place of the columns.
 ghost use Rattle.std.specs.Prelude.{◌≡◌, ◌+◌, ◌<◌, ◌≤◌, ◌≤ℤ◌, pos, [], length, map, vec_capacity, IfOk, OnOk, OnErr};
-ghost use Rattle.fmt_string.specs.ColumnView.{column_of, kind_of};
+ghost use Rattle.data_types.specs.ColumnView.{column_of, kind_of};
 ghost use Rattle.tree_model.specs.Tree.{Released, child_at, children_of, trees, with_child};
 ghost use Rattle.unit_pass.specs.declared.pass.TheConstants.{SUPPLY};
 ghost use Rattle.raw_array.specs.Members.{Cost, cost_of_all, members_of};
-ghost use Rattle.schema_check.specs.ColumnKinds.{type_of_columns, type_of_kind};
-ghost use Rattle.schema_check.specs.Kinds.{TypedOk};
+ghost use Rattle.kind_tree.specs.ColumnKinds.{type_of_columns, type_of_kind};
+ghost use Rattle.kind_tree.specs.Kinds.{TypedOk};
 ghost use Rattle.layout_rules.specs.Layout.{first};
-ghost use Rattle.schema_check.specs.TypedView.{typed_of};
+ghost use Rattle.kind_tree.specs.TypedView.{typed_of};
 ghost use Rattle.stage_filter.specs.Kept.{rows_at};
 ghost use Rattle.stage_filter.specs.Moving.{AreMoved, CanMove, CanMoveRows, IsMoved, IsMovedStruct};
 ghost use Rattle.stage_filter.specs.Plain.{most_cost, most_of_columns};
@@ -15,10 +15,10 @@ ghost use Rattle.stage_filter.specs.Plain.{most_cost, most_of_columns};
 use crate::column::moved_values;
 use crate::dictionary::moved_entries;
 use arr_export::export_table;
-use fmt_string::{ColKind, ColumnType};
+use data_types::{ColKind, ColumnType};
+use kind_tree::{Typed, kinds_of_typed};
 use layout_rules::lawful_trees;
 use raw_array::{Gone, PartlyMoved, RawArray, release_all};
-use schema_check::{Typed, kinds_of_typed};
 use std::alloc::Global;
 use unit_pass::{NoMemory, Pass, SUPPLY};
 

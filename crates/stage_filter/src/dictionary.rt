@@ -1,6 +1,6 @@
 //! A new column of some items of a column with a dictionary: it has their indices, and the dictionary is moved.
 ghost use Rattle.std.specs.Prelude.{◌≡◌, ◌+◌, ◌≤◌, IfOk, OnErr};
-ghost use Rattle.fmt_string.specs.Table.{Dict};
+ghost use Rattle.data_types.specs.Table.{Dict};
 ghost use Rattle.tree_model.specs.Tree.{IsLive, dictionary_at};
 ghost use Rattle.unit_pass.specs.declared.pass.TheConstants.{SUPPLY};
 ghost use Rattle.raw_array.specs.Members.{Cost};
@@ -8,7 +8,7 @@ ghost use Rattle.stage_filter.specs.Moving.{CanMove, IsMoved};
 
 use crate::indices::moved_indices;
 use column_fill::built_column;
-use fmt_string::DataType;
+use data_types::DataType;
 use layout_rules::lawful_trees;
 use raw_array::{Gone, PartlyMoved, RawArray};
 use std::alloc::Global;

@@ -1,7 +1,7 @@
 //! The indices of some items of a column with a dictionary.
 ghost use Rattle.std.specs.Prelude.{◌≡◌, ◌==◌, ◌+◌, ◌*◌, ◌^◌, ◌<◌, ◌≤◌, ◌≤ℤ◌, pos, length, IfOk, OnOk};
-ghost use Rattle.fmt_string.specs.Table.{Dict};
-ghost use Rattle.fmt_string.specs.declared.kind.DataType.{DataType as AType};
+ghost use Rattle.data_types.specs.Table.{Dict};
+ghost use Rattle.data_types.specs.declared.kind.DataType.{DataType as AType};
 ghost use Rattle.bit_pack.specs.Packed.{bit};
 ghost use Rattle.col_build.specs.Holding.{Adds, Holds, HoldsWholes, Takes};
 ghost use Rattle.tree_model.specs.Tree.{IsLive};
@@ -14,7 +14,7 @@ ghost use Rattle.stage_filter.specs.Moving.{CanMove};
 
 use bit_pack::{bit_at, int_at};
 use col_build::Builder;
-use fmt_string::DataType;
+use data_types::DataType;
 use layout_rules::lawful_trees;
 use raw_array::RawArray;
 use std::alloc::Global;

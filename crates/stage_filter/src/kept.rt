@@ -1,6 +1,6 @@
 //! Which items of a column pass a test.
 ghost use Rattle.std.specs.Prelude.{◌≡◌, ◌-◌, ◌<◌, ◌≤◌, true, false, IfOk};
-ghost use Rattle.fmt_string.specs.Value.{Value, is_null};
+ghost use Rattle.data_types.specs.Value.{Value, is_null};
 ghost use Rattle.arr_import.specs.Cols.{window_of};
 ghost use Rattle.arr_import.specs.Window.{item_at};
 ghost use Rattle.stage_model.specs.Stages.{compared, passes};

@@ -1,11 +1,11 @@
 //! What the chunks that are made of rows of a chunk mean.
 ghost use Rattle.std.specs.Prelude.{◌≡◌, ◌<◌, ℕ, List, length, get_or};
-ghost use Rattle.fmt_string.specs.Table.{Column, Dict};
-ghost use Rattle.fmt_string.specs.declared.kind.DataType.{DataType as AType};
+ghost use Rattle.data_types.specs.Table.{Column, Dict};
+ghost use Rattle.data_types.specs.declared.kind.DataType.{DataType as AType};
 ghost use Rattle.tree_model.specs.Tree.{child_at, dictionary_at};
 ghost use Rattle.raw_array.specs.Members.{ArrayTree, Cost, Like};
-ghost use Rattle.schema_check.specs.ColumnKinds.{type_of_columns};
-ghost use Rattle.schema_check.specs.Kinds.{KindTree};
+ghost use Rattle.kind_tree.specs.ColumnKinds.{type_of_columns};
+ghost use Rattle.kind_tree.specs.Kinds.{KindTree};
 ghost use Rattle.layout_rules.specs.Values.{rows_of, values_of};
 ghost use Rattle.layout_rules.specs.Walk.{ChunkOk};
 ghost use Rattle.stream_face.specs.Lawful.{DictsAreFull};

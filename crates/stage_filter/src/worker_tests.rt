@@ -1,8 +1,8 @@
 //! The rows that pass are the same by any number of workers.
 ghost use Rattle.std.specs.Prelude.{◌≡◌, ◌≤◌, length};
 ghost use Rattle.tree_model.specs.Tree.{children_of, depth_of_all, trees};
-ghost use Rattle.schema_check.specs.Kinds.{TypedOk};
-ghost use Rattle.schema_check.specs.TypedView.{typed_of};
+ghost use Rattle.kind_tree.specs.Kinds.{TypedOk};
+ghost use Rattle.kind_tree.specs.TypedView.{typed_of};
 ghost use Rattle.layout_rules.specs.Values.{rows_of};
 ghost use Rattle.layout_rules.specs.Walk.{ChunkOk};
 ghost use Rattle.raw_array.specs.Members.{Cost};
@@ -11,11 +11,11 @@ ghost use Rattle.arr_import.specs.Window.{IsStruct};
 use crate::chunk::Asked;
 use crate::workers::kept_by_workers;
 use buf_block::{BufView, make};
+use data_types::DataType;
 use edge_io::OpenGate;
-use fmt_string::DataType;
+use kind_tree::Typed;
 use layout_check::{check_chunk, chunk_passes, count_rows};
 use raw_array::{ArrayParts, RawArray, ReleaseKind};
-use schema_check::Typed;
 use stage_model::{Const, Test};
 use std::alloc::Global;
 use std::process::Abort;

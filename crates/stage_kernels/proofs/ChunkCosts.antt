@@ -1,15 +1,15 @@
 -- What a chunk of columns costs at most, by the number of buffers that the layout of each node has.
 use Rattle.std.proofs.Common.{arith, ◌≡◌, ◌≤◌, ◌<◌, ◌+◌, ◌*◌, ℕ, zero, suc, true, false, List, [], ◌∷◌, Option, None, Some, length, get_or, All, refl, subst}
-use Rattle.fmt_string.specs.ColumnForms.{AreColumnKinds, HasForm, MembersAreColumns}
-use Rattle.fmt_string.specs.FieldText.{form_of}
-use Rattle.fmt_string.specs.Table.{Column, Kind, Flat, Dict, Columns as StructOf, Members, no_members, more_members}
-use Rattle.fmt_string.specs.declared.kind.DataType.{DataType}
-use Rattle.fmt_string.specs.declared.kind.DataType.TheVariants as kinds
+use Rattle.data_types.specs.ColumnForms.{AreColumnKinds, HasForm, MembersAreColumns}
+use Rattle.data_types.specs.FieldText.{form_of}
+use Rattle.data_types.specs.Table.{Column, Kind, Flat, Dict, Columns as StructOf, Members, no_members, more_members}
+use Rattle.data_types.specs.declared.kind.DataType.{DataType}
+use Rattle.data_types.specs.declared.kind.DataType.TheVariants as kinds
 use Rattle.tree_model.specs.Tree.{IsLive, Released, Live, Trees, no_trees, more_trees, MaybeTree, absent, present, tree_list, option_tree}
 use Rattle.tree_model.proofs.Lists.{tree_list-trees}
 use Rattle.raw_array.specs.Members.{ArrayMembers, ArrayTree, Buffer, Cost, cost_of_all, cost_of_maybe, holds_of}
-use Rattle.schema_check.specs.ColumnKinds.{type_of_column, type_of_columns, type_of_kind, types_of_columns, types_of_members}
-use Rattle.schema_check.specs.Kinds.{KindTree}
+use Rattle.kind_tree.specs.ColumnKinds.{type_of_column, type_of_columns, type_of_kind, types_of_columns, types_of_members}
+use Rattle.kind_tree.specs.Kinds.{KindTree}
 use Rattle.layout_rules.specs.Lawful.{PartsHold, RootHolds}
 use Rattle.layout_rules.specs.Layout.{buffer_count, layout_of}
 use Rattle.layout_rules.specs.Rules.{one_if}

@@ -3,11 +3,11 @@ use Rattle.std.proofs.Common.{arith, ◌≡◌, ◌≤◌, ◌+◌, List, [], �
 use Rattle.std.specs.List.{AllByRecursion, concat}
 use Rattle.std.proofs.lemmas.List.{length-append}
 use Rattle.std.proofs.lemmas.List.Elements.{All-from_recursion, recursion_from_All}
-use Rattle.fmt_string.specs.FieldText.{IsValueOf}
-use Rattle.fmt_string.specs.Parts.{column_values, fields_of, member_columns}
-use Rattle.fmt_string.specs.Table.{Column, Row, Kind, Flat, Dict, Columns as StructOf, Members, no_members, more_members}
-use Rattle.fmt_string.specs.Value.{Value, Null, byte_total, bytes_of}
-use Rattle.fmt_string.specs.declared.kind.DataType.{DataType}
+use Rattle.data_types.specs.FieldText.{IsValueOf}
+use Rattle.data_types.specs.Parts.{column_values, fields_of, member_columns}
+use Rattle.data_types.specs.Table.{Column, Row, Kind, Flat, Dict, Columns as StructOf, Members, no_members, more_members}
+use Rattle.data_types.specs.Value.{Value, Null, byte_total, bytes_of}
+use Rattle.data_types.specs.declared.kind.DataType.{DataType}
 use Rattle.stream_face.specs.Lawful.{AreFieldItems, AreItems, AreValues, HasFields, IsTable}
 
 -- the first list has some items of the second, in their order

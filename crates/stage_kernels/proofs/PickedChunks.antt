@@ -4,10 +4,10 @@ use Rattle.std.proofs.Common.{sym, ◌∙◌, ap, subst, inl, if◌then◌else�
 use Rattle.std.proofs.Math.Logic.{∥∥₁_elim}
 use Rattle.std.proofs.Props.{props}
 use Rattle.std.specs.Coded.{Coded-set}
-use Rattle.fmt_string.specs.ColumnView.{column_of}
-use Rattle.fmt_string.specs.Parts.{AreWithin}
-use Rattle.fmt_string.specs.Table.{Column, Row, Kind, Flat, Dict, Columns as StructOf}
-use Rattle.fmt_string.specs.declared.kind.ColumnType.{ColumnType}
+use Rattle.data_types.specs.ColumnView.{column_of}
+use Rattle.data_types.specs.Parts.{AreWithin}
+use Rattle.data_types.specs.Table.{Column, Row, Kind, Flat, Dict, Columns as StructOf}
+use Rattle.data_types.specs.declared.kind.ColumnType.{ColumnType}
 use Rattle.tree_model.specs.Tree.{Released, Live, IsLive, children_of, child_at, dictionary_at}
 use Rattle.tree_model.proofs.Lists.{tree_list-trees}
 use Rattle.raw_array.specs.Members.{ArrayTree, Cost, members_of, windowed}
@@ -15,10 +15,10 @@ use Rattle.raw_array.specs.Windows.{Window, is_whole}
 use Rattle.raw_schema.specs.Members.{SchemaTree, coded_schema}
 use Rattle.unit_pass.specs.Tally.{Tally, risen}
 use Rattle.unit_pass.specs.declared.no_memory.NoMemory.{NoMemory}
-use Rattle.schema_check.specs.Kinds.{KindTree}
+use Rattle.kind_tree.specs.Kinds.{KindTree}
 use Rattle.layout_rules.specs.Walk.{ChunkOk}
 use Rattle.layout_rules.specs.Values.{rows_of}
-use Rattle.schema_check.specs.ColumnKinds.{type_of_columns}
+use Rattle.kind_tree.specs.ColumnKinds.{type_of_columns}
 use Rattle.schema_check.specs.ColumnSchema.{SchemaOf}
 use Rattle.arr_move.specs.TreeActs.{Columns, Distinct, cut}
 use Rattle.stream_face.specs.Calls.{Answers, Counts}

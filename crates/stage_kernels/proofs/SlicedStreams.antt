@@ -1,9 +1,9 @@
 -- What holds of the tables of a slice, since it holds of those before it.
 use Rattle.std.proofs.Common.{arith, ◌≡◌, ◌≤◌, ◌+◌, ℕ, List, [], ◌∷◌, true, false, length, map, sym, subst, refl, if◌then◌else◌, inl, inr}
 use Rattle.std.specs.List.{AllByRecursion}
-use Rattle.fmt_string.specs.ColumnView.{column_of}
-use Rattle.fmt_string.specs.Table.{Column, Row}
-use Rattle.fmt_string.specs.declared.kind.ColumnType.{ColumnType}
+use Rattle.data_types.specs.ColumnView.{column_of}
+use Rattle.data_types.specs.Table.{Column, Row}
+use Rattle.data_types.specs.declared.kind.ColumnType.{ColumnType}
 use Rattle.stage_model.specs.Stages.{is_within, sliced, sliced_chunks, unless_empty}
 use Rattle.stream_face.specs.Lawful.{IsTable, LawfulColumns, LawfulTables, total_rows}
 use Rattle.stage_kernels.specs.Slices.{SliceFits}

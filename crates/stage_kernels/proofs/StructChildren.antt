@@ -3,18 +3,18 @@ use Rattle.std.proofs.Common.{arith, ◌≡◌, ◌≤◌, ◌<◌, ◌+◌, ◌
 use Rattle.std.proofs.Common.{refl, ap, subst}
 use Rattle.std.proofs.lemmas.Int.{ints}
 use Rattle.std.proofs.lemmas.List.{get_or-map, length-map, get_or_default}
-use Rattle.fmt_string.specs.Parts.{AreWithin, member_columns, unpacked_columns}
-use Rattle.fmt_string.specs.Table.{Column, Columns as StructOf, Members}
+use Rattle.data_types.specs.Parts.{AreWithin, member_columns, unpacked_columns}
+use Rattle.data_types.specs.Table.{Column, Columns as StructOf, Members}
 use Rattle.tree_model.specs.Tree.{Depth, depth_of_all, IsLive, Released, Live, absent, children_of, child_at, trees, tree_list}
 use Rattle.tree_model.proofs.Lists.{tree_list-trees, trees-tree_list}
 use Rattle.tree_model.proofs.Measures.{Depth-get_or}
 use Rattle.raw_array.specs.Members.{ArrayTree, Cost, cost_of_all, members_of}
 use Rattle.raw_array.specs.Windows.{Window}
-use Rattle.schema_check.specs.Kinds.{KindTree}
+use Rattle.kind_tree.specs.Kinds.{KindTree}
 use Rattle.layout_rules.specs.Layout.{end, first, items, natural}
 use Rattle.layout_rules.specs.Values.{tree_items}
 use Rattle.layout_rules.specs.Walk.{ChunkOk, LayoutOk}
-use Rattle.schema_check.specs.ColumnKinds.{table_type, type_of_column, type_of_columns, type_of_kind, types_of_columns}
+use Rattle.kind_tree.specs.ColumnKinds.{table_type, type_of_column, type_of_columns, type_of_kind, types_of_columns}
 use Rattle.arr_export.specs.ArrayTrees.{IsColumn, table_tree}
 use Rattle.arr_move.specs.TreeActs.{FitParentWindow, struct_members}
 use Rattle.column_laws.specs.Picking.{AreLive, Unpacked, cut_children}

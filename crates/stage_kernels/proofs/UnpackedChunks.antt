@@ -2,19 +2,19 @@
 use Rattle.std.proofs.Common.{arith, ◌≡◌, ◌≤◌, ◌<◌, ◌+◌, ◌∙◌, ℕ, zero, suc, ℤ, pos, List, [], ◌∷◌, length, map, get_or, All, refl, sym, ap, subst, inl}
 use Rattle.std.specs.List.{AllByRecursion, fold}
 use Rattle.std.proofs.lemmas.List.{get_or-map, length-map}
-use Rattle.fmt_string.specs.ColumnView.{column_of}
-use Rattle.fmt_string.specs.Parts.{IsFields, column_values, member_columns, unpacked, unpacked_columns}
-use Rattle.fmt_string.specs.Table.{Column, Row, Columns as StructOf, Members, no_members, more_members}
-use Rattle.fmt_string.specs.Value.{Value, Null, Truth, Whole, Bits, Bytes, Items, Fields}
-use Rattle.fmt_string.specs.declared.kind.ColumnType.{ColumnType}
+use Rattle.data_types.specs.ColumnView.{column_of}
+use Rattle.data_types.specs.Parts.{IsFields, column_values, member_columns, unpacked, unpacked_columns}
+use Rattle.data_types.specs.Table.{Column, Row, Columns as StructOf, Members, no_members, more_members}
+use Rattle.data_types.specs.Value.{Value, Null, Truth, Whole, Bits, Bytes, Items, Fields}
+use Rattle.data_types.specs.declared.kind.ColumnType.{ColumnType}
 use Rattle.tree_model.specs.Tree.{Released, IsLive, children_of, child_at}
 use Rattle.tree_model.proofs.Lists.{tree_list-trees}
 use Rattle.raw_array.specs.Members.{ArrayTree, Cost, members_of}
 use Rattle.unit_pass.specs.Tally.{Tally, risen}
-use Rattle.schema_check.specs.Kinds.{KindTree}
+use Rattle.kind_tree.specs.Kinds.{KindTree}
 use Rattle.layout_rules.specs.Walk.{ChunkOk, LayoutOk}
 use Rattle.layout_rules.specs.Values.{rows_of}
-use Rattle.schema_check.specs.ColumnKinds.{table_type, type_of_column, type_of_columns, types_of_columns}
+use Rattle.kind_tree.specs.ColumnKinds.{table_type, type_of_column, type_of_columns, types_of_columns}
 use Rattle.column_laws.specs.Picking.{Unpacked, cut_children}
 use Rattle.stage_model.specs.Stages.{chunks_after}
 use Rattle.stage_model.specs.Typing.{column_at, no_column}

@@ -6,15 +6,15 @@ use Rattle.std.specs.Coded.{Coded-set}
 use Rattle.std.proofs.Math.Logic.{∥∥₁_elim}
 use Rattle.std.proofs.Props.{props}
 use Rattle.std.proofs.lemmas.List.{length-map}
-use Rattle.fmt_string.specs.ColumnForms.{AreColumnKinds, MembersAreColumns}
-use Rattle.fmt_string.specs.ColumnView.{column_of}
-use Rattle.fmt_string.specs.Parts.{column_values, fields_of, member_columns, unpacked, unpacked_columns}
-use Rattle.fmt_string.specs.Table.{Column, Row, Kind, Columns, Members, no_members, more_members}
-use Rattle.fmt_string.specs.Value.{Value, Null, Truth, Whole, Bits, Bytes, Items, Fields}
-use Rattle.fmt_string.specs.declared.kind.ColumnType.{ColumnType}
+use Rattle.data_types.specs.ColumnForms.{AreColumnKinds, MembersAreColumns}
+use Rattle.data_types.specs.ColumnView.{column_of}
+use Rattle.data_types.specs.Parts.{column_values, fields_of, member_columns, unpacked, unpacked_columns}
+use Rattle.data_types.specs.Table.{Column, Row, Kind, Columns, Members, no_members, more_members}
+use Rattle.data_types.specs.Value.{Value, Null, Truth, Whole, Bits, Bytes, Items, Fields}
+use Rattle.data_types.specs.declared.kind.ColumnType.{ColumnType}
 use Rattle.tree_model.specs.Tree.{Depth, trees, more_trees, depth_of_all}
 use Rattle.raw_schema.specs.Members.{Nodes, nodes_of_all}
-use Rattle.schema_check.specs.ColumnKinds.{type_of_columns}
+use Rattle.kind_tree.specs.ColumnKinds.{type_of_columns}
 use Rattle.schema_check.specs.ColumnSchema.{SchemaOf, schema_of_column, member_schemas}
 use Rattle.schema_check.specs.Schemas.{TypedOf}
 use Rattle.stage_model.specs.Typing.{column_at, no_column, struct_members}

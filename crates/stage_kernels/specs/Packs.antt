@@ -1,9 +1,9 @@
 -- Columns that go under a new struct, behind those that stay.
 use Rattle.std.specs.Prelude.{◌≡◌, ◌≢◌, ◌≤◌, ◌<◌, ◌++◌, ℕ, List, length, map, get_or}
-use Rattle.fmt_string.specs.ColumnView.{column_of}
-use Rattle.fmt_string.specs.Parts.{AreWithin, packed_columns}
-use Rattle.fmt_string.specs.Table.{Column}
-use Rattle.fmt_string.specs.declared.kind.ColumnType.{ColumnType}
+use Rattle.data_types.specs.ColumnView.{column_of}
+use Rattle.data_types.specs.Parts.{AreWithin, packed_columns}
+use Rattle.data_types.specs.Table.{Column}
+use Rattle.data_types.specs.declared.kind.ColumnType.{ColumnType}
 use Rattle.tree_model.specs.Tree.{child_at, children_of}
 use Rattle.raw_array.specs.Members.{ArrayTree, members_of}
 use Rattle.arr_move.specs.TreeActs.{Distinct, cut}

@@ -1,10 +1,10 @@
 -- Columns and rows that are picked.
 use Rattle.std.specs.Prelude.{◌≡◌, ◌+◌, ℕ, List, length, map}
-use Rattle.fmt_string.specs.declared.kind.ColumnType.{ColumnType}
-use Rattle.fmt_string.specs.ColumnView.{column_of}
-use Rattle.fmt_string.specs.Parts.{AreWithin, picked}
-use Rattle.fmt_string.specs.Table.{Column, Row}
-use Rattle.fmt_string.specs.Value.{Null}
+use Rattle.data_types.specs.declared.kind.ColumnType.{ColumnType}
+use Rattle.data_types.specs.ColumnView.{column_of}
+use Rattle.data_types.specs.Parts.{AreWithin, picked}
+use Rattle.data_types.specs.Table.{Column, Row}
+use Rattle.data_types.specs.Value.{Null}
 use Rattle.arr_move.specs.TreeActs.{Distinct}
 -- stands for a column that isn't there
 pub use Rattle.stage_model.specs.Typing.{no_column}

@@ -1,13 +1,13 @@
 -- A struct column that is unpacked: its columns stand in its place.
 use Rattle.std.specs.Prelude.{◌≡◌, ◌<◌, ◌≤◌, ◌≤ℤ◌, ℕ, pos, List, length, map}
-use Rattle.fmt_string.specs.declared.kind.ColumnType.{ColumnType}
-use Rattle.fmt_string.specs.ColumnView.{column_of}
-use Rattle.fmt_string.specs.Parts.{unpacked_columns}
-use Rattle.fmt_string.specs.Table.{Column, Columns, Members}
+use Rattle.data_types.specs.declared.kind.ColumnType.{ColumnType}
+use Rattle.data_types.specs.ColumnView.{column_of}
+use Rattle.data_types.specs.Parts.{unpacked_columns}
+use Rattle.data_types.specs.Table.{Column, Columns, Members}
 use Rattle.tree_model.specs.Tree.{IsLive, children_of, child_at}
 use Rattle.raw_array.specs.Members.{ArrayTree, members_of}
 use Rattle.raw_array.specs.Windows.{FitsWindow, Window}
-use Rattle.schema_check.specs.ColumnKinds.{type_of_columns}
+use Rattle.kind_tree.specs.ColumnKinds.{type_of_columns}
 use Rattle.layout_rules.specs.Walk.{ChunkOk}
 use Rattle.stage_model.specs.Typing.{column_at}
 use Rattle.plan_laws.specs.Structs.{column_structs, most_structs}

@@ -1,8 +1,8 @@
 //! What chunks of columns cost at most.
 ghost use Rattle.std.specs.Prelude.{◌≤◌, ◌+◌, ◌*◌, List, All};
-ghost use Rattle.fmt_string.specs.ColumnForms.{AreColumnKinds};
-ghost use Rattle.fmt_string.specs.Table.{Column};
-ghost use Rattle.schema_check.specs.ColumnKinds.{type_of_columns};
+ghost use Rattle.data_types.specs.ColumnForms.{AreColumnKinds};
+ghost use Rattle.data_types.specs.Table.{Column};
+ghost use Rattle.kind_tree.specs.ColumnKinds.{type_of_columns};
 ghost use Rattle.layout_rules.specs.Walk.{ChunkOk};
 ghost use Rattle.raw_array.specs.Members.{ArrayTree, Cost};
 ghost use Rattle.plan_laws.specs.Structs.{column_structs};

@@ -1,13 +1,13 @@
 //! A chunk with some of its columns under a new struct, by moves.
 ghost use Rattle.std.specs.Prelude.{◌≡◌, ◌≤◌, ◌<◌, ◌+◌, ◌-◌, ◌^◌, ◌++◌, ◌∷◌, ◌≤ℤ◌, [], List, All, pos, length, map, vec_len, vec_capacity, IfOk, MatchResult};
-ghost use Rattle.fmt_string.specs.Parts.{AreWithin};
-ghost use Rattle.fmt_string.specs.Table.{Column};
+ghost use Rattle.data_types.specs.Parts.{AreWithin};
+ghost use Rattle.data_types.specs.Table.{Column};
 ghost use Rattle.tree_model.specs.Tree.{Depth, Released, child_at, children_of, depth_of_all, trees, with_child};
 ghost use Rattle.raw_array.specs.Members.{Cost, cost_of_all, members_of};
 ghost use Rattle.raw_array.specs.Windows.{FitsWindow};
 ghost use Rattle.unit_pass.specs.Tally.{risen};
 ghost use Rattle.unit_pass.specs.declared.pass.TheConstants.{SUPPLY};
-ghost use Rattle.schema_check.specs.ColumnKinds.{type_of_columns};
+ghost use Rattle.kind_tree.specs.ColumnKinds.{type_of_columns};
 ghost use Rattle.layout_rules.specs.Layout.{natural};
 ghost use Rattle.layout_rules.specs.Walk.{ChunkOk};
 ghost use Rattle.arr_move.specs.TreeActs.{Distinct, FitParentWindow, InRange};

@@ -1,11 +1,11 @@
 //! The work that picks columns.
 ghost use Rattle.std.specs.Prelude.{◌≡◌, ◌+◌, ◌≤◌, ◌^◌, List, length, map, IfOk, IfErr, MatchResult, if◌then◌else◌, is_ok};
-ghost use Rattle.fmt_string.specs.Parts.{AreWithin};
-ghost use Rattle.fmt_string.specs.Table.{Column};
+ghost use Rattle.data_types.specs.Parts.{AreWithin};
+ghost use Rattle.data_types.specs.Table.{Column};
 ghost use Rattle.raw_array.specs.Members.{ArrayTree, Cost};
 ghost use Rattle.unit_pass.specs.Tally.{risen};
 ghost use Rattle.unit_pass.specs.declared.pass.TheConstants.{SUPPLY};
-ghost use Rattle.schema_check.specs.ColumnKinds.{type_of_columns};
+ghost use Rattle.kind_tree.specs.ColumnKinds.{type_of_columns};
 ghost use Rattle.layout_rules.specs.Walk.{ChunkOk};
 ghost use Rattle.arr_move.specs.TreeActs.{Columns, Distinct};
 ghost use Rattle.stage_model.specs.Stages.{chunks_after};

@@ -1,11 +1,11 @@
 //! The work that keeps the rows of a window.
 ghost use Rattle.std.specs.Prelude.{◌≡◌, ◌+◌, ◌-◌, ◌≤◌, ◌^◌, pos, List, map};
-ghost use Rattle.fmt_string.specs.ColumnView.{column_of};
-ghost use Rattle.fmt_string.specs.Table.{Column};
+ghost use Rattle.data_types.specs.ColumnView.{column_of};
+ghost use Rattle.data_types.specs.Table.{Column};
 ghost use Rattle.raw_array.specs.Members.{Cost};
 ghost use Rattle.raw_array.specs.Windows.{Window};
 ghost use Rattle.unit_pass.specs.declared.pass.TheConstants.{SUPPLY};
-ghost use Rattle.schema_check.specs.ColumnKinds.{type_of_columns};
+ghost use Rattle.kind_tree.specs.ColumnKinds.{type_of_columns};
 ghost use Rattle.layout_rules.specs.Values.{tree_items};
 ghost use Rattle.layout_rules.specs.Walk.{ChunkOk};
 ghost use Rattle.stage_model.specs.Stages.{chunks_after};

@@ -1,6 +1,6 @@
 //! The work that unpacks a struct column.
 ghost use Rattle.std.specs.Prelude.{◌≡◌, map};
-ghost use Rattle.fmt_string.specs.ColumnView.{column_of};
+ghost use Rattle.data_types.specs.ColumnView.{column_of};
 ghost use Rattle.stage_model.specs.Stages.{chunks_after};
 ghost use Rattle.stage_model.specs.declared.stage.Step.TheVariants as steps;
 ghost use Rattle.stages.specs.Works.{rows_alone};

@@ -5,8 +5,8 @@ use Rattle.std.specs.Prelude.{◌==◌, Ok}
 use Rattle.std.specs.List.{onto_first}
 use Rattle.csv_model.specs.Batches.{batches_if, batches_in, cut, rows_before}
 use Rattle.csv_model.specs.Reading.{Record, body}
-use Rattle.fmt_string.specs.Parts.{joined_rows}
-use Rattle.fmt_string.specs.Table.{Column, Row}
+use Rattle.data_types.specs.Parts.{joined_rows}
+use Rattle.data_types.specs.Table.{Column, Row}
 use Rattle.stage_model.specs.Links.{last_chunks, Whole}
 use Rattle.stage_model.specs.Stages.{table}
 use Rattle.stage_model.specs.Typing.{Stage}

@@ -5,10 +5,10 @@ use Rattle.std.specs.List.{filter}
 use Rattle.std.proofs.lemmas.List.{map-append}
 use Rattle.std.proofs.lemmas.List.Elements.{filter-append}
 use Rattle.csv_model.specs.Batches.{Chunks}
-use Rattle.fmt_string.specs.Parts.{joined_rows, packed, picked, unpacked}
-use Rattle.fmt_string.specs.Table.{Column, Row, Table}
-use Rattle.fmt_string.specs.Value.{Null}
-use Rattle.fmt_string.specs.declared.row_fault.RowFault.{RowFault}
+use Rattle.data_types.specs.Parts.{joined_rows, packed, picked, unpacked}
+use Rattle.data_types.specs.Table.{Column, Row, Table}
+use Rattle.data_types.specs.Value.{Null}
+use Rattle.data_types.specs.declared.row_fault.RowFault.{RowFault}
 use Rattle.stage_model.specs.Links.{last_chunks, last_columns, Whole}
 use Rattle.stage_model.specs.Stages.{ChunkStage, TableStage, at_end, chunks_after, is_within, passes, rows_after, sliced, sliced_chunks, table, unless_empty}
 use Rattle.stage_model.specs.Typing.{Stage}

@@ -2,7 +2,7 @@
 use Rattle.std.proofs.Common.{◌≡◌, ◌≤◌, ◌<◌, ℕ, suc, ◌+◌, ◌-◌, true, false, List, [], ◌∷◌, length, take, drop, refl, sym, ap, ◌∙◌, arith, inl, inr}
 use Rattle.std.proofs.Math.Seq.{drop-nil, take-nil}
 use Rattle.std.proofs.lemmas.Bool.{cases_lt, lt-ltb, le-ltb, le-leb, lt-leb}
-use Rattle.fmt_string.specs.Table.{Row}
+use Rattle.data_types.specs.Table.{Row}
 use Rattle.stage_model.specs.Stages.{is_within, sliced, window_end, window_start}
 
 before-window : (off len number : ℕ) → number < off → is_within off len number ≡ false

@@ -2,7 +2,7 @@
 use Rattle.std.specs.Prelude.{ℕ, Bool, List, [], ◌∷◌, if◌then◌else◌}
 use Rattle.std.specs.List.{list_any}
 use Rattle.std.specs.Str.{bytes_eq}
-use Rattle.fmt_string.specs.Value.{Value, Bytes}
+use Rattle.data_types.specs.Value.{Value, Bytes}
 
 -- whether one of these texts is this one
 abbrev pub has_bytes : List (List ℕ) → List ℕ → Bool

@@ -5,12 +5,12 @@ use Rattle.csv_model.specs.Header.{Entry, header_of}
 use Rattle.csv_model.specs.Reading.{Record, behind_header, body, records_of}
 use Rattle.csv_model.specs.Text.{table_text}
 use Rattle.csv_model.specs.declared.fault.HeaderFault.{HeaderFault}
-use Rattle.fmt_string.specs.declared.kind.DataType.{DataType}
-use Rattle.fmt_string.specs.declared.kind.DataType.TheVariants as kinds
-use Rattle.fmt_string.specs.declared.row_fault.RowFault.{RowFault}
-use Rattle.fmt_string.specs.Parts.{joined_rows}
-use Rattle.fmt_string.specs.Table.{Column, Flat, Dict, Row}
-use Rattle.fmt_string.specs.Value.{Null, Bytes, Whole as Number, bytes_of}
+use Rattle.data_types.specs.declared.kind.DataType.{DataType}
+use Rattle.data_types.specs.declared.kind.DataType.TheVariants as kinds
+use Rattle.data_types.specs.declared.row_fault.RowFault.{RowFault}
+use Rattle.data_types.specs.Parts.{joined_rows}
+use Rattle.data_types.specs.Table.{Column, Flat, Dict, Row}
+use Rattle.data_types.specs.Value.{Null, Bytes, Whole as Number, bytes_of}
 use Rattle.stage_model.specs.Links.{Link, Links, Whole}
 use Rattle.stage_model.specs.StageGrammar.{stage_of}
 use Rattle.stage_model.specs.Stages.{table}

@@ -2,8 +2,8 @@
 use Rattle.std.specs.Prelude.{◌≡◌, ℕ, List, [], ◌∷◌, Option, None, Some, Ok}
 use Rattle.csv_model.specs.Batches.{Chunks, batches_in}
 use Rattle.csv_model.specs.Reading.{Record, body}
-use Rattle.fmt_string.specs.Parts.{joined_rows}
-use Rattle.fmt_string.specs.Table.{Column, Row, Table}
+use Rattle.data_types.specs.Parts.{joined_rows}
+use Rattle.data_types.specs.Table.{Column, Row, Table}
 use Rattle.stage_model.specs.Stages.{ChunkStage, TableStage, table}
 use Rattle.stage_model.specs.Typing.{Stage}
 use Rattle.stage_model.specs.declared.stage.Step.{Step}

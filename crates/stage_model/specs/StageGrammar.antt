@@ -6,7 +6,7 @@ use Rattle.std.specs.List.{find, position, slice_split}
 use Rattle.std.specs.Option.{ok_or, option_map}
 use Rattle.std.specs.Str.{bytes_eq}
 use Rattle.std.specs.Str.Parse.{digits_value}
-use Rattle.fmt_string.specs.FieldText.{is_numeral}
+use Rattle.data_types.specs.FieldText.{is_numeral}
 use Rattle.stage_model.specs.declared.fault.StageFault.{StageFault}
 use Rattle.stage_model.specs.declared.fault.StageFault.TheVariants.{UnknownStage, BadArguments}
 use Rattle.stage_model.specs.declared.stage.StageText.{StageText}

@@ -6,10 +6,10 @@ use Rattle.std.specs.Cmp.Lexicographic.{slice_cmp}
 use Rattle.std.specs.declared.cmp.Ordering.{Ordering}
 use Rattle.std.specs.Ordering.{bool_cmp, int_cmp, nat_cmp, is_eq, is_ne, is_lt, is_le, is_gt, is_ge, is_some_and}
 use Rattle.csv_model.specs.Batches.{Chunks}
-use Rattle.fmt_string.specs.Parts.{column_values, joined_rows, packed, picked, unpacked}
-use Rattle.fmt_string.specs.Table.{Column, Row, Table}
-use Rattle.fmt_string.specs.Value.{Value, Null, Truth, Whole, Bytes, is_null}
-use Rattle.fmt_string.specs.declared.row_fault.RowFault.{RowFault}
+use Rattle.data_types.specs.Parts.{column_values, joined_rows, packed, picked, unpacked}
+use Rattle.data_types.specs.Table.{Column, Row, Table}
+use Rattle.data_types.specs.Value.{Value, Null, Truth, Whole, Bytes, is_null}
+use Rattle.data_types.specs.declared.row_fault.RowFault.{RowFault}
 use Rattle.stage_model.specs.Typing.{Stage}
 use Rattle.stage_model.specs.declared.stage.Const.{Const}
 use Rattle.stage_model.specs.declared.stage.Const.TheVariants as consts

@@ -2,11 +2,11 @@
 -- the stage makes anew. What a stage moves or slices isn't made anew.
 use Rattle.std.specs.Prelude.{ℕ, ◌+◌, ◌==◌, List, [], ◌∷◌, get_or, map, Option, None, Some, if◌then◌else◌}
 use Rattle.std.specs.List.{concat, list_any, sum_by}
-use Rattle.fmt_string.specs.FieldText.{Form, Text, HexBytes, SizedHex, form_of}
-use Rattle.fmt_string.specs.Parts.{column_values, fields_of}
-use Rattle.fmt_string.specs.Table.{Column, Kind, Flat, Dict, Columns, Members, no_members, more_members, Row}
-use Rattle.fmt_string.specs.Value.{Value, Null, bytes_of, is_null}
-use Rattle.fmt_string.specs.declared.kind.DataType.{DataType}
+use Rattle.data_types.specs.FieldText.{Form, Text, HexBytes, SizedHex, form_of}
+use Rattle.data_types.specs.Parts.{column_values, fields_of}
+use Rattle.data_types.specs.Table.{Column, Kind, Flat, Dict, Columns, Members, no_members, more_members, Row}
+use Rattle.data_types.specs.Value.{Value, Null, bytes_of, is_null}
+use Rattle.data_types.specs.declared.kind.DataType.{DataType}
 use Rattle.stage_model.specs.Dictionary.{Dictionary}
 use Rattle.stage_model.specs.Links.{Link}
 use Rattle.stage_model.specs.Typing.{no_column}

@@ -5,12 +5,12 @@ use Rattle.std.specs.List.{filter, find, flat_map, list_all, list_any, position,
 use Rattle.std.specs.Option.{option_and_then, unwrap_or}
 use Rattle.std.specs.Str.{bytes_eq}
 use Rattle.csv_model.specs.Header.{first_twice}
-use Rattle.fmt_string.specs.FieldText.{read_text}
-use Rattle.fmt_string.specs.Parts.{AreWithin, packed_columns, picked, replaced, unpacked_columns}
-use Rattle.fmt_string.specs.Table.{Column, Kind, Flat, Dict, Columns, Members, no_members}
-use Rattle.fmt_string.specs.Value.{Value, Truth, Whole, Bytes}
-use Rattle.fmt_string.specs.declared.kind.DataType.{DataType}
-use Rattle.fmt_string.specs.declared.kind.DataType.TheVariants as kinds
+use Rattle.data_types.specs.FieldText.{read_text}
+use Rattle.data_types.specs.Parts.{AreWithin, packed_columns, picked, replaced, unpacked_columns}
+use Rattle.data_types.specs.Table.{Column, Kind, Flat, Dict, Columns, Members, no_members}
+use Rattle.data_types.specs.Value.{Value, Truth, Whole, Bytes}
+use Rattle.data_types.specs.declared.kind.DataType.{DataType}
+use Rattle.data_types.specs.declared.kind.DataType.TheVariants as kinds
 use Rattle.stage_model.specs.declared.fault.PlanFault.{PlanFault}
 use Rattle.stage_model.specs.declared.fault.PlanFault.TheVariants.{At}
 use Rattle.stage_model.specs.declared.fault.PlanRule.{PlanRule}

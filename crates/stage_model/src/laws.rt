@@ -1,6 +1,6 @@
 //! What holds of stages. The calls do nothing.
 ghost use Rattle.std.specs.Prelude.{◌≡◌, ◌≤◌, ◌+◌, ◌-◌, ℕ, List, drop, length, take};
-ghost use Rattle.fmt_string.specs.Table.{Column, Row, Table};
+ghost use Rattle.data_types.specs.Table.{Column, Row, Table};
 ghost use Rattle.stage_model.specs.Links.{BatchesGiveTheWhole, ChunksGiveTheWhole, Whole, last_columns};
 ghost use Rattle.stage_model.specs.Stages.{sliced, window_end, window_start};
 ghost use Rattle.stage_model.specs.Typing.{FitsColumns, HasColumns, IsStageOver, Stage};

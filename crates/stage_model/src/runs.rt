@@ -1,6 +1,6 @@
 //! The definitions of whole runs, computed on examples: the text, and the blocks and nodes. The calls do nothing.
 ghost use Rattle.std.specs.Prelude.{◌≡◌, ◌∷◌, [], codes};
-ghost use Rattle.fmt_string.specs.declared.row_fault.RowFault.TheVariants as row;
+ghost use Rattle.data_types.specs.declared.row_fault.RowFault.TheVariants as row;
 ghost use Rattle.stage_model.specs.Examples.{asks, by, chain, dict_text, long, marked, of_size, outcome, payments, payment_types, text_of, BadRow, Written};
 
 /// Runs with the blocks and nodes that they make.

@@ -1,6 +1,6 @@
 //! The definitions of texts, plans, links and batches, computed on examples. The calls do nothing.
 ghost use Rattle.std.specs.Prelude.{◌≡◌, ◌∷◌, [], codes, Ok, Err, None, Some};
-ghost use Rattle.fmt_string.specs.declared.row_fault.RowFault.TheVariants as row;
+ghost use Rattle.data_types.specs.declared.row_fault.RowFault.TheVariants as row;
 ghost use Rattle.stage_model.specs.Examples.{asks, batch_ending, batch_texts, by, link_rows, long, of_size, one, outcome, BadPlan, BadStage};
 ghost use Rattle.stage_model.specs.StageGrammar.{stage_of};
 ghost use Rattle.stage_model.specs.declared.fault.PlanFault.TheVariants as plan;

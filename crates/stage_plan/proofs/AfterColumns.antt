@@ -1,10 +1,10 @@
 -- The columns after a stage, piece by piece.
 use Rattle.std.proofs.Common.{◌≡◌, ◌∙◌, ◌+◌, ◌-◌, ◌++◌, ℕ, List, [], ◌∷◌, length, take, drop, refl, ap, sym, arith, append_assoc, length-drop}
 use Rattle.std.proofs.lemmas.List.{drop-map, take-map, take_all}
-use Rattle.fmt_string.specs.ColumnView.{column_of, members}
-use Rattle.fmt_string.specs.Parts.{member_columns, replaced}
-use Rattle.fmt_string.specs.Table.{Column}
-use Rattle.fmt_string.specs.declared.kind.ColumnType.{ColumnType}
+use Rattle.data_types.specs.ColumnView.{column_of, members}
+use Rattle.data_types.specs.Parts.{member_columns, replaced}
+use Rattle.data_types.specs.Table.{Column}
+use Rattle.data_types.specs.declared.kind.ColumnType.{ColumnType}
 use Rattle.stage_plan.specs.PlanWords.{columns_in}
 
 -- the columns of a struct of these

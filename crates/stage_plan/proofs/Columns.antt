@@ -1,11 +1,11 @@
 -- What one reading of a format makes of the type behind a name.
 use Rattle.std.proofs.Common.{◌≡◌, ◌∙◌, ◌⊎◌, true, false, true≢false, List, ℕ, Option, Some, None, Result, Ok, Err, ap, sym, refl, inl, inr}
-use Rattle.fmt_string.specs.declared.kind.DataType.{DataType}
+use Rattle.data_types.specs.declared.kind.DataType.{DataType}
 use Rattle.fmt_string.specs.declared.fault.FormatRule.{FormatRule}
 use Rattle.fmt_string.specs.declared.fault.FormatFault.{FormatFault}
 use Rattle.fmt_string.specs.declared.fault.FormatFault.TheVariants.{At, NoMemory}
 use Rattle.fmt_string.specs.Answer.{Reads}
-use Rattle.fmt_string.specs.Kinds.{is_column_type}
+use Rattle.data_types.specs.Kinds.{is_column_type}
 use Rattle.stage_plan.specs.Types.{TypeReads}
 
 -- what `read_format` says of the other readings of its text

@@ -3,12 +3,12 @@ use Rattle.std.proofs.Common.{◌+◌, ℕ, zero, suc, List, [], ◌∷◌, ◌+
 use Rattle.std.specs.Int.{w32}
 use Rattle.std.specs.Prelude.{All, FitsSigned, pos}
 use Rattle.std.specs.List.{AllByRecursion, flat_map}
-use Rattle.fmt_string.specs.ColumnForms.{KindsOk, MembersOk}
-use Rattle.fmt_string.specs.ColumnView.{column_of, kind_of, members}
-use Rattle.fmt_string.specs.Parts.{member_columns, picked}
-use Rattle.fmt_string.specs.Table.{Column, Kind, Flat, Dict, Columns, Members, no_members, more_members}
-use Rattle.fmt_string.specs.declared.kind.ColumnType.{ColumnType}
-use Rattle.fmt_string.specs.declared.kind.DataType.TheVariants as kinds
+use Rattle.data_types.specs.ColumnForms.{KindsOk, MembersOk}
+use Rattle.data_types.specs.ColumnView.{column_of, kind_of, members}
+use Rattle.data_types.specs.Parts.{member_columns, picked}
+use Rattle.data_types.specs.Table.{Column, Kind, Flat, Dict, Columns, Members, no_members, more_members}
+use Rattle.data_types.specs.declared.kind.ColumnType.{ColumnType}
+use Rattle.data_types.specs.declared.kind.DataType.TheVariants as kinds
 use Rattle.stage_model.specs.Typing.{column_named, columns_after, columns_named, dict_kind, no_column, place_of, places_of, plain_kind, rest_of, scale_of}
 use Rattle.stage_model.specs.Typing.{struct_members, totals_columns}
 use Rattle.stage_model.specs.declared.stage.StageText.{StageText}

@@ -16,9 +16,9 @@ use Rattle.stage_plan.specs.declared.types.TypeEntry.{TypeEntry}
 use Rattle.stage_plan.specs.declared.fault.TypesRule.TheVariants.{BadEntry, Twice}
 use Rattle.stage_plan.specs.Code.{entry_of}
 use Rattle.stage_plan.specs.declared.types.Entry.{Entry}
-use Rattle.fmt_string.specs.declared.kind.DataType.{DataType}
+use Rattle.data_types.specs.declared.kind.DataType.{DataType}
 use Rattle.fmt_string.specs.FormatString.{FormatIs}
-use Rattle.fmt_string.specs.Kinds.{KindOk, is_column_type}
+use Rattle.data_types.specs.Kinds.{KindOk, is_column_type}
 use Rattle.stage_plan.specs.Types.{parts, EntryIs, EntryReads, FirstFaultIs, NamesDiffer, Reads, TypesIs}
 use Rattle.stage_plan.proofs.Walk.{Answer, Named, Settled, Settles, fault, fault_after, fault_only, whole, whole_only}
 

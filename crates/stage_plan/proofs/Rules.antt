@@ -3,8 +3,8 @@ use Rattle.std.proofs.Common.{◌≡◌, ◌∙◌, ℕ, false, List, length, ge
 use Rattle.std.specs.Prelude.{is_none, option_map, IfOk, IfSome}
 use Rattle.std.specs.List.{list_any}
 use Rattle.std.specs.Option.{unwrap_or}
-use Rattle.fmt_string.specs.Parts.{AreWithin}
-use Rattle.fmt_string.specs.Table.{Column}
+use Rattle.data_types.specs.Parts.{AreWithin}
+use Rattle.data_types.specs.Table.{Column}
 use Rattle.stage_model.proofs.Numbers.{places-below, within}
 use Rattle.stage_model.specs.Typing.{const_for, lacks_constant, names_of, no_column, place_if, place_of, places_of, step_of}
 use Rattle.stage_model.specs.declared.stage.Const.{Const}

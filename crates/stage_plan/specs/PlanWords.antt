@@ -1,10 +1,10 @@
 -- What the code's plans are.
 use Rattle.std.specs.Prelude.{◌≡◌, ℕ, Bool, true, false, List, ◌++◌, get_or, length, map}
 use Rattle.std.specs.Borrow.{Bor}
-use Rattle.fmt_string.specs.ColumnView.{column_of}
-use Rattle.fmt_string.specs.Parts.{AreWithin, replaced}
-use Rattle.fmt_string.specs.Table.{Column, Kind}
-use Rattle.fmt_string.specs.declared.kind.ColumnType.{ColumnType}
+use Rattle.data_types.specs.ColumnView.{column_of}
+use Rattle.data_types.specs.Parts.{AreWithin, replaced}
+use Rattle.data_types.specs.Table.{Column, Kind}
+use Rattle.data_types.specs.declared.kind.ColumnType.{ColumnType}
 use Rattle.stage_model.specs.Typing.{PlanIs, Stage, column, dict_kind, names_of, no_column, places_of, plain_kind, plan_links, plan_steps}
 use Rattle.stage_model.specs.declared.stage.StageText.{StageText}
 use Rattle.stage_plan.specs.declared.typing.Plan.{Plan}

@@ -2,10 +2,10 @@
 use Rattle.std.specs.Prelude.{◌≡◌, ◌≢◌, ◌⊎◌, ◌+◌, ℕ, true, false, List, [], ◌∷◌, ◌++◌, length, if◌then◌else◌, ◌==◌, Option, Some, None, Result, Ok, Err, Vec}
 use Rattle.std.specs.Global.{Global}
 use Rattle.std.specs.List.{AllByRecursion, AllZip, AllPairs, Any}
-use Rattle.fmt_string.specs.declared.kind.DataType.{DataType}
+use Rattle.data_types.specs.declared.kind.DataType.{DataType}
 use Rattle.fmt_string.specs.declared.fault.FormatRule.{FormatRule}
 use Rattle.fmt_string.specs.FormatString.{FormatIs, FormatFaultIs}
-use Rattle.fmt_string.specs.Kinds.{is_column_type}
+use Rattle.data_types.specs.Kinds.{is_column_type}
 use Rattle.stage_plan.specs.declared.types.TypeEntry.{TypeEntry}
 use Rattle.stage_plan.specs.declared.fault.TypesRule.{TypesRule}
 use Rattle.stage_plan.specs.declared.fault.TypesRule.TheVariants.{BadEntry, Twice}

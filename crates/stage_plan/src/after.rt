@@ -1,16 +1,16 @@
 //! The columns after a stage.
 ghost use Rattle.std.specs.Prelude.{◌≡◌, OnOk, ◌<◌, ◌∷◌, ◌++◌, [], ℕ, All, IfOk, get_or, length, map, codes};
 ghost use Rattle.std.specs.List.{flat_map};
-ghost use Rattle.fmt_string.specs.ColumnForms.{KindsOk};
-ghost use Rattle.fmt_string.specs.ColumnView.{column_of, kind_of};
-ghost use Rattle.fmt_string.specs.Table.{Flat};
-ghost use Rattle.fmt_string.specs.Parts.{AreWithin, member_columns, packed_columns, picked, unpacked_columns};
+ghost use Rattle.data_types.specs.ColumnForms.{KindsOk};
+ghost use Rattle.data_types.specs.ColumnView.{column_of, kind_of};
+ghost use Rattle.data_types.specs.Table.{Flat};
+ghost use Rattle.data_types.specs.Parts.{AreWithin, member_columns, packed_columns, picked, unpacked_columns};
 ghost use Rattle.stage_model.specs.Typing.{column, columns_after, dict_kind, names_of, no_column, others, place_of, places_of, plain_kind, scale_of};
 ghost use Rattle.stage_model.specs.Typing.{struct_members, totals_columns};
 ghost use Rattle.stage_plan.specs.PlanWords.{IsThere, columns_in, kind_by, replaced_kind, with_end};
 
 use crate::places::others;
-use fmt_string::{ColKind, ColumnType, DataType, clone_column, clone_columns, struct_of};
+use data_types::{ColKind, ColumnType, DataType, clone_column, clone_columns, struct_of};
 use stage_model::StageText;
 use std::alloc::Global;
 use unit_pass::{Name, NoMemory};

@@ -3,16 +3,16 @@ ghost use Rattle.std.specs.Prelude.{◌≡◌, IfOk, option_map, Some, None, if�
 ghost use Rattle.std.specs.Str.{is_utf8};
 ghost use Rattle.stage_model.specs.declared.stage.Const.TheVariants as consts;
 ghost use Rattle.std.specs.Option.{option_and_then};
-ghost use Rattle.fmt_string.specs.ColumnForms.{KindsOk};
-ghost use Rattle.fmt_string.specs.ColumnView.{kind_of};
-ghost use Rattle.fmt_string.specs.FieldText.{hex_bytes, read_form};
-ghost use Rattle.fmt_string.specs.Kinds.{KindOk};
-ghost use Rattle.fmt_string.specs.Value.{Bytes, Whole};
+ghost use Rattle.data_types.specs.ColumnForms.{KindsOk};
+ghost use Rattle.data_types.specs.ColumnView.{kind_of};
+ghost use Rattle.data_types.specs.FieldText.{hex_bytes, read_form};
+ghost use Rattle.data_types.specs.Kinds.{KindOk};
+ghost use Rattle.data_types.specs.Value.{Bytes, Whole};
 ghost use Rattle.field_codec.specs.FieldForms.{IsProper, form_in};
 ghost use Rattle.stage_model.specs.Typing.{compares, const_for, const_of, constant_value, empty_value};
 
+use data_types::{ColKind, DataType};
 use field_codec::{FieldForm, form_of, read_bytes, read_decimal, read_truth, read_whole};
-use fmt_string::{ColKind, DataType};
 use stage_model::{Const, Test};
 use std::alloc::Global;
 use unit_pass::{Name, NoMemory};

@@ -2,12 +2,12 @@
 ghost use Rattle.std.specs.Prelude.{◌≡◌, ℕ, List, IfOk, IfSome, IfNone, map, is_none, position, true, false};
 ghost use Rattle.std.specs.Str.{bytes_eq};
 ghost use Rattle.std.specs.List.{list_any};
-ghost use Rattle.fmt_string.specs.ColumnView.{column_of};
-ghost use Rattle.fmt_string.specs.Parts.{AreWithin};
+ghost use Rattle.data_types.specs.ColumnView.{column_of};
+ghost use Rattle.data_types.specs.Parts.{AreWithin};
 ghost use Rattle.stage_model.specs.Typing.{has_twice, others, place_if, places_of};
 ghost use Rattle.stage_plan.specs.PlanWords.{texts};
 
-use fmt_string::ColumnType;
+use data_types::ColumnType;
 use std::alloc::Global;
 use std::collections::HashSet;
 use unit_pass::{Name, NoMemory};

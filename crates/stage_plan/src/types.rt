@@ -1,8 +1,8 @@
 //! The entries of a schema text, each a name and a type.
 ghost use Rattle.std.specs.Prelude.{◌≡◌, ◌≢◌, ◌+◌, ◌==◌, false, true, length, List, All, Option, Result, IfOk, IfErr, IfSome, IfNone, map, option_map};
 ghost use Rattle.std.specs.Prelude.{position};
-ghost use Rattle.fmt_string.specs.declared.kind.DataType.{DataType as AType};
-ghost use Rattle.fmt_string.specs.Kinds.{KindOk, is_column_type};
+ghost use Rattle.data_types.specs.declared.kind.DataType.{DataType as AType};
+ghost use Rattle.data_types.specs.Kinds.{KindOk, is_column_type};
 ghost use Rattle.stage_plan.specs.declared.fault.TypesFault.{TypesFault as AFault};
 ghost use Rattle.stage_plan.specs.declared.fault.TypesFault.TheVariants as faults;
 ghost use Rattle.stage_plan.specs.declared.types.TypeEntry.{TypeEntry as AnEntry};
@@ -10,7 +10,8 @@ ghost use Rattle.stage_plan.specs.Types.{parts, CutsAt, Lacks, TypeReads, EntryR
 ghost use Rattle.stage_plan.specs.Code.{entry_of};
 
 use crate::{TypesFault, TypesRule};
-use fmt_string::{DataType, FormatFault, is_column_type, read_format, spelled_is_valid};
+use data_types::{DataType, is_column_type};
+use fmt_string::{FormatFault, read_format, spelled_is_valid};
 use std::alloc::Global;
 use std::collections::HashSet;
 use unit_pass::{Name, NoMemory};

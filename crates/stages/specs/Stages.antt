@@ -1,6 +1,6 @@
 -- What a stage means.
 use Rattle.std.specs.Prelude.{List}
-use Rattle.fmt_string.specs.Table.{Column, Row}
+use Rattle.data_types.specs.Table.{Column, Row}
 use Rattle.stream_face.specs.Meaning.{meaning}
 use Rattle.stream_face.specs.Streams.{Stream, Traffic}
 use Rattle.stages.specs.Works.{staged}

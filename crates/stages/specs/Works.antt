@@ -1,6 +1,6 @@
 -- What a stage means, from its work and from what the stream below it means.
 use Rattle.std.specs.Prelude.{Bool, if◌then◌else◌, List, Option, None, Some}
-use Rattle.fmt_string.specs.Table.{Column, Row}
+use Rattle.data_types.specs.Table.{Column, Row}
 use Rattle.raw_array.specs.Members.{ArrayTree}
 use Rattle.stream_face.specs.Streams.{Stream, Traffic}
 use Rattle.stream_face.specs.Texts.{Refusal, wanting}

@@ -2,13 +2,13 @@
 ghost use Rattle.std.specs.Prelude.{◌≡◌, ◌+◌, ◌≤◌, All, map, IfOk, MatchResult};
 ghost use Rattle.unit_pass.specs.Tally.{risen};
 ghost use Rattle.unit_pass.specs.declared.pass.TheConstants.{CHUNK};
-ghost use Rattle.fmt_string.specs.ColumnView.{column_of};
+ghost use Rattle.data_types.specs.ColumnView.{column_of};
 ghost use Rattle.tree_model.specs.Tree.{Depth};
 ghost use Rattle.raw_schema.specs.Members.{Nodes};
 ghost use Rattle.schema_check.specs.ColumnSchema.{KindsOk, SchemaOf};
 
 use arr_export::export_schema;
-use fmt_string::ColumnType;
+use data_types::ColumnType;
 use raw_schema::RawSchema;
 use std::alloc::Global;
 use std::marker::Model;
@@ -26,9 +26,9 @@ impl Model for OutColumns {
     ghost use Rattle.unit_pass.specs.declared.pass.TheConstants.{CHUNK};
     ghost use Rattle.tree_model.specs.Tree.{Depth};
     ghost use Rattle.raw_schema.specs.Members.{Nodes};
-    ghost use Rattle.fmt_string.specs.ColumnView.{column_of};
-    ghost use Rattle.fmt_string.specs.declared.kind.ColumnType.{ColumnType};
-    ghost use Rattle.fmt_string.specs.contracts.kind.ColumnType as columns;
+    ghost use Rattle.data_types.specs.ColumnView.{column_of};
+    ghost use Rattle.data_types.specs.declared.kind.ColumnType.{ColumnType};
+    ghost use Rattle.data_types.specs.contracts.kind.ColumnType as columns;
     ghost use Rattle.schema_check.specs.ColumnSchema.{KindsOk, SchemaOf};
 
     ghost Value = { List ColumnType };

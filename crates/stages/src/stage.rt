@@ -1,7 +1,7 @@
 //! A stage: the checked stream below it, and its work.
 ghost use Rattle.std.specs.Prelude.{◌≡◌, ◌≢◌, ◌≤◌, ◌+◌, List, None, true, pos, IsTrue, IfOk, OnErr, OnOk, MatchResult};
 ghost use Rattle.std.specs.Thread.{IsSync};
-ghost use Rattle.fmt_string.specs.Table.{Column, Row};
+ghost use Rattle.data_types.specs.Table.{Column, Row};
 ghost use Rattle.tree_model.specs.Tree.{IsLive, Released};
 ghost use Rattle.raw_array.specs.Members.{ArrayTree, Cost};
 ghost use Rattle.raw_schema.specs.Members.{Nodes};
@@ -13,8 +13,8 @@ ghost use Rattle.stream_face.specs.Lawful.{LawfulColumns, LawfulTables};
 ghost use Rattle.stream_face.specs.Meaning.{meaning};
 ghost use Rattle.stream_face.specs.Streams.{IsFresh, Keeps, Stream, Traffic};
 
+use data_types::RowFault;
 use edge_io::Gate;
-use fmt_string::RowFault;
 use raw_array::{Acted, RawArray};
 use raw_schema::RawSchema;
 use std::alloc::Global;

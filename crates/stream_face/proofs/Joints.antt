@@ -3,13 +3,13 @@ use Rattle.std.proofs.Common.{◌≡◌, ◌≢◌, ◌==◌, ◌++◌, ℕ, ℤ
 use Rattle.std.proofs.Common.{inr, IsTrue}
 use Rattle.std.proofs.lemmas.Bool.Decides.{eqb_tells}
 use Rattle.std.proofs.lemmas.List.{append-nil, append_assoc}
-use Rattle.fmt_string.specs.Table.{Column, Row}
+use Rattle.data_types.specs.Table.{Column, Row}
 use Rattle.tree_model.specs.Tree.{Tree, Released, Live, IsLive}
 use Rattle.unit_pass.specs.Tally.{Tally}
 use Rattle.raw_array.specs.Members.{ArrayTree}
 use Rattle.raw_schema.specs.Members.{SchemaTree}
-use Rattle.schema_check.specs.Kinds.{KindTree}
-use Rattle.schema_check.specs.ColumnKinds.{type_of_columns}
+use Rattle.kind_tree.specs.Kinds.{KindTree}
+use Rattle.kind_tree.specs.ColumnKinds.{type_of_columns}
 use Rattle.schema_check.specs.ColumnSchema.{SchemaOf}
 use Rattle.schema_check.specs.Schemas.{TypedOf}
 use Rattle.stream_face.specs.Calls.{Answers, Begins, Repeats, Shows, Tells}

@@ -1,7 +1,7 @@
 -- What the calls of a stream answer ("The Arrow C Stream Interface", "The ArrowArrayStream structure").
 use Rattle.std.specs.Prelude.{◌≡◌, ◌≢◌, ◌⊎◌, ◌+◌, ◌≤ℤ◌, ◌++◌, ℕ, ℤ, pos, List, [], ◌∷◌, Option, Some, None}
-use Rattle.fmt_string.specs.declared.row_fault.RowFault.{RowFault}
-use Rattle.fmt_string.specs.Table.{Column, Row}
+use Rattle.data_types.specs.declared.row_fault.RowFault.{RowFault}
+use Rattle.data_types.specs.Table.{Column, Row}
 use Rattle.tree_model.specs.Tree.{Released, IsLive}
 use Rattle.raw_array.specs.Members.{ArrayTree}
 use Rattle.raw_schema.specs.Members.{SchemaTree, Nodes}

@@ -1,7 +1,7 @@
 -- The texts of faults.
 use Rattle.std.specs.Prelude.{ℕ, ℤ, ◌++◌, List, codes}
 use Rattle.std.specs.Fmt.{signed_decimal}
-use Rattle.fmt_string.specs.FaultTexts.{row_fault_text}
+use Rattle.data_types.specs.FaultTexts.{row_fault_text}
 use Rattle.schema_check.specs.FaultTexts.{schema_fault_text}
 use Rattle.layout_rules.specs.FaultTexts.{layout_fault_text}
 use Rattle.stream_face.specs.declared.fault.StartFault.{StartFault}

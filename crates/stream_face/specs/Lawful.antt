@@ -1,18 +1,18 @@
 -- What holds of a lawful stream: of its columns, of the tables that it still gives, and of each chunk that it gives.
 use Rattle.std.specs.Prelude.{◌≡◌, ◌≢◌, ◌+◌, ◌^◌, ◌<◌, ◌≤◌, ℕ, List, [], ◌∷◌, length, map, drop, get_or, All}
 use Rattle.std.specs.List.{AllByRecursion}
-use Rattle.fmt_string.specs.declared.kind.DataType.{DataType}
-use Rattle.fmt_string.specs.declared.kind.DataType.TheVariants as kinds
-use Rattle.fmt_string.specs.ColumnForms.{AreColumnKinds}
-use Rattle.fmt_string.specs.FieldText.{IsValueOf}
-use Rattle.fmt_string.specs.Parts.{column_values, fields_of, member_columns, value_list}
-use Rattle.fmt_string.specs.Table.{Column, Row, Kind, Flat, Dict, Columns, Members, no_members, more_members}
-use Rattle.fmt_string.specs.Value.{Value, Null, Fields, byte_total}
+use Rattle.data_types.specs.declared.kind.DataType.{DataType}
+use Rattle.data_types.specs.declared.kind.DataType.TheVariants as kinds
+use Rattle.data_types.specs.ColumnForms.{AreColumnKinds}
+use Rattle.data_types.specs.FieldText.{IsValueOf}
+use Rattle.data_types.specs.Parts.{column_values, fields_of, member_columns, value_list}
+use Rattle.data_types.specs.Table.{Column, Row, Kind, Flat, Dict, Columns, Members, no_members, more_members}
+use Rattle.data_types.specs.Value.{Value, Null, Fields, byte_total}
 use Rattle.tree_model.specs.Tree.{Live, Released, no_trees, absent, Depth, children_of, child_at, dictionary_at}
 use Rattle.raw_array.specs.Members.{ArrayTree, Cost}
 use Rattle.raw_schema.specs.Members.{Nodes}
 use Rattle.unit_pass.specs.declared.pass.TheConstants.{CHUNK}
-use Rattle.schema_check.specs.ColumnKinds.{type_of_columns}
+use Rattle.kind_tree.specs.ColumnKinds.{type_of_columns}
 use Rattle.schema_check.specs.ColumnSchema.{SchemaOf}
 use Rattle.schema_check.specs.Schemas.{TypedOf}
 use Rattle.layout_rules.specs.Values.{rows_of, values_of}

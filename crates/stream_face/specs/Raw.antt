@@ -1,6 +1,6 @@
 -- What a checked stream means, from what its inner stream means.
 use Rattle.std.specs.Prelude.{◌+◌, ◌==◌, if◌then◌else◌, Option, Some, None, ℕ, List}
-use Rattle.fmt_string.specs.declared.row_fault.RowFault.{RowFault}
+use Rattle.data_types.specs.declared.row_fault.RowFault.{RowFault}
 use Rattle.stream_face.specs.declared.fault.StreamFault.{StreamFault}
 use Rattle.stream_face.specs.declared.fault.StreamFault.TheVariants.{Row, Chunk, Code, NoMemory}
 use Rattle.stream_face.specs.Faults.{code_of, fault_text}

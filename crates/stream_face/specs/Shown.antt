@@ -1,12 +1,12 @@
 -- What a tap is shown of the chunks of a run.
 use Rattle.std.specs.Prelude.{◌==◌, ◌++◌, ℕ, if◌then◌else◌, List, [], ◌∷◌, map, Option, Some, None}
-use Rattle.fmt_string.specs.Table.{Column, Row}
+use Rattle.data_types.specs.Table.{Column, Row}
 use Rattle.tree_model.specs.Tree.{Released, Live, Trees, no_trees, more_trees, MaybeTree, absent, present}
 use Rattle.raw_array.specs.Members.{ArrayTree}
 use Rattle.raw_schema.specs.Members.{SchemaMembers, SchemaTree}
-use Rattle.schema_check.specs.Kinds.{KindTree}
+use Rattle.kind_tree.specs.Kinds.{KindTree}
 use Rattle.layout_rules.specs.Values.{rows_of}
-use Rattle.schema_check.specs.ColumnKinds.{type_of_columns}
+use Rattle.kind_tree.specs.ColumnKinds.{type_of_columns}
 use Rattle.schema_check.specs.ColumnSchema.{SchemaOf}
 
 abbrev mutual

@@ -1,8 +1,8 @@
 -- What is told of a get call that refused.
 use Rattle.std.specs.Prelude.{ℕ, ℤ, pos, List, Option, None, Some, codes}
 use Rattle.std.specs.Borrow.{Bor}
-use Rattle.fmt_string.specs.declared.row_fault.RowFault.{RowFault}
-use Rattle.fmt_string.specs.FaultTexts.{row_fault_text}
+use Rattle.data_types.specs.declared.row_fault.RowFault.{RowFault}
+use Rattle.data_types.specs.FaultTexts.{row_fault_text}
 
 -- a get call that refused: its code, and the text of its error
 pub record Refusal : Type 0 where

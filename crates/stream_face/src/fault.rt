@@ -2,7 +2,7 @@
 ghost use Rattle.std.specs.Prelude.{◌≡◌, ◌≢◌, ◌≤ℤ◌, pos};
 ghost use Rattle.stream_face.specs.Faults.{code_of, own_text};
 
-use fmt_string::RowFault;
+use data_types::RowFault;
 use layout_rules::LayoutFault;
 use schema_check::SchemaFault;
 use std::fmt;

@@ -2,15 +2,16 @@
 ghost use Rattle.std.specs.Prelude.{◌≡◌, ◌+◌, ◌≤◌, IfOk, IfErr};
 ghost use Rattle.tree_model.specs.Tree.{Released, IsLive};
 ghost use Rattle.raw_schema.specs.Members.{Nodes};
-ghost use Rattle.schema_check.specs.Kinds.{KindTree, TypedOk};
+ghost use Rattle.kind_tree.specs.Kinds.{KindTree, TypedOk};
 ghost use Rattle.schema_check.specs.Schemas.{TypedOf};
 ghost use Rattle.schema_check.specs.SchemaAnswers.{IsFirstFault};
-ghost use Rattle.schema_check.specs.TypedView.{typed_of};
+ghost use Rattle.kind_tree.specs.TypedView.{typed_of};
 ghost use Rattle.schema_check.specs.declared.schema.SchemaFault.TheVariants as schemas;
 ghost use Rattle.unit_pass.specs.declared.pass.TheConstants.{SUPPLY};
 
+use kind_tree::Typed;
 use raw_schema::RawSchema;
-use schema_check::{SchemaFault, Typed, check_schema, one_schema_answer};
+use schema_check::{SchemaFault, check_schema, one_schema_answer};
 use std::alloc::Global;
 use std::marker::Model;
 use unit_pass::{Pass, SUPPLY};
@@ -25,7 +26,7 @@ impl Model for Known {
     ghost use Rattle.stream_face.specs.Checked.{KnownSchema, AreKinds};
     ghost use Rattle.std.specs.Coded.{codes};
     ghost use Rattle.raw_schema.specs.Members.{coded_schema};
-    ghost use Rattle.schema_check.specs.contracts.typed.Typed as kinds;
+    ghost use Rattle.kind_tree.specs.contracts.typed.Typed as kinds;
 
     ghost Value = { KnownSchema };
 

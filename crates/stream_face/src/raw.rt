@@ -3,15 +3,15 @@ ghost use Rattle.std.specs.Prelude.{◌≡◌, ◌≢◌, ◌≤◌, ◌+◌, �
 ghost use Rattle.std.specs.Prelude.{not, [], ◌∷◌};
 ghost use Rattle.std.specs.Thread.{IsSync};
 ghost use Rattle.std.specs.Coded.{Coded-set, codes};
-ghost use Rattle.fmt_string.specs.declared.row_fault.RowFault.{RowFault as RowFaultValue};
-ghost use Rattle.fmt_string.specs.contracts.row_fault.RowFault as rows;
+ghost use Rattle.data_types.specs.declared.row_fault.RowFault.{RowFault as RowFaultValue};
+ghost use Rattle.data_types.specs.contracts.row_fault.RowFault as rows;
 ghost use Rattle.tree_model.specs.Tree.{Released, IsLive};
 ghost use Rattle.raw_array.specs.Members.{Cost};
 ghost use Rattle.raw_schema.specs.Members.{Nodes, coded_schema};
 ghost use Rattle.schema_check.specs.ColumnSchema.{SchemaOf};
-ghost use Rattle.schema_check.specs.Kinds.{KindTree, TypedOk};
+ghost use Rattle.kind_tree.specs.Kinds.{KindTree, TypedOk};
 ghost use Rattle.schema_check.specs.Schemas.{TypedOf};
-ghost use Rattle.schema_check.specs.TypedView.{typed_of};
+ghost use Rattle.kind_tree.specs.TypedView.{typed_of};
 ghost use Rattle.layout_rules.specs.Walk.{ChunkOk};
 ghost use Rattle.unit_pass.specs.Tally.{risen};
 ghost use Rattle.unit_pass.specs.declared.pass.TheConstants.{CHUNK, ROOM, SUPPLY};
@@ -31,12 +31,12 @@ use crate::fault::{Failure, StartFault, StreamFault};
 use crate::known::Known;
 use crate::stream::ArrayStream;
 use crate::tap::Tap;
+use data_types::RowFault;
 use edge_io::Gate;
-use fmt_string::RowFault;
+use kind_tree::Typed;
 use layout_check::{check_chunk, chunk_passes};
 use raw_array::{Acted, RawArray};
 use raw_schema::RawSchema;
-use schema_check::Typed;
 use std::alloc::Global;
 use std::thread::Threads;
 use unit_pass::{CHUNK, NoMemory, Pass, ROOM, SUPPLY};
@@ -147,7 +147,7 @@ fn refuse_chunk(
 
 impl<S: ArrayStream> RawStream<S> {
     ghost use Rattle.stream_face.specs.Meaning.{below, meaning, raw_fault, raw_kinds, raw_link, raw_schema};
-    ghost use Rattle.schema_check.specs.ColumnKinds.{type_of_columns};
+    ghost use Rattle.kind_tree.specs.ColumnKinds.{type_of_columns};
 
     /// Asks the inner stream for its schema, once, and checks it. On a refusal the inner stream is handed back, and all units
     /// are back.

@@ -11,8 +11,8 @@ ghost use Rattle.stream_face.specs.Streams.{IsFresh, Keeps, Stream, kept, tellin
 ghost use Rattle.stream_face.specs.Texts.{lent_text, text_in};
 
 use crate::tap::Tap;
+use data_types::RowFault;
 use edge_io::Gate;
-use fmt_string::RowFault;
 use raw_array::{Acted, RawArray};
 use raw_schema::RawSchema;
 use std::alloc::Global;

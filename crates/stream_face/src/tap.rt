@@ -1,13 +1,13 @@
 //! What is told of the chunks of a run.
 ghost use Rattle.std.specs.Prelude.{◌≡◌, List, Option, [], ◌∷◌, OnErr, OnOk};
 ghost use Rattle.schema_check.specs.Schemas.{TypedOf};
-ghost use Rattle.schema_check.specs.TypedView.{typed_of};
+ghost use Rattle.kind_tree.specs.TypedView.{typed_of};
 ghost use Rattle.layout_rules.specs.Walk.{ChunkOk};
 ghost use Rattle.stream_face.specs.Shown.{Seen, grown, seen_of};
 
+use kind_tree::Typed;
 use raw_array::RawArray;
 use raw_schema::RawSchema;
-use schema_check::Typed;
 use std::alloc::Global;
 use unit_pass::NoMemory;
 

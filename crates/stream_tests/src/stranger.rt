@@ -1,14 +1,14 @@
 //! A stream for tests. It gives the structures that it was handed, whatever they are, and then ends or refuses.
 ghost use Rattle.std.specs.Prelude.{◌≡◌, ◌≢◌, ◌+◌, ◌≤◌, ◌≤ℤ◌, ◌↔◌, IsTrue, Some, is_some, true, false, pos, IfOk};
-ghost use Rattle.fmt_string.specs.declared.row_fault.RowFault.{RowFault as RowFaultValue};
+ghost use Rattle.data_types.specs.declared.row_fault.RowFault.{RowFault as RowFaultValue};
 ghost use Rattle.tree_model.specs.Tree.{Released, trees};
 ghost use Rattle.raw_array.specs.Members.{Cost, cost_of_all};
 ghost use Rattle.raw_schema.specs.Members.{Nodes};
 ghost use Rattle.unit_pass.specs.declared.pass.TheConstants.{ROOM, SUPPLY};
 ghost use Rattle.stream_face.specs.Strangers.{held_in, holding};
 
+use data_types::RowFault;
 use edge_io::Gate;
-use fmt_string::RowFault;
 use raw_array::{Acted, RawArray, release_all};
 use raw_schema::RawSchema;
 use std::alloc::Global;

@@ -6,13 +6,15 @@ ghost use Rattle.stream_face.specs.Strangers.{held_in};
 
 use crate::stranger::{End, Stranger};
 use buf_block::{BufView, make};
+use data_types::RowFault;
 use edge_io::OpenGate;
-use fmt_string::{FormatFault, FormatRule, RowFault};
+use fmt_string::{FormatFault, FormatRule};
+use kind_tree::Typed;
 use layout_check::count_rows;
 use layout_rules::{LayoutFault, LayoutRule};
 use raw_array::{Acted, ArrayParts, RawArray, ReleaseKind};
 use raw_schema::{RawSchema, SchemaParts};
-use schema_check::{SchemaFault, SchemaRule, Typed};
+use schema_check::{SchemaFault, SchemaRule};
 use std::alloc::Global;
 use std::process::Abort;
 use std::thread::Threads;

@@ -1,6 +1,6 @@
 //! A table is shown twice, and what was kept is compared value by value.
 use crate::streams::{array, few_schema_levels, listed};
-use fmt_string::DataType;
+use data_types::DataType;
 use layout_check::check_chunk;
 use raw_array::RawArray;
 use raw_schema::{RawSchema, SchemaParts};

@@ -1,15 +1,15 @@
 //! A small chunk read by workers, side by side and in turn.
 ghost use Rattle.std.specs.Prelude.{◌≡◌};
-ghost use Rattle.schema_check.specs.Kinds.{TypedOk};
-ghost use Rattle.schema_check.specs.TypedView.{typed_of};
+ghost use Rattle.kind_tree.specs.Kinds.{TypedOk};
+ghost use Rattle.kind_tree.specs.TypedView.{typed_of};
 
 use buf_block::{BufView, make};
+use data_types::DataType;
 use edge_io::{Gate, OpenGate};
 use fan_out::{Job, fan_out};
-use fmt_string::DataType;
+use kind_tree::Typed;
 use layout_check::{check_chunk, chunk_passes};
 use raw_array::{ArrayParts, RawArray, ReleaseKind};
-use schema_check::Typed;
 use std::alloc::Global;
 use std::process::Abort;
 use std::sync::atomic::{AtomicU64, Ordering};

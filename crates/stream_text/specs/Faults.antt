@@ -1,5 +1,5 @@
 -- Why a stream has no text.
-use Rattle.fmt_string.specs.declared.row_fault.RowFault.{RowFault}
+use Rattle.data_types.specs.declared.row_fault.RowFault.{RowFault}
 use Rattle.stream_text.specs.declared.fault.DriveFault.{DriveFault}
 use Rattle.stream_text.specs.declared.fault.DriveFault.TheVariants.{Row, NoMemory}
 

@@ -1,5 +1,5 @@
 //! Why a stream has no text.
-use fmt_string::RowFault;
+use data_types::RowFault;
 use std::fmt;
 use unit_pass::NoMemory;
 

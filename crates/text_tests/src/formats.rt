@@ -1,9 +1,10 @@
 //! Format strings of the standard and refused ones with their faults, storages, flat types, and the texts of faults.
 ghost use Rattle.std.specs.Prelude.{◌≡◌, ◌∷◌, [], codes, map, IfSome};
-ghost use Rattle.fmt_string.specs.ColumnView.{column_of};
-ghost use Rattle.fmt_string.specs.Table.{Flat};
-ghost use Rattle.fmt_string.specs.declared.kind.DataType.TheVariants as kinds;
+ghost use Rattle.data_types.specs.ColumnView.{column_of};
+ghost use Rattle.data_types.specs.Table.{Flat};
+ghost use Rattle.data_types.specs.declared.kind.DataType.TheVariants as kinds;
 
+use data_types::*;
 use fmt_string::*;
 use std::alloc::Global;
 use std::test::*;

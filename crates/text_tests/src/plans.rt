@@ -1,10 +1,10 @@
 //! Stages over columns: the columns after them, and their faults.
 ghost use Rattle.std.specs.Prelude.{All, IfSome};
-ghost use Rattle.fmt_string.specs.ColumnForms.{KindsOk};
-ghost use Rattle.fmt_string.specs.ColumnView.{kind_of};
-ghost use Rattle.fmt_string.specs.Kinds.{KindOk};
+ghost use Rattle.data_types.specs.ColumnForms.{KindsOk};
+ghost use Rattle.data_types.specs.ColumnView.{kind_of};
+ghost use Rattle.data_types.specs.Kinds.{KindOk};
 
-use fmt_string::{ColKind, ColumnType, clone_kind};
+use data_types::{ColKind, ColumnType, clone_kind};
 use stage_plan::{PlanFault, PlanRule, StageText, TypeEntry, read_stage, read_types, type_plan};
 use std::alloc::Global;
 use std::test::Fail;

@@ -9,16 +9,16 @@ use Rattle.std.proofs.lemmas.List.{length-append, length-map, map-append}
 use Rattle.std.proofs.lemmas.List.Elements.{recursion_from_All}
 use Rattle.std.proofs.lemmas.List.Sums.{sum_by-cons}
 use Rattle.csv_read.specs.Chunks.{FitFrom, FitsKind, blocks_from, chunk_blocks, column_blocks}
-use Rattle.fmt_string.specs.ColumnForms.{AreColumnKinds, IsColumnKind}
-use Rattle.fmt_string.specs.ColumnView.{column_of}
-use Rattle.fmt_string.specs.FieldText.{IsValueOf}
-use Rattle.fmt_string.specs.Parts.{AreWithin, column_values, joined_rows, picked}
-use Rattle.fmt_string.specs.Table.{Column, Kind, Flat, Dict, Columns, Row}
-use Rattle.fmt_string.specs.declared.kind.DataType.{DataType}
-use Rattle.fmt_string.specs.Value.{Value, Null, byte_total, bytes_of}
-use Rattle.fmt_string.specs.declared.kind.ColumnType.{ColumnType}
-use Rattle.fmt_string.specs.declared.row_fault.RowFault.{RowFault}
-use Rattle.schema_check.specs.ColumnKinds.{type_of_columns}
+use Rattle.data_types.specs.ColumnForms.{AreColumnKinds, IsColumnKind}
+use Rattle.data_types.specs.ColumnView.{column_of}
+use Rattle.data_types.specs.FieldText.{IsValueOf}
+use Rattle.data_types.specs.Parts.{AreWithin, column_values, joined_rows, picked}
+use Rattle.data_types.specs.Table.{Column, Kind, Flat, Dict, Columns, Row}
+use Rattle.data_types.specs.declared.kind.DataType.{DataType}
+use Rattle.data_types.specs.Value.{Value, Null, byte_total, bytes_of}
+use Rattle.data_types.specs.declared.kind.ColumnType.{ColumnType}
+use Rattle.data_types.specs.declared.row_fault.RowFault.{RowFault}
+use Rattle.kind_tree.specs.ColumnKinds.{type_of_columns}
 use Rattle.schema_check.specs.ColumnSchema.{SchemaOf}
 use Rattle.schema_check.specs.Schemas.{TypedOf}
 use Rattle.raw_schema.specs.Members.{Nodes}

@@ -5,12 +5,12 @@ use Rattle.std.specs.Prelude.{◌⊎◌, ◌^◌, Option, None, Some, All}
 use Rattle.std.specs.List.{sum_by}
 use Rattle.std.proofs.lemmas.List.{length-map}
 use Rattle.csv_read.specs.Chunks.{FitFrom, chunk_blocks, chunk_of}
-use Rattle.fmt_string.specs.ColumnView.{column_of}
-use Rattle.fmt_string.specs.Parts.{joined_rows}
-use Rattle.fmt_string.specs.Table.{Column, Kind, Row}
-use Rattle.fmt_string.specs.declared.kind.ColumnType.{ColumnType}
-use Rattle.fmt_string.specs.declared.row_fault.RowFault.{RowFault}
-use Rattle.schema_check.specs.ColumnKinds.{type_of_columns}
+use Rattle.data_types.specs.ColumnView.{column_of}
+use Rattle.data_types.specs.Parts.{joined_rows}
+use Rattle.data_types.specs.Table.{Column, Kind, Row}
+use Rattle.data_types.specs.declared.kind.ColumnType.{ColumnType}
+use Rattle.data_types.specs.declared.row_fault.RowFault.{RowFault}
+use Rattle.kind_tree.specs.ColumnKinds.{type_of_columns}
 use Rattle.layout_rules.specs.Values.{rows_of}
 use Rattle.layout_rules.specs.Walk.{ChunkOk}
 use Rattle.raw_array.specs.Members.{ArrayTree, Cost}

@@ -7,11 +7,11 @@ use Rattle.std.specs.Prelude.{Option}
 use Rattle.col_build.specs.Holding.{Holds}
 use Rattle.col_build.specs.declared.builder.Builder.{Builder}
 use Rattle.csv_read.specs.Body.{HoldRows, HoldsKind}
-use Rattle.fmt_string.specs.ColumnView.{column_of}
-use Rattle.fmt_string.specs.Table.{Column, Kind, Flat, Row}
-use Rattle.fmt_string.specs.Value.{Value, Null}
-use Rattle.fmt_string.specs.declared.kind.ColumnType.{ColumnType}
-use Rattle.fmt_string.specs.declared.kind.DataType.{DataType}
+use Rattle.data_types.specs.ColumnView.{column_of}
+use Rattle.data_types.specs.Table.{Column, Kind, Flat, Row}
+use Rattle.data_types.specs.Value.{Value, Null}
+use Rattle.data_types.specs.declared.kind.ColumnType.{ColumnType}
+use Rattle.data_types.specs.declared.kind.DataType.{DataType}
 use Rattle.column_fill.proofs.ValuesTaken.{value-taken}
 use Rattle.stage_model.specs.Stages.{totals_row}
 use Rattle.total_stage.specs.Rows.{RowFits, Takes, ValueFits}

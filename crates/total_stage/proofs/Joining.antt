@@ -3,11 +3,11 @@ use Rattle.std.proofs.Common.{arith, ◌≡◌, ◌≢◌, ◌∙◌, ◌≤◌,
 use Rattle.std.proofs.lemmas.List.{get_or-set_other, get_or-set_same, length-set, map-append}
 use Rattle.std.proofs.lemmas.List.Elements.{filter_map-append}
 use Rattle.std.specs.List.{filter_map}
-use Rattle.fmt_string.specs.Parts.{column_values}
-use Rattle.fmt_string.specs.Table.{Row}
-use Rattle.fmt_string.specs.Value.{Value, Null, Whole}
+use Rattle.data_types.specs.Parts.{column_values}
+use Rattle.data_types.specs.Table.{Row}
+use Rattle.data_types.specs.Value.{Value, Null, Whole}
 use Rattle.raw_array.specs.Members.{ArrayTree}
-use Rattle.schema_check.specs.Kinds.{KindTree}
+use Rattle.kind_tree.specs.Kinds.{KindTree}
 use Rattle.layout_rules.specs.Values.{each, row_items}
 use Rattle.arr_import.specs.Window.{Window, item_at, whole}
 use Rattle.stage_model.specs.Stages.{number_if, numbers_at}

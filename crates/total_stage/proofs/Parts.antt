@@ -4,10 +4,10 @@ use Rattle.std.specs.Prelude.{Vec}
 use Rattle.std.specs.Global.{Global}
 use Rattle.std.specs.List.{filter_map}
 use Rattle.std.proofs.lemmas.List.{length-append, length-take}
-use Rattle.fmt_string.specs.Table.{Row}
-use Rattle.fmt_string.specs.Value.{Null}
+use Rattle.data_types.specs.Table.{Row}
+use Rattle.data_types.specs.Value.{Null}
 use Rattle.raw_array.specs.Members.{ArrayTree}
-use Rattle.schema_check.specs.Kinds.{KindTree}
+use Rattle.kind_tree.specs.Kinds.{KindTree}
 use Rattle.layout_rules.specs.Values.{each, row_items, rows_of, tree_items}
 use Rattle.array_laws.specs.Pieces.{border, joined_pieces}
 use Rattle.array_laws.proofs.WindowItems.{part-each}

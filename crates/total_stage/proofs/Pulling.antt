@@ -6,14 +6,14 @@ use Rattle.std.specs.List.{AllByRecursion}
 use Rattle.std.proofs.lemmas.Int.{ints}
 use Rattle.std.proofs.lemmas.Grind.{flat_map-append}
 use Rattle.std.proofs.lemmas.List.{append-nil, append_assoc, get_or-map, length-map}
-use Rattle.fmt_string.specs.FieldText.{IsValueOf}
-use Rattle.fmt_string.specs.Parts.{column_values, joined_rows}
-use Rattle.fmt_string.specs.Table.{Column, Flat, Row}
-use Rattle.fmt_string.specs.Value.{Null}
+use Rattle.data_types.specs.FieldText.{IsValueOf}
+use Rattle.data_types.specs.Parts.{column_values, joined_rows}
+use Rattle.data_types.specs.Table.{Column, Flat, Row}
+use Rattle.data_types.specs.Value.{Null}
 use Rattle.raw_array.specs.Members.{ArrayTree, Cost}
 use Rattle.tree_model.specs.Tree.{IsLive}
-use Rattle.schema_check.specs.ColumnKinds.{type_of_columns}
-use Rattle.schema_check.specs.Kinds.{KindTree, TypedOk}
+use Rattle.kind_tree.specs.ColumnKinds.{type_of_columns}
+use Rattle.kind_tree.specs.Kinds.{KindTree, TypedOk}
 use Rattle.layout_rules.specs.Values.{rows_of}
 use Rattle.layout_rules.specs.Walk.{ChunkOk}
 use Rattle.column_fill.proofs.Counts.{kids-long}
@@ -22,8 +22,8 @@ use Rattle.stage_model.specs.Typing.{is_summed, no_column}
 use Rattle.unit_pass.specs.Tally.{Tally}
 use Rattle.unit_pass.specs.declared.pass.TheConstants.{CHUNK}
 use Rattle.stream_face.specs.Shown.{Seen}
-use Rattle.fmt_string.specs.Kinds.{KindOk}
-use Rattle.fmt_string.specs.declared.kind.DataType.{DataType}
+use Rattle.data_types.specs.Kinds.{KindOk}
+use Rattle.data_types.specs.declared.kind.DataType.{DataType}
 use Rattle.stream_face.specs.Calls.{Answers, IsCode, Shows}
 use Rattle.stream_face.specs.Lawful.{AreItems, IsChunkOf, IsTable, LawfulColumns, LawfulTables, total_rows}
 use Rattle.stream_face.specs.Streams.{IsFresh, Stream}

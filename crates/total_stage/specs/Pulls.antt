@@ -1,7 +1,7 @@
 -- What it means that a stream was pulled to its end.
 use Rattle.std.specs.Prelude.{◌≡◌, ◌⊎◌, ℕ, ℤ, pos, List, [], Option, None, Some}
-use Rattle.fmt_string.specs.Parts.{joined_rows}
-use Rattle.fmt_string.specs.declared.row_fault.RowFault.{RowFault}
+use Rattle.data_types.specs.Parts.{joined_rows}
+use Rattle.data_types.specs.declared.row_fault.RowFault.{RowFault}
 use Rattle.stream_face.specs.Streams.{Stream}
 use Rattle.stream_face.specs.Texts.{refused_row, wanting}
 use Rattle.total_stage.specs.Sums.{AreSums}

@@ -3,11 +3,11 @@ use Rattle.std.specs.Prelude.{◌≡◌, ℕ, ◌<◌, ◌^◌, List, [], length
 use Rattle.col_build.specs.Encoding.{push_fault}
 use Rattle.col_build.specs.Holding.{Holds}
 use Rattle.col_build.specs.declared.builder.Builder.{Builder}
-use Rattle.fmt_string.specs.ColumnForms.{IsColumnKind}
-use Rattle.fmt_string.specs.FieldText.{IsValueOf}
-use Rattle.fmt_string.specs.Table.{Column, Kind, Flat, Row}
-use Rattle.fmt_string.specs.Value.{Value, Null, bytes_of}
-use Rattle.fmt_string.specs.declared.kind.DataType.{DataType}
+use Rattle.data_types.specs.ColumnForms.{IsColumnKind}
+use Rattle.data_types.specs.FieldText.{IsValueOf}
+use Rattle.data_types.specs.Table.{Column, Kind, Flat, Row}
+use Rattle.data_types.specs.Value.{Value, Null, bytes_of}
+use Rattle.data_types.specs.declared.kind.DataType.{DataType}
 
 -- a kind of plain values
 abbrev pub IsFlat : Kind → Type 0

@@ -1,11 +1,11 @@
 -- The totals of picked columns, in the making.
 use Rattle.std.specs.Prelude.{◌≡◌, ◌⊎◌, ℕ, ◌-◌, ◌<◌, ◌≤◌, ◌^◌, List, [], length, get_or, take, drop, Vec}
 use Rattle.std.specs.Global.{Global}
-use Rattle.fmt_string.specs.Table.{Row}
-use Rattle.fmt_string.specs.Value.{Null}
+use Rattle.data_types.specs.Table.{Row}
+use Rattle.data_types.specs.Value.{Null}
 use Rattle.tree_model.specs.Tree.{children_of}
 use Rattle.raw_array.specs.Members.{ArrayTree}
-use Rattle.schema_check.specs.Kinds.{KindTree, TypedOk}
+use Rattle.kind_tree.specs.Kinds.{KindTree, TypedOk}
 use Rattle.layout_rules.specs.Layout.{natural}
 use Rattle.layout_rules.specs.Values.{rows_of}
 use Rattle.layout_rules.specs.Walk.{ChunkOk}

@@ -1,7 +1,7 @@
 -- The totals of numbers, in the making.
 use Rattle.std.specs.Prelude.{◌≡◌, ℕ, ◌+◌, ◌-◌, ◌^◌, ℤ, pos, negsuc, ◌+ℤ◌, ◌≤ℤ◌, List, length, Option, None, Some}
 use Rattle.std.specs.List.{AllByRecursion, filter_map, fold}
-use Rattle.fmt_string.specs.Value.{Value, Null, Whole}
+use Rattle.data_types.specs.Value.{Value, Null, Whole}
 use Rattle.layout_rules.specs.Values.{each}
 use Rattle.arr_import.specs.Window.{Window, item_at}
 use Rattle.stage_model.specs.Stages.{greater, lesser, number_if, sum_of}

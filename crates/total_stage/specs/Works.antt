@@ -1,11 +1,11 @@
 -- What totals ask of the columns before them, and what they still give.
 use Rattle.std.specs.Prelude.{◌≡◌, ℕ, ◌*◌, ◌≤◌, Bool, true, false, List, [], length, map, Option}
 use Rattle.std.specs.List.{flat_map, list_all}
-use Rattle.fmt_string.specs.ColumnView.{column_of}
-use Rattle.fmt_string.specs.Parts.{AreWithin, picked}
-use Rattle.fmt_string.specs.Table.{Column, Row}
-use Rattle.fmt_string.specs.declared.kind.ColumnType.{ColumnType}
-use Rattle.fmt_string.specs.declared.row_fault.RowFault.{RowFault}
+use Rattle.data_types.specs.ColumnView.{column_of}
+use Rattle.data_types.specs.Parts.{AreWithin, picked}
+use Rattle.data_types.specs.Table.{Column, Row}
+use Rattle.data_types.specs.declared.kind.ColumnType.{ColumnType}
+use Rattle.data_types.specs.declared.row_fault.RowFault.{RowFault}
 use Rattle.stage_model.specs.Stages.{chunks_after}
 use Rattle.stage_model.specs.Typing.{is_summed, no_column, totals_columns}
 use Rattle.stage_model.specs.declared.stage.Step.TheVariants as steps

@@ -1,7 +1,7 @@
 //! The chunk of the row of totals.
 ghost use Rattle.std.specs.Prelude.{◌≡◌, ◌+◌, ◌*◌, ◌≤◌, ◌∷◌, [], ℕ, List, length, map, IfOk, OnOk, MatchResult};
-ghost use Rattle.fmt_string.specs.ColumnView.{column_of};
-ghost use Rattle.fmt_string.specs.Table.{Row};
+ghost use Rattle.data_types.specs.ColumnView.{column_of};
+ghost use Rattle.data_types.specs.Table.{Row};
 ghost use Rattle.unit_pass.specs.Tally.{risen};
 ghost use Rattle.raw_array.specs.Members.{Cost};
 ghost use Rattle.csv_read.specs.Chunks.{chunk_blocks, chunk_of};
@@ -13,7 +13,7 @@ use crate::numbers::Totals;
 use crate::row::{row_builders, row_values};
 use col_build::Spares;
 use csv_read::export_rows;
-use fmt_string::ColumnType;
+use data_types::ColumnType;
 use raw_array::RawArray;
 use std::alloc::Global;
 use unit_pass::{NoMemory, Pass};

@@ -1,7 +1,7 @@
 //! The totals of the rows of a window, as the job of workers.
 ghost use Rattle.std.specs.Prelude.{◌≤◌, length, IfOk};
 ghost use Rattle.layout_rules.specs.Layout.{natural};
-ghost use Rattle.schema_check.specs.TypedView.{typed_of};
+ghost use Rattle.kind_tree.specs.TypedView.{typed_of};
 ghost use Rattle.layout_rules.specs.Values.{rows_of};
 ghost use Rattle.total_stage.specs.Sums.{AreSums, CanAdd, CanSum, rows_between};
 
@@ -9,8 +9,8 @@ use crate::numbers::Totals;
 use crate::window::window_totals;
 use arr_import::Col;
 use fan_out::Job;
+use kind_tree::Typed;
 use raw_array::RawArray;
-use schema_check::Typed;
 use std::alloc::Global;
 use unit_pass::NoMemory;
 

@@ -1,7 +1,7 @@
 //! The row of totals, and builders that hold it.
 ghost use Rattle.std.specs.Prelude.{◌≡◌, ◌≤◌, ◌++◌, ◌∷◌, [], ℤ, ℕ, List, length, map, IfOk, OnOk};
-ghost use Rattle.fmt_string.specs.ColumnView.{column_of};
-ghost use Rattle.fmt_string.specs.Table.{Flat, Row};
+ghost use Rattle.data_types.specs.ColumnView.{column_of};
+ghost use Rattle.data_types.specs.Table.{Flat, Row};
 ghost use Rattle.col_build.specs.Holding.{Adds};
 ghost use Rattle.col_build.specs.Items.{value_of};
 ghost use Rattle.csv_read.specs.Body.{HoldRows, HoldsKind};
@@ -12,7 +12,7 @@ ghost use Rattle.total_stage.specs.Totals.{AreTotals, number_value};
 
 use crate::numbers::Totals;
 use col_build::{Builder, Item, PushFault};
-use fmt_string::{ColKind, ColumnType, DataType, clone_kind};
+use data_types::{ColKind, ColumnType, DataType, clone_kind};
 use std::alloc::Global;
 use unit_pass::NoMemory;
 

@@ -1,8 +1,8 @@
 //! The totals of columns, and what a chunk adds to them.
 ghost use Rattle.std.specs.Prelude.{◌≡◌, ◌≤◌, ◌+◌, ◌*◌, ◌^◌, ◌++◌, [], ℕ, List, length, IfOk, OnOk};
-ghost use Rattle.fmt_string.specs.Table.{Row};
+ghost use Rattle.data_types.specs.Table.{Row};
 ghost use Rattle.raw_array.specs.Members.{Cost};
-ghost use Rattle.schema_check.specs.TypedView.{typed_of};
+ghost use Rattle.kind_tree.specs.TypedView.{typed_of};
 ghost use Rattle.layout_rules.specs.Values.{rows_of};
 ghost use Rattle.total_stage.specs.Sums.{AreParts, AreSums, CanAdd, HaveBegun};
 
@@ -11,8 +11,8 @@ use crate::numbers::Totals;
 use array_laws::pieces_are_the_whole;
 use edge_io::Gate;
 use fan_out::{fan_out, pieces_are_in_order};
+use kind_tree::Typed;
 use raw_array::RawArray;
-use schema_check::Typed;
 use std::alloc::Global;
 use std::thread::Threads;
 use unit_pass::{NoMemory, Pass};

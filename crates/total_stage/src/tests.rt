@@ -1,8 +1,8 @@
 //! The totals of a chunk are the same by any number of workers, and two workers run side by side.
 ghost use Rattle.std.specs.Prelude.{◌≡◌, ◌≤◌, ◌<◌, ◌^◌, ◌∷◌, [], ℕ, length, IsTrue};
 ghost use Rattle.tree_model.specs.Tree.{children_of, depth_of_all, trees};
-ghost use Rattle.schema_check.specs.Kinds.{TypedOk};
-ghost use Rattle.schema_check.specs.TypedView.{typed_of};
+ghost use Rattle.kind_tree.specs.Kinds.{TypedOk};
+ghost use Rattle.kind_tree.specs.TypedView.{typed_of};
 ghost use Rattle.arr_import.specs.Cols.{window_of};
 ghost use Rattle.arr_import.specs.Window.{IsStruct, item_at};
 ghost use Rattle.total_stage.specs.Sums.{CanAdd};
@@ -13,11 +13,11 @@ use crate::sums::{add_chunk, begin};
 use crate::window::number_at;
 use arr_import::Col;
 use buf_block::{BufView, make};
+use data_types::DataType;
 use edge_io::{Gate, OpenGate};
-use fmt_string::DataType;
+use kind_tree::Typed;
 use layout_check::check_chunk;
 use raw_array::{ArrayParts, RawArray, ReleaseKind};
-use schema_check::Typed;
 use std::alloc::Global;
 use std::process::Abort;
 use std::sync::atomic::{AtomicU64, Ordering};

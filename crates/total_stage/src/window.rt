@@ -1,6 +1,6 @@
 //! The totals of some items of a column.
 ghost use Rattle.std.specs.Prelude.{◌≡◌, ◌≢◌, ◌-◌, ◌<◌, ◌≤◌, ◌^◌, ℕ, ℤ, IfNone, IfSome};
-ghost use Rattle.fmt_string.specs.Value.{Whole};
+ghost use Rattle.data_types.specs.Value.{Whole};
 ghost use Rattle.arr_import.specs.Cols.{window_of};
 ghost use Rattle.arr_import.specs.Window.{item_at};
 ghost use Rattle.total_stage.specs.Totals.{AreTotals, IsSmallItem, numbers_in};

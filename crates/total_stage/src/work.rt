@@ -1,6 +1,6 @@
 //! The work that totals columns.
 ghost use Rattle.std.specs.Prelude.{◌≡◌, ◌≤◌, map, false};
-ghost use Rattle.fmt_string.specs.ColumnView.{column_of};
+ghost use Rattle.data_types.specs.ColumnView.{column_of};
 ghost use Rattle.plan_laws.specs.Dues.{due_with};
 ghost use Rattle.stage_model.specs.declared.stage.Step.TheVariants as steps;
 ghost use Rattle.stages.specs.Works.{rows_alone};

@@ -2,10 +2,10 @@
 use Rattle.std.proofs.Common.{◌≡◌, ◌∙◌, ℕ, List, Result, Ok, Err, ap, refl, sym, subst}
 use Rattle.fmt_string.specs.Answer.{Reads as FormatReads}
 use Rattle.fmt_string.specs.declared.fault.FormatFault.{FormatFault}
-use Rattle.fmt_string.specs.declared.kind.DataType.{DataType}
+use Rattle.data_types.specs.declared.kind.DataType.{DataType}
 use Rattle.raw_schema.specs.Members.{SchemaTree}
 use Rattle.raw_array.specs.Members.{ArrayTree}
-use Rattle.schema_check.specs.Kinds.{KindTree}
+use Rattle.kind_tree.specs.Kinds.{KindTree}
 use Rattle.schema_check.specs.SchemaAnswers.{FirstFault, SchemaReads}
 use Rattle.tree_text.specs.Answers.{Reads}
 use Rattle.tree_text.specs.declared.fault.TextFault.{TextFault}

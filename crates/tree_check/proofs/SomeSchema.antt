@@ -7,20 +7,20 @@ use Rattle.fmt_string.specs.Answer.{Reads as FormatReads}
 use Rattle.fmt_string.specs.FormatString.{FormatIs}
 use Rattle.fmt_string.specs.declared.fault.FormatFault.{FormatFault}
 use Rattle.fmt_string.specs.declared.fault.FormatFault.TheVariants as format
-use Rattle.fmt_string.specs.declared.kind.DataType.{DataType}
-use Rattle.fmt_string.specs.declared.kind.DataType.TheVariants as kinds
+use Rattle.data_types.specs.declared.kind.DataType.{DataType}
+use Rattle.data_types.specs.declared.kind.DataType.TheVariants as kinds
 use Rattle.schema_meta.specs.Meta.{MetaFaultIs, Reads as MetaReads}
 use Rattle.schema_meta.specs.declared.fault.MetaFault.{MetaFault}
 use Rattle.schema_meta.specs.declared.fault.MetaFault.TheVariants as meta
 use Rattle.schema_meta.specs.declared.pair.Pair.{Pair}
 use Rattle.tree_model.specs.Tree.{Released, Live, Trees, no_trees, more_trees, MaybeTree, absent, present}
 use Rattle.raw_schema.specs.Members.{SchemaMembers, SchemaTree}
-use Rattle.schema_check.specs.Kinds.{KindTree, tree_count}
+use Rattle.kind_tree.specs.Kinds.{KindTree, tree_count}
 use Rattle.schema_check.specs.SchemaAnswers.{FirstFault, SchemaReads}
 use Rattle.schema_check.specs.Schemas.{ChildrenFit, DictFault, DictTyped, FailsHere, FaultFrom, IndexFits, IsPairNode, IsPairSchema}
 use Rattle.schema_check.specs.Schemas.{KidFault, KidsTyped, MapFits, MetaFits}
 use Rattle.schema_check.specs.Schemas.{NodeIs, TypedFrom}
-use Rattle.schema_check.specs.Ways.{Steps, dictionary_step}
+use Rattle.kind_tree.specs.Ways.{Steps, dictionary_step}
 use Rattle.schema_check.specs.declared.rule.SchemaRule.{SchemaRule}
 use Rattle.schema_check.specs.declared.rule.SchemaRule.TheVariants as rules
 use Rattle.tree_text.specs.TreeText.{AllFit, AreBytesIf, MaybeFits, SchemaNodeFits, TreeFits}

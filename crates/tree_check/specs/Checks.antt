@@ -4,13 +4,13 @@ use Rattle.unit_pass.specs.Tally.{risen}
 use Rattle.tree_model.specs.TreeCost.{Holds, Nodes}
 use Rattle.raw_schema.specs.Members.{SchemaTree}
 use Rattle.raw_array.specs.Members.{ArrayTree, holds}
-use Rattle.schema_check.specs.Ways.{steps_of, Steps}
+use Rattle.kind_tree.specs.Ways.{steps_of, Steps}
 use Rattle.layout_rules.specs.Found.{fault_of}
-use Rattle.schema_check.specs.Kinds.{KindTree}
+use Rattle.kind_tree.specs.Kinds.{KindTree}
 use Rattle.schema_check.specs.SchemaAnswers.{FirstFault, SchemaReads}
 use Rattle.layout_rules.specs.Walk.{Fault, first_fault}
 use Rattle.layout_rules.specs.declared.rule.LayoutFault.{LayoutFault}
-use Rattle.schema_check.specs.declared.rule.Path.{Path}
+use Rattle.kind_tree.specs.declared.path.Path.{Path}
 use Rattle.schema_check.specs.declared.schema.SchemaFault.{SchemaFault}
 use Rattle.schema_check.specs.declared.schema.SchemaFault.TheVariants as schemas
 use Rattle.tree_text.specs.Answers.{Reads}

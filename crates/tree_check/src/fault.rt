@@ -1,10 +1,11 @@
 //! Why a text of trees has no report.
 ghost use Rattle.std.specs.Prelude.{◌≡◌};
-ghost use Rattle.schema_check.specs.Ways.{steps_of};
+ghost use Rattle.kind_tree.specs.Ways.{steps_of};
 ghost use Rattle.tree_check.specs.Checks.{path_of};
 
+use kind_tree::Path;
 use layout_rules::LayoutFault;
-use schema_check::{Path, SchemaFault, SchemaRule};
+use schema_check::{SchemaFault, SchemaRule};
 use std::fmt;
 use tree_text::TextFault;
 use unit_pass::NoMemory;

@@ -2,7 +2,7 @@
 use Rattle.std.specs.Prelude.{◌≡◌, Some}
 use Rattle.raw_array.specs.Members.{ArrayTree}
 use Rattle.raw_schema.specs.Members.{SchemaTree}
-use Rattle.schema_check.specs.Kinds.{KindTree}
+use Rattle.kind_tree.specs.Kinds.{KindTree}
 use Rattle.schema_check.specs.Schemas.{TypedOf}
 use Rattle.schema_check.specs.SchemaAnswers.{IsFirstFault}
 use Rattle.layout_rules.specs.Found.{fault_of}

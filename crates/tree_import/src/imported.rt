@@ -1,9 +1,9 @@
 //! Two structures that both checks accepted, kept together.
 ghost use Rattle.std.specs.Prelude.{◌≡◌, IfOk, IfErr};
 ghost use Rattle.schema_check.specs.declared.schema.SchemaFault.TheVariants.{NoMemory};
-ghost use Rattle.schema_check.specs.Kinds.{KindTree, TypedOk};
+ghost use Rattle.kind_tree.specs.Kinds.{KindTree, TypedOk};
 ghost use Rattle.schema_check.specs.Schemas.{TypedOf};
-ghost use Rattle.schema_check.specs.TypedView.{typed_of};
+ghost use Rattle.kind_tree.specs.TypedView.{typed_of};
 ghost use Rattle.layout_rules.specs.Values.{values_of};
 ghost use Rattle.layout_rules.specs.Walk.{LayoutOk};
 ghost use Rattle.tree_import.specs.declared.imported.ImportFault.TheVariants.{Schema};
@@ -13,11 +13,12 @@ ghost use Rattle.arr_import.specs.Window.{whole, items_of};
 ghost use Rattle.arr_import.specs.Cols.{window_of};
 
 use arr_import::Col;
+use kind_tree::Typed;
 use layout_check::check_array;
 use layout_rules::LayoutFault;
 use raw_array::RawArray;
 use raw_schema::RawSchema;
-use schema_check::{SchemaFault, Typed, check_schema, one_schema_answer};
+use schema_check::{SchemaFault, check_schema, one_schema_answer};
 use std::alloc::Global;
 use std::fmt;
 use std::marker::Model;
@@ -57,7 +58,7 @@ impl Model for Imported {
     ghost use Rattle.std.specs.Coded.{codes};
     ghost use Rattle.raw_schema.specs.Members.{coded_schema};
     ghost use Rattle.raw_array.specs.Members.{coded_array};
-    ghost use Rattle.schema_check.specs.contracts.typed.Typed as kinds;
+    ghost use Rattle.kind_tree.specs.contracts.typed.Typed as kinds;
 
     ghost Value = { ImportedTrees };
 

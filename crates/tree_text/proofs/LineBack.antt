@@ -14,7 +14,7 @@ use Rattle.std.proofs.lemmas.List.Elements.{All-from_recursion}
 use Rattle.std.proofs.lemmas.List.Splits.{slice_split_none, slice_split_at, join_with_byte-slice_split}
 use Rattle.std.proofs.lemmas.Option.{option_and_then_some}
 use Rattle.std.proofs.lemmas.Slice.Eq.{bytes_eq-Decides}
-use Rattle.fmt_string.specs.FieldText.{in_range}
+use Rattle.data_types.specs.FieldText.{in_range}
 use Rattle.raw_schema.specs.Members.{SchemaMembers}
 use Rattle.tree_text.specs.TreeText.{is_plain, byte_text, token, spaced, schema_line, ArrayNumbers, array_line, AreBytes, AreBytesIf, most_parts}
 use Rattle.tree_text.specs.TreeText.{SchemaNodeFits, ArrayNumbersFit}

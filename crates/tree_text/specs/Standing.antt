@@ -8,7 +8,7 @@ use Rattle.std.specs.Str.{bytes_eq}
 use Rattle.std.specs.Str.Parse.{signed_digits_value}
 use Rattle.std.specs.Str.Lines.{lines}
 use Rattle.std.specs.Fmt.{signed_decimal}
-use Rattle.fmt_string.specs.FieldText.{hex_bytes, in_range}
+use Rattle.data_types.specs.FieldText.{hex_bytes, in_range}
 use Rattle.raw_schema.specs.Members.{SchemaMembers}
 use Rattle.tree_text.specs.TreeText.{is_plain, byte_text, ArrayNumbers, most_parts, deepest_level}
 

@@ -6,7 +6,7 @@ use Rattle.std.specs.Int.{is_in_range}
 use Rattle.std.specs.List.{flat_map, join_with_byte, AllByRecursion}
 use Rattle.std.specs.Fmt.{decimal, signed_decimal, digit_glyph}
 use Rattle.std.specs.Str.Lines.{lines}
-use Rattle.fmt_string.specs.FieldText.{hex_text, in_range}
+use Rattle.data_types.specs.FieldText.{hex_text, in_range}
 use Rattle.tree_model.specs.Tree.{Tree, Released, Live, Trees, no_trees, more_trees, MaybeTree, absent, present, tree_list}
 use Rattle.raw_schema.specs.Members.{SchemaMembers, SchemaTree}
 use Rattle.raw_array.specs.Members.{Buffer, ArrayMembers, ArrayTree, whole, bytes_in}

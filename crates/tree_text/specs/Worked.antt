@@ -1,14 +1,14 @@
 -- Small texts, with their trees or their first fault, and what the rules and the report say of these trees.
 use Rattle.std.specs.Prelude.{◌≡◌, ℕ, ◌+◌, pos, negsuc, true, false, List, [], ◌∷◌, ◌++◌, codes, take, Option, None, Some}
 use Rattle.std.specs.List.{flat_map}
-use Rattle.fmt_string.specs.declared.kind.DataType.{DataType}
-use Rattle.fmt_string.specs.declared.kind.DataType.TheVariants as kinds
+use Rattle.data_types.specs.declared.kind.DataType.{DataType}
+use Rattle.data_types.specs.declared.kind.DataType.TheVariants as kinds
 use Rattle.tree_model.specs.Tree.{Released, Live, Trees, no_trees, more_trees, MaybeTree, absent, present}
 use Rattle.raw_schema.specs.Members.{SchemaMembers, SchemaTree}
 use Rattle.raw_array.specs.Members.{Buffer, ArrayMembers, ArrayTree, whole}
 use Rattle.raw_array.specs.declared.array.ReleaseKind.TheVariants.{Exported}
 use Rattle.layout_rules.specs.declared.rule.LayoutRule.TheVariants as rules
-use Rattle.schema_check.specs.Kinds.{KindTree}
+use Rattle.kind_tree.specs.Kinds.{KindTree}
 use Rattle.layout_rules.specs.Walk.{first_fault}
 use Rattle.layout_rules.specs.WorkedArrays.{faulty}
 use Rattle.tree_text.specs.TreeText.{TreeIs}

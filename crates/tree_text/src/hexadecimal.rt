@@ -3,11 +3,11 @@ ghost use Rattle.std.specs.Prelude.{◌≡◌, ◌/◌, ◌*◌, true, false, le
 ghost use Rattle.std.specs.Bool.{OnTrue, OnFalse};
 ghost use Rattle.std.specs.Char.{is_ascii_uppercase};
 ghost use Rattle.std.specs.List.{list_any};
-ghost use Rattle.fmt_string.specs.FieldText.{hex_bytes};
+ghost use Rattle.data_types.specs.FieldText.{hex_bytes};
 ghost use Rattle.raw_schema.specs.View.{bytes_of};
 ghost use Rattle.tree_text.specs.Standing.{read_lower_hex};
 
-use fmt_string::decode_hex;
+use data_types::decode_hex;
 use std::alloc::Global;
 use unit_pass::NoMemory;
 

@@ -1,24 +1,24 @@
 //! The report of a lawful array, node by node.
 ghost use Rattle.std.specs.Prelude.{◌≡◌, ◌+◌, ◌<◌, ◌≤◌, ◌++◌, [], ℕ, map, length, get_or, Some, None, Option, IfOk};
 ghost use Rattle.std.specs.Global.{Box};
-ghost use Rattle.fmt_string.specs.Kinds.{KindOk};
+ghost use Rattle.data_types.specs.Kinds.{KindOk};
 ghost use Rattle.tree_model.specs.Tree.{Released, IsLive, Depth, depth_of_all, depth_of_maybe, trees, maybe_tree, child_at, children_of, dictionary_of};
 ghost use Rattle.raw_array.specs.Members.{ArrayTree};
-ghost use Rattle.schema_check.specs.declared.typed.Typed.{out-Typed};
-ghost use Rattle.schema_check.specs.Kinds.{KindTree, NodesOk, AllNodesOk, DictNodesOk, TypedOk};
-ghost use Rattle.schema_check.specs.TypedView.{typed_of, dict_in};
+ghost use Rattle.kind_tree.specs.declared.typed.Typed.{out-Typed};
+ghost use Rattle.kind_tree.specs.Kinds.{KindTree, NodesOk, AllNodesOk, DictNodesOk, TypedOk};
+ghost use Rattle.kind_tree.specs.TypedView.{typed_of, dict_in};
 ghost use Rattle.layout_check.specs.NodeView.{live_node};
-ghost use Rattle.schema_check.specs.Ways.{steps_of};
+ghost use Rattle.kind_tree.specs.Ways.{steps_of};
 ghost use Rattle.layout_rules.specs.Walk.{LayoutOk, visits};
 ghost use Rattle.tree_text.specs.Report.{node_line, visits_text, ReportOf};
 ghost use Rattle.tree_text.specs.Below.{children_visits, dictionary_visits};
 
 use crate::report_text::push_line;
 use fmt_string::write_format;
+use kind_tree::{DICTIONARY_STEP, Path, Typed};
 use layout_check::nulls_of;
 use layout_rules::{lawful_parts, lawful_root};
 use raw_array::RawArray;
-use schema_check::{DICTIONARY_STEP, Path, Typed};
 use std::alloc::Global;
 use unit_pass::NoMemory;
 

@@ -1,9 +1,9 @@
 use Rattle.std.proofs.lemmas.Grind.{common_steps}
 use Rattle.std.proofs.Common.{◌≡◌, ◌∙◌, ◌+◌, ◌<◌, ◌++◌, ◌∷◌, [], ap, arith, sym, subst, rules, length, map, take, get_or, List, ℕ, Some, IfOk}
 use Rattle.std.proofs.lemmas.List.{length-map}
-use Rattle.fmt_string.specs.ColumnView.{kind_of}
-use Rattle.fmt_string.specs.declared.kind.ColKind.{ColKind}
-use Rattle.fmt_string.specs.declared.kind.ColumnType.{ColumnType}
+use Rattle.data_types.specs.ColumnView.{kind_of}
+use Rattle.data_types.specs.declared.kind.ColKind.{ColKind}
+use Rattle.data_types.specs.declared.kind.ColumnType.{ColumnType}
 use Rattle.tree_model.specs.Tree.{Depth, absent, trees}
 use Rattle.tree_model.proofs.Measures.{cost_of_all-append}
 use Rattle.raw_schema.specs.Members.{Nodes, SchemaTree, no_holds, nodes_of_all}

@@ -1,7 +1,7 @@
 use Rattle.std.proofs.Common.{◌≡◌, ◌≤◌, ◌+◌, ◌*◌, map, take, length, vec_len}
 use Rattle.std.specs.Vec.{vec_capacity}
 use Rattle.unit_pass.specs.Tally.{risen}
-use Rattle.fmt_string.specs.ColumnView.{kind_of}
+use Rattle.data_types.specs.ColumnView.{kind_of}
 use Rattle.tree_model.specs.Tree.{Depth, depth_of_all, trees}
 use Rattle.raw_schema.specs.Members.{nodes_of_all}
 use Rattle.schema_check.specs.ColumnSchema.{column_schema}

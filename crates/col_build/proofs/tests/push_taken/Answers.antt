@@ -1,6 +1,6 @@
 use Rattle.std.proofs.Common.{◌≤◌, ◌+◌, List, [], ◌∷◌, length, length-append, arith}
-use Rattle.fmt_string.specs.Value.{Value}
-use Rattle.fmt_string.specs.declared.kind.DataType.{DataType}
+use Rattle.data_types.specs.Value.{Value}
+use Rattle.data_types.specs.declared.kind.DataType.{DataType}
 use Rattle.col_build.specs.Holding.{Adds, Holds}
 use Rattle.col_build.specs.declared.builder.Builder.{Builder}
 use Rattle.col_build.proofs.tests.push_taken.Goals as goal

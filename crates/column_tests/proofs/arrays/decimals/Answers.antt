@@ -1,6 +1,6 @@
 use Rattle.std.proofs.Common.{rules, refl, arith, pos, negsuc, false, [], ◌∷◌}
-use Rattle.fmt_string.specs.Value.{Whole}
-use Rattle.fmt_string.specs.declared.kind.DataType.TheVariants as kinds
+use Rattle.data_types.specs.Value.{Whole}
+use Rattle.data_types.specs.declared.kind.DataType.TheVariants as kinds
 use Rattle.column_tests.proofs.TestColumns.{fitting}
 use Rattle.column_tests.proofs.arrays.decimals.Goals as goal
 

@@ -1,6 +1,6 @@
 use Rattle.std.proofs.Common.{refl, arith, inr, [], ◌∷◌}
-use Rattle.fmt_string.specs.Value.{Bits}
-use Rattle.fmt_string.specs.declared.kind.DataType.TheVariants as kinds
+use Rattle.data_types.specs.Value.{Bits}
+use Rattle.data_types.specs.declared.kind.DataType.TheVariants as kinds
 use Rattle.column_tests.proofs.TestColumns.{fitting}
 use Rattle.column_tests.proofs.arrays.floats.Goals as goal
 

@@ -1,6 +1,6 @@
 use Rattle.std.proofs.Common.{refl, pos, true, [], ◌∷◌}
-use Rattle.fmt_string.specs.Value.{Null, Whole}
-use Rattle.fmt_string.specs.declared.kind.DataType.TheVariants as kinds
+use Rattle.data_types.specs.Value.{Null, Whole}
+use Rattle.data_types.specs.declared.kind.DataType.TheVariants as kinds
 use Rattle.column_tests.proofs.arrays.laid_numbers.Goals as goal
 
 pub exported_laid-requires : goal.exported_laid-requires

@@ -1,6 +1,6 @@
 use Rattle.std.proofs.Common.{rules, ◌≤◌, refl, arith, inl, pos, false, [], ◌∷◌}
-use Rattle.fmt_string.specs.Value.{Whole}
-use Rattle.fmt_string.specs.declared.kind.DataType.TheVariants as kinds
+use Rattle.data_types.specs.Value.{Whole}
+use Rattle.data_types.specs.declared.kind.DataType.TheVariants as kinds
 use Rattle.column_tests.proofs.TestColumns.{fitting, items-of}
 use Rattle.arr_export.specs.ArrayTrees.{IsPlaceOf}
 use Rattle.layout_rules.specs.Values.{tree_items}

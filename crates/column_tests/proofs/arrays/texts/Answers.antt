@@ -1,8 +1,8 @@
 use Rattle.std.proofs.Common.{refl, arith, false, [], ◌∷◌}
 use Rattle.std.specs.Str.{chars, is_utf8}
 use lib.Utf8.{encode}
-use Rattle.fmt_string.specs.Value.{Null, Bytes}
-use Rattle.fmt_string.specs.declared.kind.DataType.TheVariants as kinds
+use Rattle.data_types.specs.Value.{Null, Bytes}
+use Rattle.data_types.specs.declared.kind.DataType.TheVariants as kinds
 use Rattle.column_tests.proofs.TestColumns.{fitting}
 use Rattle.column_tests.proofs.arrays.texts.Goals as goal
 

@@ -1,6 +1,6 @@
 use Rattle.std.proofs.Common.{refl, arith, [], ◌∷◌}
-use Rattle.fmt_string.specs.Value.{Null, Bytes}
-use Rattle.fmt_string.specs.declared.kind.DataType.TheVariants as kinds
+use Rattle.data_types.specs.Value.{Null, Bytes}
+use Rattle.data_types.specs.declared.kind.DataType.TheVariants as kinds
 use Rattle.column_tests.proofs.TestColumns.{fitting}
 use Rattle.column_tests.proofs.arrays.triples.Goals as goal
 

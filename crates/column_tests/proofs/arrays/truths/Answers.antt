@@ -1,6 +1,6 @@
 use Rattle.std.proofs.Common.{refl, arith, true, false, [], ◌∷◌}
-use Rattle.fmt_string.specs.Value.{Null, Truth}
-use Rattle.fmt_string.specs.declared.kind.DataType.TheVariants as kinds
+use Rattle.data_types.specs.Value.{Null, Truth}
+use Rattle.data_types.specs.declared.kind.DataType.TheVariants as kinds
 use Rattle.column_tests.proofs.TestColumns.{fitting}
 use Rattle.column_tests.proofs.arrays.truths.Goals as goal
 

@@ -1,5 +1,5 @@
 use Rattle.std.proofs.Common.{rules, arith, List, ℕ, map, subst, take}
-use Rattle.fmt_string.specs.ColumnView.{column_of}
+use Rattle.data_types.specs.ColumnView.{column_of}
 use Rattle.csv_model.specs.Reading.{body_from}
 use Rattle.csv_read.specs.Body.{IsBodyFault}
 use Rattle.csv_read.specs.BodyRows.{HasBatch, IsRowsFault}

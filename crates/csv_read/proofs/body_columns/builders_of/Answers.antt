@@ -1,5 +1,5 @@
 use Rattle.std.proofs.Common.{◌≡◌, ◌++◌, ◌∷◌, [], rules, arith}
-use Rattle.fmt_string.specs.Kinds.{KindOk}
+use Rattle.data_types.specs.Kinds.{KindOk}
 use Rattle.csv_read.specs.ColumnForms.{IsBegun}
 use Rattle.field_codec.specs.TextColumns.{IsAllowed}
 use Rattle.csv_read.proofs.BodyRows.{column-kind, each-of-all, one-more}

@@ -1,5 +1,5 @@
 use Rattle.std.proofs.Common.{map}
-use Rattle.fmt_string.specs.ColumnView.{column_of}
+use Rattle.data_types.specs.ColumnView.{column_of}
 use Rattle.csv_read.specs.ColumnForms.{EachOf, IsBegun}
 use Rattle.csv_read.proofs.body_columns.builders_of.Given as goal
 

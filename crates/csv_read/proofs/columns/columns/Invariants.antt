@@ -1,5 +1,5 @@
 use Rattle.std.proofs.Common.{◌≡◌, map, take}
-use Rattle.fmt_string.specs.ColumnView.{column_of}
+use Rattle.data_types.specs.ColumnView.{column_of}
 use Rattle.csv_model.specs.Header.{header_columns}
 use Rattle.csv_read.specs.Entries.{entries_of, texts}
 use Rattle.csv_read.proofs.columns.columns.Given as goal

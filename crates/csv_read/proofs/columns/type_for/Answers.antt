@@ -1,6 +1,6 @@
 use Rattle.std.proofs.Common.{◌≡◌, ◌∙◌, ap, sym, subst, arith, IfOk, Option, option_map}
 use Rattle.std.specs.Str.{bytes_eq}
-use Rattle.fmt_string.specs.declared.kind.DataType.{DataType}
+use Rattle.data_types.specs.declared.kind.DataType.{DataType}
 use Rattle.stage_plan.specs.declared.types.TypeEntry.{TypeEntry}
 use Rattle.csv_model.specs.Header.{kind_or_text, type_for}
 use Rattle.csv_read.specs.Entries.{entries_of, entry_of}

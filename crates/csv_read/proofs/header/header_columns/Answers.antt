@@ -1,6 +1,6 @@
 use Rattle.std.proofs.lemmas.Grind.{common_steps}
 use Rattle.std.proofs.Common.{◌≡◌, ◌∙◌, List, ℕ, None, Bor, refl, subst, sym, arith}
-use Rattle.fmt_string.specs.Kinds.{KindOk}
+use Rattle.data_types.specs.Kinds.{KindOk}
 use Rattle.csv_model.specs.Header.{names_fault}
 use Rattle.csv_read.specs.Entries.{entries_of, texts}
 use Rattle.field_codec.specs.TextColumns.{AreAllowed, AreProper, IsAllowed, NamesDiffer}

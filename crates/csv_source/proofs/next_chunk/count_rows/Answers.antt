@@ -2,9 +2,9 @@ use Rattle.std.proofs.Common.{◌≡◌, ◌∙◌, ◌<◌, ap, arith, pos, [],
 use Rattle.std.proofs.lemmas.Int.{ints}
 use Rattle.std.proofs.lemmas.List.{length-map}
 use Rattle.col_build.specs.Holding.{HoldsSome}
-use Rattle.fmt_string.specs.Table.{Column, Flat}
-use Rattle.fmt_string.specs.Value.{Null}
-use Rattle.fmt_string.specs.declared.kind.DataType.TheVariants as kinds
+use Rattle.data_types.specs.Table.{Column, Flat}
+use Rattle.data_types.specs.Value.{Null}
+use Rattle.data_types.specs.declared.kind.DataType.TheVariants as kinds
 use Rattle.csv_read.specs.Body.{HoldsKind, column_values}
 use Rattle.csv_source.proofs.Chunks.{kind-count}
 use Rattle.csv_source.proofs.next_chunk.count_rows.Goals as goal

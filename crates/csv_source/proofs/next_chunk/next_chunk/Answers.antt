@@ -6,9 +6,9 @@ use Rattle.col_build.specs.declared.builder.Builder.{Builder}
 use Rattle.csv_read.specs.BatchesLeft.{BatchesLeft, IsNextBatch, batches_left, columns_in}
 use Rattle.csv_read.specs.Body.{HoldRows}
 use Rattle.csv_read.specs.Chunks.{chunk_blocks, chunk_of}
-use Rattle.fmt_string.specs.ColumnView.{column_of}
-use Rattle.fmt_string.specs.Table.{Column}
-use Rattle.fmt_string.specs.declared.kind.ColumnType.{ColumnType}
+use Rattle.data_types.specs.ColumnView.{column_of}
+use Rattle.data_types.specs.Table.{Column}
+use Rattle.data_types.specs.declared.kind.ColumnType.{ColumnType}
 use Rattle.raw_array.specs.Members.{ArrayTree, Cost}
 use Rattle.unit_pass.specs.Tally.{risen}
 use Rattle.csv_source.specs.NextChunks.{IsNextChunk}

@@ -1,6 +1,6 @@
 use Rattle.std.proofs.Common.{List, map, subst, sym}
-use Rattle.fmt_string.specs.ColumnView.{column_of}
-use Rattle.fmt_string.specs.declared.kind.ColumnType.{ColumnType}
+use Rattle.data_types.specs.ColumnView.{column_of}
+use Rattle.data_types.specs.declared.kind.ColumnType.{ColumnType}
 use Rattle.field_codec.specs.TextColumns.{AreAllowed, AreProper}
 use Rattle.csv_tests.proofs.bodies.fault_of.Goals as goal
 

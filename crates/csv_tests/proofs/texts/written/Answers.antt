@@ -1,5 +1,5 @@
 use Rattle.std.proofs.Common.{◌++◌, ◌∙◌, map, ap}
-use Rattle.fmt_string.specs.ColumnView.{column_of}
+use Rattle.data_types.specs.ColumnView.{column_of}
 use Rattle.csv_model.specs.Text.{rows_text}
 use Rattle.arr_import.specs.Cols.{window_of}
 use Rattle.csv_write.specs.CsvTexts.{rows_in}

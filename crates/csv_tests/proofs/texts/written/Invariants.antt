@@ -1,5 +1,5 @@
 use Rattle.std.proofs.Common.{ℕ, List, map}
-use Rattle.fmt_string.specs.ColumnView.{column_of}
+use Rattle.data_types.specs.ColumnView.{column_of}
 use Rattle.csv_write.specs.CsvTexts.{HasText}
 use Rattle.csv_tests.proofs.texts.written.Given as goal
 

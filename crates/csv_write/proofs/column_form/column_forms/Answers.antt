@@ -1,7 +1,7 @@
 use Rattle.std.proofs.lemmas.Grind.{common_steps}
 use Rattle.std.proofs.Common.{◌+◌, ◌++◌, ◌∷◌, ◌∙◌, ◌<◌, [], take, map, length, ap, sym, subst, arith}
 use Rattle.std.proofs.lemmas.List.{get_or-map, length-map, map_more}
-use Rattle.fmt_string.specs.ColumnView.{column_of}
+use Rattle.data_types.specs.ColumnView.{column_of}
 use Rattle.csv_write.specs.CsvTexts.{AreFormsOf, IsFormOf}
 use Rattle.field_codec.specs.TextColumns.{HasTexts}
 use Rattle.csv_write.proofs.ChunkTexts.{zip-push}

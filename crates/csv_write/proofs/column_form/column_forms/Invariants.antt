@@ -1,5 +1,5 @@
 use Rattle.std.proofs.Common.{take, map}
-use Rattle.fmt_string.specs.ColumnView.{column_of}
+use Rattle.data_types.specs.ColumnView.{column_of}
 use Rattle.csv_write.specs.CsvTexts.{AreFormsOf}
 use Rattle.csv_write.proofs.column_form.column_forms.Given as goal
 

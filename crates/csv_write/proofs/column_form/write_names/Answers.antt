@@ -2,8 +2,8 @@ use Rattle.std.proofs.Common.{◌≡◌, ◌+◌, ◌++◌, ◌∷◌, ◌∙◌
 use Rattle.std.proofs.lemmas.List.{length-map, length-take, map_more}
 use Rattle.std.proofs.Math.Seq.{take-length}
 use Rattle.csv.specs.Writing.{default_writer, row_text}
-use Rattle.fmt_string.specs.ColumnView.{column_of}
-use Rattle.fmt_string.specs.declared.kind.ColumnType.{ColumnType}
+use Rattle.data_types.specs.ColumnView.{column_of}
+use Rattle.data_types.specs.declared.kind.ColumnType.{ColumnType}
 use Rattle.csv_write.specs.Lines.{HasFields, HasLines}
 use Rattle.csv_write.proofs.Lines.{no-fields}
 use Rattle.csv_write.proofs.column_form.write_names.Goals as goal

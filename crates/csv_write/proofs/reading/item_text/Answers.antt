@@ -3,8 +3,8 @@ use Rattle.std.proofs.Common.{rules, ◌≡◌, ◌∙◌, ◌/◌, true, to_z, 
 use Rattle.std.specs.Fmt.{signed_decimal}
 use Rattle.std.specs.Int.{w128}
 use Rattle.std.proofs.lemmas.Result.{IfOk-weaker}
-use Rattle.fmt_string.specs.FieldText.{Truths, Wholes, FloatBits, Text, HexBytes, Decimals, decimal_text, hex_text, last_digits}
-use Rattle.fmt_string.specs.Value.{Truth, Whole, Bits, Bytes}
+use Rattle.data_types.specs.FieldText.{Truths, Wholes, FloatBits, Text, HexBytes, Decimals, decimal_text, hex_text, last_digits}
+use Rattle.data_types.specs.Value.{Truth, Whole, Bits, Bytes}
 use Rattle.arr_import.specs.Plain.{ShowsTexts, ShowsWholes, ShowsTruths, ShowsDoubles}
 use Rattle.csv_write.specs.Readings.{Reads}
 use Rattle.csv_write.proofs.Readings.{item-text}

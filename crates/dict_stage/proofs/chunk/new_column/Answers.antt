@@ -1,10 +1,10 @@
 use Rattle.std.proofs.Common.{◌∙◌, ap, sym, subst, length, arith, List, IfOk}
-use Rattle.fmt_string.specs.ColumnView.{kind_of}
-use Rattle.fmt_string.specs.Parts.{column_values}
-use Rattle.fmt_string.specs.Value.{Value}
+use Rattle.data_types.specs.ColumnView.{kind_of}
+use Rattle.data_types.specs.Parts.{column_values}
+use Rattle.data_types.specs.Value.{Value}
 use Rattle.tree_model.specs.Tree.{children_of}
-use Rattle.schema_check.specs.Kinds.{KindTree}
-use Rattle.schema_check.specs.TypedView.{typed_of}
+use Rattle.kind_tree.specs.Kinds.{KindTree}
+use Rattle.kind_tree.specs.TypedView.{typed_of}
 use Rattle.layout_rules.specs.Values.{rows_of}
 use Rattle.layout_rules.specs.Walk.{LayoutOk}
 use Rattle.arr_import.specs.Cols.{window_of}

@@ -1,7 +1,7 @@
 use Rattle.std.proofs.Common.{arith}
 use Rattle.std.proofs.lemmas.Grind.{common_steps}
-use Rattle.fmt_string.specs.ColumnView.{kind_of}
-use Rattle.schema_check.specs.TypedView.{typed_of}
+use Rattle.data_types.specs.ColumnView.{kind_of}
+use Rattle.kind_tree.specs.TypedView.{typed_of}
 use Rattle.dict_stage.proofs.Chunks.{column-fits}
 use Rattle.dict_stage.proofs.chunk.recoded_chunk.Goals as goal
 

@@ -5,7 +5,7 @@ use Rattle.std.proofs.lemmas.Int.{ints}
 use Rattle.std.proofs.lemmas.Result.{on_ok_weaker}
 use Rattle.col_build.specs.Holding.{Adds}
 use Rattle.col_build.specs.Items.{value_of}
-use Rattle.fmt_string.specs.Value.{Value, Whole, Bytes}
+use Rattle.data_types.specs.Value.{Value, Whole, Bytes}
 use Rattle.stage_model.specs.Dictionary.{has_bytes}
 use Rattle.dict_stage.specs.Texts.{Codes, index_by, number_of, texts_after, texts_in}
 use Rattle.dict_stage.proofs.Codes.{codes-new, codes-old, is-false, is-true}

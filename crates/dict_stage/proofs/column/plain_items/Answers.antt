@@ -1,7 +1,7 @@
 use Rattle.std.proofs.Common.{◌∙◌, ◌++◌, ◌∷◌, [], take, sym, ap, subst, arith}
 use Rattle.col_build.specs.Holding.{Holds}
-use Rattle.fmt_string.specs.Value.{Value}
-use Rattle.fmt_string.specs.declared.kind.DataType.{DataType}
+use Rattle.data_types.specs.Value.{Value}
+use Rattle.data_types.specs.declared.kind.DataType.{DataType}
 use Rattle.arr_import.specs.Cols.{window_of}
 use Rattle.arr_import.specs.Window.{items_of}
 use Rattle.column_fill.specs.Takes.{Takes}

@@ -2,7 +2,7 @@ use Rattle.std.proofs.Common.{◌<◌, ℕ, length, arith}
 use Rattle.std.proofs.lemmas.List.{length-map}
 use Rattle.tree_model.specs.Tree.{children_of}
 use Rattle.raw_array.specs.Members.{ArrayTree}
-use Rattle.schema_check.specs.ColumnKinds.{type_of_column, types_of_columns}
+use Rattle.kind_tree.specs.ColumnKinds.{type_of_column, types_of_columns}
 use Rattle.stage_kernels.specs.Unpacks.{ShowsChildren}
 use Rattle.stage_kernels.proofs.StructChildren.{StructLaws, shown}
 use Rattle.dict_stage.specs.Recoded.{HasPlace}

@@ -1,5 +1,5 @@
 use Rattle.std.proofs.Common.{length}
-use Rattle.schema_check.specs.TypedView.{typed_of}
+use Rattle.kind_tree.specs.TypedView.{typed_of}
 use Rattle.layout_rules.specs.Values.{rows_of}
 use Rattle.fan_out.specs.Pieces.{GivesFirst}
 use Rattle.fan_out.proofs.fan.in_turn.Given as goal

@@ -1,6 +1,6 @@
 use Rattle.std.proofs.Common.{◌≡◌, ◌+◌, ◌*◌, ◌<◌, ◌≤◌, All, vec_len, vec_capacity}
 use Rattle.raw_array.specs.Members.{Like, LoweredBy}
-use Rattle.schema_check.specs.TypedView.{typed_of}
+use Rattle.kind_tree.specs.TypedView.{typed_of}
 use Rattle.layout_rules.specs.Values.{rows_of}
 use Rattle.fan_out.specs.Pieces.{IsChunk}
 use Rattle.fan_out.specs.Workers.{IsReady}

@@ -1,7 +1,7 @@
 use Rattle.std.proofs.Common.{◌≡◌, List, ◌-◌, ◌≤◌, ℕ, length, get_or, ap, ◌∙◌, subst, sym, All}
 use Rattle.std.specs.List.{AllWithin}
 use Rattle.std.specs.Prelude.{IfOk}
-use Rattle.schema_check.specs.TypedView.{typed_of}
+use Rattle.kind_tree.specs.TypedView.{typed_of}
 use Rattle.fan_out.specs.Pieces.{GivesPieces}
 use Rattle.fan_out.specs.Workers.{CanRun, IsReady, IsReleased, IsUnspent}
 use Rattle.fan_out.specs.declared.piece.Piece.{Piece}

@@ -1,8 +1,8 @@
 use Rattle.std.proofs.lemmas.Grind.{common_steps}
 use Rattle.std.proofs.Common.{rules, ◌≡◌, ◌<◌, length, get_or, arith}
 use Rattle.tree_model.specs.Tree.{children_of}
-use Rattle.schema_check.specs.Ways.{steps_of}
-use Rattle.schema_check.proofs.Levels.{levels-kid, kid-ok}
+use Rattle.kind_tree.specs.Ways.{steps_of}
+use Rattle.kind_tree.proofs.Levels.{levels-kid, kid-ok}
 use Rattle.layout_check.proofs.Faults.{children_fault-step, walks}
 use Rattle.layout_check.proofs.walk.+check.Goals as goal
 

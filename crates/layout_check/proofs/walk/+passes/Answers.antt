@@ -2,7 +2,7 @@ use Rattle.layout_check.proofs.Faults.{walks}
 use Rattle.std.proofs.lemmas.Grind.{common_steps}
 use Rattle.std.proofs.Common.{rules, ◌≡◌, ◌<◌, ◌++◌, ◌∷◌, [], length, get_or, arith}
 use Rattle.tree_model.specs.Tree.{children_of}
-use Rattle.schema_check.proofs.Levels.{levels-kid, kid-ok}
+use Rattle.kind_tree.proofs.Levels.{levels-kid, kid-ok}
 use Rattle.layout_check.proofs.Passes.{none-step}
 use Rattle.layout_check.proofs.walk.+passes.Goals as goal
 

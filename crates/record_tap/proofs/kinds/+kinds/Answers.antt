@@ -1,9 +1,9 @@
 use Rattle.std.proofs.lemmas.Grind.{common_steps}
 use Rattle.std.proofs.Common.{rules, ◌<◌, length, ap, sym, subst, arith}
 use Rattle.tree_model.specs.Tree.{Depth}
-use Rattle.schema_check.specs.Kinds.{NodesOk}
-use Rattle.schema_check.specs.TypedView.{typed_of}
-use Rattle.schema_check.specs.declared.typed.Typed.{Typed}
+use Rattle.kind_tree.specs.Kinds.{NodesOk}
+use Rattle.kind_tree.specs.TypedView.{typed_of}
+use Rattle.kind_tree.specs.declared.typed.Typed.{Typed}
 use Rattle.record_tap.proofs.TypedKids.{depth-kid, kid-ok}
 use Rattle.record_tap.proofs.kinds.+kinds.Goals as goal
 

@@ -1,7 +1,7 @@
 use Rattle.std.proofs.lemmas.Grind.{common_steps}
 use Rattle.std.proofs.Common.{rules, ◌∙◌, ◌+◌, ◌<◌, ◌++◌, [], ◌∷◌, length, map, ap, sym, arith}
 use Rattle.std.proofs.lemmas.List.{map-append}
-use Rattle.fmt_string.specs.Value.{Null}
+use Rattle.data_types.specs.Value.{Null}
 use Rattle.layout_rules.specs.Values.{each, row_items, value_at}
 use Rattle.arr_import.specs.Cols.{window_of}
 use Rattle.arr_import.specs.Window.{Window}

@@ -1,5 +1,5 @@
 use Rattle.std.proofs.Common.{◌≡◌, ◌+◌, ◌*◌, map, take}
-use Rattle.fmt_string.specs.Value.{values}
+use Rattle.data_types.specs.Value.{values}
 use Rattle.layout_rules.specs.Values.{each, row_items, value_at}
 use Rattle.arr_import.specs.Cols.{window_of}
 use Rattle.arr_import.specs.Window.{item_at, items_of}

@@ -4,7 +4,7 @@ use Rattle.csv_model.specs.Reading.{Record, behind_header, records_of}
 use Rattle.csv_read.specs.Entries.{entries_of}
 use Rattle.csv_source.specs.Sources.{source_state}
 use Rattle.field_codec.specs.TextColumns.{AreAllowed, AreProper}
-use Rattle.fmt_string.specs.ColumnView.{column_of}
+use Rattle.data_types.specs.ColumnView.{column_of}
 use Rattle.run_model.specs.Outcomes.{request_of}
 use Rattle.stage_plan.specs.PlanWords.{IsPlan}
 use Rattle.run_task.proofs.Bodies.{source-is, told-here}

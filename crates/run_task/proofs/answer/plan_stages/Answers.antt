@@ -1,5 +1,5 @@
 use Rattle.std.proofs.Common.{arith, map}
-use Rattle.fmt_string.specs.ColumnView.{column_of}
+use Rattle.data_types.specs.ColumnView.{column_of}
 use Rattle.run_task.proofs.Flat.{proper-kinds}
 use Rattle.run_task.proofs.PlanMade.{steps-are-few}
 use Rattle.run_task.proofs.answer.plan_stages.Goals as goal

@@ -1,5 +1,5 @@
 use Rattle.std.proofs.Common.{arith, map}
-use Rattle.fmt_string.specs.ColumnView.{column_of}
+use Rattle.data_types.specs.ColumnView.{column_of}
 use Rattle.stream_face.specs.Meaning.{meaning}
 use Rattle.stage_chain.specs.Plans.{stage_in}
 use Rattle.stage_chain.proofs.TypedKinds.{kinds-ok}

@@ -5,8 +5,8 @@ use Rattle.csv_write.specs.CsvTexts.{HasText}
 use Rattle.field_codec.specs.TextColumns.{HaveTexts}
 use Rattle.stage_model.specs.Links.{last_columns}
 use Rattle.csv_model.specs.Text.{table_text}
-use Rattle.fmt_string.specs.Parts.{joined_rows}
-use Rattle.fmt_string.specs.Table.{Column}
+use Rattle.data_types.specs.Parts.{joined_rows}
+use Rattle.data_types.specs.Table.{Column}
 use Rattle.stage_model.specs.Links.{Whole}
 use Rattle.stage_model.specs.Stages.{table}
 use Rattle.stage_model.specs.Typing.{Stage}

@@ -1,11 +1,11 @@
 use Rattle.std.proofs.lemmas.Grind.{common_steps}
 use Rattle.std.proofs.Common.{◌≡◌, ◌∙◌, ◌≤◌, ◌^◌, ℕ, List, map, length, sym, ap, subst, arith}
-use Rattle.fmt_string.specs.ColumnView.{column_of}
-use Rattle.fmt_string.specs.Table.{Row}
+use Rattle.data_types.specs.ColumnView.{column_of}
+use Rattle.data_types.specs.Table.{Row}
 use Rattle.tree_model.specs.Tree.{children_of}
 use Rattle.unit_pass.specs.Tally.{risen}
-use Rattle.schema_check.specs.ColumnKinds.{type_of_columns}
-use Rattle.schema_check.specs.Kinds.{KindTree}
+use Rattle.kind_tree.specs.ColumnKinds.{type_of_columns}
+use Rattle.kind_tree.specs.Kinds.{KindTree}
 use Rattle.layout_rules.specs.Values.{rows_of}
 use Rattle.arr_import.specs.Window.{IsStruct}
 use Rattle.stage_model.specs.Stages.{rows_after}

@@ -3,11 +3,11 @@ use Rattle.std.proofs.Common.{◌≡◌, ◌∙◌, ◌+◌, ◌++◌, ℕ, [], 
 use Rattle.std.proofs.Math.Seq.{take-length}
 use Rattle.arr_import.specs.Cols.{window_of}
 use Rattle.col_build.specs.Holding.{Holds}
-use Rattle.fmt_string.specs.Table.{Flat}
-use Rattle.fmt_string.specs.Value.{Value}
-use Rattle.fmt_string.specs.declared.kind.DataType.{DataType}
-use Rattle.schema_check.specs.ColumnKinds.{type_of_kind}
-use Rattle.schema_check.specs.TypedView.{typed_of}
+use Rattle.data_types.specs.Table.{Flat}
+use Rattle.data_types.specs.Value.{Value}
+use Rattle.data_types.specs.declared.kind.DataType.{DataType}
+use Rattle.kind_tree.specs.ColumnKinds.{type_of_kind}
+use Rattle.kind_tree.specs.TypedView.{typed_of}
 use Rattle.layout_rules.specs.Values.{value_at}
 use Rattle.stage_filter.specs.Kept.{values_at}
 use Rattle.column_fill.specs.Takes.{Takes}

@@ -1,7 +1,7 @@
 use Rattle.std.proofs.Common.{take}
 use Rattle.col_build.specs.Holding.{Holds}
-use Rattle.fmt_string.specs.Table.{Flat}
-use Rattle.schema_check.specs.ColumnKinds.{type_of_kind}
+use Rattle.data_types.specs.Table.{Flat}
+use Rattle.kind_tree.specs.ColumnKinds.{type_of_kind}
 use Rattle.stage_filter.specs.Kept.{values_at}
 use Rattle.stage_filter.proofs.column.moved_items.Given as goal
 

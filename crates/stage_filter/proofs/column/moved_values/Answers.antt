@@ -1,7 +1,7 @@
 use Rattle.std.proofs.Common.{arith}
 use Rattle.std.proofs.lemmas.Grind.{common_steps}
-use Rattle.fmt_string.specs.Table.{Flat}
-use Rattle.schema_check.specs.ColumnKinds.{type_of_kind}
+use Rattle.data_types.specs.Table.{Flat}
+use Rattle.kind_tree.specs.ColumnKinds.{type_of_kind}
 use Rattle.stage_filter.specs.Kept.{values_at}
 use Rattle.stage_filter.proofs.MovedColumns.{moved-flat}
 use Rattle.stage_filter.proofs.column.moved_values.Goals as goal

@@ -2,18 +2,18 @@ use Rattle.std.proofs.lemmas.Grind.{common_steps}
 use Rattle.std.proofs.Common.{rules, ◌≡◌, ◌∙◌, ◌≤◌, ◌<◌, ◌+◌, ◌++◌, ◌∷◌, [], map, take, length, get_or, List, All, pos, to_z, w64, sym, ap, subst, arith}
 use Rattle.std.proofs.lemmas.Int.{ints}
 use Rattle.std.proofs.lemmas.List.{get_or-map, length-map, length-set, length-take, map_more, take-map}
-use Rattle.fmt_string.specs.ColumnView.{column_of, kind_of, members}
-use Rattle.fmt_string.specs.Parts.{column_values}
-use Rattle.fmt_string.specs.Table.{Column, Columns as StructOf}
-use Rattle.fmt_string.specs.declared.kind.ColKind.{ColKind}
-use Rattle.fmt_string.specs.declared.kind.ColumnType.{ColumnType}
+use Rattle.data_types.specs.ColumnView.{column_of, kind_of, members}
+use Rattle.data_types.specs.Parts.{column_values}
+use Rattle.data_types.specs.Table.{Column, Columns as StructOf}
+use Rattle.data_types.specs.declared.kind.ColKind.{ColKind}
+use Rattle.data_types.specs.declared.kind.ColumnType.{ColumnType}
 use Rattle.tree_model.specs.Tree.{IsLive, Released, child_at, children_of, trees}
 use Rattle.raw_array.specs.Members.{ArrayTree, cost_of_all, members_of}
-use Rattle.schema_check.specs.ColumnKinds.{type_of_columns, type_of_kind}
-use Rattle.schema_check.specs.Kinds.{TypedOk}
+use Rattle.kind_tree.specs.ColumnKinds.{type_of_columns, type_of_kind}
+use Rattle.kind_tree.specs.Kinds.{TypedOk}
 use Rattle.layout_rules.specs.Layout.{first, natural}
-use Rattle.schema_check.specs.declared.typed.Typed.{out-Typed}
-use Rattle.schema_check.specs.TypedView.{kids_of, typed_of}
+use Rattle.kind_tree.specs.declared.typed.Typed.{out-Typed}
+use Rattle.kind_tree.specs.TypedView.{kids_of, typed_of}
 use Rattle.arr_export.specs.ArrayTrees.{IsColumn}
 use Rattle.stage_kernels.proofs.MovedChildren.{at-place, children-set, cost-push, rest-taken}
 use Rattle.stage_filter.specs.Kept.{rows_at}

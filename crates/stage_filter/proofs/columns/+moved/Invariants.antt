@@ -1,9 +1,9 @@
 use Rattle.std.proofs.Common.{◌≡◌, ◌≤◌, ◌+◌, ◌*◌, map, take, drop, length, vec_len}
 use Rattle.std.specs.Vec.{vec_capacity}
-use Rattle.fmt_string.specs.ColumnView.{column_of, kind_of}
+use Rattle.data_types.specs.ColumnView.{column_of, kind_of}
 use Rattle.tree_model.specs.Tree.{Depth, children_of, depth_of_all, trees}
 use Rattle.raw_array.specs.Members.{Cost, cost_of_all}
-use Rattle.schema_check.specs.ColumnKinds.{type_of_columns, type_of_kind, types_of_columns}
+use Rattle.kind_tree.specs.ColumnKinds.{type_of_columns, type_of_kind, types_of_columns}
 use Rattle.stage_filter.specs.Kept.{rows_at}
 use Rattle.stage_filter.specs.Moving.{AreMoved}
 use Rattle.stage_filter.proofs.columns.+moved.Given as goal

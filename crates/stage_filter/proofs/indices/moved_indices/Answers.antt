@@ -4,9 +4,9 @@ use Rattle.std.proofs.lemmas.Int.{ints}
 use Rattle.arr_export.specs.ArrayTrees.{flat_type}
 use Rattle.arr_import.specs.Lent.{lent_bytes}
 use Rattle.col_build.specs.Holding.{Holds, Takes}
-use Rattle.fmt_string.specs.Table.{Dict}
-use Rattle.fmt_string.specs.Value.{Value}
-use Rattle.schema_check.specs.ColumnKinds.{type_of_kind}
+use Rattle.data_types.specs.Table.{Dict}
+use Rattle.data_types.specs.Value.{Value}
+use Rattle.kind_tree.specs.ColumnKinds.{type_of_kind}
 use Rattle.layout_rules.specs.Values.{value_at}
 use Rattle.stage_filter.specs.KeptTrees.{index_type, indices_at}
 use Rattle.stage_filter.proofs.IndexedItems.{has-dictionary, index-kind, index-values, next-place}

@@ -1,6 +1,6 @@
 use Rattle.std.proofs.lemmas.Grind.{common_steps}
 use Rattle.std.proofs.Common.{rules, arith, ◌≡◌, ◌∙◌, ℕ, List, IfOk, length, sym, ap, subst}
-use Rattle.schema_check.specs.TypedView.{typed_of}
+use Rattle.kind_tree.specs.TypedView.{typed_of}
 use Rattle.layout_rules.specs.Values.{rows_of, tree_items}
 use Rattle.arr_import.specs.Window.{child_window, whole}
 use Rattle.stage_filter.specs.Kept.{kept_numbers}

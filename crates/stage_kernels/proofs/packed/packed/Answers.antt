@@ -3,7 +3,7 @@ use Rattle.std.proofs.Common.{arith, ◌≡◌, ◌≤◌, ◌≤ℤ◌, ◌∙�
 use Rattle.std.proofs.lemmas.Int.{ints}
 use Rattle.tree_model.specs.Tree.{IsLive, depth_of_all, trees}
 use Rattle.raw_array.specs.Members.{ArrayTree, Cost, members_of}
-use Rattle.schema_check.specs.ColumnKinds.{type_of_columns}
+use Rattle.kind_tree.specs.ColumnKinds.{type_of_columns}
 use Rattle.layout_rules.specs.Layout.{natural}
 use Rattle.arr_move.specs.TreeActs.{FitParentWindow}
 use Rattle.arr_export.specs.ArrayTrees.{IsColumn}

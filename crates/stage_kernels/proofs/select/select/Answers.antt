@@ -1,6 +1,6 @@
 use Rattle.std.proofs.Common.{arith}
 use Rattle.std.proofs.lemmas.Grind.{common_steps}
-use Rattle.schema_check.specs.ColumnKinds.{type_of_columns}
+use Rattle.kind_tree.specs.ColumnKinds.{type_of_columns}
 use Rattle.stage_kernels.proofs.select.select.Goals as goal
 
 pub take_columns-requires-clause-live : goal.take_columns-requires-clause-live

@@ -1,7 +1,7 @@
 use Rattle.std.proofs.Common.{rules, ◌≡◌, pos, ℤ, to_z, of_z, w64, sym, subst}
 use Rattle.raw_array.specs.Members.{ArrayTree}
 use Rattle.raw_array.specs.Windows.{FitsWindow}
-use Rattle.schema_check.specs.ColumnKinds.{type_of_columns}
+use Rattle.kind_tree.specs.ColumnKinds.{type_of_columns}
 use Rattle.stage_kernels.proofs.slice.cut.Goals as goal
 
 pub slice-part-requires-clause-fits : goal.slice-part-requires-clause-fits

@@ -1,10 +1,10 @@
 use Rattle.std.proofs.Common.{◌≡◌, ◌∙◌, ap, sym, subst, List, map}
-use Rattle.fmt_string.specs.ColumnForms.{KindsOk}
-use Rattle.fmt_string.specs.ColumnView.{column_of, kind_of, members}
-use Rattle.fmt_string.specs.Parts.{member_columns}
-use Rattle.fmt_string.specs.Table.{Columns, Kind}
-use Rattle.fmt_string.specs.declared.kind.ColumnType.{ColumnType}
-use Rattle.fmt_string.proofs.ColumnCopies.{members-ok, struct-view}
+use Rattle.data_types.specs.ColumnForms.{KindsOk}
+use Rattle.data_types.specs.ColumnView.{column_of, kind_of, members}
+use Rattle.data_types.specs.Parts.{member_columns}
+use Rattle.data_types.specs.Table.{Columns, Kind}
+use Rattle.data_types.specs.declared.kind.ColumnType.{ColumnType}
+use Rattle.data_types.proofs.ColumnCopies.{members-ok, struct-view}
 use Rattle.stage_model.specs.Typing.{struct_members}
 use Rattle.stage_plan.proofs.AfterColumns.{members-back}
 use Rattle.stage_plan.proofs.after.members.Goals as goal

@@ -1,5 +1,5 @@
 use Rattle.std.proofs.Common.{◌≡◌, ◌∙◌, ◌++◌, ap, sym, subst, arith, [], ◌∷◌, List, ℕ}
-use Rattle.fmt_string.specs.Parts.{AreWithin}
+use Rattle.data_types.specs.Parts.{AreWithin}
 use Rattle.stage_model.proofs.Numbers.{others-below, within}
 use Rattle.stage_model.specs.Typing.{others}
 use Rattle.stage_plan.proofs.PlanLists.{others_same, others_with}

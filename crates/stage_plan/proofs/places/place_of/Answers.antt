@@ -1,7 +1,7 @@
 use Rattle.std.proofs.Common.{◌∙◌, sym}
 use Rattle.std.specs.Str.{bytes_eq}
-use Rattle.fmt_string.specs.ColumnView.{column_of}
-use Rattle.fmt_string.specs.Table.{Column}
+use Rattle.data_types.specs.ColumnView.{column_of}
+use Rattle.data_types.specs.Table.{Column}
 use Rattle.stage_plan.proofs.PlanLists.{position-map}
 use Rattle.stage_plan.proofs.places.place_of.Goals as goal
 

@@ -1,5 +1,5 @@
 use Rattle.std.proofs.Common.{◌∙◌, ap, option_map, Option}
-use Rattle.fmt_string.specs.declared.kind.DataType.{DataType}
+use Rattle.data_types.specs.declared.kind.DataType.{DataType}
 use Rattle.stage_plan.proofs.Cuts.{entry, no_entry, one_entry}
 use Rattle.stage_plan.proofs.types.read_entry.Goals as goal
 

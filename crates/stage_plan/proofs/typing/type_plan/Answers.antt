@@ -1,9 +1,9 @@
 use Rattle.std.proofs.Common.{rules, ◌<◌, ◌≡◌, ◌≢◌, ◌∙◌, ◌+◌, [], ◌∷◌, ℕ, List, Vec, Global, length, map, ap, sym, arith, Ok, Err}
 use Rattle.std.proofs.lemmas.List.{map-append}
 use Rattle.std.specs.List.{list_any}
-use Rattle.fmt_string.specs.ColumnView.{column_of, kind_of}
-use Rattle.fmt_string.specs.Table.{Column}
-use Rattle.fmt_string.specs.declared.kind.ColumnType.{ColumnType}
+use Rattle.data_types.specs.ColumnView.{column_of, kind_of}
+use Rattle.data_types.specs.Table.{Column}
+use Rattle.data_types.specs.declared.kind.ColumnType.{ColumnType}
 use Rattle.stage_model.specs.Typing.{PlanFaultIs, Stage, is_struct, stage_over, with_stage}
 use Rattle.stage_model.specs.declared.fault.PlanFault.TheVariants.{At, NoMemory}
 use Rattle.stage_model.specs.declared.fault.PlanRule.TheVariants as rules

@@ -1,7 +1,7 @@
 use Rattle.std.proofs.Common.{map}
 use Rattle.std.specs.Prelude.{All}
-use Rattle.fmt_string.specs.ColumnForms.{KindsOk}
-use Rattle.fmt_string.specs.ColumnView.{kind_of}
+use Rattle.data_types.specs.ColumnForms.{KindsOk}
+use Rattle.data_types.specs.ColumnView.{kind_of}
 use Rattle.stage_plan.specs.PlanWords.{columns_in}
 use Rattle.stage_plan.proofs.PlanWalk.{PlannedTo}
 use Rattle.stage_plan.proofs.typing.type_plan.Given as goal

@@ -1,4 +1,4 @@
-use Rattle.schema_check.specs.TypedView.{typed_of}
+use Rattle.kind_tree.specs.TypedView.{typed_of}
 use Rattle.arr_import.specs.Cols.{window_of}
 use Rattle.stream_text.proofs.RunLemmas.{add-text}
 use Rattle.stream_text.proofs.gather.add_chunk.Goals as goal

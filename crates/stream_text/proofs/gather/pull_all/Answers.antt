@@ -1,10 +1,10 @@
 use Rattle.std.proofs.lemmas.Grind.{common_steps}
 use Rattle.std.proofs.Common.{rules, arith, ◌≡◌, ◌≤◌, ◌+◌, ◌++◌, ℕ, ℤ, pos, IsTrue, List, length, Option, Some, None, refl, sym, ◌∙◌, ap, subst}
 use Rattle.tree_model.specs.Tree.{Released, IsLive}
-use Rattle.schema_check.specs.TypedView.{typed_of}
+use Rattle.kind_tree.specs.TypedView.{typed_of}
 use Rattle.layout_rules.specs.Values.{rows_of}
 use Rattle.layout_rules.specs.Walk.{LayoutOk}
-use Rattle.schema_check.specs.ColumnKinds.{type_of_columns}
+use Rattle.kind_tree.specs.ColumnKinds.{type_of_columns}
 use Rattle.csv_model.specs.Text.{rows_text}
 use Rattle.csv_write.specs.CsvTexts.{HasText}
 use Rattle.stream_face.specs.Meaning.{meaning}

@@ -1,6 +1,6 @@
 use Rattle.std.specs.Prelude.{All}
-use Rattle.fmt_string.specs.ColumnForms.{KindsOk}
-use Rattle.fmt_string.specs.ColumnView.{kind_of}
+use Rattle.data_types.specs.ColumnForms.{KindsOk}
+use Rattle.data_types.specs.ColumnView.{kind_of}
 use Rattle.text_tests.proofs.plans.columns_from.Given as goal
 
 abbrev pub invariant-loop-entry : goal.invariant-loop-entry

@@ -2,12 +2,12 @@ use Rattle.std.proofs.lemmas.Grind.{common_steps}
 use Rattle.std.proofs.Common.{rules, arith, ◌≤◌, ◌*◌, ◌++◌, List, ◌∷◌, ◌≡◌, ◌<◌, ◌∙◌, pos, length, IsTrue, sym, ap, subst, refl, true≢false}
 use Rattle.std.proofs.Math.Nat.{mul-le-mul_right}
 use Rattle.std.proofs.lemmas.List.{with_items_is}
-use Rattle.fmt_string.specs.Parts.{joined_rows}
-use Rattle.fmt_string.specs.Table.{Row}
+use Rattle.data_types.specs.Parts.{joined_rows}
+use Rattle.data_types.specs.Table.{Row}
 use Rattle.tree_model.specs.Tree.{Released}
 use Rattle.raw_array.specs.Members.{Cost}
-use Rattle.schema_check.specs.Kinds.{TypedOk}
-use Rattle.schema_check.specs.TypedView.{typed_of}
+use Rattle.kind_tree.specs.Kinds.{TypedOk}
+use Rattle.kind_tree.specs.TypedView.{typed_of}
 use Rattle.layout_rules.specs.Values.{rows_of}
 use Rattle.stream_face.specs.Meaning.{meaning}
 use Rattle.stream_face.specs.Streams.{IsFresh}

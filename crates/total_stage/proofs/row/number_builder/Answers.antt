@@ -1,10 +1,10 @@
 use Rattle.std.proofs.Common.{◌∷◌, [], sym, subst}
 use Rattle.col_build.specs.Holding.{Holds}
 use Rattle.csv_read.specs.Body.{HoldsKind}
-use Rattle.fmt_string.specs.ColumnView.{column_of}
-use Rattle.fmt_string.specs.Table.{Kind}
-use Rattle.fmt_string.specs.Value.{Value}
-use Rattle.fmt_string.specs.declared.kind.DataType.{DataType}
+use Rattle.data_types.specs.ColumnView.{column_of}
+use Rattle.data_types.specs.Table.{Kind}
+use Rattle.data_types.specs.Value.{Value}
+use Rattle.data_types.specs.declared.kind.DataType.{DataType}
 use Rattle.total_stage.specs.Rows.{IsFlat, Takes}
 use Rattle.total_stage.specs.Totals.{number_value}
 use Rattle.total_stage.proofs.HeldRow.{new-takes}

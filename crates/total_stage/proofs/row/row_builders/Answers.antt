@@ -1,6 +1,6 @@
 use Rattle.std.proofs.lemmas.Grind.{common_steps}
 use Rattle.std.proofs.Common.{arith, map, rules, None}
-use Rattle.fmt_string.specs.ColumnView.{column_of}
+use Rattle.data_types.specs.ColumnView.{column_of}
 use Rattle.total_stage.specs.Totals.{number_value}
 use Rattle.total_stage.proofs.HeldRow.{column-is, fits-at, hold-more, value-is}
 use Rattle.total_stage.proofs.row.row_builders.Goals as goal

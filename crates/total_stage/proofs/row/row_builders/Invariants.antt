@@ -1,5 +1,5 @@
 use Rattle.std.proofs.Common.{◌≡◌, map, length}
-use Rattle.fmt_string.specs.ColumnView.{column_of}
+use Rattle.data_types.specs.ColumnView.{column_of}
 use Rattle.total_stage.specs.Totals.{number_value}
 use Rattle.total_stage.proofs.HeldRow.{HoldFirst}
 use Rattle.total_stage.proofs.row.row_builders.Given as goal

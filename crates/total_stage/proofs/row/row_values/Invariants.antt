@@ -1,5 +1,5 @@
 use Rattle.std.proofs.Common.{◌≡◌, ℕ, List, map, take}
-use Rattle.fmt_string.specs.Table.{Row}
+use Rattle.data_types.specs.Table.{Row}
 use Rattle.stage_model.specs.Stages.{totals_row}
 use Rattle.total_stage.specs.Sums.{AreSums}
 use Rattle.total_stage.specs.Totals.{number_value}

@@ -1,7 +1,7 @@
 use Rattle.std.proofs.Common.{List, subst, sym}
 use Rattle.std.specs.Prelude.{Vec}
 use Rattle.std.specs.Global.{Global}
-use Rattle.schema_check.specs.TypedView.{typed_of}
+use Rattle.kind_tree.specs.TypedView.{typed_of}
 use Rattle.layout_rules.specs.Values.{rows_of}
 use Rattle.total_stage.specs.Sums.{AreParts}
 use Rattle.total_stage.specs.declared.numbers.Totals.{Totals}

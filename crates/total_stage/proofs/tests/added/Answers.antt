@@ -1,5 +1,5 @@
 use Rattle.std.proofs.Common.{rules, arith, ◌≡◌, ◌≤◌, ◌+◌, ◌^◌, IsTrue, List, [], ◌∷◌, length, refl, sym, subst, inl}
-use Rattle.schema_check.specs.TypedView.{typed_of}
+use Rattle.kind_tree.specs.TypedView.{typed_of}
 use Rattle.layout_rules.specs.Values.{rows_of}
 use Rattle.total_stage.specs.Sums.{AreSums}
 use Rattle.total_stage.specs.declared.numbers.Totals.{Totals}

@@ -1,11 +1,11 @@
 use Rattle.std.proofs.Common.{rules, arith, ◌≡◌, ◌∙◌, ◌<◌, ◌≤◌, ◌+◌, ◌^◌, ℕ, zero, suc, IsTrue, List, [], ◌∷◌, length, get_or, sym, ap, subst}
 use Rattle.std.proofs.lemmas.Int.{ints}
-use Rattle.fmt_string.specs.Table.{Row}
-use Rattle.fmt_string.specs.Value.{Null}
+use Rattle.data_types.specs.Table.{Row}
+use Rattle.data_types.specs.Value.{Null}
 use Rattle.tree_model.specs.Tree.{children_of}
 use Rattle.raw_array.specs.Members.{ArrayTree}
-use Rattle.schema_check.specs.Kinds.{KindTree}
-use Rattle.schema_check.specs.TypedView.{typed_of}
+use Rattle.kind_tree.specs.Kinds.{KindTree}
+use Rattle.kind_tree.specs.TypedView.{typed_of}
 use Rattle.layout_rules.specs.Values.{row_items, rows_of, tree_items}
 use Rattle.layout_rules.specs.Walk.{ChunkOk}
 use Rattle.arr_import.specs.Cols.{window_of}

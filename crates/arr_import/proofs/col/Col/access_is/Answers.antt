@@ -1,7 +1,7 @@
 use Rattle.std.proofs.Common.{subst, sym}
 use Rattle.std.specs.Prelude.{is_some}
-use Rattle.schema_check.specs.TypedView.{dict_in}
-use Rattle.schema_check.specs.declared.typed.Typed.{out-Typed}
+use Rattle.kind_tree.specs.TypedView.{dict_in}
+use Rattle.kind_tree.specs.declared.typed.Typed.{out-Typed}
 use Rattle.arr_import.proofs.Accesses.{Says, says, none-behind, number-own}
 use Rattle.arr_import.proofs.col.Col.access_is.Goals as goal
 

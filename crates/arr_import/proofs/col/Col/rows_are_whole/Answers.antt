@@ -1,12 +1,12 @@
 use Rattle.std.proofs.Common.{◌≡◌, ◌∙◌, ◌+◌, ℕ, List, [], ◌∷◌, Option, length, refl, ap, arith}
-use Rattle.fmt_string.specs.declared.kind.DataType.{DataType}
+use Rattle.data_types.specs.declared.kind.DataType.{DataType}
 use Rattle.tree_model.specs.Tree.{Released, Live, IsLive, trees, maybe_tree, children_of}
 use Rattle.raw_array.specs.Members.{ArrayTree}
-use Rattle.schema_check.specs.Kinds.{KindTree}
+use Rattle.kind_tree.specs.Kinds.{KindTree}
 use Rattle.layout_rules.specs.Layout.{first}
-use Rattle.schema_check.specs.TypedView.{typed_of, kind_of, kids_of, dict_in}
+use Rattle.kind_tree.specs.TypedView.{typed_of, kind_of, kids_of, dict_in}
 use Rattle.layout_rules.specs.Values.{field_items, readers, row_items}
-use Rattle.schema_check.specs.declared.typed.Typed.{out-Typed}
+use Rattle.kind_tree.specs.declared.typed.Typed.{out-Typed}
 use Rattle.arr_import.proofs.Reading.{kids-typed}
 use Rattle.arr_import.proofs.col.Col.rows_are_whole.Goals as goal
 

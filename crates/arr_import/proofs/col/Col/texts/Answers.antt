@@ -1,7 +1,7 @@
 use Rattle.std.proofs.lemmas.Grind.{common_steps}
 use Rattle.std.proofs.Common.{◌≡◌, ℕ, ◌<◌, false, refl, arith}
-use Rattle.fmt_string.specs.declared.storage.Storage.TheVariants as storages
-use Rattle.fmt_string.specs.Value.Value.{Bytes}
+use Rattle.data_types.specs.declared.storage.Storage.TheVariants as storages
+use Rattle.data_types.specs.Value.Value.{Bytes}
 use Rattle.arr_import.specs.Plain.{text_between}
 use Rattle.arr_import.proofs.PlainColumns.{there-at, read-at}
 use Rattle.arr_import.proofs.col.Col.texts.Goals as goal

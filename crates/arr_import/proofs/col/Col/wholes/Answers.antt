@@ -1,7 +1,7 @@
 use Rattle.std.proofs.Common.{◌≡◌, ℕ, ◌+◌, ◌*◌, ◌/◌, ◌<◌, ◌≤◌, length, true, inr, refl, ap, ◌∙◌, subst, arith, rules}
 use Rattle.std.specs.Prelude.{IsTrue}
-use Rattle.fmt_string.specs.declared.storage.Storage.TheVariants as storages
-use Rattle.fmt_string.specs.Value.Value.{Whole}
+use Rattle.data_types.specs.declared.storage.Storage.TheVariants as storages
+use Rattle.data_types.specs.Value.Value.{Whole}
 use Rattle.bit_pack.specs.Packed.{meant, number_at}
 use Rattle.arr_import.proofs.PlainColumns.{there-at, read-at}
 use Rattle.arr_import.proofs.col.Col.wholes.Goals as goal

@@ -1,7 +1,7 @@
 use Rattle.std.proofs.lemmas.Grind.{common_steps}
 use Rattle.std.proofs.Common.{refl, arith}
 use Rattle.std.proofs.lemmas.Result.{on_ok_weaker}
-use Rattle.fmt_string.specs.Value.{Null}
+use Rattle.data_types.specs.Value.{Null}
 use Rattle.col_build.proofs.builder.Builder.add_null.Goals as goal
 
 pub returns-in_ok-make_offset-in-Between-false-default-clause-added : goal.returns-in_ok-make_offset-in-Between-false-default-clause-added

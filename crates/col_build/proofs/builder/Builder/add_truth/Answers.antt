@@ -1,7 +1,7 @@
 use Rattle.std.proofs.Common.{◌∙◌, ◌+◌, ◌++◌, ◌∷◌, [], refl, sym, ap, subst, arith}
 use Rattle.std.proofs.lemmas.List.{length-map, map-append}
 use Rattle.std.specs.Prelude.{map}
-use Rattle.fmt_string.specs.Value.{Truth}
+use Rattle.data_types.specs.Value.{Truth}
 use Rattle.col_build.specs.Encoding.{bit_bytes, is_set}
 use Rattle.col_build.specs.Holding.{HasBytes, bytes_in, offsets_in}
 use Rattle.col_build.specs.declared.shape.Shape.{Shape}

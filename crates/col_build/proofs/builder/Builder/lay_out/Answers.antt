@@ -2,7 +2,7 @@ use Rattle.std.proofs.lemmas.Grind.{common_steps}
 use Rattle.std.proofs.Common.{◌≡◌, ◌∙◌, ◌+◌, ◌++◌, ℕ, Bool, List, [], ◌∷◌, refl, sym, ap, subst, inl, arith}
 use Rattle.std.specs.Prelude.{if◌then◌else◌, map, Option}
 use Rattle.buf_block.specs.declared.hold.BufView.{BufView}
-use Rattle.fmt_string.specs.Value.{bytes_of}
+use Rattle.data_types.specs.Value.{bytes_of}
 use Rattle.unit_pass.specs.Tally.{risen}
 use Rattle.col_build.specs.Blocks.{AreAdded, count_if}
 use Rattle.col_build.specs.Encoding.{if_some}

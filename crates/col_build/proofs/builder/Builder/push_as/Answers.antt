@@ -2,7 +2,7 @@ use Rattle.std.proofs.lemmas.Grind.{common_steps}
 use Rattle.std.proofs.Common.{◌≡◌, ◌∙◌, ◌∷◌, [], ◌++◌, ◌<◌, ◌^◌, ◌⊎◌, ℕ, List, length, ap, subst, sym, arith, length-append}
 use Rattle.std.proofs.lemmas.Result.{err_from_is_err_and}
 use Rattle.std.specs.Prelude.{Option, None, Some}
-use Rattle.fmt_string.specs.FieldText.{form_of}
+use Rattle.data_types.specs.FieldText.{form_of}
 use Rattle.col_build.specs.Encoding.{if_some, is_wide, push_fault}
 use Rattle.col_build.specs.Holding.{HasBytes, HasValidity}
 use Rattle.col_build.specs.Items.{value_of}

@@ -1,6 +1,6 @@
 use Rattle.std.proofs.Common.{◌+◌, refl, arith}
 use Rattle.bit_pack.specs.Packed.{le_bytes}
-use Rattle.fmt_string.specs.Value.{Bits}
+use Rattle.data_types.specs.Value.{Bits}
 use Rattle.col_build.specs.Holding.{kept_offsets, offsets_in}
 use Rattle.col_build.proofs.OneMore.{are_floats, more-holds, numbers-more, valid-more}
 use Rattle.col_build.proofs.builder.Builder.put_bits.Goals as goal

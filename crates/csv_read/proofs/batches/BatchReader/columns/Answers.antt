@@ -1,5 +1,5 @@
 use Rattle.std.proofs.Common.{rules, ◌≡◌, map, subst}
-use Rattle.fmt_string.specs.ColumnView.{column_of}
+use Rattle.data_types.specs.ColumnView.{column_of}
 use Rattle.field_codec.specs.TextColumns.{AreAllowed, AreProper}
 use Rattle.csv_read.proofs.batches.BatchReader.columns.Goals as goal
 

@@ -1,6 +1,6 @@
 use Rattle.std.proofs.lemmas.Grind.{common_steps}
 use Rattle.std.proofs.Common.{map, arith}
-use Rattle.fmt_string.specs.ColumnView.{column_of}
+use Rattle.data_types.specs.ColumnView.{column_of}
 use Rattle.csv_read.proofs.EmptiedBuilders.{ready-spent, spent-by}
 use Rattle.csv_read.proofs.batches.BatchReader.export.Goals as goal
 

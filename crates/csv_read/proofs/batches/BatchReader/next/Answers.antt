@@ -1,6 +1,6 @@
 use Rattle.std.proofs.lemmas.Grind.{common_steps}
 use Rattle.std.proofs.Common.{rules, ◌≡◌, ◌≤◌, ◌+◌, ◌∙◌, ℕ, List, [], ap, inl, inr, map, refl, subst, sym, arith}
-use Rattle.fmt_string.specs.ColumnView.{column_of}
+use Rattle.data_types.specs.ColumnView.{column_of}
 use Rattle.field_codec.specs.TextColumns.{AreAllowed, AreProper}
 use Rattle.col_build.specs.declared.builder.Builder.{Builder}
 use Rattle.csv_read.specs.BatchesLeft.{BatchesLeft, IsNextBatch}

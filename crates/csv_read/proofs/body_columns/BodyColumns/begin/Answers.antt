@@ -5,7 +5,7 @@ use Rattle.std.specs.Vec.{with_items}
 use Rattle.std.proofs.lemmas.List.{with_items_is}
 use Rattle.col_build.specs.Holding.{HoldsSome}
 use Rattle.col_build.specs.declared.builder.Builder.{Builder}
-use Rattle.fmt_string.specs.ColumnView.{column_of}
+use Rattle.data_types.specs.ColumnView.{column_of}
 use Rattle.csv_read.specs.ColumnForms.{AreBegun}
 use Rattle.csv_read.specs.Emptied.{AreEmptied}
 use Rattle.csv_read.proofs.BodyRows.{no-rows}

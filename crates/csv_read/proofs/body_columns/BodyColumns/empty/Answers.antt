@@ -1,6 +1,6 @@
 use Rattle.std.proofs.lemmas.Grind.{common_steps}
 use Rattle.std.proofs.Common.{◌≡◌, ◌++◌, ◌∷◌, [], length, ap, rules, arith, length-append}
-use Rattle.fmt_string.specs.Kinds.{KindOk}
+use Rattle.data_types.specs.Kinds.{KindOk}
 use Rattle.csv_read.specs.ColumnForms.{IsFormOf}
 use Rattle.field_codec.specs.TextColumns.{IsAllowed}
 use Rattle.csv_read.proofs.BodyRows.{column-kind, one-more}

@@ -1,5 +1,5 @@
 use Rattle.std.proofs.Common.{◌≡◌, length, map}
-use Rattle.fmt_string.specs.ColumnView.{column_of}
+use Rattle.data_types.specs.ColumnView.{column_of}
 use Rattle.csv_read.specs.ColumnForms.{EachOf, IsFormOf}
 use Rattle.csv_read.proofs.body_columns.BodyColumns.empty.Given as goal
 

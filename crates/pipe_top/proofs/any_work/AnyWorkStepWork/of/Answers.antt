@@ -1,5 +1,5 @@
 use Rattle.std.proofs.Common.{◌∙◌, map}
-use Rattle.fmt_string.specs.ColumnView.{column_of}
+use Rattle.data_types.specs.ColumnView.{column_of}
 use Rattle.pipe_top.proofs.Fitting.{dict-fits, filter-fits, pack-fits, plain-fits, select-fits, selected-due, sliced-due, totals-fits, unpack-fits}
 use Rattle.pipe_top.proofs.any_work.AnyWorkStepWork.of.Goals as goal
 

@@ -1,11 +1,11 @@
 use Rattle.std.proofs.lemmas.Grind.{common_steps}
 use Rattle.std.proofs.Common.{rules, ◌≡◌, ◌≤◌, ◌∙◌, ◌++◌, pos, IsTrue, map, sym, subst, arith}
 use Rattle.tree_model.specs.Tree.{IsLive, Depth}
-use Rattle.fmt_string.specs.ColumnView.{column_of}
-use Rattle.fmt_string.specs.Parts.{AreWithin}
-use Rattle.schema_check.specs.Kinds.{TypedOk}
+use Rattle.data_types.specs.ColumnView.{column_of}
+use Rattle.data_types.specs.Parts.{AreWithin}
+use Rattle.kind_tree.specs.Kinds.{TypedOk}
 use Rattle.layout_rules.specs.Walk.{ChunkOk}
-use Rattle.schema_check.specs.ColumnKinds.{type_of_columns}
+use Rattle.kind_tree.specs.ColumnKinds.{type_of_columns}
 use Rattle.arr_move.specs.TreeActs.{Distinct}
 use Rattle.column_laws.specs.Picking.{Packed}
 use Rattle.stream_face.specs.Lawful.{LawfulColumns}

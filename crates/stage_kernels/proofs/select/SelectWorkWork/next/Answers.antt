@@ -2,9 +2,9 @@ use Rattle.std.proofs.lemmas.Grind.{common_steps}
 use Rattle.std.proofs.Common.{rules, ◌≡◌, ◌≤◌, ◌∙◌, pos, IsTrue, sym, ap, subst, arith}
 use Rattle.tree_model.specs.Tree.{IsLive}
 use Rattle.raw_array.specs.Members.{Cost}
-use Rattle.fmt_string.specs.Parts.{AreWithin}
+use Rattle.data_types.specs.Parts.{AreWithin}
 use Rattle.layout_rules.specs.Walk.{ChunkOk}
-use Rattle.schema_check.specs.ColumnKinds.{type_of_columns}
+use Rattle.kind_tree.specs.ColumnKinds.{type_of_columns}
 use Rattle.arr_move.specs.TreeActs.{Columns}
 use Rattle.stream_face.specs.Meaning.{meaning}
 use Rattle.stream_face.proofs.Joints.{live_unless}

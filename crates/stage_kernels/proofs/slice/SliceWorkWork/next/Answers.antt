@@ -1,7 +1,7 @@
 use Rattle.std.proofs.lemmas.Grind.{common_steps}
 use Rattle.std.proofs.Common.{rules, arith, ◌+◌, List, ◌∷◌, ◌≡◌, ◌<◌, ◌∙◌, ℕ, pos, length, map, to_z, of_z, w32, IsTrue, sym, ap, subst, refl}
-use Rattle.fmt_string.specs.ColumnView.{column_of}
-use Rattle.fmt_string.specs.Table.{Row}
+use Rattle.data_types.specs.ColumnView.{column_of}
+use Rattle.data_types.specs.Table.{Row}
 use Rattle.tree_model.specs.Tree.{IsLive, Released}
 use Rattle.raw_array.specs.Members.{ArrayTree, Cost}
 use Rattle.stream_face.specs.Meaning.{meaning}

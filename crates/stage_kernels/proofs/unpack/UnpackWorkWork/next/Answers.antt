@@ -3,9 +3,9 @@ use Rattle.std.proofs.Common.{rules, ◌≡◌, ◌≤◌, ◌∙◌, pos, map, 
 use Rattle.tree_model.specs.Tree.{IsLive}
 use Rattle.raw_array.specs.Members.{Cost}
 use Rattle.layout_rules.specs.Walk.{ChunkOk}
-use Rattle.schema_check.specs.ColumnKinds.{type_of_columns}
+use Rattle.kind_tree.specs.ColumnKinds.{type_of_columns}
 use Rattle.column_laws.specs.Picking.{Unpacked}
-use Rattle.fmt_string.specs.ColumnView.{column_of}
+use Rattle.data_types.specs.ColumnView.{column_of}
 use Rattle.stage_model.specs.Typing.{no_column}
 use Rattle.stream_face.specs.Meaning.{meaning}
 use Rattle.stream_face.proofs.Joints.{live_unless}

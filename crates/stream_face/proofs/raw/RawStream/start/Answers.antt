@@ -1,7 +1,7 @@
 use Rattle.std.proofs.lemmas.Grind.{common_steps}
 use Rattle.std.proofs.Common.{◌∙◌, None, ap, of_z, refl, sym, subst, w32, arith}
 use Rattle.schema_check.specs.Schemas.{TypedOf}
-use Rattle.schema_check.specs.ColumnKinds.{type_of_columns}
+use Rattle.kind_tree.specs.ColumnKinds.{type_of_columns}
 use Rattle.stream_face.specs.Calls.{IsCode, Tells}
 use Rattle.stream_face.specs.Streams.{telling}
 use Rattle.stream_face.proofs.Joints.{tells_nothing}

@@ -4,9 +4,9 @@ use Rattle.std.proofs.Common.{List, true, false, length, map, to_z, of_z, IsTrue
 use Rattle.std.specs.Int.{w32}
 use Rattle.std.proofs.lemmas.List.{length-map}
 use Rattle.csv_read.specs.Chunks.{chunk_blocks, chunk_of}
-use Rattle.fmt_string.specs.ColumnView.{column_of}
-use Rattle.fmt_string.specs.Parts.{joined_rows}
-use Rattle.fmt_string.specs.declared.kind.ColumnType.{ColumnType}
+use Rattle.data_types.specs.ColumnView.{column_of}
+use Rattle.data_types.specs.Parts.{joined_rows}
+use Rattle.data_types.specs.declared.kind.ColumnType.{ColumnType}
 use Rattle.raw_array.specs.Members.{Cost}
 use Rattle.tree_model.specs.Tree.{Released}
 use Rattle.unit_pass.specs.Tally.{risen}
