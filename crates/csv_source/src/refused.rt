@@ -23,7 +23,7 @@ pub(crate) enum Refused {
 }
 
 /// What the last get call told: nothing, that memory for a schema was wanting, or the refusal that stays.
-#[derive(Clone, Copy, PartialEq, Eq, Debug)]
+#[derive(Clone, Copy)]
 pub(crate) enum Word {
     Nothing,
     Memory,

@@ -38,7 +38,7 @@ pub fn read_stage(alloc: Global, text: &str) -> Result<StageText, StageFault>
 }
 
 /// The stages that have a name.
-#[derive(Clone, Copy, Debug, PartialEq, Eq)]
+#[derive(Clone, Copy)]
 enum StageName {
     Select,
     Drop,

@@ -98,7 +98,7 @@ pub trait Work: Drop {
 }
 
 /// Who answered the last get call: the stage itself, or the stream below it.
-#[derive(Clone, Copy, PartialEq, Eq, Debug)]
+#[derive(Clone, Copy)]
 pub(crate) enum Word {
     Nothing,
     Memory,
