@@ -53,7 +53,7 @@ fn picked(
 {
     let mut after = Vec::new(alloc);
     for place in places {
-        after.push(clone_column(alloc, &columns[*place])?)?;
+        add(clone_column(alloc, &columns[*place])?, &mut after)?;
     }
     Ok(after)
 }
@@ -74,10 +74,8 @@ fn packed(
     let mut after = picked(alloc, columns, rest.as_slice())?;
     let fields = picked(alloc, columns, places)?;
     let name = Name::from_slice(alloc, made)?;
-    after.push(ColumnType {
-        name,
-        kind: struct_of(fields),
-    })?;
+    let kind = struct_of(fields);
+    add(ColumnType { name, kind }, &mut after)?;
     Ok(after)
 }
 
@@ -110,6 +108,14 @@ fn members(kind: &ColKind) -> &[ColumnType]
     }
 }
 
+/// Adds a column.
+fn add(column: ColumnType, after: &mut Vec<ColumnType>) -> Result<(), NoMemory>
+    ensures { OnOk result (after.new.items ≡ after.old.items ++ column ∷ []) }
+{
+    after.push(column)?;
+    Ok(())
+}
+
 /// Adds the same columns once more.
 fn add_columns(
     alloc: Global,
@@ -120,7 +126,7 @@ fn add_columns(
     ensures { OnOk result (columns_in after.new.items ≡ columns_in after.old.items ++ columns_in columns.now) }
 {
     for column in columns {
-        after.push(clone_column(alloc, column)?)?;
+        add(clone_column(alloc, column)?, after)?;
     }
     Ok(())
 }
@@ -139,7 +145,7 @@ fn with_kind(
     let mut after = clone_columns(alloc, &columns[..place])?;
     let ColumnType { name, kind } = clone_column(alloc, &columns[place])?;
     let kind = kind_by(kind, dict);
-    after.push(ColumnType { name, kind })?;
+    add(ColumnType { name, kind }, &mut after)?;
     add_columns(alloc, &columns[place + 1..], &mut after)?;
     Ok(after)
 }
@@ -191,16 +197,15 @@ fn add_totals(
         bits: 64,
         signed: true,
     };
-    after.push(flat_column(alloc, name, b"_count", count)?)?;
+    add(flat_column(alloc, name, b"_count", count)?, after)?;
     let sum = DataType::Decimal {
         precision: 38,
         scale: scale_of(&column.kind),
         wide: false,
     };
-    after.push(flat_column(alloc, name, b"_sum", sum)?)?;
-    after.push(named(alloc, column, b"_min")?)?;
-    after.push(named(alloc, column, b"_max")?)?;
-    Ok(())
+    add(flat_column(alloc, name, b"_sum", sum)?, after)?;
+    add(named(alloc, column, b"_min")?, after)?;
+    add(named(alloc, column, b"_max")?, after)
 }
 
 /// A column of plain values, whose name ends so.

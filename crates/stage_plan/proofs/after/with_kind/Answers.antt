@@ -18,9 +18,9 @@ returns c =
     ∙ sym (get_or-map column_of columns place c.index-columns-place.result no_column c.requires.within) in
     let made : column c.in_ok-name.field-0.name (kind_of c.kind_by-kind.result) ≡ column at.name (kind_by c.args.dict at.kind) =
     ap (λ (k : Kind). column c.in_ok-name.field-0.name k) c.kind_by-kind.ensures ∙ ap (λ (x : Column). column x.name (kind_by c.args.dict x.kind)) is in
-    one-replaced columns place (columns_in c.in_ok-after.after.items) (columns_in c.push.new.self.items) (columns_in c.add_columns.new.after.items)
+    one-replaced columns place (columns_in c.in_ok-after.after.items) (columns_in c.add.new.after.items) (columns_in c.add_columns.new.after.items)
     (column at.name (kind_by c.args.dict at.kind)) c.in_ok-after.ensures
-    (ap columns_in c.in_ok-push.ensures.items
+    (ap columns_in c.in_ok-add.ensures
     ∙ map-append column_of c.in_ok-after.after.items (record { name = c.in_ok-name.field-0.name; kind = c.kind_by-kind.result } ∷ [])
     ∙ ap (λ (x : Column). columns_in c.in_ok-after.after.items ++ x ∷ []) made) c.in_ok-add_columns.ensures
 
