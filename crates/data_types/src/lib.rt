@@ -6,9 +6,9 @@
 //! in `specs/FieldText.antt`; it also reads the bytes that hexadecimal digits write.
 //!
 //! It promises that a copy of a type or of a column is the same once more, that only want of memory is free, and that the
-//! written text of a value reads back as that value under every mark for nulls. How a type is spelled is left to
-//! `fmt_string`; what children and dictionaries a type may have, and reading and writing the texts of fields, to the crates
-//! above.
+//! text of a value of a flat type, under any mark for nulls that it isn't itself, reads back as that value. How a type is
+//! spelled is left to `fmt_string`; what children and dictionaries a type may have, and reading and writing the texts of
+//! fields, to the crates above.
 //!
 //! A new type gets its arms in `DataType` and in `storage_of`; what depends on its layout alone, here and above, goes by its
 //! [`Storage`].
