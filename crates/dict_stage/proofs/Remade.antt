@@ -23,12 +23,12 @@ use Rattle.layout_rules.specs.Walk.{ChunkOk, LayoutOk}
 use Rattle.arr_export.specs.ArrayTrees.{AreIndices, column_tree, flat_type, looked_up}
 use Rattle.column_laws.specs.Picking.{AreLive, Replaced, cut_children}
 use Rattle.plan_laws.specs.Structs.{column_structs, structs}
-use Rattle.stage_kernels.proofs.MovedChildren.{cut-at}
-use Rattle.stage_kernels.proofs.PickedChunks.{dicts-window}
 use Rattle.stage_model.specs.Dictionary.{Dictionary}
 use Rattle.stage_model.specs.Typing.{column, column_at, no_column}
 use Rattle.stream_face.specs.Lawful.{AreItems, AreValues, DictsAreFull, DictsHaveBytes, HasBytes, IsChunkOf, IsTable, LawfulColumns, column_leaves, leaves}
 use Rattle.column_fill.proofs.ValuesTaken.{values-fit}
+use Rattle.work_parts.proofs.CutColumns.{dicts-window}
+use Rattle.work_parts.proofs.MovedChildren.{cut-at}
 use Rattle.dict_stage.specs.Indices.{Indices, index_type, recoded_tree}
 use Rattle.dict_stage.specs.Recoded.{Recodes, TextsOf, recoded_columns, text_kind}
 use Rattle.dict_stage.proofs.Chunks.{row-count}

@@ -16,10 +16,10 @@ use Rattle.arr_export.specs.ArrayTrees.{IsColumn, table_tree}
 use Rattle.arr_move.proofs.Filled.{Depth-child_at}
 use Rattle.arr_move.specs.TreeActs.{struct_members}
 use Rattle.column_laws.specs.Picking.{Replaced, cut_children}
-use Rattle.stage_kernels.specs.Unpacks.{ShowsChildren}
-use Rattle.stage_kernels.proofs.MovedChildren.{cut_to}
-use Rattle.stage_kernels.proofs.PackedTrees.{ItemsLaw, natural-is, window-live}
-use Rattle.stage_kernels.proofs.Spliced.{at-behind, at-front, at-middle, each-holds, length-spliced, spliced}
+use Rattle.work_parts.specs.Children.{ShowsChildren}
+use Rattle.work_parts.proofs.CutColumns.{ItemsLaw, natural-is, window-live}
+use Rattle.work_parts.proofs.MovedChildren.{cut_to}
+use Rattle.work_parts.proofs.Spliced.{at-behind, at-front, at-middle, each-holds, length-spliced, spliced}
 
 -- ---- a list with another item in the place of one
 

@@ -30,7 +30,7 @@ use Rattle.stage_model.specs.Typing.{column_at, is_bytes, no_column}
 use Rattle.stream_face.specs.Calls.{Answers, Counts}
 use Rattle.stream_face.specs.Lawful.{DictsHaveBytes, HasBytes, IsChunkOf, IsTable, LawfulColumns, LawfulTables}
 use Rattle.stream_face.specs.Streams.{Stream, Traffic}
-use Rattle.stage_kernels.proofs.CodedColumns.{coded_columns, coded_kind}
+use Rattle.work_parts.proofs.CodedColumns.{coded_columns, coded_kind}
 use Rattle.dict_stage.specs.Fits.{DictFits, PlainFits}
 use Rattle.dict_stage.specs.Indices.{HasColumn, recoded_tree}
 use Rattle.dict_stage.specs.Recoded.{CanRecodeChunk, HoldsTexts, Recodes, TextsOf, recoded_columns, text_kind}

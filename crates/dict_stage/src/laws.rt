@@ -18,7 +18,7 @@ ghost use Rattle.dict_stage.specs.Recoded.{Recodes, TextsOf, recoded_columns, te
 use arr_export::{encoded_columns_are_lawful, indexed_columns_are_lawful};
 use array_laws::lawful_structs_have_columns;
 use column_laws::{column_types_follow_picks, replaced_columns_make_a_chunk};
-use stage_kernels::chunks_are_small;
+use work_parts::chunks_are_small;
 
 /// A law: an array that is made of values of texts or bytes is lawful and has these values, with a dictionary or without; and the
 /// dictionary has exactly the distinct values, in the order in which they first appear, and no null ("Arrow Columnar Format",

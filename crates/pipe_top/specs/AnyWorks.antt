@@ -14,7 +14,7 @@ use Rattle.total_stage.specs.Works.{TotalsFits, totals_ahead}
 use Rattle.stages.specs.Works.{rows_alone}
 use Rattle.pipe_top.specs.declared.any_work.AnyWork.{AnyWork}
 use Rattle.pipe_top.specs.declared.any_work.AnyWork.TheVariants as works
-use Rattle.pipe_top.specs.KernelWorks.{kernel_ahead, kernel_columns, kernel_due, kernel_fits, kernel_gives}
+use Rattle.stage_kernels.specs.KernelWorks.{kernel_ahead, kernel_columns, kernel_due, kernel_fits, kernel_gives}
 
 -- it is made for these columns
 abbrev pub work_fits : AnyWork → List Column → Type 0

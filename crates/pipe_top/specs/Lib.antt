@@ -1,2 +1,1 @@
-pub mod KernelWorks
 pub mod AnyWorks

@@ -1,14 +1,13 @@
 //! The work of a step, whatever its kind is.
 ghost use Rattle.pipe_top.specs.AnyWorks.{work_ahead, work_columns, work_due, work_fits, work_gives};
 
-use crate::kernel_work::KernelWork;
 use dict_stage::{DictWork, PlainWork};
 use edge_io::Gate;
 use raw_array::RawArray;
 use raw_schema::RawSchema;
 use stage_chain::StepWork;
 use stage_filter::FilterWork;
-use stage_kernels::{PackWork, SelectWork, SliceWork, UnpackWork};
+use stage_kernels::{KernelWork, PackWork, SelectWork, SliceWork, UnpackWork};
 use stage_model::Step;
 use stages::{OutColumns, Work};
 use std::alloc::Global;

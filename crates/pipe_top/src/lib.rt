@@ -11,8 +11,8 @@
 //! Each fault has a line of its own, which goes to a sink of diagnostics, and so does the audit's where the words ask for it;
 //! no line takes memory, and a failed write there changes nothing else.
 //!
-//! It owns, too, which works the stages have: [`AnyWork`], the work of a step of one of the eight kinds, of which [`KernelWork`]
-//! are those that move columns or rows, and [`drive`], the chain of stages over a stream by these works.
+//! It owns, too, which works the stages have: [`AnyWork`], the work of a step of one of the eight kinds, and [`drive`], the chain
+//! of stages over a stream by these works.
 //!
 //! What the words ask for, the faults and the lines stand in `run_model`, what a run does between its words and its lines in
 //! `run_task`, what CSV means in `csv_model`, the words in `words`, what stages mean in `stage_model`, their texts in
@@ -22,12 +22,10 @@
 
 mod any_work;
 mod driven;
-mod kernel_work;
 mod top;
 
 pub use any_work::AnyWork;
 pub use driven::drive;
-pub use kernel_work::KernelWork;
 pub use run_model::RunFault;
 pub use run_task::one_answer;
 pub use stage_chain::DriveFault;

@@ -4,7 +4,7 @@
 //! It owns, too, what the works and the chain of stages count by: the structs among columns (`specs/Structs.antt`) and what a
 //! stage's calls still count (`specs/Dues.antt`).
 //!
-//! What it leaves to others: what stages are and mean (`stage_model`), and their works (`stage_kernels` and those above it).
+//! What it leaves to others: what stages are and mean (`stage_model`), and their works (`work_parts` and those above it).
 #![tactic(auto)]
 
 mod laws;

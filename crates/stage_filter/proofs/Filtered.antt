@@ -31,7 +31,7 @@ use Rattle.stream_face.specs.Streams.{IsFresh, Stream}
 use Rattle.stream_face.specs.Texts.{Refusal}
 use Rattle.plan_laws.specs.Dues.{due_with}
 use Rattle.plan_laws.specs.Structs.{column_structs, member_structs, most_structs, structs}
-use Rattle.stage_kernels.proofs.ColumnSets.{same_columns}
+use Rattle.work_parts.proofs.ColumnSets.{same_columns}
 use Rattle.stage_filter.specs.Filters.{CanFilter, FilterFits, passing_numbers, passing_rows}
 use Rattle.stage_filter.specs.Kept.{rows_at}
 use Rattle.stage_filter.specs.KeptTrees.{kept_chunk}

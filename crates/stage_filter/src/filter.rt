@@ -13,13 +13,13 @@ use edge_io::Gate;
 use layout_rules::lawful_trees;
 use raw_array::RawArray;
 use raw_schema::RawSchema;
-use stage_kernels::chunks_are_small;
 use stage_model::{Const, Test};
 use stages::{OutColumns, Work};
 use std::alloc::Global;
 use std::thread::Threads;
 use stream_face::{ArrayStream, RawStream, Tap};
 use unit_pass::{NoMemory, Pass};
+use work_parts::chunks_are_small;
 
 /// The rows whose item in a column passes a test, in their order.
 #[derive(Drop)]

@@ -27,10 +27,10 @@ use Rattle.stream_face.specs.Shown.{Seen}
 use Rattle.stream_face.specs.Streams.{Stream, Traffic}
 use Rattle.stream_face.specs.Texts.{Refusal}
 use Rattle.plan_laws.specs.Dues.{due_with}
+use Rattle.work_parts.proofs.CutColumns.{dicts-window}
 use Rattle.stage_kernels.specs.Packs.{PackFits, column_in}
 use Rattle.stage_kernels.specs.Picks.{no_column, picked_columns}
 use Rattle.plan_laws.specs.Structs.{column_structs}
-use Rattle.stage_kernels.proofs.PickedChunks.{dicts-window}
 use Rattle.plan_laws.proofs.PickedColumns.{as-many, column-at, first-within, rest-within}
 use Rattle.stage_kernels.proofs.PackedStreams.{Kept, Numbers, kept-are, made_name, numbers-of, place-of, struct_column}
 

@@ -24,10 +24,10 @@ use Rattle.arr_move.specs.TreeActs.{Distinct}
 use Rattle.stream_face.specs.Lawful.{AreFieldItems, AreItems, DictsHaveBytes, HasFields, IsTable, LawfulColumns, LawfulTables, MemberDictsHaveBytes}
 use Rattle.stream_face.specs.Lawful.{column_leaves, leaves, member_leaves, total_rows}
 use Rattle.column_laws.proofs.StructRows.{value_list-values}
+use Rattle.work_parts.proofs.ColumnSets.{same_columns}
 use Rattle.stage_kernels.specs.Packs.{PackFits}
 use Rattle.stage_kernels.specs.Picks.{no_column, picked_columns, picked_rows}
 use Rattle.plan_laws.specs.Structs.{column_structs, member_structs, most_structs, structs}
-use Rattle.stage_kernels.proofs.ColumnSets.{same_columns}
 use Rattle.plan_laws.proofs.PickedColumns.{all-picked, as-many, column-at, first-within, leaves-are, rest-within, sum-picked, total}
 use Rattle.stage_kernels.proofs.PickedStreams.{items-same, kids-typed}
 

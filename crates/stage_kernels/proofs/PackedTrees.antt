@@ -1,12 +1,11 @@
 -- The columns of a chunk while they are moved one after another, and the chunk that they make.
-use Rattle.std.proofs.Common.{arith, ◌≡◌, ◌≢◌, ◌≤◌, ◌<◌, ◌+◌, ◌∙◌, ◌++◌, ℕ, zero, suc, ℤ, pos, negsuc, ◌≤ℤ◌, List, [], ◌∷◌, length, map, get_or, All}
-use Rattle.std.proofs.Common.{true, false, refl, sym, ap, subst}
+use Rattle.std.proofs.Common.{arith, ◌≡◌, ◌≢◌, ◌≤◌, ◌<◌, ◌+◌, ◌∙◌, ◌++◌, ℕ, zero, suc, ℤ, pos, ◌≤ℤ◌, List, [], ◌∷◌, length, map, get_or, All}
+use Rattle.std.proofs.Common.{refl, sym, ap, subst}
 use Rattle.std.proofs.lemmas.List.{get_or_append_left, get_or-append-add, length-append}
-use Rattle.std.specs.Prelude.{if◌then◌else◌}
 use Rattle.tree_model.specs.Tree.{Depth, IsLive, Released, Live, absent, child_at, children_of, depth_of_all, trees, with_child}
 use Rattle.tree_model.proofs.Parted.{length-child}
-use Rattle.raw_array.specs.Members.{ArrayTree, Cost, cost_of_all, members_of, windowed}
-use Rattle.raw_array.specs.Windows.{Window, FitsWindow, is_whole}
+use Rattle.raw_array.specs.Members.{ArrayTree, Cost, cost_of_all, members_of}
+use Rattle.raw_array.specs.Windows.{Window, FitsWindow}
 use Rattle.raw_array.proofs.Windows.{Depth-Window}
 use Rattle.layout_rules.specs.Layout.{natural}
 use Rattle.layout_rules.specs.Values.{tree_items}
@@ -15,6 +14,7 @@ use Rattle.arr_move.proofs.Filled.{Depth-child_at}
 use Rattle.arr_move.proofs.Moving.{other_child}
 use Rattle.arr_export.specs.ArrayTrees.{IsColumn, table_tree}
 use Rattle.column_laws.specs.Picking.{Packed}
+use Rattle.work_parts.proofs.CutColumns.{ItemsLaw, natural-is, window-live}
 use Rattle.stage_kernels.specs.Packs.{LeftOf, column_in}
 
 members-with_child : (t : ArrayTree) (i : ℕ) (c : ArrayTree) → members_of (with_child t i c) ≡ members_of t
@@ -72,14 +72,6 @@ maps-same f g (p ∷ picks) same = λ i. same zero (omega arith) i ∷ maps-same
 
 -- ---- columns that are cut
 
-windowed-live : (t : ArrayTree) (off len : ℤ) → IsLive t → IsLive (windowed t off len)
-windowed-live Released off len live = absurd live
-windowed-live (Live m ts d) off len live = tt
-
-pub window-live : (t : ArrayTree) (off len : ℤ) → IsLive t → IsLive (Window t off len)
-window-live t off len live =
-    elim (is_whole t off len) as (λ w. IsLive (if w then t else windowed t off len)) [ true ↦ live | false ↦ windowed-live t off len live ]
-
 live-cost : (t : ArrayTree) → IsLive t → 1 ≤ Cost t
 live-cost Released live = absurd live
 live-cost (Live m ts d) live = omega arith
@@ -103,14 +95,6 @@ columns-depth t (p ∷ picks) inside deep =
     let one = cut-depth t p (inside zero (omega arith)) deep in
     let more = columns-depth t picks (λ k small. inside (suc k) (omega (arith, small))) deep in
     omega (arith, one, more)
-
-pub natural-is : (z : ℤ) → pos 0 ≤ℤ z → z ≡ pos (natural z)
-natural-is (pos n) le = refl
-natural-is (negsuc n) le = absurd (omega (arith, le))
-
--- the law of windows, on the number of items
-abbrev pub ItemsLaw : Type 0
-ItemsLaw = (t : ArrayTree) (off len : ℕ) → IsLive t → tree_items (Window t (pos off) (pos len)) ≡ len
 
 cut-long : ItemsLaw → (t : ArrayTree) (off len : ℤ) → pos 0 ≤ℤ off → pos 0 ≤ℤ len → IsLive t → tree_items (Window t off len) ≡ natural len
 cut-long law t off len a b live =

@@ -1,17 +1,17 @@
 -- What a selection makes of a chunk, and of the answers of the stream below it.
-use Rattle.std.proofs.Common.{arith, ◌≡◌, ◌≤◌, ◌<◌, ◌+◌, ℕ, zero, suc, ℤ, pos, List, [], ◌∷◌, Result, Ok, Err, IfOk, true, false, length, map, get_or, refl}
-use Rattle.std.proofs.Common.{sym, ◌∙◌, ap, subst, inl, if◌then◌else◌}
+use Rattle.std.proofs.Common.{arith, ◌≡◌, ◌≤◌, ◌<◌, ◌+◌, ℕ, zero, suc, ℤ, pos, List, [], ◌∷◌, Result, Ok, Err, IfOk, length, map, get_or, refl}
+use Rattle.std.proofs.Common.{sym, ◌∙◌, ap, subst, inl}
 use Rattle.std.proofs.Math.Logic.{∥∥₁_elim}
 use Rattle.std.proofs.Props.{props}
 use Rattle.std.specs.Coded.{Coded-set}
 use Rattle.data_types.specs.ColumnView.{column_of}
 use Rattle.data_types.specs.Parts.{AreWithin}
-use Rattle.data_types.specs.Table.{Column, Row, Kind, Flat, Dict, Columns as StructOf}
+use Rattle.data_types.specs.Table.{Column, Row}
 use Rattle.data_types.specs.declared.kind.ColumnType.{ColumnType}
-use Rattle.tree_model.specs.Tree.{Released, Live, IsLive, children_of, child_at, dictionary_at}
+use Rattle.tree_model.specs.Tree.{Released, IsLive, child_at}
 use Rattle.tree_model.proofs.Lists.{tree_list-trees}
-use Rattle.raw_array.specs.Members.{ArrayTree, Cost, members_of, windowed}
-use Rattle.raw_array.specs.Windows.{Window, is_whole}
+use Rattle.raw_array.specs.Members.{ArrayTree, Cost, members_of}
+use Rattle.raw_array.specs.Windows.{Window}
 use Rattle.raw_schema.specs.Members.{SchemaTree, coded_schema}
 use Rattle.unit_pass.specs.Tally.{Tally, risen}
 use Rattle.unit_pass.specs.declared.no_memory.NoMemory.{NoMemory}
@@ -22,10 +22,11 @@ use Rattle.kind_tree.specs.ColumnKinds.{type_of_columns}
 use Rattle.schema_check.specs.ColumnSchema.{SchemaOf}
 use Rattle.arr_move.specs.TreeActs.{Columns, Distinct, cut}
 use Rattle.stream_face.specs.Calls.{Answers, Counts}
-use Rattle.stream_face.specs.Lawful.{DictsAreFull, MemberDictsAreFull}
+use Rattle.stream_face.specs.Lawful.{DictsAreFull}
 use Rattle.stream_face.specs.Streams.{Stream}
-use Rattle.stage_kernels.specs.Picks.{PickFits, no_column, picked_columns, picked_rows, with_nodes}
 use Rattle.plan_laws.proofs.PickedColumns.{as-many, column-at}
+use Rattle.work_parts.proofs.CutColumns.{dicts-window}
+use Rattle.stage_kernels.specs.Picks.{PickFits, no_column, picked_columns, picked_rows, with_nodes}
 
 pub schema-kept : (result : Result SchemaTree NoMemory) (picks : List ℕ) (kept : List ColumnType) → IfOk result (λ s. s ≡ SchemaOf (map column_of kept))
     → IfOk result (λ s. (before : List Column) → ∥ PickFits picks kept before ∥₁ → s ≡ SchemaOf (picked_columns picks before))
@@ -34,29 +35,6 @@ schema-kept (Ok s) picks kept e = λ before fits.
 schema-kept (Err x) picks kept e = tt
 
 -- ---- dictionaries
-
-windowed-dictionary : (t : ArrayTree) (off len : ℤ) → dictionary_at (windowed t off len) ≡ dictionary_at t
-windowed-dictionary Released off len = refl
-windowed-dictionary (Live m ts d) off len = refl
-
-windowed-children : (t : ArrayTree) (off len : ℤ) → children_of (windowed t off len) ≡ children_of t
-windowed-children Released off len = refl
-windowed-children (Live m ts d) off len = refl
-
-window-dictionary : (t : ArrayTree) (off len : ℤ) → dictionary_at (Window t off len) ≡ dictionary_at t
-window-dictionary t off len =
-    elim (is_whole t off len) as (λ w. dictionary_at (if w then t else windowed t off len) ≡ dictionary_at t)
-    [ true ↦ refl | false ↦ windowed-dictionary t off len ]
-
-pub window-children : (t : ArrayTree) (off len : ℤ) → children_of (Window t off len) ≡ children_of t
-window-children t off len =
-    elim (is_whole t off len) as (λ w. children_of (if w then t else windowed t off len) ≡ children_of t)
-    [ true ↦ refl | false ↦ windowed-children t off len ]
-
-pub dicts-window : (kind : Kind) (t : ArrayTree) (off len : ℤ) → DictsAreFull kind t → DictsAreFull kind (Window t off len)
-dicts-window (Flat kind) t off len full = tt
-dicts-window (Dict kind) t off len full = rw window-dictionary full
-dicts-window (StructOf members) t off len full = subst (MemberDictsAreFull members) (sym (window-children t off len)) full
 
 cut-at : (t : ArrayTree) (off len : ℤ) (picks : List ℕ) (k : ℕ) → k < length picks
     → get_or (map (cut t off len) picks) k Released ≡ cut t off len (get_or picks k 0)

@@ -16,8 +16,8 @@ use Rattle.stage_model.specs.Stages.{is_within, sliced, sliced_chunks, unless_em
 use Rattle.stream_face.specs.Calls.{Answers}
 use Rattle.stream_face.specs.Lawful.{DictsAreFull, IsChunkOf}
 use Rattle.stream_face.specs.Streams.{Stream}
+use Rattle.work_parts.proofs.CutColumns.{window-children}
 use Rattle.stage_kernels.specs.Slices.{kept_count, kept_part}
-use Rattle.stage_kernels.proofs.PickedChunks.{window-children}
 
 -- ---- rows that are counted off
 

@@ -23,10 +23,11 @@ use Rattle.stream_face.specs.Calls.{Answers, Counts}
 use Rattle.stream_face.specs.Lawful.{AreItems, DictsAreFull, HasFields, IsChunkOf, IsTable, LawfulTables, MemberDictsAreFull}
 use Rattle.stream_face.specs.Streams.{Stream, Traffic}
 use Rattle.plan_laws.specs.Dues.{due_with}
+use Rattle.work_parts.proofs.CutColumns.{dicts-window}
+use Rattle.work_parts.proofs.MovedChildren.{cut-at, cut_to}
+use Rattle.work_parts.proofs.Spliced.{at-behind, at-front, at-middle, each-holds, length-spliced, spliced}
 use Rattle.stage_kernels.specs.Unpacks.{UnpackFits}
-use Rattle.stage_kernels.proofs.MovedChildren.{cut-at, cut_to}
-use Rattle.stage_kernels.proofs.PickedChunks.{dicts-window, risen-more}
-use Rattle.stage_kernels.proofs.Spliced.{at-behind, at-front, at-middle, each-holds, length-spliced, spliced}
+use Rattle.stage_kernels.proofs.PickedChunks.{risen-more}
 
 -- ---- dictionaries
 

@@ -20,9 +20,9 @@ use Rattle.schema_check.specs.Schemas.{TypedOf}
 use Rattle.stage_model.specs.Typing.{column_at, no_column, struct_members}
 use Rattle.stream_face.specs.Lawful.{AreFieldItems, AreItems, DictsHaveBytes, HasFields, IsTable, LawfulColumns, LawfulTables, MemberDictsHaveBytes}
 use Rattle.stream_face.specs.Lawful.{column_leaves, leaves, member_leaves, total_rows}
+use Rattle.work_parts.proofs.CodedColumns.{coded_columns, coded_kind}
+use Rattle.work_parts.proofs.Spliced.{at-behind, at-front, at-middle, each-holds, length-spliced, spliced}
 use Rattle.stage_kernels.specs.Unpacks.{UnpackFits}
-use Rattle.stage_kernels.proofs.CodedColumns.{coded_columns, coded_kind}
-use Rattle.stage_kernels.proofs.Spliced.{at-behind, at-front, at-middle, each-holds, length-spliced, spliced}
 
 -- ---- a fit, told
 

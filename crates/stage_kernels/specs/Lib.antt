@@ -2,3 +2,4 @@ pub mod Picks
 pub mod Slices
 pub mod Packs
 pub mod Unpacks
+pub mod KernelWorks

@@ -1,16 +1,17 @@
 -- A struct column that is unpacked: its columns stand in its place.
-use Rattle.std.specs.Prelude.{◌≡◌, ◌<◌, ◌≤◌, ◌≤ℤ◌, ℕ, pos, List, length, map}
+use Rattle.std.specs.Prelude.{◌≡◌, ◌<◌, ◌≤◌, ℕ, List, length, map}
 use Rattle.data_types.specs.declared.kind.ColumnType.{ColumnType}
 use Rattle.data_types.specs.ColumnView.{column_of}
 use Rattle.data_types.specs.Parts.{unpacked_columns}
 use Rattle.data_types.specs.Table.{Column, Columns, Members}
-use Rattle.tree_model.specs.Tree.{IsLive, children_of, child_at}
+use Rattle.tree_model.specs.Tree.{children_of, child_at}
 use Rattle.raw_array.specs.Members.{ArrayTree, members_of}
-use Rattle.raw_array.specs.Windows.{FitsWindow, Window}
+use Rattle.raw_array.specs.Windows.{Window}
 use Rattle.kind_tree.specs.ColumnKinds.{type_of_columns}
 use Rattle.layout_rules.specs.Walk.{ChunkOk}
 use Rattle.stage_model.specs.Typing.{column_at}
 use Rattle.plan_laws.specs.Structs.{column_structs, most_structs}
+use Rattle.work_parts.specs.Children.{ShowsChildren}
 
 -- the column of this number is a struct, and the columns that are kept have its columns in its place
 pub record UnpackFits (place : ℕ) (kept : List ColumnType) (before : List Column) : Type 0 where
@@ -28,14 +29,7 @@ pub record HasStruct (place : ℕ) (chunk : ArrayTree) : Type 0 where
   pub inside : place < length columns
   pub is_struct : (column_at columns place).kind ≡ Columns fields
 
--- a live array whose children have the items that it shows
-pub record ShowsChildren (t : ArrayTree) : Type 0 where
-  pub live : IsLive t
-  pub placed : pos 0 ≤ℤ (members_of t).offset
-  pub sized : pos 0 ≤ℤ (members_of t).length
-  pub fit : (k : ℕ) → k < length (children_of t) → FitsWindow (child_at t k) (members_of t).offset (members_of t).length
-
--- so have those of the child at a place, cut to what the array shows
+-- an array that shows its children, and so does the child at a place, cut to what the array shows
 pub record ShowsInner (place : ℕ) (t : ArrayTree) : Type 0 where
   pub outer : ShowsChildren t
   pub inside : place < length (children_of t)

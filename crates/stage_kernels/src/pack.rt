@@ -7,7 +7,6 @@ ghost use Rattle.stages.specs.Works.{rows_alone};
 ghost use Rattle.plan_laws.specs.Dues.{due_with};
 ghost use Rattle.stage_kernels.specs.Packs.{PackFits};
 
-use crate::costs::chunks_are_small;
 use crate::packed::packed;
 use array_laws::lawful_arrays_are_not_deep;
 use column_laws::columns_of_a_table;
@@ -19,6 +18,7 @@ use std::alloc::Global;
 use std::thread::Threads;
 use stream_face::{ArrayStream, RawStream, Tap};
 use unit_pass::{NoMemory, Pass};
+use work_parts::chunks_are_small;
 
 /// The columns that stay, in their order, and behind them a struct of the picked columns, in the order of the picks.
 #[derive(Drop)]

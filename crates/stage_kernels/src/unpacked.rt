@@ -9,9 +9,9 @@ ghost use Rattle.unit_pass.specs.declared.pass.TheConstants.{SUPPLY};
 ghost use Rattle.layout_rules.specs.Layout.{natural};
 ghost use Rattle.arr_export.specs.ArrayTrees.{IsColumn};
 ghost use Rattle.column_laws.specs.Picking.{Unpacked, cut_children};
-ghost use Rattle.stage_kernels.specs.Unpacks.{HasStruct, ShowsChildren, ShowsInner};
+ghost use Rattle.work_parts.specs.Children.{ShowsChildren};
+ghost use Rattle.stage_kernels.specs.Unpacks.{HasStruct, ShowsInner};
 
-use crate::children::{count_children, move_children};
 use arr_export::export_table;
 use arr_move::slice;
 use array_laws::{lawful_structs_have_columns, windows_are_parts};
@@ -22,6 +22,7 @@ use column_laws::{
 use raw_array::{Gone, PartlyMoved, RawArray, release_all, windows_keep_measures};
 use std::alloc::Global;
 use unit_pass::{NoMemory, Pass, SUPPLY};
+use work_parts::{count_children, move_children};
 
 /// A chunk with a struct's columns in the struct's place, each cut to the items that it shows ("The Arrow C Data Interface",
 /// "Moving child arrays"). No block is made or copied. The new struct of all columns draws one unit; the old one and the

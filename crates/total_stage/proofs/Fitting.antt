@@ -26,11 +26,11 @@ use Rattle.tree_model.specs.Tree.{Depth}
 use Rattle.unit_pass.specs.declared.pass.TheConstants.{CHUNK}
 use Rattle.column_fill.proofs.ColumnBlocks.{blocks-are}
 use Rattle.column_fill.proofs.ValuesTaken.{values-fit}
-use Rattle.stage_kernels.proofs.ColumnSets.{same_columns}
 use Rattle.stage_model.specs.Stages.{at_end, numbers_at, totals_row}
 use Rattle.stage_model.specs.Traffic.{Made, blocks_from as made_from, kind_blocks, kind_nodes, table_blocks, table_nodes}
 use Rattle.stage_model.specs.Typing.{is_summed, no_column, totals_columns}
 use Rattle.stream_face.specs.Lawful.{AreItems, AreValues, DictsHaveBytes, IsTable, LawfulColumns, LawfulTables, column_leaves, leaves, total_rows}
+use Rattle.work_parts.proofs.ColumnSets.{same_columns}
 use Rattle.total_stage.specs.Rows.{RowFits, ValueFits}
 use Rattle.total_stage.specs.Works.{CanTotal, TotalsFits, totals_ahead}
 use Rattle.total_stage.proofs.Adding.{all-both}

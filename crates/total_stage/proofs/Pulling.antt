@@ -17,7 +17,6 @@ use Rattle.kind_tree.specs.Kinds.{KindTree, TypedOk}
 use Rattle.layout_rules.specs.Values.{rows_of}
 use Rattle.layout_rules.specs.Walk.{ChunkOk}
 use Rattle.column_fill.proofs.Counts.{kids-long}
-use Rattle.stage_kernels.proofs.Runs.{Called, Ran, Ran-fresh}
 use Rattle.stage_model.specs.Typing.{is_summed, no_column}
 use Rattle.unit_pass.specs.Tally.{Tally}
 use Rattle.unit_pass.specs.declared.pass.TheConstants.{CHUNK}
@@ -28,6 +27,7 @@ use Rattle.stream_face.specs.Calls.{Answers, IsCode, Shows}
 use Rattle.stream_face.specs.Lawful.{AreItems, IsChunkOf, IsTable, LawfulColumns, LawfulTables, total_rows}
 use Rattle.stream_face.specs.Streams.{IsFresh, Stream}
 use Rattle.stream_face.specs.Texts.{Refusal}
+use Rattle.work_parts.proofs.Runs.{Called, Ran, Ran-fresh}
 use Rattle.total_stage.specs.Pulls.{IsRefused}
 use Rattle.total_stage.specs.Sums.{AreSums, CanAdd, CanSum, HaveBegun}
 use Rattle.total_stage.specs.Totals.{IsSmallItem}

@@ -3,8 +3,8 @@ use Rattle.std.proofs.lemmas.List.{length-map}
 use Rattle.tree_model.specs.Tree.{children_of}
 use Rattle.raw_array.specs.Members.{ArrayTree}
 use Rattle.kind_tree.specs.ColumnKinds.{type_of_column, types_of_columns}
-use Rattle.stage_kernels.specs.Unpacks.{ShowsChildren}
-use Rattle.stage_kernels.proofs.StructChildren.{StructLaws, shown}
+use Rattle.work_parts.specs.Children.{ShowsChildren}
+use Rattle.work_parts.proofs.StructChildren.{StructLaws, shown}
 use Rattle.dict_stage.specs.Recoded.{HasPlace}
 use Rattle.dict_stage.proofs.ReplacedChildren.{as-many, columns-replaced, few-rows, placed}
 use Rattle.dict_stage.proofs.replaced.columns_can_be_replaced.Goals as goal

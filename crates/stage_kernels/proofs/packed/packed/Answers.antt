@@ -7,10 +7,10 @@ use Rattle.kind_tree.specs.ColumnKinds.{type_of_columns}
 use Rattle.layout_rules.specs.Layout.{natural}
 use Rattle.arr_move.specs.TreeActs.{FitParentWindow}
 use Rattle.arr_export.specs.ArrayTrees.{IsColumn}
+use Rattle.work_parts.proofs.CutColumns.{natural-is}
 use Rattle.stage_kernels.specs.Packs.{LeftOf, column_in}
 use Rattle.stage_kernels.proofs.PackedTrees.{are-live, columns-depth, columns-ready, columns-stay, distinct-back, distinct-front, fits-stays}
-use Rattle.stage_kernels.proofs.PackedTrees.{live-costs, natural-is}
-use Rattle.stage_kernels.proofs.PackedTrees.{packed-tree, two-apart}
+use Rattle.stage_kernels.proofs.PackedTrees.{live-costs, packed-tree, two-apart}
 use Rattle.stage_kernels.proofs.packed.packed.Goals as goal
 
 -- ---- the columns that are moved

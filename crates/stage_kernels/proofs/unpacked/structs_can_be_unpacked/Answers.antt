@@ -1,7 +1,8 @@
 use Rattle.std.proofs.Common.{arith}
 use Rattle.kind_tree.specs.ColumnKinds.{types_of_columns}
 use Rattle.stage_model.specs.Typing.{no_column}
-use Rattle.stage_kernels.proofs.StructChildren.{StructLaws, few-columns, few-rows, shown-inner, table-columns}
+use Rattle.work_parts.proofs.StructChildren.{StructLaws}
+use Rattle.stage_kernels.proofs.UnpackedChildren.{few-columns, few-rows, shown-inner, table-columns}
 use Rattle.stage_kernels.proofs.unpacked.structs_can_be_unpacked.Goals as goal
 
 pub returns : goal.returns

@@ -1,7 +1,7 @@
 use Rattle.std.proofs.Common.{arith, ◌≡◌, ◌∙◌, ap, w64, to_z, of_z}
 use Rattle.std.proofs.lemmas.Int.{ints}
 use Rattle.raw_array.specs.Members.{Cost, members_of}
-use Rattle.stage_kernels.proofs.StructChildren.{table-is}
+use Rattle.stage_kernels.proofs.UnpackedChildren.{table-is}
 use Rattle.stage_kernels.proofs.unpacked.unpack_column.Goals as goal
 
 pub unpacked_children-requires-clause-shown : goal.unpacked_children-requires-clause-shown

@@ -12,7 +12,7 @@ use Rattle.layout_rules.specs.Values.{rows_of}
 use Rattle.stream_face.specs.Meaning.{meaning}
 use Rattle.stream_face.specs.Streams.{IsFresh}
 use Rattle.stream_face.proofs.Joints.{live_unless}
-use Rattle.stage_kernels.proofs.Runs.{Called, Ran-counts, Ran-fresh, Ran-next, Ran-shows, Ran-start, Ran-still, Ran-works}
+use Rattle.work_parts.proofs.Runs.{Called, Ran-counts, Ran-fresh, Ran-next, Ran-shows, Ran-start, Ran-still, Ran-works}
 use Rattle.total_stage.specs.Sums.{AreSums}
 use Rattle.total_stage.specs.declared.numbers.Totals.{Totals}
 use Rattle.total_stage.proofs.Pulling.{HavePulled, given, pulled-all, pulled-more, pulled-none, shows-wanting, zero_code}

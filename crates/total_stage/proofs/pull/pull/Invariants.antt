@@ -2,7 +2,7 @@ use Rattle.std.proofs.Common.{◌≡◌, length}
 use Rattle.tree_model.specs.Tree.{Released}
 use Rattle.stream_face.specs.Meaning.{meaning}
 use Rattle.stream_face.specs.Streams.{IsFresh}
-use Rattle.stage_kernels.proofs.Runs.{Ran}
+use Rattle.work_parts.proofs.Runs.{Ran}
 use Rattle.total_stage.proofs.Pulling.{HavePulled}
 use Rattle.total_stage.proofs.pull.pull.Given as goal
 

@@ -7,8 +7,8 @@ use Rattle.raw_array.specs.Members.{ArrayTree, Cost}
 use Rattle.stream_face.specs.Meaning.{meaning}
 use Rattle.stream_face.specs.Streams.{IsFresh}
 use Rattle.stream_face.proofs.Joints.{live_unless}
+use Rattle.work_parts.proofs.Runs.{Called, Ran-counts, Ran-fresh, Ran-next, Ran-repeats, Ran-shows, Ran-start, Ran-still, Ran-works}
 use Rattle.stage_kernels.proofs.PickedChunks.{chunk_of}
-use Rattle.stage_kernels.proofs.Runs.{Called, Ran-counts, Ran-fresh, Ran-next, Ran-repeats, Ran-shows, Ran-start, Ran-still, Ran-works}
 use Rattle.stage_kernels.proofs.SlicedChunks.{WindowLaws, slice-ends, slice-gives, slice-skips}
 use Rattle.stage_kernels.proofs.SlicedStreams.{kept_columns}
 use Rattle.stage_kernels.proofs.slice.SliceWorkWork.next.Goals as goal

@@ -3,7 +3,7 @@ use Rattle.tree_model.specs.Tree.{Released}
 use Rattle.stage_model.specs.Stages.{sliced_chunks}
 use Rattle.stream_face.specs.Meaning.{meaning}
 use Rattle.stream_face.specs.Streams.{IsFresh}
-use Rattle.stage_kernels.proofs.Runs.{Ran}
+use Rattle.work_parts.proofs.Runs.{Ran}
 use Rattle.stage_kernels.proofs.slice.SliceWorkWork.next.Given as goal
 
 -- how far the calls of the stream below have come, and that the same rows are still to be given

@@ -12,8 +12,8 @@ use Rattle.stage_model.specs.Stages.{chunks_after}
 use Rattle.stage_model.specs.declared.stage.Step.TheVariants as steps
 use Rattle.stream_face.specs.Streams.{Stream, Traffic}
 use Rattle.stages.specs.Works.{rows_alone}
-use Rattle.pipe_top.specs.declared.kernel_work.KernelWork.{KernelWork}
-use Rattle.pipe_top.specs.declared.kernel_work.KernelWork.TheVariants as kernels
+use Rattle.stage_kernels.specs.declared.kernel_work.KernelWork.{KernelWork}
+use Rattle.stage_kernels.specs.declared.kernel_work.KernelWork.TheVariants as kernels
 
 -- it is made for these columns
 abbrev pub kernel_fits : KernelWork → List Column → Type 0

@@ -1,10 +1,13 @@
 //! The work of a step that moves columns or rows.
-ghost use Rattle.pipe_top.specs.KernelWorks.{kernel_ahead, kernel_columns, kernel_due, kernel_fits, kernel_gives};
+ghost use Rattle.stage_kernels.specs.KernelWorks.{kernel_ahead, kernel_columns, kernel_due, kernel_fits, kernel_gives};
 
+use crate::pack::PackWork;
+use crate::select::SelectWork;
+use crate::slice::SliceWork;
+use crate::unpack::UnpackWork;
 use edge_io::Gate;
 use raw_array::RawArray;
 use raw_schema::RawSchema;
-use stage_kernels::{PackWork, SelectWork, SliceWork, UnpackWork};
 use stages::Work;
 use std::alloc::Global;
 use std::thread::Threads;

@@ -1,13 +1,12 @@
 -- Children of a tree while they are moved out one after another.
 use Rattle.std.proofs.Common.{arith, ◌≡◌, ◌≤◌, ◌<◌, ◌+◌, ◌-◌, ◌∙◌, ℕ, zero, suc, ℤ, List, [], ◌∷◌, ◌++◌, length, map, get_or, set, take, drop}
 use Rattle.std.proofs.Common.{refl, sym, ap, subst, append_assoc, true, false, if◌then◌else◌}
-use Rattle.std.proofs.lemmas.List.{drop-drop, drop-set-lt, get_or-drop, length-drop, map_more, take-map, drop-map, take_rest}
-use Rattle.tree_model.specs.Tree.{Released, Live, children_of, child_at, trees, tree_list, with_child}
+use Rattle.std.proofs.lemmas.List.{drop-drop, drop-set-lt, get_or-drop, length-drop, map_more}
+use Rattle.tree_model.specs.Tree.{Released, Live, children_of, trees, tree_list, with_child}
 use Rattle.tree_model.proofs.Lists.{tree_list-trees}
 use Rattle.tree_model.proofs.Measures.{cost_of_all-append}
-use Rattle.raw_array.specs.Members.{ArrayTree, Cost, cost_of_all, holds, members_of, windowed}
+use Rattle.raw_array.specs.Members.{ArrayTree, Cost, cost_of_all, holds, windowed}
 use Rattle.raw_array.specs.Windows.{FitsWindow, Window, is_whole}
-use Rattle.column_laws.specs.Picking.{Unpacked, cut_children}
 
 pub children-set : (t : ArrayTree) (i : ℕ) (c : ArrayTree) → children_of (with_child t i c) ≡ set (children_of t) i c
 children-set Released i c = refl
@@ -83,22 +82,3 @@ pub cut-at : (cs : List ArrayTree) (off len : ℤ) (k : ℕ) → get_or (map (cu
 cut-at [] off len k = sym (cut-released off len)
 cut-at (c ∷ cs) off len zero = refl
 cut-at (c ∷ cs) off len (suc k) = cut-at cs off len k
-
--- all children, where they are moved in three parts
-pub parts-are : (t : ArrayTree) (place count : ℕ) (first second third : List ArrayTree) → count ≡ length (children_of t)
-    → first ≡ [] ++ map (cut_to (members_of t).offset (members_of t).length) (take (place - 0) (drop 0 (children_of t)))
-    → second ≡ first ++ cut_children (Window (child_at t place) (members_of t).offset (members_of t).length)
-    → third ≡ second ++ map (cut_to (members_of t).offset (members_of t).length) (take (count - (place + 1)) (drop (place + 1) (children_of t)))
-    → third ≡ children_of (Unpacked t place)
-parts-are t place count first second third is a b c =
-    let cs = children_of t in
-    let off = (members_of t).offset in
-    let len = (members_of t).length in
-    let n : place - 0 ≡ place = omega arith in
-    let front = a ∙ ap (λ k. map (cut_to off len) (take k cs)) n ∙ sym (take-map (cut_to off len) place cs) in
-    let middle = ap cut_children (sym (cut-at cs off len place)) in
-    let left = length-drop (place + 1) cs in
-    let m : count - (place + 1) ≡ length cs - (place + 1) = ap (λ k. k - (place + 1)) is in
-    let back = ap (λ k. map (cut_to off len) (take k (drop (place + 1) cs))) m ∙ ap (map (cut_to off len)) (take_rest cs (place + 1))
-    ∙ sym (drop-map (cut_to off len) (place + 1) cs) in
-    c ∙ (λ i. b i ++ back i) ∙ (λ i. front i ++ middle i ++ drop (place + 1) (cut_children t)) ∙ sym (tree_list-trees _)

@@ -1,9 +1,9 @@
--- What the children of a chunk and of a struct in it offer to those that take them.
-use Rattle.std.proofs.Common.{arith, ◌≡◌, ◌≤◌, ◌<◌, ◌+◌, ◌^◌, ◌≤ℤ◌, ◌∙◌, ℕ, zero, suc, ℤ, pos, negsuc, List, [], ◌∷◌, ◌++◌, length, get_or, take, drop, All}
-use Rattle.std.proofs.Common.{refl, ap, subst}
+-- What the children of a chunk and of a struct in it offer, and what they are with the struct's in its place.
+use Rattle.std.proofs.Common.{arith, ◌≡◌, ◌≤◌, ◌<◌, ◌+◌, ◌-◌, ◌^◌, ◌≤ℤ◌, ◌∙◌, ℕ, suc, ℤ, pos, negsuc, List, [], ◌∷◌, ◌++◌, length, map, get_or, take, drop, All}
+use Rattle.std.proofs.Common.{refl, sym, ap, subst}
 use Rattle.std.proofs.lemmas.Int.{ints}
-use Rattle.std.proofs.lemmas.List.{get_or-map, length-map, get_or_default}
-use Rattle.data_types.specs.Parts.{AreWithin, member_columns, unpacked_columns}
+use Rattle.std.proofs.lemmas.List.{get_or-map, length-map, get_or_default, length-drop, take-map, drop-map, take_rest}
+use Rattle.data_types.specs.Parts.{member_columns, unpacked_columns}
 use Rattle.data_types.specs.Table.{Column, Columns as StructOf, Members}
 use Rattle.tree_model.specs.Tree.{Depth, depth_of_all, IsLive, Released, Live, absent, children_of, child_at, trees, tree_list}
 use Rattle.tree_model.proofs.Lists.{tree_list-trees, trees-tree_list}
@@ -12,34 +12,17 @@ use Rattle.raw_array.specs.Members.{ArrayTree, Cost, cost_of_all, members_of}
 use Rattle.raw_array.specs.Windows.{Window}
 use Rattle.kind_tree.specs.Kinds.{KindTree}
 use Rattle.layout_rules.specs.Layout.{end, first, items, natural}
-use Rattle.layout_rules.specs.Values.{tree_items}
 use Rattle.layout_rules.specs.Walk.{ChunkOk, LayoutOk}
 use Rattle.kind_tree.specs.ColumnKinds.{table_type, type_of_column, type_of_columns, type_of_kind, types_of_columns}
 use Rattle.arr_export.specs.ArrayTrees.{IsColumn, table_tree}
-use Rattle.arr_move.specs.TreeActs.{FitParentWindow, struct_members}
+use Rattle.arr_move.specs.TreeActs.{struct_members}
 use Rattle.column_laws.specs.Picking.{AreLive, Unpacked, cut_children}
 use Rattle.stage_model.specs.Typing.{column_at, no_column}
-use Rattle.stage_kernels.specs.Unpacks.{HasStruct, ShowsChildren, ShowsInner}
+use Rattle.work_parts.proofs.MovedChildren.{cut-at, cut_to}
+use Rattle.work_parts.proofs.StructChildren.{StructLaws, shown}
+use Rattle.stage_kernels.specs.Unpacks.{HasStruct, ShowsInner}
 
--- ---- laws of structs, and costs of children
--- what is known of lawful structs
-pub record StructLaws : Type 0 where
-  pub live : (types : List KindTree) (t : ArrayTree) → LayoutOk (table_type types) t → IsLive t
-  pub placed : (types : List KindTree) (t : ArrayTree) → LayoutOk (table_type types) t → pos 0 ≤ℤ (members_of t).offset
-  pub sized : (types : List KindTree) (t : ArrayTree) → LayoutOk (table_type types) t → pos 0 ≤ℤ (members_of t).length
-  pub count : (types : List KindTree) (t : ArrayTree) → LayoutOk (table_type types) t → length (children_of t) ≡ length types
-  pub column : (types : List KindTree) (t : ArrayTree) (p : ℕ) → p < length types → LayoutOk (table_type types) t
-      → LayoutOk (get_or types p Released) (child_at t p)
-  pub column_live : (types : List KindTree) (t : ArrayTree) (p : ℕ) → p < length types → IsLive (get_or types p Released)
-      → LayoutOk (table_type types) t → IsLive (child_at t p)
-  pub column_long : (types : List KindTree) (t : ArrayTree) (p : ℕ) → p < length types → IsLive (get_or types p Released)
-      → LayoutOk (table_type types) t → end (members_of t) ≤ tree_items (child_at t p)
-  pub fit : (types : List KindTree) (t : ArrayTree) (picks : List ℕ) → AreLive types → LayoutOk (table_type types) t → AreWithin (length types) picks
-      → FitParentWindow t picks
-  pub types_live : (columns : List Column) → AreLive (types_of_columns columns)
-  pub window : (typed : KindTree) (t : ArrayTree) (off len : ℕ) → off + len ≤ tree_items t → LayoutOk typed t → LayoutOk typed (Window t (pos off) (pos len))
-  pub struct : (fields : Members) → type_of_kind (StructOf fields) ≡ table_type (types_of_columns (member_columns fields))
-
+-- ---- numbers, and costs of children
 pub pos-natural : (z : ℤ) → pos 0 ≤ℤ z → pos (natural z) ≡ z
 pos-natural (pos n) h = refl
 pos-natural (negsuc n) h = absurd (omega (arith, h))
@@ -47,10 +30,6 @@ pos-natural (negsuc n) h = absurd (omega (arith, h))
 few-of : (z : ℤ) (first most : ℕ) → pos 0 ≤ℤ z → first + natural z ≤ most → z ≤ℤ pos most
 few-of (pos n) first most sized small = omega (arith, ints, small)
 few-of (negsuc n) first most sized small = absurd (omega (arith, sized))
-
-one-within : (count k : ℕ) → k < count → AreWithin count (k ∷ [])
-one-within count k small zero inside = small
-one-within count k small (suc j) inside = absurd (omega (arith, inside))
 
 child-depth : (t : ArrayTree) (k : ℕ) → k < length (children_of t) → Depth (child_at t k) + 1 ≤ Depth t
 child-depth Released k small = absurd (omega (arith, small))
@@ -73,16 +52,6 @@ children-cost (Live m ts d) live = let same = ap cost_of_all (trees-tree_list ts
 -- ---- what a chunk and a struct in it offer
 module _ (laws : StructLaws) where
   module _ (types : List KindTree) (t : ArrayTree) (live : AreLive types) (ok : LayoutOk (table_type types) t) where
-    pub shown : ShowsChildren t
-    shown = record {
-      live = laws.live types t ok;
-      placed = laws.placed types t ok;
-      sized = laws.sized types t ok;
-      fit = λ k small.
-          let e = laws.count types t ok in
-          laws.fit types t (k ∷ []) live ok (one-within (length types) k (omega (arith, e, small))) 0 (omega arith);
-    }
-
     -- its columns may stand in a table
     child-column : Depth t ≤ 128 → (k : ℕ) → k < length (children_of t) → IsColumn (items (members_of t)) (child_at t k)
     child-column deep k small =
@@ -115,9 +84,9 @@ module _ (laws : StructLaws) where
       let off = pos-natural (members_of t).offset (laws.placed types t ok) in
       let len = pos-natural (members_of t).length (laws.sized types t ok) in
       record {
-        outer = shown types t live ok;
+        outer = shown laws types t live ok;
         inside = omega (arith, count, small);
-        inner = shown inner (Window (child_at t place) (members_of t).offset (members_of t).length) (laws.types_live (member_columns has.fields))
+        inner = shown laws inner (Window (child_at t place) (members_of t).offset (members_of t).length) (laws.types_live (member_columns has.fields))
             (subst (λ z. LayoutOk (table_type inner) (Window (child_at t place) (members_of t).offset z)) len
             (subst (λ z. LayoutOk (table_type inner) (Window (child_at t place) z (pos (items (members_of t))))) off cut));
       }
@@ -147,6 +116,26 @@ module _ (laws : StructLaws) where
   pub few-rows : (place : ℕ) (t : ArrayTree) → HasStruct place t → end (members_of t) ≤ 2 ^ 40 → (members_of t).length ≤ℤ pos (2 ^ 40)
   few-rows place t has small =
       few-of (members_of t).length (first (members_of t)) (2 ^ 40) (laws.sized (types_of_columns has.columns) t has.ok.0) small
+
+-- ---- all children
+-- all children, where they are moved in three parts
+pub parts-are : (t : ArrayTree) (place count : ℕ) (first second third : List ArrayTree) → count ≡ length (children_of t)
+    → first ≡ [] ++ map (cut_to (members_of t).offset (members_of t).length) (take (place - 0) (drop 0 (children_of t)))
+    → second ≡ first ++ cut_children (Window (child_at t place) (members_of t).offset (members_of t).length)
+    → third ≡ second ++ map (cut_to (members_of t).offset (members_of t).length) (take (count - (place + 1)) (drop (place + 1) (children_of t)))
+    → third ≡ children_of (Unpacked t place)
+parts-are t place count first second third is a b c =
+    let cs = children_of t in
+    let off = (members_of t).offset in
+    let len = (members_of t).length in
+    let n : place - 0 ≡ place = omega arith in
+    let front = a ∙ ap (λ k. map (cut_to off len) (take k cs)) n ∙ sym (take-map (cut_to off len) place cs) in
+    let middle = ap cut_children (sym (cut-at cs off len place)) in
+    let left = length-drop (place + 1) cs in
+    let m : count - (place + 1) ≡ length cs - (place + 1) = ap (λ k. k - (place + 1)) is in
+    let back = ap (λ k. map (cut_to off len) (take k (drop (place + 1) cs))) m ∙ ap (map (cut_to off len)) (take_rest cs (place + 1))
+    ∙ sym (drop-map (cut_to off len) (place + 1) cs) in
+    c ∙ (λ i. b i ++ back i) ∙ (λ i. front i ++ middle i ++ drop (place + 1) (cut_children t)) ∙ sym (tree_list-trees _)
 
 pub table-is : (place : ℕ) (t : ArrayTree) (rows : ℤ) (columns : List ArrayTree) → pos 0 ≤ℤ (members_of t).length → rows ≡ (members_of t).length
     → columns ≡ children_of (Unpacked t place) → table_tree (natural rows) columns ≡ Unpacked t place

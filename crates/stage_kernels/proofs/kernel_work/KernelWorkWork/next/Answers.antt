@@ -1,4 +1,4 @@
-use Rattle.pipe_top.proofs.kernel_work.KernelWorkWork.next.Goals as goal
+use Rattle.stage_kernels.proofs.kernel_work.KernelWorkWork.next.Goals as goal
 
 pub returns-in-Slice-clause-columns : goal.returns-in-Slice-clause-columns
 returns-in-Slice-clause-columns g c = λ before. rw c.in-Slice.is (c.next-in-Slice.ensures.columns before)

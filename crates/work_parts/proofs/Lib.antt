@@ -1,0 +1,8 @@
+pub mod CodedColumns
+pub mod ColumnSets
+pub mod ChunkCosts
+pub mod CutColumns
+pub mod MovedChildren
+pub mod StructChildren
+pub mod Spliced
+pub mod Runs
