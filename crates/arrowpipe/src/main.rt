@@ -1,10 +1,9 @@
 //! Reads CSV from standard input and writes the table that the stages of the words make of it to standard output.
 #![tactic(auto)]
 
-use edge_io::{OpenGate, StdSink, StdSource};
+use edge_io::{OpenGate, StdSink, StdSource, program_words};
 use pipe_top::run;
-use std::env;
-use std::io::{self, ErrorKind};
+use std::io::ErrorKind;
 use std::process::ExitCode;
 use stream_face::NoTap;
 
@@ -12,15 +11,6 @@ use stream_face::NoTap;
 const REFUSED: u8 = 2;
 /// The status where there is no memory.
 const NO_MEMORY: u8 = 9;
-
-/// The words behind the program's name.
-fn words(rt: &HostRuntime) -> io::Result<Vec<String>> {
-    let mut words = Vec::new(rt.alloc());
-    for word in env::args(rt)?.skip(1) {
-        words.push(word)?;
-    }
-    Ok(words)
-}
 
 /// Tells why there are no words: one is no text, or there is no memory.
 fn no_words(rt: &HostRuntime, why: ErrorKind) -> ExitCode {
@@ -37,7 +27,7 @@ fn no_words(rt: &HostRuntime, why: ErrorKind) -> ExitCode {
 }
 
 fn main(rt: HostRuntime) -> ExitCode {
-    let words = match words(&rt) {
+    let words = match program_words(&rt) {
         Ok(words) => words,
         Err(error) => return no_words(&rt, error.kind()),
     };

@@ -3,13 +3,15 @@
 //! [`read_all`] and [`write_all`] carry whole texts over any [`Source`] and [`Sink`]: the bytes are exactly those that
 //! the source had left and that the sink took, and a failure is answered only where the count of failures rose. Sources
 //! and sinks in memory fail where they are told to; [`CountSource`] gives many bytes and keeps none. [`StdSource`] and
-//! [`StdSink`] stand over the system's streams: what those give and take is told by no contract.
+//! [`StdSink`] stand over the system's streams, and [`program_words`] gives the words of the command: what those give and take
+//! is told by no contract.
 #![tactic(auto)]
 
 ghost use Rattle.std.specs.Prelude.{◌≡◌, ◌<◌, ◌≤◌, ◌+◌, ◌-◌, ◌^◌, ℕ, List, Option, IfOk, IfErr, OnOk, OnErr, length, take, vec_len};
 ghost use Rattle.std.specs.Io.KnownBytes.{Appends, Consumes, IsAtEnd};
 ghost use Rattle.edge_io.specs.Edge.{GivesFirst, GivesWithin, LosesCount, LosesPrefix, ReadFailsFor, Rose, TakesFirst, TakesWithin, WriteFailsFor, taken_by};
 
+mod arguments;
 mod counted;
 mod fault_text;
 mod gate;
@@ -19,6 +21,7 @@ mod memory;
 mod standard;
 mod whole;
 
+pub use arguments::program_words;
 pub use counted::CountSource;
 pub use gate::{Gate, OpenGate};
 pub use memory::{MemSink, MemSource};
