@@ -81,7 +81,7 @@ impl<'a> Col<'a> {
     ghost use Rattle.arr_import.specs.Window.{whole, items_of};
     ghost use Rattle.arr_import.specs.Cols.{window_of};
 
-    /// All items of an array that [`layout_check::check_array`] accepted.
+    /// All items of an array that `layout_check::check_array` accepted.
     #[inline(always)]
     pub fn of(typed: &'a Typed, array: &'a RawArray) -> Col<'a>
         requires lawful { LayoutOk (typed_of typed.now) array.now }
