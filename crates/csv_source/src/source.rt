@@ -16,7 +16,7 @@ use arr_export::{column_schemas_are_lawful, export_schema, schema_size};
 use col_build::Spares;
 use csv_read::{BatchReader, Records};
 use data_types::{ColumnType, RowFault};
-use edge_io::Gate;
+use edge_face::Gate;
 use raw_array::{Acted, RawArray};
 use raw_schema::RawSchema;
 use std::alloc::Global;

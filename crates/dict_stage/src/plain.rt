@@ -10,7 +10,7 @@ ghost use Rattle.dict_stage.specs.Fits.{PlainFits};
 use crate::chunk::{kind_at, recoded_chunk};
 use crate::laws::recoded_chunks_have_their_rows;
 use arr_export::column_schemas_are_lawful;
-use edge_io::Gate;
+use edge_face::Gate;
 use raw_array::RawArray;
 use raw_schema::RawSchema;
 use stages::{OutColumns, Work};

@@ -1,10 +1,10 @@
 -- Sources and sinks in memory: which of their calls fail, and what the others give and take.
 use Rattle.std.specs.Prelude.{◌≡◌, ◌+◌, ◌-◌, ◌^◌, ◌==◌, ℕ, zero, suc, Bool, true, false, List, drop, length, min, replicate}
 use Rattle.std.specs.List.{list_any}
-use Rattle.edge_io.specs.declared.Got.{Got}
-use Rattle.edge_io.specs.declared.Got.TheVariants as got
-use Rattle.edge_io.specs.declared.Took.{Took}
-use Rattle.edge_io.specs.declared.Took.TheVariants as took
+use Rattle.edge_face.specs.declared.Got.{Got}
+use Rattle.edge_face.specs.declared.Got.TheVariants as got
+use Rattle.edge_face.specs.declared.Took.{Took}
+use Rattle.edge_face.specs.declared.Took.TheVariants as took
 use Rattle.edge_io.specs.declared.memory.MemSource.{MemSource}
 use Rattle.edge_io.specs.declared.memory.MemSink.{MemSink}
 use Rattle.edge_io.specs.declared.counted.CountSource.{CountSource}

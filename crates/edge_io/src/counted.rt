@@ -1,9 +1,9 @@
 //! A source of very many bytes that keeps none.
 ghost use Rattle.std.specs.Prelude.{◌≡◌, ◌<◌, ◌≤◌, Some, false, length, min};
-ghost use Rattle.edge_io.specs.Edge.{GivesFirst, GivesWithin};
+ghost use Rattle.edge_face.specs.Edge.{GivesFirst, GivesWithin};
 ghost use Rattle.edge_io.specs.Memory.{count_left, letters, read_answer};
 
-use crate::{Got, Source};
+use edge_face::{Got, Source};
 
 /// A source of so many bytes `a`, which never fails.
 #[derive(Drop)]

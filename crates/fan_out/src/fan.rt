@@ -12,7 +12,7 @@ use crate::piece::answer;
 use crate::pieces::make_pieces;
 use crate::run::run_pieces;
 use array_laws::{shares_show_the_same, trees_that_show_the_same};
-use edge_io::Gate;
+use edge_face::Gate;
 use kind_tree::Typed;
 use raw_array::{RawArray, like_trees_are_ordered, shares_add_up};
 use std::alloc::Global;

@@ -10,7 +10,7 @@ ghost use Rattle.fan_out.specs.Pieces.{GivesPiece};
 ghost use Rattle.fan_out.specs.Workers.{CanRun, IsDone};
 
 use crate::job::Job;
-use edge_io::Gate;
+use edge_face::Gate;
 use kind_tree::Typed;
 use layout_check::count_rows;
 use raw_array::RawArray;

@@ -11,7 +11,7 @@ ghost use Rattle.fan_out.specs.declared.piece.Piece.{Piece};
 use crate::job::Job;
 use crate::piece::{Piece, work};
 use crate::pieces::{collect, end_pieces};
-use edge_io::Gate;
+use edge_face::Gate;
 use kind_tree::Typed;
 use raw_array::RawArray;
 use std::alloc::Global;

@@ -1,23 +1,23 @@
 -- What a run comes to, from what its parts come to.
-use Rattle.std.proofs.Common.{ℕ, ◌≡◌, ◌⊎◌, ◌++◌, ◌∙◌, Bool, true, false, List, Option, None, Some, IfSome, Result, Ok, Err, IfErr, OnErr, OnOk, ap, refl}
+use Rattle.std.proofs.Common.{ℕ, ◌≡◌, ◌⊎◌, ◌++◌, ◌∙◌, Bool, true, false, List, Option, None, Some, IfSome, Result, Ok, Err, IfErr, IfOk, OnErr, OnOk, ap, refl}
 use Rattle.std.proofs.Common.{sym, subst}
 use Rattle.std.proofs.Common.{append-nil, inl, inr}
 use Rattle.std.proofs.lemmas.Bool.{false≢true}
-use Rattle.edge_io.specs.declared.WriteFault.{WriteFault}
+use Rattle.edge_face.specs.declared.WriteFault.{WriteFault}
 use Rattle.unit_pass.specs.declared.pass.Audit.{Audit}
 use Rattle.stream_face.specs.Shown.{Seen}
 use Rattle.run_model.specs.Answer.{Answer, Asks, Task, Text, Fault, cause_of, status_of, Cause, OfWords, OfTexts, OfPlan, OfRecords}
 use Rattle.run_model.specs.Answer.{OfTree, OfLength, Reading, Writing, Memory}
-use Rattle.run_model.specs.Outcomes.{AtWriteFault, AtWriting, asked_of, is_decided}
+use Rattle.run_model.specs.Outcomes.{AtWriteFault, AtWriting, asked_of, fault_in, is_decided, task_of}
 use Rattle.run_model.specs.declared.asked.Task.{Task as AsksTask}
 use Rattle.run_model.specs.Told.{Says, Told, Took, audit_if, fault_line}
 use Rattle.run_model.specs.declared.fault.RunFault.{RunFault}
 use Rattle.run_model.specs.declared.fault.RunFault.TheVariants as run
-use Rattle.run_task.specs.Traffic.{IsShownInPart, ShowsAsked}
+use Rattle.run_task.specs.Traffic.{CountsTask, IsShownInPart, IsTraffic, ShowsAsked}
 use Rattle.words.specs.Words.{made_of}
 use Rattle.run_task.proofs.Unshown.{unshown}
 use Rattle.run_task.specs.Answer.{IsAnswer, IsAnswerTo, IsInput, input_by}
-use Rattle.run_task.specs.Outcomes.{GotFirst, GotText, fault_in}
+use Rattle.run_task.specs.Outcomes.{GotFirst, GotText}
 
 -- ---- diagnostics
 
@@ -132,12 +132,61 @@ module _ (words : List (List ℕ)) (left : Option (List ℕ)) (rows : Option ℕ
       go (Ok done) is = refl
       go (Err f) is = let never : ◌≡◌ {A = Option RunFault} (Some f) None = is in cc
 
+  carried-err : (f : RunFault) → fault ≡ Some f → carried ≡ Err f
+  carried-err f some = go carried (sym told ∙ some)
+    where
+      go : (r : Result (Unit {0}) RunFault) → fault_in r ≡ Some f → r ≡ Err f
+      go (Ok done) is = let never : ◌≡◌ {A = Option RunFault} None (Some f) = is in cc
+      go (Err g) is = let same : ◌≡◌ {A = Option RunFault} (Some g) (Some f) = is in let one : g ≡ f = cc in ap Err one
+
   -- where the run has no fault, the words ask for what was read
   done-asked : fault ≡ None → request ≡ Err run.NoMemory → ⊥
   done-asked none memory =
       let never : ◌≡◌ {A = Result (Unit {0}) RunFault} (Ok tt) (Err run.NoMemory) =
       sym (carried-ok none) ∙ subst (λ e. IfErr e (λ f. carried ≡ Err f)) memory early in
       cc
+
+  -- ---- the causes of faults that words and input don't decide
+
+  pub read-rose : (None-made Rises : Type 0) → (carried ≡ Err run.ReadFault → None-made × Rises) → fault ≡ Some run.ReadFault → Rises
+  read-rose None-made Rises cause is = (cause (carried-err run.ReadFault is)).1
+
+  pub write-rose : (Rises : Type 0) → IfErr carried (λ f. AtWriteFault f (λ taken. Rises)) → IfSome fault (λ f. AtWriteFault f (λ taken. Rises))
+  write-rose Rises cause = subst (λ o. IfSome o (λ f. AtWriteFault f (λ taken. Rises))) (sym told) (go carried cause)
+    where
+      go : (r : Result (Unit {0}) RunFault) → IfErr r (λ f. AtWriteFault f (λ taken. Rises)) → IfSome (fault_in r) (λ f. AtWriteFault f (λ taken. Rises))
+      go (Ok done) cause = tt
+      go (Err f) cause = cause
+
+  -- ---- what is done for the task
+
+  pub done-for-task : (P : Task → List ℕ → Type 0) → OnOk carried (IfOk request (λ t. IfSome input (λ bytes. P (task_of t) bytes)))
+      → fault ≡ None → (bytes : List ℕ) → IsInput words left bytes → (task : Task) × Asks words (Ok task) × P task bytes
+  done-for-task P holds none bytes is =
+      go request refl (subst (λ r. OnOk r (IfOk request (λ t. IfSome input (λ bytes. P (task_of t) bytes)))) (carried-ok none) holds)
+    where
+      go : (r : Result AsksTask RunFault) → request ≡ r → IfOk r (λ t. IfSome input (λ bytes. P (task_of t) bytes))
+          → (task : Task) × Asks words (Ok task) × P task bytes
+      go (Ok t) at here = (
+        task_of t,
+        subst (λ (r : Result AsksTask RunFault). Asks words (asked_of r)) at (asked-unless (done-asked none)),
+        at-input words left rows bytes (λ l. P (task_of t) l) (made-unless (done-asked none)) is here,
+      )
+      go (Err f) at here =
+          let never : ◌≡◌ {A = Result (Unit {0}) RunFault} (Ok tt) (Err f) =
+          sym (carried-ok none) ∙ subst (λ (r : Result AsksTask RunFault). IfErr r (λ f. carried ≡ Err f)) at early in
+          cc
+
+  -- the counts of a pass that began at none
+  pub counts-of-task : (old_blocks old_nodes new_blocks new_nodes blocks nodes : ℕ) → old_blocks ≡ 0 → old_nodes ≡ 0 → blocks ≡ new_blocks → nodes ≡ new_nodes
+      → OnOk carried (IfOk request (λ t. IfSome input (λ bytes. CountsTask (task_of t) bytes old_blocks old_nodes new_blocks new_nodes)))
+      → fault ≡ None → (bytes : List ℕ) → IsInput words left bytes → IsTraffic words bytes blocks nodes
+  counts-of-task old_blocks old_nodes new_blocks new_nodes blocks nodes no-blocks no-nodes same-blocks same-nodes counts none bytes is =
+      rw (same-blocks, same-nodes)
+      (done-for-task (λ task l. CountsTask task l 0 0 new_blocks new_nodes)
+      (subst (λ n. OnOk carried (IfOk request (λ t. IfSome input (λ bytes. CountsTask (task_of t) bytes 0 n new_blocks new_nodes)))) no-nodes
+      (subst (λ b. OnOk carried (IfOk request (λ t. IfSome input (λ bytes. CountsTask (task_of t) bytes b old_nodes new_blocks new_nodes)))) no-blocks counts))
+      none bytes is)
 
   -- ---- the text
 

@@ -2,7 +2,7 @@
 ghost use Rattle.pipe_top.specs.AnyWorks.{work_ahead, work_columns, work_due, work_fits, work_gives};
 
 use dict_stage::{DictWork, PlainWork};
-use edge_io::Gate;
+use edge_face::Gate;
 use raw_array::RawArray;
 use raw_schema::RawSchema;
 use stage_chain::StepWork;

@@ -16,7 +16,7 @@ ghost use Rattle.stream_text.specs.Faults.{IfRow};
 ghost use Rattle.stream_text.specs.Runs.{Counted, ShowsAll, ShowsSome};
 
 use crate::any_work::AnyWork;
-use edge_io::Gate;
+use edge_face::Gate;
 use stage_chain::{DriveFault, drive_by};
 use stage_plan::Plan;
 use std::alloc::Global;

@@ -14,10 +14,10 @@
 //! It owns, too, which works the stages have: [`AnyWork`], the work of a step of one of the eight kinds, and [`drive`], the chain
 //! of stages over a stream by these works.
 //!
-//! What the words ask for, the faults and the lines stand in `run_model`, what a run does between its words and its lines in
-//! `run_task`, what CSV means in `csv_model`, the words in `words`, what stages mean in `stage_model`, their texts in
+//! What the words ask for, the faults, the outcome and the lines stand in `run_model`, what a run does between its words and its
+//! lines in `run_task`, what CSV means in `csv_model`, the words in `words`, what stages mean in `stage_model`, their texts in
 //! `stage_plan`, the source in `csv_source`, the chain of stages in `stage_chain`, the check of a tree in `tree_check`, the
-//! structures in `raw_schema` and `raw_array`, the sources and sinks in `edge_io`.
+//! structures in `raw_schema` and `raw_array`, the sources and sinks in `edge_face` and `edge_io`.
 #![tactic(auto)]
 
 mod any_work;
@@ -26,10 +26,7 @@ mod top;
 
 pub use any_work::AnyWork;
 pub use driven::drive;
-pub use run_model::RunFault;
+pub use run_model::{Outcome, PlanRule, RunFault, StageFault, TreeFault, TypesRule, WordsFault};
 pub use run_task::one_answer;
 pub use stage_chain::DriveFault;
-pub use stage_plan::{PlanRule, StageFault, TypesRule};
-pub use top::{Outcome, run};
-pub use tree_check::TreeFault;
-pub use words::WordsFault;
+pub use top::run;

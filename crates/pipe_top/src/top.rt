@@ -2,35 +2,24 @@
 ghost use Rattle.std.specs.Prelude.{◌≡◌, ◌⊎◌, true, false, Some, None, Err, IfSome, ℕ, List};
 ghost use Rattle.std.specs.Thread.{IsSync};
 ghost use Rattle.std.specs.Io.KnownBytes.{Keeps};
-ghost use Rattle.edge_io.specs.Edge.{LosesPrefix, Rose};
+ghost use Rattle.edge_face.specs.Edge.{LosesPrefix, Rose};
 ghost use Rattle.words.specs.Words.{audit_of, made_of, texts_of};
 ghost use Rattle.run_model.specs.Answer.{Asks, Fault, Text, status_of};
 ghost use Rattle.run_model.specs.Outcomes.{AtWriteFault, is_decided, is_early, is_write_fault};
 ghost use Rattle.run_model.specs.Told.{Told, audit_if};
 ghost use Rattle.run_model.specs.declared.fault.RunFault.{RunFault as AFault};
 ghost use Rattle.run_task.specs.Answer.{IsAnswer, IsInput};
-ghost use Rattle.run_task.specs.Outcomes.{GotFirst, GotText, IsRead, fault_in};
+ghost use Rattle.run_task.specs.Outcomes.{GotFirst, GotText, IsRead};
 ghost use Rattle.run_task.specs.Traffic.{IsShown, IsShownInPart, IsTraffic};
 
 use crate::any_work::AnyWork;
-use edge_io::{Gate, Sink, Source};
-use run_model::{Asked, RunFault, read_asked, tell};
+use edge_face::{Gate, Sink, Source};
+use run_model::{Asked, Outcome, RunFault, outcome_of, read_asked, tell};
 use run_task::{carry_out, one_answer};
 use std::alloc::Global;
 use std::thread::Threads;
 use stream_face::Tap;
-use unit_pass::{Audit, open_desk};
-
-/// What a run came to.
-#[derive(Clone, Copy, PartialEq, Eq, Debug)]
-pub struct Outcome {
-    /// A function of the fault: 0 without one; 2 for the words, 3 for the stages and the schema text, 4 for the header and the
-    /// records, 5 for an input that is too long, 6 and 7 for reading and writing, 8 for the tree, 9 for want of memory.
-    pub status: u8,
-    pub fault: Option<RunFault>,
-    /// The blocks and nodes that were made, and that none is left.
-    pub audit: Audit,
-}
+use unit_pass::open_desk;
 
 /// Reads the source to its end and writes the text of the table that the stages make of the table that it spells, or the report
 /// of the tree that it tells of.
@@ -132,48 +121,4 @@ pub fn run<R: Threads + Sync, S: Source, K: Sink, E: Sink, T: Tap>(
     let outcome = outcome_of(carried, audit);
     let _told = tell(errs, outcome.fault, &outcome.audit, wanted);
     outcome
-}
-
-/// What a run came to.
-fn outcome_of(carried: Result<(), RunFault>, audit: Audit) -> Outcome
-    ensures status { result.status ≡ status_of result.fault }
-    ensures fault { result.fault ≡ fault_in carried }
-    ensures audit { result.audit ≡ audit }
-{
-    match carried {
-        Ok(()) => Outcome {
-            status: 0,
-            fault: None,
-            audit,
-        },
-        Err(fault) => Outcome {
-            status: status(fault),
-            fault: Some(fault),
-            audit,
-        },
-    }
-}
-
-/// The status of a fault.
-fn status(fault: RunFault) -> u8
-    ensures { result ≡ status_of (Some fault) }
-{
-    match fault {
-        RunFault::Words(_) => 2,
-        RunFault::Stage { stage: _, rule: _ } => 3,
-        RunFault::Schema { entry: _, rule: _ } => 3,
-        RunFault::Plan { stage: _, rule: _ } => 3,
-        RunFault::NoHeader => 4,
-        RunFault::TooManyColumns { count: _ } => 4,
-        RunFault::HeaderText { column: _ } => 4,
-        RunFault::HeaderTwice { column: _ } => 4,
-        RunFault::HeaderUnknown { entry: _ } => 4,
-        RunFault::Ragged { row: _, found: _ } => 4,
-        RunFault::Field { row: _, column: _ } => 4,
-        RunFault::InputTooLong => 5,
-        RunFault::ReadFault => 6,
-        RunFault::WriteFault { taken: _ } => 7,
-        RunFault::Tree(_) => 8,
-        RunFault::NoMemory => 9,
-    }
 }

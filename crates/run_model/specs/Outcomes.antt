@@ -1,5 +1,5 @@
 -- What a fault's cause says of it, and what the program has read of the words.
-use Rattle.std.specs.Prelude.{ℕ, Bool, true, false, List, Result, Ok, Err, Vec, ⊤}
+use Rattle.std.specs.Prelude.{ℕ, Bool, true, false, List, Option, None, Some, Result, Ok, Err, Vec, ⊤}
 use Rattle.std.specs.Global.{Global}
 use Rattle.stage_plan.specs.declared.types.TypeEntry.{TypeEntry}
 use Rattle.run_model.specs.Answer.{Request, Task, Table, Tree, Cause, OfWords, OfTexts, OfPlan}
@@ -75,3 +75,8 @@ asked_of (Err fault) = Err fault
 abbrev pub IfTable : AsksTask → (AsksFor → Type 0) → Type 0
 IfTable (tasks.Table request) P = P request
 IfTable tasks.Tree P = ⊤
+
+-- the fault of a result
+abbrev pub fault_in : Result Unit RunFault → Option RunFault
+fault_in (Ok done) = None
+fault_in (Err fault) = Some fault

@@ -3,8 +3,8 @@ use Rattle.std.specs.Prelude.{ℕ, ◌≡◌, ◌≤◌, ◌⊎◌, ◌++◌, Bo
 use Rattle.std.specs.List.{concat}
 use Rattle.std.specs.Borrow.{Bor}
 use Rattle.std.specs.Io.KnownBytes.{Appends}
-use Rattle.edge_io.specs.Edge.{Rose}
-use Rattle.edge_io.specs.declared.WriteFault.{WriteFault}
+use Rattle.edge_face.specs.Edge.{Rose}
+use Rattle.edge_face.specs.declared.WriteFault.{WriteFault}
 use Rattle.stage_model.specs.FaultTexts.{rule_text, stage_fault_text}
 use Rattle.stage_plan.specs.declared.fault.TypesRule.{TypesRule}
 use Rattle.stage_plan.specs.declared.fault.TypesRule.TheVariants as types

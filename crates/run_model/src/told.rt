@@ -6,7 +6,7 @@ ghost use Rattle.run_model.specs.Told.{Says, audit_if, audit_line, fault_line, f
 use crate::fault::RunFault;
 use crate::fault_text::{Said, Told, digits, told_of};
 use crate::tree_line::tell_tree;
-use edge_io::{Sink, WriteFault, write_all};
+use edge_face::{Sink, WriteFault, write_all};
 use itoa::Buffer;
 use unit_pass::Audit;
 

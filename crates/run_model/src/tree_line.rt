@@ -10,7 +10,7 @@ ghost use Rattle.tree_text.specs.FaultTexts.{text_fault_text};
 ghost use Rattle.run_model.specs.Told.{Says, line_of};
 
 use crate::told::say;
-use edge_io::{Sink, WriteFault};
+use edge_face::{Sink, WriteFault};
 use itoa::Buffer;
 use kind_tree::{DICTIONARY_STEP, Path};
 use layout_rules::{LayoutFault, LayoutRule};

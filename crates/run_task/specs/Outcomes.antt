@@ -1,8 +1,7 @@
 -- What the outcome of a run says of the answer, of the source and of the sink.
-use Rattle.std.specs.Prelude.{ℕ, ◌≤◌, List, Option, None, Some, Result, Ok, Err, length, take}
+use Rattle.std.specs.Prelude.{ℕ, ◌≤◌, List, Option, None, Some, length, take}
 use Rattle.std.specs.Io.KnownBytes.{Appends, IsAtEnd, Keeps}
 use Rattle.run_model.specs.Answer.{Answer, Text}
-use Rattle.run_model.specs.declared.fault.RunFault.{RunFault}
 
 -- the source was read to its end, or is as before where rows are made in place of its bytes
 abbrev pub IsRead : Option ℕ → Option (List ℕ) → Option (List ℕ) → Type 0
@@ -16,8 +15,3 @@ GotText Answers old new = (text : List ℕ) × Answers (Text text) × Appends ol
 -- an answer is a text, and the sink got its first bytes
 abbrev pub GotFirst : (Answer → Type 0) → Option (List ℕ) → Option (List ℕ) → ℕ → Type 0
 GotFirst Answers old new taken = (text : List ℕ) × Answers (Text text) × (taken ≤ length text) × Appends old new (take taken text)
-
--- the fault of a result
-abbrev pub fault_in : Result Unit RunFault → Option RunFault
-fault_in (Ok done) = None
-fault_in (Err fault) = Some fault

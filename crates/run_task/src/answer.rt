@@ -24,7 +24,7 @@ ghost use Rattle.run_task.specs.Traffic.{LinksTraffic, links_of};
 use csv_read::{Records, read_header};
 use csv_source::CsvSource;
 use data_types::{ColumnType, RowFault, clone_columns};
-use edge_io::Gate;
+use edge_face::Gate;
 use run_model::{Request, RunFault};
 use stage_chain::{DriveFault, StepWork, drive_by};
 use stage_plan::{Plan, StageText, TypeEntry, type_plan};

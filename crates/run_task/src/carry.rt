@@ -4,7 +4,7 @@ ghost use Rattle.std.specs.Thread.{IsSync};
 ghost use Rattle.std.specs.Io.KnownBytes.{IsAtEnd, Keeps};
 ghost use Rattle.field_codec.specs.TextColumns.{IsAllowed};
 ghost use Rattle.data_types.specs.Kinds.{KindOk};
-ghost use Rattle.edge_io.specs.Edge.{LosesPrefix, Rose};
+ghost use Rattle.edge_face.specs.Edge.{LosesPrefix, Rose};
 ghost use Rattle.unit_pass.specs.declared.pass.TheConstants.{ROOM};
 ghost use Rattle.made_table.specs.Made.{made};
 ghost use Rattle.run_model.specs.Answer.{Fault, Text};
@@ -14,7 +14,7 @@ ghost use Rattle.run_task.specs.Outcomes.{GotFirst, GotText, IsRead};
 ghost use Rattle.run_task.specs.Traffic.{CountsTask, ShowsAsked, ShowsTask};
 
 use crate::answer::answer_input;
-use edge_io::{Gate, ReadFault, Sink, Source, WriteFault, read_all, write_all};
+use edge_face::{Gate, ReadFault, Sink, Source, WriteFault, read_all, write_all};
 use made_table::{made, made_is_short};
 use run_model::{RunFault, Task};
 use stage_chain::StepWork;

@@ -11,6 +11,8 @@ mod failures;
 #[cfg(test)]
 mod fields;
 #[cfg(test)]
+mod lines;
+#[cfg(test)]
 mod made;
 #[cfg(test)]
 mod payments;

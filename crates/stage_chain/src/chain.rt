@@ -20,7 +20,7 @@ use crate::planned::PlannedStage;
 use crate::stage_start::start_stage;
 use crate::step_work::StepWork;
 use csv_write::CsvText;
-use edge_io::Gate;
+use edge_face::Gate;
 use std::alloc::Global;
 use std::marker::PhantomData;
 use std::thread::Threads;

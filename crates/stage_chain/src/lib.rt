@@ -10,7 +10,7 @@
 //! source that ends at a record is refused with it; and the source is spent with all units on every outcome.
 //!
 //! What it leaves to others: what stages mean (`stage_model`), which stages fit columns (`stage_plan`), what each does to a chunk
-//! (the works: `stage_works`), and where the rows come from.
+//! (the works: `stage_kernels`, `stage_filter`, `dict_stage`, `total_stage`), and where the rows come from.
 #![tactic(auto)]
 
 mod boxed;

@@ -23,7 +23,7 @@ use crate::chain::{Chain, Sixteen, refuse};
 use crate::planned::{PlannedStage, planned};
 use crate::step_work::StepWork;
 use csv_write::CsvText;
-use edge_io::Gate;
+use edge_face::Gate;
 use stage_plan::Plan;
 use std::alloc::Global;
 use std::thread::Threads;

@@ -16,7 +16,7 @@ use crate::columns::moved_struct;
 use crate::laws::like_trees_are_the_same;
 use crate::workers::kept_by_workers;
 use data_types::ColumnType;
-use edge_io::Gate;
+use edge_face::Gate;
 use kind_tree::Typed;
 use layout_rules::lawful_trees;
 use raw_array::RawArray;

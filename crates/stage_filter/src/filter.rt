@@ -9,7 +9,7 @@ ghost use Rattle.stage_filter.specs.Filters.{FilterFits};
 
 use crate::chunk::{Asked, filtered};
 use crate::laws::{kept_rows_make_a_chunk, like_trees_are_the_same};
-use edge_io::Gate;
+use edge_face::Gate;
 use layout_rules::lawful_trees;
 use raw_array::RawArray;
 use raw_schema::RawSchema;

@@ -12,7 +12,7 @@ use crate::chunk::Asked;
 use crate::workers::kept_by_workers;
 use buf_block::{BufView, make};
 use data_types::DataType;
-use edge_io::OpenGate;
+use edge_face::OpenGate;
 use kind_tree::Typed;
 use layout_check::{check_chunk, chunk_passes, count_rows};
 use raw_array::{ArrayParts, RawArray, ReleaseKind};

@@ -14,7 +14,7 @@ ghost use Rattle.stage_filter.specs.Workers.{HaveColumn, row_numbers};
 use crate::chunk::Asked;
 use crate::kept::kept_rows;
 use arr_import::Col;
-use edge_io::Gate;
+use edge_face::Gate;
 use fan_out::{Job, fan_out, pieces_are_in_order};
 use kind_tree::{Typed, kinds_of_typed};
 use layout_rules::lawful_root;

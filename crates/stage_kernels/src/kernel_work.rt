@@ -5,7 +5,7 @@ use crate::pack::PackWork;
 use crate::select::SelectWork;
 use crate::slice::SliceWork;
 use crate::unpack::UnpackWork;
-use edge_io::Gate;
+use edge_face::Gate;
 use raw_array::RawArray;
 use raw_schema::RawSchema;
 use stages::Work;

@@ -10,7 +10,7 @@ ghost use Rattle.stage_kernels.specs.Packs.{PackFits};
 use crate::packed::packed;
 use array_laws::lawful_arrays_are_not_deep;
 use column_laws::columns_of_a_table;
-use edge_io::Gate;
+use edge_face::Gate;
 use raw_array::RawArray;
 use raw_schema::RawSchema;
 use stages::{OutColumns, Work};

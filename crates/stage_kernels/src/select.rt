@@ -15,7 +15,7 @@ ghost use Rattle.stage_kernels.specs.Picks.{PickFits, picked_columns, picked_row
 
 use arr_move::take_columns;
 use column_laws::columns_of_a_table;
-use edge_io::Gate;
+use edge_face::Gate;
 use layout_rules::lawful_trees;
 use raw_array::RawArray;
 use raw_schema::RawSchema;

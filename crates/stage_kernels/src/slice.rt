@@ -15,7 +15,7 @@ ghost use Rattle.stage_kernels.specs.Slices.{SliceFits, kept_part};
 
 use arr_move::slice;
 use array_laws::windows_are_parts;
-use edge_io::Gate;
+use edge_face::Gate;
 use layout_rules::{chunks_are_tables, lawful_trees};
 use raw_array::{RawArray, windows_keep_measures};
 use raw_schema::RawSchema;

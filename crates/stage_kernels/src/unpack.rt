@@ -11,7 +11,7 @@ use crate::unpacked::unpack_column;
 use arr_export::column_schemas_are_lawful;
 use array_laws::lawful_structs_have_columns;
 use column_laws::columns_of_a_table;
-use edge_io::Gate;
+use edge_face::Gate;
 use raw_array::RawArray;
 use raw_schema::RawSchema;
 use stages::{OutColumns, Work};

@@ -14,7 +14,7 @@ ghost use Rattle.stream_face.specs.Meaning.{meaning};
 ghost use Rattle.stream_face.specs.Streams.{IsFresh, Keeps, Stream, Traffic};
 
 use data_types::RowFault;
-use edge_io::Gate;
+use edge_face::Gate;
 use raw_array::{Acted, RawArray};
 use raw_schema::RawSchema;
 use std::alloc::Global;

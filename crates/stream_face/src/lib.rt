@@ -16,7 +16,7 @@
 //! what is shown are those of the stream's meaning.
 //!
 //! What it leaves to others: the streams themselves, what a stage makes of the stream below it, and when a gate is passed
-//! (`edge_io`).
+//! (`edge_face`).
 #![tactic(auto)]
 
 mod fault;

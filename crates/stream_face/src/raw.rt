@@ -32,7 +32,7 @@ use crate::known::Known;
 use crate::stream::ArrayStream;
 use crate::tap::Tap;
 use data_types::RowFault;
-use edge_io::Gate;
+use edge_face::Gate;
 use kind_tree::Typed;
 use layout_check::{check_chunk, chunk_passes};
 use raw_array::{Acted, RawArray};

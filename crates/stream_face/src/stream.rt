@@ -12,7 +12,7 @@ ghost use Rattle.stream_face.specs.Texts.{lent_text, text_in};
 
 use crate::tap::Tap;
 use data_types::RowFault;
-use edge_io::Gate;
+use edge_face::Gate;
 use raw_array::{Acted, RawArray};
 use raw_schema::RawSchema;
 use std::alloc::Global;

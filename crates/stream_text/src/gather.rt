@@ -22,7 +22,7 @@ use crate::fault::DriveFault;
 use arr_import::Col;
 use csv_write::CsvText;
 use data_types::RowFault;
-use edge_io::Gate;
+use edge_face::Gate;
 use kind_tree::Typed;
 use raw_array::RawArray;
 use std::alloc::Global;

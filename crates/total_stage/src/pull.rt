@@ -11,7 +11,7 @@ ghost use Rattle.total_stage.specs.Works.{CanTotal};
 
 use crate::numbers::Totals;
 use crate::sums::{add_chunk, begin};
-use edge_io::Gate;
+use edge_face::Gate;
 use raw_array::RawArray;
 use std::alloc::Global;
 use std::thread::Threads;

@@ -9,7 +9,7 @@ ghost use Rattle.total_stage.specs.Sums.{AreParts, AreSums, CanAdd, HaveBegun};
 use crate::job::SumJob;
 use crate::numbers::Totals;
 use array_laws::pieces_are_the_whole;
-use edge_io::Gate;
+use edge_face::Gate;
 use fan_out::{fan_out, pieces_are_in_order};
 use kind_tree::Typed;
 use raw_array::RawArray;

@@ -14,7 +14,7 @@ use crate::window::number_at;
 use arr_import::Col;
 use buf_block::{BufView, make};
 use data_types::DataType;
-use edge_io::{Gate, OpenGate};
+use edge_face::{Gate, OpenGate};
 use kind_tree::Typed;
 use layout_check::check_chunk;
 use raw_array::{ArrayParts, RawArray, ReleaseKind};

@@ -10,7 +10,7 @@ use crate::chunk::totals_chunk;
 use crate::pull::{Pulled, pull};
 use arr_export::column_schemas_are_lawful;
 use csv_read::chunks_have_their_rows;
-use edge_io::Gate;
+use edge_face::Gate;
 use raw_array::RawArray;
 use raw_schema::RawSchema;
 use stages::{OutColumns, Work};

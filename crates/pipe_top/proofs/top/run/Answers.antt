@@ -1,7 +1,7 @@
-use Rattle.std.proofs.lemmas.Grind.{common_steps}
-use Rattle.std.proofs.Common.{rules, arith}
-use Rattle.pipe_top.proofs.Runs.{is-complete, is-complete-fault, made-keeps, prefix-of-answer, refused-by-answer}
-use Rattle.pipe_top.proofs.Runs.{shown-in-part, silent-audit, text-of-answer, told-all}
+use Rattle.std.proofs.Common.{◌∙◌, ap}
+use Rattle.run_task.specs.Traffic.{ShowsTask}
+use Rattle.pipe_top.proofs.Runs.{counts-of-task, done-for-task, is-complete, is-complete-fault, made-keeps, prefix-of-answer, read-rose}
+use Rattle.pipe_top.proofs.Runs.{refused-by-answer, shown-in-part, silent-audit, text-of-answer, told-all, write-rose}
 use Rattle.pipe_top.proofs.top.run.Goals as goal
 
 pub returns-clause-diagnostics : goal.returns-clause-diagnostics
@@ -35,10 +35,12 @@ returns-clause-complete_fault g c bytes fault input answer no-read =
     let asks = c.read_asked-wanted.ensures.asks in
     let rows = c.read_asked-wanted.result.made in
     let same = c.read_asked-wanted.ensures.made in
+    let read = read-rose _ left rows request c.carry_out-carried.result _ carried.refused_early told asks same _ _ carried.read_fault in
     let refused = refused-by-answer _ left rows request c.carry_out-carried.result _ carried.refused_early told asks same carried.refused in
+    let text = text-of-answer _ left rows request c.carry_out-carried.result _ carried.refused_early told asks same _ _ carried.text in
     let first = prefix-of-answer _ left rows request c.carry_out-carried.result _ carried.refused_early told asks same _ _ carried.write_fault_prefix in
     is-complete-fault _ left rows request c.carry_out-carried.result _ carried.refused_early told asks same c.one_answer.ensures.alone
-    _ c.outcome_of-outcome.result.status c.outcome_of-outcome.ensures.status (search rules) refused _ _ bytes fault (search rules) first input answer no-read
+    _ c.outcome_of-outcome.result.status c.outcome_of-outcome.ensures.status read refused _ _ bytes fault text first input answer no-read
 
 pub returns-clause-complete : goal.returns-clause-complete
 returns-clause-complete g c bytes text input answer no-read no-write =
@@ -49,9 +51,11 @@ returns-clause-complete g c bytes text input answer no-read no-write =
     let asks = c.read_asked-wanted.ensures.asks in
     let rows = c.read_asked-wanted.result.made in
     let same = c.read_asked-wanted.ensures.made in
+    let read = read-rose _ left rows request c.carry_out-carried.result _ carried.refused_early told asks same _ _ carried.read_fault in
     let refused = refused-by-answer _ left rows request c.carry_out-carried.result _ carried.refused_early told asks same carried.refused in
+    let wrote = write-rose _ left rows request c.carry_out-carried.result _ carried.refused_early told asks same _ carried.write_fault in
     is-complete _ left rows request c.carry_out-carried.result _ carried.refused_early told asks same c.one_answer.ensures.alone
-    _ c.outcome_of-outcome.result.status c.outcome_of-outcome.ensures.status (search rules) refused _ bytes text (search rules) input answer no-read no-write
+    _ c.outcome_of-outcome.result.status c.outcome_of-outcome.ensures.status read refused _ bytes text wrote input answer no-read no-write
 
 pub returns-clause-text : goal.returns-clause-text
 returns-clause-text g c =
@@ -72,7 +76,17 @@ returns-clause-made_unread g c =
     carried.made_unread
 
 pub returns-clause-shows : goal.returns-clause-shows
-returns-clause-shows g c = grind (arith, common_steps)
+returns-clause-shows g c =
+    let carried = c.carry_out-carried.ensures in
+    done-for-task _ (g.S.Source.left c.args.source.now) c.read_asked-wanted.result.made c.read_asked-wanted.result.task c.carry_out-carried.result _
+    carried.refused_early c.outcome_of-outcome.ensures.fault c.read_asked-wanted.ensures.asks c.read_asked-wanted.ensures.made
+    (λ task bytes. ShowsTask task bytes _ _) carried.shows
 
 pub returns-clause-audit_counts : goal.returns-clause-audit_counts
-returns-clause-audit_counts g c = grind (arith, common_steps)
+returns-clause-audit_counts g c =
+    let carried = c.carry_out-carried.ensures in
+    let audit = c.outcome_of-outcome.ensures.audit in
+    counts-of-task _ (g.S.Source.left c.args.source.now) c.read_asked-wanted.result.made c.read_asked-wanted.result.task c.carry_out-carried.result _
+    carried.refused_early c.outcome_of-outcome.ensures.fault c.read_asked-wanted.ensures.asks c.read_asked-wanted.ensures.made
+    _ _ _ _ _ _ c.open_desk-pass.ensures.blocks c.open_desk-pass.ensures.nodes (ap (λ a. a.blocks) audit ∙ c.close-audit.ensures.blocks)
+    (ap (λ a. a.nodes) audit ∙ c.close-audit.ensures.nodes) carried.counts

@@ -1,6 +1,6 @@
 use Rattle.std.proofs.Common.{rules, ap, refl, subst, take}
 use Rattle.std.specs.Io.KnownBytes.{Appends}
-use Rattle.edge_io.specs.Edge.{taken_by}
+use Rattle.edge_face.specs.Edge.{taken_by}
 use Rattle.run_model.specs.Outcomes.{asked_of, task_of}
 use Rattle.run_task.specs.Answer.{input_by}
 use Rattle.run_task.proofs.Unshown.{unshown-input}

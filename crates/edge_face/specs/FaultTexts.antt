@@ -1,9 +1,9 @@
 -- The texts of faults.
 use Rattle.std.specs.Prelude.{ℕ, ◌++◌, List, codes, decimal}
-use Rattle.edge_io.specs.declared.ReadFault.{ReadFault}
-use Rattle.edge_io.specs.declared.ReadFault.TheVariants as reads
-use Rattle.edge_io.specs.declared.WriteFault.{WriteFault}
-use Rattle.edge_io.specs.declared.WriteFault.TheVariants as writes
+use Rattle.edge_face.specs.declared.ReadFault.{ReadFault}
+use Rattle.edge_face.specs.declared.ReadFault.TheVariants as reads
+use Rattle.edge_face.specs.declared.WriteFault.{WriteFault}
+use Rattle.edge_face.specs.declared.WriteFault.TheVariants as writes
 
 abbrev pub read_fault_text : ReadFault → List ℕ
 read_fault_text reads.Failed = codes "read failed"

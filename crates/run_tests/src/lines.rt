@@ -1,7 +1,6 @@
 //! Each fault's line, as it is told and as it is shown.
-use crate::told::tell;
-use crate::{PlanRule, RunFault, StageFault, TypesRule, WordsFault};
 use edge_io::MemSink;
+use run_model::{PlanRule, RunFault, StageFault, TypesRule, WordsFault, tell};
 use std::alloc::Global;
 use std::process::Abort;
 use std::test::Fail;
