@@ -54,10 +54,10 @@ impl fmt::Display for TypesRule {
     ghost output = { λ rule. Some (rule_text rule) };
 
     fn fmt<W: fmt::Write>(&self, f: &mut fmt::Formatter<W>) -> fmt::Result {
-        match self {
-            TypesRule::BadEntry => f.write_str("not a column type"),
-            TypesRule::Twice => f.write_str("named before"),
-        }
+        f.write_str(match self {
+            TypesRule::BadEntry => "not a column type",
+            TypesRule::Twice => "named before",
+        })
     }
 }
 

@@ -92,16 +92,14 @@ impl fmt::Display for WordsFault {
     ghost output = { λ fault. Some (fault_text fault) };
 
     fn fmt<W: fmt::Write>(&self, f: &mut fmt::Formatter<W>) -> fmt::Result {
-        match self {
-            WordsFault::Refused => f.write_str("words refused"),
-            WordsFault::TooManyStages => f.write_str("words: more than 16 stages"),
-            WordsFault::UsedWithCheck => {
-                f.write_str("words: --check takes no stage and no --schema")
-            }
+        f.write_str(match self {
+            WordsFault::Refused => "words refused",
+            WordsFault::TooManyStages => "words: more than 16 stages",
+            WordsFault::UsedWithCheck => "words: --check takes no stage and no --schema",
             WordsFault::UsedWithSelftest => {
-                f.write_str("words: --selftest takes no stage, no --schema and no --check")
+                "words: --selftest takes no stage, no --schema and no --check"
             }
-        }
+        })
     }
 }
 
