@@ -6,3 +6,4 @@ pub mod LinksMade
 pub mod PlanMade
 pub mod Flat
 mod Begun
+mod Carried

@@ -1,26 +1,190 @@
-use Rattle.std.proofs.Common.{rules, ap, refl, subst, take}
+use Rattle.std.proofs.Common.{◌≡◌, ◌∙◌, ◌≤◌, ◌⊎◌, true, IfSome, length, ap, refl, rules, subst, sym, take}
 use Rattle.std.specs.Io.KnownBytes.{Appends}
-use Rattle.edge_face.specs.Edge.{taken_by}
-use Rattle.run_model.specs.Outcomes.{asked_of, task_of}
-use Rattle.run_task.specs.Answer.{input_by}
+use Rattle.edge_face.specs.Edge.{Rose, taken_by}
+use Rattle.run_model.specs.Answer.{cause_of}
+use Rattle.run_model.specs.Outcomes.{asked_of, is_early, task_of}
+use Rattle.run_model.specs.declared.fault.RunFault.TheVariants as run
+use Rattle.run_task.specs.Answer.{input_by, input_limit}
+use Rattle.run_task.proofs.Carried.{all-asked, at-err, at-ok, early-not_reading, early-not_writing, if-some}
+use Rattle.run_task.proofs.Carried.{keeps-same, late, late-not_early, late-not_writing, no-write}
+use Rattle.run_task.proofs.Carried.{late-not_reading, loses-nothing, no-err, no-ok, of-err, one-error, refused-asked, refused-with, shown-for, the-error}
+use Rattle.run_task.proofs.Carried.{unread-failed, unread-late, unread-not_writing, unread-refused, untrue}
 use Rattle.run_task.proofs.Unshown.{unshown-input}
-use Rattle.run_task.proofs.Written.{first-written}
+use Rattle.run_task.proofs.Written.{all-written, at-left, first-written}
 use Rattle.run_task.proofs.carry.carry_out.Goals as goal
 
-pub returns-in_err-bytes-clause-shows_some : goal.returns-in_err-bytes-clause-shows_some
-returns-in_err-bytes-clause-shows_some g c =
-    unshown-input c.from_residual-in_err-bytes.result (input_by c.args.rows (g.S.Source.left c.args.source.now))
-    (asked_of c.args.task) (g.T.Tap.seen c.args.tap.now)
-    (g.T.Tap.seen c.args.tap.now) refl
+-- ---- the words were refused
+pub returns-in_err-task : goal.returns-in_err-task
+returns-in_err-task g c =
+    let left = g.S.Source.left c.args.source.now in
+    let input = input_by c.args.rows left in
+    let fault = c.in_err-task.field-0.0 in
+    let was = c.in_err-task.was in
+    let same = the-error c.from_residual.result fault c.from_residual.ensures.1 in
+    let early = of-err (λ f. (is_early f ≡ true) ⊎ (f ≡ run.NoMemory)) c.args.task fault was c.requires.early in
+    let unwritten = early-not_writing fault early in
+    record {
+      text = no-ok _ _ _ same;
+      text_read_to_end = no-ok _ _ _ same;
+      refused = at-err _ _ _ same (λ _. refused-asked input (asked_of c.args.task) fault (ap asked_of was));
+      refused_early = at-err _ _ _ was same;
+      refused_early_only = at-err _ _ _ same (λ _. ap asked_of was);
+      refused_unread = at-err _ _ _ was (keeps-same left);
+      refused_unfailed = at-err _ _ _ was refl;
+      made_unread = if-some _ c.args.rows (keeps-same left);
+      made_unfailed = if-some _ c.args.rows refl;
+      read_fault = λ e. early-not_reading _ fault early (one-error _ fault run.ReadFault same e);
+      write_fault = no-write _ _ fault same unwritten;
+      write_fault_prefix = no-write _ _ fault same unwritten;
+      unwritten = at-err _ _ _ same (λ _. keeps-same (g.K.Sink.taken c.args.sink.now));
+      prefix = loses-nothing left;
+      units = refl;
+      counts = no-ok _ _ _ same;
+      shows = no-ok _ _ _ same;
+      unshown = at-err _ _ _ was refl;
+      shows_some = unshown-input _ input (asked_of c.args.task) (g.T.Tap.seen c.args.tap.now) (g.T.Tap.seen c.args.tap.now) refl;
+    }
 
-pub returns-clause-write_fault_prefix : goal.returns-clause-write_fault_prefix
-returns-clause-write_fault_prefix g c =
-    let asked = ap asked_of c.in_ok-task.was in
-    let wrote =
-    subst (λ text. Appends (g.K.Sink.taken c.args.sink.now) (g.K.Sink.taken c.write_all.new.sink) (take (taken_by c.in-Err-Failed.field-0) text))
-    c.deref-2.ensures.value c.in-Err-Failed.ensures.prefix in
-    let got = first-written (input_by c.args.rows (g.S.Source.left c.args.source.now))
-    (g.K.Sink.taken c.args.sink.now) (g.K.Sink.taken c.write_all.new.sink) (asked_of c.args.task)
-    (task_of c.in_ok-task.task) c.in_ok-bytes.bytes.items asked c.in_ok-bytes.ensures.bytes c.in_ok-text.text.items (taken_by c.in-Err-Failed.field-0)
-    (search rules) (search rules) wrote in
-    search (rules, got)
+-- ---- the input was refused
+pub returns-in_err-bytes : goal.returns-in_err-bytes
+returns-in_err-bytes g c =
+    let input = input_by c.args.rows (g.S.Source.left c.args.source.now) in
+    let fault = c.in_err-bytes.field-0.0 in
+    let was = c.in_ok-task.was in
+    let same = the-error c.from_residual-in_err-bytes.result fault c.from_residual-in_err-bytes.ensures.1 in
+    let why = c.in_err-bytes.ensures.fault in
+    let rises = Rose (g.S.Source.faults c.args.source.now) (g.S.Source.faults c.read_input.new.source) in
+    let late_one = unread-late c.args.rows rises input fault why in
+    let unwritten = unread-not_writing c.args.rows rises input fault why in
+    record {
+      text = no-ok _ _ _ same;
+      text_read_to_end = no-ok _ _ _ same;
+      refused = at-err _ _ _ same (unread-refused c.args.rows rises input (asked_of c.args.task) (task_of c.in_ok-task.task) fault (ap asked_of was) why);
+      refused_early = no-err _ _ _ was;
+      refused_early_only = at-err _ _ _ same (λ early. absurd (untrue (sym late_one ∙ early)));
+      refused_unread = no-err _ _ _ was;
+      refused_unfailed = no-err _ _ _ was;
+      made_unread = c.read_input.ensures.made_unread;
+      made_unfailed = c.read_input.ensures.made_unfailed;
+      read_fault = λ e. unread-failed c.args.rows rises input fault why (one-error _ fault run.ReadFault same e);
+      write_fault = no-write _ _ fault same unwritten;
+      write_fault_prefix = no-write _ _ fault same unwritten;
+      unwritten = at-err _ _ _ same (λ _. keeps-same (g.K.Sink.taken c.args.sink.now));
+      prefix = c.read_input.ensures.prefix;
+      units = refl;
+      counts = no-ok _ _ _ same;
+      shows = no-ok _ _ _ same;
+      unshown = no-err _ _ _ was;
+      shows_some = unshown-input _ input (asked_of c.args.task) (g.T.Tap.seen c.args.tap.now) (g.T.Tap.seen c.args.tap.now) refl;
+    }
+
+-- ---- the task has a fault
+pub returns-in_err-text : goal.returns-in_err-text
+returns-in_err-text g c =
+    let input = input_by c.args.rows (g.S.Source.left c.args.source.now) in
+    let asked = asked_of c.args.task in
+    let task = task_of c.in_ok-task.task in
+    let bytes = c.deref.result.now in
+    let fault = c.in_err-text.field-0.0 in
+    let was = c.in_ok-task.was in
+    let same = the-error c.from_residual-in_err-text.result fault c.from_residual-in_err-text.ensures.1 in
+    let read = subst (λ b. IfSome input (λ l. l ≡ b)) (sym c.deref.ensures.value) c.in_ok-bytes.ensures.bytes in
+    let seen = g.T.Tap.seen c.args.tap.now in
+    let shown = g.T.Tap.seen c.answer_task.new.tap in
+    let late_one = late task bytes fault c.in_err-text.ensures.fault in
+    record {
+      text = no-ok _ _ _ same;
+      text_read_to_end = no-ok _ _ _ same;
+      refused = at-err _ _ _ same (refused-with input asked task bytes (ap asked_of was) read fault c.in_err-text.ensures.fault);
+      refused_early = no-err _ _ _ was;
+      refused_early_only = at-err _ _ _ same (λ early. absurd (late-not_early (cause_of fault) late_one early));
+      refused_unread = no-err _ _ _ was;
+      refused_unfailed = no-err _ _ _ was;
+      made_unread = c.read_input.ensures.made_unread;
+      made_unfailed = c.read_input.ensures.made_unfailed;
+      read_fault = λ e. late-not_reading _ fault late_one (one-error _ fault run.ReadFault same e);
+      write_fault = no-write _ _ fault same (late-not_writing (cause_of fault) late_one);
+      write_fault_prefix = no-write _ _ fault same (late-not_writing (cause_of fault) late_one);
+      unwritten = at-err _ _ _ same (λ _. keeps-same (g.K.Sink.taken c.args.sink.now));
+      prefix = c.read_input.ensures.prefix;
+      units = c.answer_task.ensures.units;
+      counts = no-ok _ _ _ same;
+      shows = no-ok _ _ _ same;
+      unshown = no-err _ _ _ was;
+      shows_some = at-err _ _ _ same (shown-for input asked task bytes (ap asked_of was) read seen shown c.in_err-text.ensures.shows_some);
+    }
+
+-- ---- all was written
+pub returns-in-Ok : goal.returns-in-Ok
+returns-in-Ok g c =
+    let input = input_by c.args.rows (g.S.Source.left c.args.source.now) in
+    let asked = asked_of c.args.task in
+    let task = task_of c.in_ok-task.task in
+    let bytes = c.deref.result.now in
+    let was = c.in_ok-task.was in
+    let read = subst (λ b. IfSome input (λ l. l ≡ b)) (sym c.deref.ensures.value) c.in_ok-bytes.ensures.bytes in
+    let old = g.K.Sink.taken c.args.sink.now in
+    let new = g.K.Sink.taken c.write_all.new.sink in
+    let wrote = subst (Appends old new) c.deref-2.ensures.value c.in-Ok.ensures.all in
+    record {
+      text = all-written input old new asked task bytes (ap asked_of was) read c.in_ok-text.text.items c.in_ok-text.ensures.text wrote;
+      text_read_to_end = c.in_ok-bytes.ensures.end;
+      refused = tt;
+      refused_early = no-err _ _ _ was;
+      refused_early_only = tt;
+      refused_unread = no-err _ _ _ was;
+      refused_unfailed = no-err _ _ _ was;
+      made_unread = c.read_input.ensures.made_unread;
+      made_unfailed = c.read_input.ensures.made_unfailed;
+      read_fault = λ e. absurd (cc);
+      write_fault = tt;
+      write_fault_prefix = tt;
+      unwritten = tt;
+      prefix = c.read_input.ensures.prefix;
+      units = c.answer_task.ensures.units;
+      counts = at-ok _ _ _ was (at-left input bytes _ read c.in_ok-text.ensures.counts);
+      shows = at-ok _ _ _ was (at-left input bytes _ read c.in_ok-text.ensures.shows);
+      unshown = no-err _ _ _ was;
+      shows_some = tt;
+    }
+
+-- ---- a write failed
+pub returns : goal.returns
+returns g c =
+    let input = input_by c.args.rows (g.S.Source.left c.args.source.now) in
+    let asked = asked_of c.args.task in
+    let task = task_of c.in_ok-task.task in
+    let bytes = c.deref.result.now in
+    let was = c.in_ok-task.was in
+    let read = subst (λ b. IfSome input (λ l. l ≡ b)) (sym c.deref.ensures.value) c.in_ok-bytes.ensures.bytes in
+    let old = g.K.Sink.taken c.args.sink.now in
+    let new = g.K.Sink.taken c.write_all.new.sink in
+    let text = c.in_ok-text.text.items in
+    let taken = taken_by c.in-Err-Failed.field-0 in
+    let wrote = subst (λ t. Appends old new (take taken t)) c.deref-2.ensures.value c.in-Err-Failed.ensures.prefix in
+    let within = subst (λ t. taken ≤ length t) c.deref-2.ensures.value c.in-Err-Failed.ensures.within in
+    let fits = subst (λ b. length b ≤ input_limit) (sym c.deref.ensures.value) c.in_ok-bytes.ensures.fits in
+    let seen = g.T.Tap.seen c.args.tap.now in
+    let shown = g.T.Tap.seen c.answer_task.new.tap in
+    let got = first-written input old new asked task bytes (ap asked_of was) read text taken c.in_ok-text.ensures.text within wrote in
+    record {
+      text = tt;
+      text_read_to_end = tt;
+      refused = λ decided. absurd (untrue decided);
+      refused_early = no-err _ _ _ was;
+      refused_early_only = λ early. absurd (untrue early);
+      refused_unread = no-err _ _ _ was;
+      refused_unfailed = no-err _ _ _ was;
+      made_unread = c.read_input.ensures.made_unread;
+      made_unfailed = c.read_input.ensures.made_unfailed;
+      read_fault = λ e. absurd (cc);
+      write_fault = c.in-Err-Failed.ensures.failed;
+      write_fault_prefix = search (rules, got);
+      unwritten = λ e. absurd (untrue (sym e));
+      prefix = c.read_input.ensures.prefix;
+      units = c.answer_task.ensures.units;
+      counts = tt;
+      shows = tt;
+      unshown = no-err _ _ _ was;
+      shows_some = shown-for input asked task bytes (ap asked_of was) read seen shown (all-asked task bytes seen shown fits c.in_ok-text.ensures.shows);
+    }
