@@ -9,3 +9,4 @@ pub mod PackedChunks
 pub mod UnpackedChildren
 pub mod UnpackedStreams
 pub mod UnpackedChunks
+mod Given

@@ -32,6 +32,7 @@ use Rattle.stage_kernels.specs.Packs.{PackFits, column_in}
 use Rattle.stage_kernels.specs.Picks.{no_column, picked_columns}
 use Rattle.plan_laws.specs.Structs.{column_structs}
 use Rattle.plan_laws.proofs.PickedColumns.{as-many, column-at, first-within, rest-within}
+use Rattle.stage_kernels.proofs.Given.{repeats-never}
 use Rattle.stage_kernels.proofs.PackedStreams.{Kept, Numbers, kept-are, made_name, numbers-of, place-of, struct_column}
 
 -- ---- dictionaries
@@ -184,18 +185,9 @@ pack_counts s n kept rest picks code before out first middle last live answers c
 
 -- ---- a call
 
--- a stream that has refused doesn't answer 0
-not-refused : (s n : Stream) (code : ℤ) (before after : Tally) (seen shown : Option (List Seen)) → code ≡ pos 0 → Tells code n.said
-    → Repeats s n code before after seen shown → (refusal : Refusal) → s.failure ≡ Some refusal → ⊥
-not-refused s n code before after seen shown none tells repeats refusal e = (subst (Tells code) (repeats.same refusal e).1 tells).1 none
-
 pub pack_repeats : (s n : Stream) (code : ℤ) (before middle after : Tally) (seen shown : Option (List Seen)) → code ≡ pos 0 → Tells code n.said
     → Repeats s n code before middle seen shown → Repeats s n (pos 0) before after seen shown
-pack_repeats s n code before middle after seen shown none tells repeats = record {
-  same = λ refusal e. absurd (not-refused s n code before middle seen shown none tells repeats refusal e);
-  counts = λ refusal e. absurd (not-refused s n code before middle seen shown none tells repeats refusal e);
-  shows = λ refusal e. absurd (not-refused s n code before middle seen shown none tells repeats refusal e);
-}
+pack_repeats s n code before middle after seen shown none tells repeats = repeats-never s n code before middle seen shown none tells repeats after
 
 -- such columns are few
 pub small-chunk : (columns : List Column) (t : ArrayTree) → Kept columns → Cost t ≤ 7 * column_leaves columns + 2 * column_structs columns + 2 → Cost t ≤ CHUNK
