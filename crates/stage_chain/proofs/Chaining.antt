@@ -12,6 +12,7 @@ use Rattle.stage_model.specs.Traffic.{Made, link_blocks, link_nodes, table_nodes
 use Rattle.stage_model.specs.Typing.{Stage}
 use Rattle.stream_face.specs.Raw.{raw_joints, raw_state}
 use Rattle.stream_face.specs.Shown.{Seen, Shown}
+use Rattle.stream_face.specs.declared.fault.StreamFault.{StreamFault}
 use Rattle.stream_face.specs.Streams.{Stream, Traffic, telling}
 use Rattle.stage_chain.specs.Chains.{chain_links, chain_traffic, joints_with, over_stream}
 use Rattle.stream_text.specs.Runs.{Counted, ShowsSome}
@@ -36,6 +37,10 @@ shows-nothing joints seen = record { shown = []; told = grown-nil seen; begins =
 -- a stream checked at a link, which was not asked yet
 abbrev pub IsStarted : ℕ → ℕ → Stream → Stream → Type 0
 IsStarted link nodes s up = up ≡ raw_state link nodes None (telling None s)
+
+pub started : (own link nodes : ℕ) (fault : Option StreamFault) (inner s : Stream) → own ≡ link → fault ≡ None → inner ≡ telling None s
+    → IsStarted link nodes s (raw_state own nodes fault inner)
+started own link nodes fault inner s at none told = λ i. raw_state (at i) nodes (none i) (told i)
 
 raw_above : (s : Stream) (link : ℕ) → ((later : ℕ) → link ≤ later → s.joints later ≡ []) → (later : ℕ) → link + 1 ≤ later
     → raw_joints link (telling None s) later ≡ []

@@ -20,6 +20,16 @@ use Rattle.stage_chain.proofs.Driving.{shows-all, shows-some, text-is}
 use Rattle.stage_chain.proofs.Planning.{few-stages, last-link-is, last-texts, plan-are-stages}
 use Rattle.stage_chain.proofs.text.drive_by.Goals as goal
 
+-- the columns of the last link
+last-of : (s b : Stream) (stages left : List Stage) (last : List Column) → b ≡ s → left ≡ stages → last ≡ last_columns s.columns stages
+    → last ≡ last_columns b.columns left
+last-of s b stages left last made same is =
+    is ∙ ap (last_columns s.columns) (sym same) ∙ ap (λ (m : Stream). last_columns m.columns left) (sym made)
+
+-- it stands over no other checked stream
+none-below : (s b : Stream) → b ≡ s → ((link : ℕ) → s.joints link ≡ []) → (link : ℕ) → b.joints link ≡ []
+none-below s b made none link = ap (λ (m : Stream). m.joints link) made ∙ none link
+
 -- ---- what the chain asks
 pub prepare-requires-clause-texts : goal.prepare-requires-clause-texts
 prepare-requires-clause-texts g c =
@@ -27,6 +37,9 @@ prepare-requires-clause-texts g c =
     let are = plan-are-stages s.columns c.requires.plan.0 c.args.plan c.requires.plan.1 in
     subst HaveTexts (sym (last-link-is s.columns c.requires.plan.0 c.args.plan c.requires.plan.1))
     (last-texts c.stages_keep_columns.ensures.kinds s.columns (plan_stages c.args.plan) are (c.lawful_facts.ensures.columns c.requires.lawful).kinds)
+
+pub prepare-requires-clause-as_many : goal.prepare-requires-clause-as_many
+prepare-requires-clause-as_many g c = grind (arith, common_steps)
 
 pub go-requires-clause-stages : goal.go-requires-clause-stages
 go-requires-clause-stages g c =
@@ -55,12 +68,6 @@ go-requires-clause-room g c =
     let few = few-stages c.args.plan.steps.items (drop 1 (links_of c.args.plan)) in
     omega (arith, few, ap length left, c.requires.few, c.requires.room)
 
--- the columns of the last link
-last-of : (s b : Stream) (stages left : List Stage) (last : List Column) → b ≡ s → left ≡ stages → last ≡ last_columns s.columns stages
-    → last ≡ last_columns b.columns left
-last-of s b stages left last made same is =
-    is ∙ ap (last_columns s.columns) (sym same) ∙ ap (λ (m : Stream). last_columns m.columns left) (sym made)
-
 pub go-requires-clause-text : goal.go-requires-clause-text
 go-requires-clause-text g c =
     let s = g.S.ArrayStream.state c.args.source in
@@ -74,8 +81,8 @@ go-requires-clause-text g c =
     (c.args.mark.now, header, subst (λ cs. HasText c.in-Ok-prepare.text c.args.mark.now cs header) last c.in-Ok-prepare.ensures.text)
 
 -- ---- the text, and what was shown
-pub returns-in-Ok-prepare-clause-text : goal.returns-in-Ok-prepare-clause-text
-returns-in-Ok-prepare-clause-text g c =
+pub returns-in-Ok-prepare : goal.returns-in-Ok-prepare
+returns-in-Ok-prepare g c =
     let s = g.S.ArrayStream.state c.args.source in
     let b = boxed_state g.S.ArrayStream.state c.in-Ok.source in
     let made : b ≡ s = c.in-Ok.ensures.made in
@@ -83,134 +90,51 @@ returns-in-Ok-prepare-clause-text g c =
     let last =
     last-of s b (plan_stages c.args.plan) (stages_left c.into_iter.result) (get_or (links_of c.args.plan) (length c.args.plan.steps.items) []) made left
     (last-link-is s.columns c.requires.plan.0 c.args.plan c.requires.plan.1) in
-    subst (λ (m : Stream). IfOk c.go.result (λ text. text.items
-    ≡ table_text c.args.mark.now (Whole (table m.columns (joined_rows m.ahead)) (plan_stages c.args.plan)))) made
-    (text-is c.go.result b (plan_stages c.args.plan) (stages_left c.into_iter.result) c.in-Ok-prepare.text c.args.mark.now left
-    c.chunks_give_the_whole.ensures.rows c.chunks_give_the_whole.ensures.columns
-    (subst (λ cs. HasText c.in-Ok-prepare.text c.args.mark.now cs (header_text cs)) last c.in-Ok-prepare.ensures.text) c.go.ensures.ends c.go.ensures.text)
+    record {
+      text = subst (λ (m : Stream). IfOk c.go.result (λ text. text.items
+          ≡ table_text c.args.mark.now (Whole (table m.columns (joined_rows m.ahead)) (plan_stages c.args.plan)))) made
+          (text-is c.go.result b (plan_stages c.args.plan) (stages_left c.into_iter.result) c.in-Ok-prepare.text c.args.mark.now left
+          c.chunks_give_the_whole.ensures.rows c.chunks_give_the_whole.ensures.columns
+          (subst (λ cs. HasText c.in-Ok-prepare.text c.args.mark.now cs
+          (header_text cs)) last c.in-Ok-prepare.ensures.text) c.go.ensures.ends c.go.ensures.text);
+      shows = on-ok c.go.result
+          (λ shows. subst (λ (m : Stream). ShowsAll (link_shows (chain_links m (plan_stages c.args.plan))) (g.T.Tap.seen c.args.tap.now)
+          (g.T.Tap.seen c.go.new.tap)) made
+          (shows-all b (plan_stages c.args.plan) (stages_left c.into_iter.result) (g.T.Tap.seen c.args.tap.now) (g.T.Tap.seen c.go.new.tap) left
+          (none-below s b made c.requires.no_joints) shows))
+          c.go.ensures.shows;
+      shows_some = on-err c.go.result
+          (λ shows. subst (λ (m : Stream). ShowsSome (link_shows (chain_links m (plan_stages c.args.plan))) (g.T.Tap.seen c.args.tap.now)
+          (g.T.Tap.seen c.go.new.tap)) made
+          (shows-some b (plan_stages c.args.plan) (stages_left c.into_iter.result) (g.T.Tap.seen c.args.tap.now) (g.T.Tap.seen c.go.new.tap) left
+          (none-below s b made c.requires.no_joints) shows))
+          c.go.ensures.shows_some;
+      ends = grind (arith, common_steps);
+      row = grind (arith, common_steps);
+      units = grind (arith, common_steps);
+      counts = grind (arith, common_steps);
+    }
 
--- it stands over no other checked stream
-none-below : (s b : Stream) → b ≡ s → ((link : ℕ) → s.joints link ≡ []) → (link : ℕ) → b.joints link ≡ []
-none-below s b made none link = ap (λ (m : Stream). m.joints link) made ∙ none link
+pub returns-in-Err : goal.returns-in-Err
+returns-in-Err g c =
+    record {
+      text = grind (arith, common_steps);
+      ends = grind (arith, common_steps);
+      row = grind (arith, common_steps);
+      units = grind (arith, common_steps);
+      counts = grind (arith, common_steps);
+      shows = grind (arith, common_steps);
+      shows_some = grind (arith, common_steps);
+    }
 
-pub returns-in-Ok-prepare-clause-shows : goal.returns-in-Ok-prepare-clause-shows
-returns-in-Ok-prepare-clause-shows g c =
-    let s = g.S.ArrayStream.state c.args.source in
-    let b = boxed_state g.S.ArrayStream.state c.in-Ok.source in
-    let made : b ≡ s = c.in-Ok.ensures.made in
-    let left : stages_left c.into_iter.result ≡ plan_stages c.args.plan = ap stages_in c.into_iter.ensures.rest ∙ c.in-Ok-prepare.ensures.stages in
-    on-ok c.go.result
-    (λ shows. subst (λ (m : Stream). ShowsAll (link_shows (chain_links m (plan_stages c.args.plan))) (g.T.Tap.seen c.args.tap.now)
-    (g.T.Tap.seen c.go.new.tap)) made
-    (shows-all b (plan_stages c.args.plan) (stages_left c.into_iter.result) (g.T.Tap.seen c.args.tap.now) (g.T.Tap.seen c.go.new.tap) left
-    (none-below s b made c.requires.no_joints) shows))
-    c.go.ensures.shows
-
-pub returns-in-Ok-prepare-clause-shows_some : goal.returns-in-Ok-prepare-clause-shows_some
-returns-in-Ok-prepare-clause-shows_some g c =
-    let s = g.S.ArrayStream.state c.args.source in
-    let b = boxed_state g.S.ArrayStream.state c.in-Ok.source in
-    let made : b ≡ s = c.in-Ok.ensures.made in
-    let left : stages_left c.into_iter.result ≡ plan_stages c.args.plan = ap stages_in c.into_iter.ensures.rest ∙ c.in-Ok-prepare.ensures.stages in
-    on-err c.go.result
-    (λ shows. subst (λ (m : Stream). ShowsSome (link_shows (chain_links m (plan_stages c.args.plan))) (g.T.Tap.seen c.args.tap.now)
-    (g.T.Tap.seen c.go.new.tap)) made
-    (shows-some b (plan_stages c.args.plan) (stages_left c.into_iter.result) (g.T.Tap.seen c.args.tap.now) (g.T.Tap.seen c.go.new.tap) left
-    (none-below s b made c.requires.no_joints) shows))
-    c.go.ensures.shows_some
-
-pub prepare-requires-clause-as_many : goal.prepare-requires-clause-as_many
-prepare-requires-clause-as_many g c = grind (arith, common_steps)
-
-pub chunks_give_the_whole-requires : goal.chunks_give_the_whole-requires
-chunks_give_the_whole-requires g c = grind (arith, common_steps)
-
-pub stages_keep_columns-requires : goal.stages_keep_columns-requires
-stages_keep_columns-requires g c = grind (arith, common_steps)
-
-pub lawful_facts-requires : goal.lawful_facts-requires
-lawful_facts-requires g c κs = grind (arith, common_steps)
-
-pub new-requires : goal.new-requires
-new-requires g c κs = grind (arith, common_steps)
-
-pub refuse-requires : goal.refuse-requires
-refuse-requires g c = grind (arith, common_steps)
-
-pub returns-in-Err-clause-text : goal.returns-in-Err-clause-text
-returns-in-Err-clause-text g c = grind (arith, common_steps)
-
-pub returns-in-Err-clause-ends : goal.returns-in-Err-clause-ends
-returns-in-Err-clause-ends g c = grind (arith, common_steps)
-
-pub returns-in-Err-clause-row : goal.returns-in-Err-clause-row
-returns-in-Err-clause-row g c = grind (arith, common_steps)
-
-pub returns-in-Err-clause-units : goal.returns-in-Err-clause-units
-returns-in-Err-clause-units g c = grind (arith, common_steps)
-
-pub returns-in-Err-clause-counts : goal.returns-in-Err-clause-counts
-returns-in-Err-clause-counts g c = grind (arith, common_steps)
-
-pub returns-in-Err-clause-shows : goal.returns-in-Err-clause-shows
-returns-in-Err-clause-shows g c = grind (arith, common_steps)
-
-pub returns-in-Err-clause-shows_some : goal.returns-in-Err-clause-shows_some
-returns-in-Err-clause-shows_some g c = grind (arith, common_steps)
-
-pub go-requires-clause-shared : goal.go-requires-clause-shared
-go-requires-clause-shared g c = grind (arith, common_steps)
-
-pub go-requires-clause-live : goal.go-requires-clause-live
-go-requires-clause-live g c = grind (arith, common_steps)
-
-pub go-requires-clause-lawful : goal.go-requires-clause-lawful
-go-requires-clause-lawful g c = grind (arith, common_steps)
-
-pub go-requires-clause-links : goal.go-requires-clause-links
-go-requires-clause-links g c = grind (arith, common_steps)
-
-pub go-requires-clause-structs : goal.go-requires-clause-structs
-go-requires-clause-structs g c = grind (arith, common_steps)
-
-pub go-requires-clause-workers : goal.go-requires-clause-workers
-go-requires-clause-workers g c = grind (arith, common_steps)
-
-pub go-requires-clause-supply : goal.go-requires-clause-supply
-go-requires-clause-supply g c = grind (arith, common_steps)
-
-pub refuse-requires-in-Err-prepare : goal.refuse-requires-in-Err-prepare
-refuse-requires-in-Err-prepare g c = grind (arith, common_steps)
-
-pub returns-in-Ok-prepare-clause-ends : goal.returns-in-Ok-prepare-clause-ends
-returns-in-Ok-prepare-clause-ends g c = grind (arith, common_steps)
-
-pub returns-in-Ok-prepare-clause-row : goal.returns-in-Ok-prepare-clause-row
-returns-in-Ok-prepare-clause-row g c = grind (arith, common_steps)
-
-pub returns-in-Ok-prepare-clause-units : goal.returns-in-Ok-prepare-clause-units
-returns-in-Ok-prepare-clause-units g c = grind (arith, common_steps)
-
-pub returns-in-Ok-prepare-clause-counts : goal.returns-in-Ok-prepare-clause-counts
-returns-in-Ok-prepare-clause-counts g c = grind (arith, common_steps)
-
-pub returns-in-Err-prepare-clause-text : goal.returns-in-Err-prepare-clause-text
-returns-in-Err-prepare-clause-text g c = grind (arith, common_steps)
-
-pub returns-in-Err-prepare-clause-ends : goal.returns-in-Err-prepare-clause-ends
-returns-in-Err-prepare-clause-ends g c = grind (arith, common_steps)
-
-pub returns-in-Err-prepare-clause-row : goal.returns-in-Err-prepare-clause-row
-returns-in-Err-prepare-clause-row g c = grind (arith, common_steps)
-
-pub returns-in-Err-prepare-clause-units : goal.returns-in-Err-prepare-clause-units
-returns-in-Err-prepare-clause-units g c = grind (arith, common_steps)
-
-pub returns-in-Err-prepare-clause-counts : goal.returns-in-Err-prepare-clause-counts
-returns-in-Err-prepare-clause-counts g c = grind (arith, common_steps)
-
-pub returns-in-Err-prepare-clause-shows : goal.returns-in-Err-prepare-clause-shows
-returns-in-Err-prepare-clause-shows g c = grind (arith, common_steps)
-
-pub returns-in-Err-prepare-clause-shows_some : goal.returns-in-Err-prepare-clause-shows_some
-returns-in-Err-prepare-clause-shows_some g c = grind (arith, common_steps)
+pub returns-in-Err-prepare : goal.returns-in-Err-prepare
+returns-in-Err-prepare g c =
+    record {
+      text = grind (arith, common_steps);
+      ends = grind (arith, common_steps);
+      row = grind (arith, common_steps);
+      units = grind (arith, common_steps);
+      counts = grind (arith, common_steps);
+      shows = grind (arith, common_steps);
+      shows_some = grind (arith, common_steps);
+    }
