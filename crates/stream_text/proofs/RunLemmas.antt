@@ -1,6 +1,7 @@
 -- A run, call by call.
-use Rattle.std.proofs.Common.{◌≡◌, ◌≤◌, ◌<◌, ◌+◌, ◌++◌, ◌^◌, ℕ, ℤ, pos, List, [], ◌∷◌, Option, Some, None, Result, Ok, Err, OnOk, refl, sym, ◌∙◌, ap, subst}
-use Rattle.std.proofs.Common.{arith, IsTrue, map}
+use Rattle.std.proofs.Common.{◌≡◌, ◌+◌, ◌++◌, ℕ, ℤ, pos, List, [], Option, Some, None, Result, Ok, Err, OnOk, refl, sym, ◌∙◌, ap, subst}
+use Rattle.std.proofs.Common.{arith, IsTrue, map, negsuc, of_z, w32, true, false}
+use Rattle.std.proofs.lemmas.Int.{ints}
 use Rattle.std.proofs.lemmas.List.{append-nil, append_assoc, map-append}
 use Rattle.std.proofs.lemmas.List.Folds.{concat-append}
 use Rattle.std.specs.List.{concat}
@@ -18,11 +19,11 @@ use Rattle.kind_tree.specs.ColumnKinds.{type_of_columns}
 use Rattle.arr_import.specs.Window.{Window, whole}
 use Rattle.csv_write.specs.CsvTexts.{HasText, rows_in}
 use Rattle.csv_write.specs.declared.csv_text.CsvText.{CsvText}
-use Rattle.stream_face.specs.Calls.{Answers, Begins, Counts, Repeats, Shows, Tells}
+use Rattle.stream_face.specs.Calls.{Answers, Counts, IsCode, Repeats, Shows}
 use Rattle.stream_face.specs.Shown.{Seen, grown, of_link}
-use Rattle.stream_face.specs.Streams.{IsFresh, Keeps, Stream, Traffic}
+use Rattle.stream_face.specs.Streams.{IsFresh, Keeps, Stream}
 use Rattle.stream_face.specs.Texts.{Refusal}
-use Rattle.stream_face.proofs.Joints.{grown-append, of_link-append}
+use Rattle.stream_face.proofs.Joints.{grown-append, live_unless, of_link-append}
 use Rattle.stream_text.specs.Runs.{Counted, Ran, ShowsAll, ShowsSome}
 
 pub grown-nil : (seen : Option (List Seen)) → seen ≡ grown seen []
@@ -31,6 +32,14 @@ grown-nil (Some before) = ap Some (sym (append-nil before))
 
 pub risen-add : (a b c m n : ℕ) → b ≡ risen a m → c ≡ risen b n → c ≡ risen a (m + n)
 risen-add a b c m n e f = omega (arith, e, f)
+
+-- ---- how a call goes on
+pub zero_code : (code : ℤ) → IsCode code → of_z w32 code ≡ 0 → code ≡ pos 0
+zero_code (pos n) is zero = ap pos zero
+zero_code (negsuc n) is zero = absurd (omega (arith, ints, is.0))
+
+pub is-live : (out : ArrayTree) → (out ≡ Released → IsTrue false) → IsLive out
+is-live out held = live_unless out (λ gone. let e : false ≡ true = held gone in cc)
 
 -- ---- calls that answer 0
 -- no call was made yet
