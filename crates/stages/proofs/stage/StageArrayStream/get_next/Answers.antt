@@ -1,0 +1,165 @@
+use Rattle.std.proofs.Common.{arith, ◌≡◌, ◌<◌, ◌∙◌, Option, None, Some, ℤ, pos, negsuc, w32, to_z, of_z, inl, inr, if◌then◌else◌, refl, sym, ap, subst}
+use Rattle.std.specs.Int.Signed.{mag}
+use Rattle.std.proofs.lemmas.Int.{ints}
+use Rattle.tree_model.specs.Tree.{IsLive}
+use Rattle.raw_array.specs.Members.{Cost}
+use Rattle.stream_face.specs.Calls.{IsCode, IsRowFault, Shows, Tells}
+use Rattle.stream_face.specs.Meaning.{meaning}
+use Rattle.stream_face.specs.Texts.{Refusal, wanting}
+use Rattle.stream_face.proofs.Next.{repeats-never, same}
+use Rattle.stages.proofs.stage.StageArrayStream.get_next.Goals as goal
+
+-- ---- codes
+
+same-code : (code : ℤ) → IsCode code → to_z w32 (of_z w32 code) ≡ code
+same-code code is = same code (fits code is)
+  where
+    fits : (code : ℤ) → IsCode code → mag code < 2147483648
+    fits (pos n) is = omega (arith, ints, is.1)
+    fits (negsuc n) is = absurd (omega (arith, ints, is.0))
+
+twelve : IsCode (pos 12)
+twelve = grind arith
+
+not-zero : pos 12 ≡ pos 0 → ⊥
+not-zero z = cc
+
+not-bad : pos 12 ≡ pos 22 → ⊥
+not-bad z = cc
+
+-- ---- a refusal
+
+-- a stage that wants memory has refused for want of it
+wanted : (o : Option Refusal) → o ≡ Some wanting → o ≡ None → ⊥
+wanted o is none = let k : None ≡ Some wanting = sym none ∙ is in absurd (cc)
+
+some : (o : Option Refusal) (refusal : Refusal) → o ≡ Some refusal → o ≡ None → ⊥
+some o refusal is none = let k : None ≡ Some refusal = sym none ∙ is in absurd (cc)
+
+abbrev code_of : Option Refusal → ℤ
+code_of None = pos 0
+code_of (Some refusal) = refusal.code
+
+-- ---- the call
+
+pub returns-then-self : goal.returns-then-self
+returns-then-self g c =
+    let up = meaning g.U.ArrayStream.state c.args.self.now.up in
+    let failed = ap (λ t. if t then Some wanting else up.failure) c.if-self.true in
+    record {
+      keeps = record { columns = refl; ending = refl; lawful = refl; held = refl; live = refl; schema = refl };
+      code = twelve;
+      tells = (refl, not-zero);
+      refuses = λ _. c.requires.empty;
+      told = λ _. tt;
+      units = omega (arith, ap Cost c.requires.empty);
+      failure = failed;
+      faulted = subst (λ t. IsRowFault (pos 12) up.ending (if t then None else up.fault)) (sym c.if-self.true) tt;
+      repeats = record {
+        same = λ refusal e. (ap code_of (sym failed ∙ e), sym failed ∙ e, refl);
+        counts = λ refusal e. refl;
+        shows = λ refusal e. refl;
+      };
+      answers = λ fresh. absurd (wanted _ failed fresh.no_failure);
+      counts = λ _ z. absurd (not-zero z);
+      shows = λ fresh. absurd (wanted _ failed fresh.no_failure);
+    }
+
+pub next-requires-clause-live : goal.next-requires-clause-live
+next-requires-clause-live g c = c.requires.live
+
+pub next-requires-clause-fits : goal.next-requires-clause-fits
+next-requires-clause-fits g c = c.args.self.now.fits
+
+pub next-requires-clause-empty : goal.next-requires-clause-empty
+next-requires-clause-empty g c = c.requires.empty
+
+pub next-requires-clause-room : goal.next-requires-clause-room
+next-requires-clause-room g c = c.requires.room
+
+pub next-requires-clause-shared : goal.next-requires-clause-shared
+next-requires-clause-shared g c = record { shared = c.requires.shared.shared }
+
+pub returns-in-Err : goal.returns-in-Err
+returns-in-Err g c =
+    let up = meaning g.U.ArrayStream.state c.args.self.now.up in
+    let n = meaning g.U.ArrayStream.state c.next.new.up in
+    let call = c.in-Err.ensures in
+    let kept = call.keeps in
+    let works = ap (λ t. if t then Some wanting else up.failure) c.if-self.false in
+    record {
+      keeps = record {
+        columns = call.columns n.columns ∙ ap (g.W.Work.columns c.args.self.now.work) kept.columns;
+        ending = kept.ending;
+        lawful = kept.lawful;
+        held = kept.held;
+        live = kept.live;
+        schema = refl;
+      };
+      code = twelve;
+      tells = (refl, not-zero);
+      refuses = λ _. call.gone;
+      told = λ _. tt;
+      units = call.units;
+      failure = refl;
+      faulted = tt;
+      repeats = repeats-never _ _ (pos 12) _ _ _ _ (λ refusal q. some up.failure refusal (sym works ∙ q) call.worked);
+      answers = λ _. record {
+        chunk = λ live. absurd (subst IsLive call.gone live);
+        finish = λ z. absurd (not-zero z);
+        bad = λ z. absurd (not-bad z);
+        wants = λ _. refl;
+        codes = inr (inl refl);
+      };
+      counts = λ _ z. absurd (not-zero z);
+      shows = λ fresh. call.shows (record { lawful = fresh.lawful; no_failure = sym works ∙ fresh.no_failure });
+    }
+
+pub returns-in-Ok : goal.returns-in-Ok
+returns-in-Ok g c =
+    let up = meaning g.U.ArrayStream.state c.args.self.now.up in
+    let n = meaning g.U.ArrayStream.state c.next.new.up in
+    let call = c.in-Ok.ensures in
+    let kept = call.keeps in
+    let e = same-code c.in-Ok.code call.code in
+    let works = ap (λ t. if t then Some wanting else up.failure) c.if-self.false in
+    record {
+      keeps = record {
+        columns = call.columns n.columns ∙ ap (g.W.Work.columns c.args.self.now.work) kept.columns;
+        ending = kept.ending;
+        lawful = kept.lawful;
+        held = kept.held;
+        live = kept.live;
+        schema = refl;
+      };
+      code = subst IsCode (sym e) call.code;
+      tells = subst (λ z. Tells z n.said) (sym e) call.tells;
+      refuses = λ h. call.refuses (λ z. h (e ∙ z));
+      told = λ _. tt;
+      units = call.units;
+      failure = ap (λ t. if t then Some wanting else n.failure) c.if-self.false ∙ call.failure;
+      faulted = subst (λ t. IsRowFault (to_z w32 (of_z w32 c.in-Ok.code)) n.ending (if t then None else n.fault)) (sym c.if-self.false)
+          (subst (λ z. IsRowFault z n.ending n.fault) (sym e) call.faulted);
+      repeats = record {
+        same = λ refusal q.
+            let told = call.repeats.same refusal (sym works ∙ q) in
+            (e ∙ told.0, told.1, ap (λ f. if c.args.self.now.no_memory then None else f) told.2);
+        counts = λ refusal q. call.repeats.counts refusal (sym works ∙ q);
+        shows = λ refusal q. call.repeats.shows refusal (sym works ∙ q);
+      };
+      answers = λ fresh.
+          let answers = call.answers (record { lawful = fresh.lawful; no_failure = sym works ∙ fresh.no_failure }) in
+          record {
+            chunk = answers.chunk;
+            finish = λ z. answers.finish (sym e ∙ z);
+            bad = λ z.
+                let bad = answers.bad (sym e ∙ z) in
+                (bad.0, bad.1, bad.2, bad.3, ap (λ t. if t then None else n.fault) c.if-self.false ∙ bad.4, bad.5);
+            wants = λ z. answers.wants (sym e ∙ z);
+            codes = elim answers.codes [ inl a ↦ inl (e ∙ a) | inr b ↦ elim b [ inl a ↦ inr (inl (e ∙ a)) | inr a ↦ inr (inr (e ∙ a)) ] ];
+          };
+      counts = λ fresh zero. call.counts (record { lawful = fresh.lawful; no_failure = sym works ∙ fresh.no_failure }) (sym e ∙ zero);
+      shows = λ fresh.
+          subst (λ z. Shows up.joints n.joints z c.next.new.out (g.T.Tap.seen c.args.tap.now) (g.T.Tap.seen c.next.new.tap)) (sym e)
+          (call.shows (record { lawful = fresh.lawful; no_failure = sym works ∙ fresh.no_failure }));
+    }
