@@ -6,7 +6,7 @@ use Rattle.data_types.specs.ColumnForms.{IsColumnKind}
 use Rattle.data_types.specs.FieldText.{IsValueOf}
 use Rattle.data_types.specs.Storage.{storage_of}
 use Rattle.data_types.specs.Table.{Kind}
-use Rattle.data_types.specs.Value.{Value, Null, Truth, Whole, byte_total, bytes_of}
+use Rattle.data_types.specs.Value.{Value, Null, Bytes, Truth, Whole, byte_total, bytes_of}
 use Rattle.data_types.specs.declared.kind.DataType.{DataType}
 use Rattle.data_types.specs.declared.storage.Storage.{Storage}
 use Rattle.data_types.specs.declared.storage.Storage.TheVariants as stored
@@ -83,8 +83,17 @@ null-or-whole bits signed Null is none = refl
 null-or-whole bits signed (Whole n) is none = absurd (none n refl)
 null-or-whole bits signed _ is none = absurd is
 
+null-or-bytes : (wide text : Bool) (v : Value) → IsStored (stored.Between wide text) v → ((bytes : List ℕ) → v ≢ Bytes bytes) → v ≡ Null
+null-or-bytes wide text Null is none = refl
+null-or-bytes wide text (Bytes bytes) is none = absurd (none bytes refl)
+null-or-bytes wide text _ is none = absurd is
+
 pub no-truth : (builder : Builder) (v : Value) → Takes builder stored.Truths v → ((truth : Bool) → v ≢ Truth truth) → v ≡ Null
 no-truth builder v takes none = null-or-truth v (is-stored builder stored.Truths v takes) none
+
+pub no-bytes : (builder : Builder) (wide text : Bool) (v : Value) → Takes builder (stored.Between wide text) v
+    → ((bytes : List ℕ) → v ≢ Bytes bytes) → v ≡ Null
+no-bytes builder wide text v takes none = null-or-bytes wide text v (is-stored builder (stored.Between wide text) v takes) none
 
 pub no-whole : (builder : Builder) (bits : ℕ) (signed : Bool) (v : Value) → Takes builder (stored.Wholes bits signed) v
     → ((number : ℤ) → v ≢ Whole number) → v ≡ Null

@@ -1,5 +1,5 @@
 -- What the works make of the columns, the tables and the answers of the stream below them.
-use Rattle.std.proofs.Common.{arith, ◌≡◌, ◌∙◌, ◌≤◌, ◌<◌, ◌+◌, ◌^◌, ℕ, ℤ, pos, Bool, true, false, List, [], ◌∷◌, length, map, get_or, All}
+use Rattle.std.proofs.Common.{arith, ◌≡◌, ◌≢◌, ◌∙◌, ◌≤◌, ◌<◌, ◌+◌, ◌^◌, ℕ, ℤ, pos, Bool, true, false, List, [], ◌∷◌, length, map, get_or, All, Option}
 use Rattle.std.proofs.Common.{refl, sym, ap, subst, inl, true≢false}
 use Rattle.std.specs.Coded.{Coded-set}
 use Rattle.std.specs.List.{sum_by}
@@ -27,8 +27,9 @@ use Rattle.layout_rules.specs.Values.{rows_of}
 use Rattle.column_laws.specs.Picking.{Replaced}
 use Rattle.stage_model.specs.Traffic.{Made, column_blocks, kind_blocks}
 use Rattle.stage_model.specs.Typing.{column_at, is_bytes, no_column}
-use Rattle.stream_face.specs.Calls.{Answers, Counts}
+use Rattle.stream_face.specs.Calls.{Answers, Counts, Shows}
 use Rattle.stream_face.specs.Lawful.{DictsHaveBytes, HasBytes, IsChunkOf, IsTable, LawfulColumns, LawfulTables}
+use Rattle.stream_face.specs.Shown.{Seen, Shown}
 use Rattle.stream_face.specs.Streams.{Stream, Traffic}
 use Rattle.work_parts.proofs.CodedColumns.{coded_columns, coded_kind}
 use Rattle.dict_stage.specs.Fits.{DictFits, PlainFits}
@@ -210,6 +211,43 @@ recode-answers s n columns code before column out place live answers made is =
       codes = inl refl;
     }
 
+-- nothing of an answer without a chunk is made anew
+pub ended-answers : (s n : Stream) (columns : List Column) (code : ℤ) (out : ArrayTree) → out ≡ Released → Answers s n code out
+    → Answers (recoding columns s) (recoding columns n) code out
+ended-answers s n columns code out gone answers = record {
+  chunk = λ live. absurd (subst IsLive gone live);
+  finish = λ e r. let end = answers.finish e r in (ap (map (λ (rows : List Row). rows)) end.0, ap (map (λ (rows : List Row). rows)) end.1, end.2);
+  bad = λ e.
+      let end = answers.bad e in
+      (ap (map (λ (rows : List Row). rows)) end.0, ap (map (λ (rows : List Row). rows)) end.1, end.2, end.3, end.4, end.5);
+  wants = answers.wants;
+  codes = answers.codes;
+}
+
+-- ---- what is shown
+
+-- a chunk that is made anew shows what the stream's chunk did
+pub recode-shows : (old new : ℕ → List Shown) (code : ℤ) (chunk before column out : ArrayTree) (place : ℕ) (seen later : Option (List Seen)) → code ≡ pos 0
+    → out ≡ Replaced before place column → Shows old new code chunk seen later → Shows old new (pos 0) out seen later
+recode-shows old new code chunk before column out place seen later zero is shows = record {
+  shown = shows.shown;
+  told = shows.told;
+  begins = shows.begins;
+  leaves = λ _. shows.leaves zero;
+  ends = λ _ e. absurd (not-released before column out place is e);
+}
+
+-- a refusal shows no more than the stream's answer did
+pub refused-shows : (old new : ℕ → List Shown) (code refusal : ℤ) (chunk out : ArrayTree) (seen later : Option (List Seen)) → refusal ≢ pos 0
+    → Shows old new code chunk seen later → Shows old new refusal out seen later
+refused-shows old new code refusal chunk out seen later refused shows = record {
+  shown = shows.shown;
+  told = shows.told;
+  begins = shows.begins;
+  leaves = λ e. absurd (refused e);
+  ends = λ e. absurd (refused e);
+}
+
 -- ---- the column
 
 pub recode-gives : (s n : Stream) (columns : List Column) (place : ℕ) (kind : Kind) (typed : KindTree) (code : ℤ) (before out : ArrayTree)
@@ -256,4 +294,27 @@ recode-counts s n columns place nodes kind typed code before column out first mi
       fewer_nodes = omega (arith, counts.fewer_nodes, all_nodes, one_nodes);
       no_blocks = λ e. absurd (not-released before column out place is e);
       no_nodes = λ e. absurd (not-released before column out place is e);
+    }
+
+-- where nothing is to come, nothing is due
+pub ended-counts : (s n : Stream) (columns : List Column) (place nodes : ℕ) (code : ℤ) (out : ArrayTree) (first last : Tally) → code ≡ pos 0
+    → out ≡ Released → Answers s n code out → Counts s.due n.due first last out
+    → Counts (due_of place columns nodes (map (λ (rows : List Row). rows) s.ahead) s.due)
+    (due_of place columns nodes (map (λ (rows : List Row). rows) n.ahead) n.due) first last out
+ended-counts s n columns place nodes code out first last zero gone answers counts =
+    let end = answers.finish zero gone in
+    let blocks_of = λ (ahead : List (List Row)). sum_by (column_blocks place columns) (map (λ (rows : List Row). rows) ahead) in
+    let nodes_of = λ (ahead : List (List Row)). sum_by (λ (rows : List Row). nodes) (map (λ (rows : List Row). rows) ahead) in
+    let old_blocks : blocks_of s.ahead ≡ 0 = ap blocks_of end.0 in
+    let new_blocks : blocks_of n.ahead ≡ 0 = ap blocks_of end.1 in
+    let old_nodes : nodes_of s.ahead ≡ 0 = ap nodes_of end.0 in
+    let new_nodes : nodes_of n.ahead ≡ 0 = ap nodes_of end.1 in
+    record {
+      made = counts.made;
+      blocks = counts.blocks;
+      nodes = counts.nodes;
+      fewer_blocks = omega (arith, counts.fewer_blocks, old_blocks, new_blocks);
+      fewer_nodes = omega (arith, counts.fewer_nodes, old_nodes, new_nodes);
+      no_blocks = λ e. let h = counts.no_blocks e in omega (arith, h, new_blocks);
+      no_nodes = λ e. let h = counts.no_nodes e in omega (arith, h, new_nodes);
     }
