@@ -1,7 +1,7 @@
 -- What a filter makes of the answers of the stream below it.
-use Rattle.std.proofs.Common.{arith, ◌≡◌, ◌∙◌, ◌≤◌, ◌<◌, ◌+◌, ◌*◌, ◌^◌, ℕ, ℤ, pos, List, [], ◌∷◌, length, map, get_or, All}
-use Rattle.std.proofs.Common.{IsTrue, refl, sym, ap, subst, inl}
-use Rattle.std.specs.Prelude.{Option, None, Some}
+use Rattle.std.proofs.Common.{arith, ◌≡◌, ◌≢◌, ◌∙◌, ◌≤◌, ◌<◌, ◌+◌, ◌*◌, ◌^◌, ℕ, ℤ, pos, List, [], ◌∷◌, length, map, get_or, All}
+use Rattle.std.proofs.Common.{refl, sym, ap, subst, inl}
+use Rattle.std.specs.Prelude.{Option, Some}
 use Rattle.std.specs.List.{sum_by}
 use Rattle.std.proofs.Math.Logic.{∥∥₁_elim}
 use Rattle.std.proofs.Props.{props}
@@ -24,11 +24,10 @@ use Rattle.stage_model.specs.declared.stage.Const.{Const}
 use Rattle.stage_model.specs.declared.stage.Step.{Step}
 use Rattle.stage_model.specs.declared.stage.Step.TheVariants as steps
 use Rattle.stage_model.specs.declared.stage.Test.{Test}
-use Rattle.stream_face.specs.Calls.{Answers, Counts, Repeats, Tells}
+use Rattle.stream_face.specs.Calls.{Answers, Counts, Shows}
 use Rattle.stream_face.specs.Lawful.{DictsAreFull, DictsHaveBytes, IsChunkOf, IsTable, LawfulColumns, LawfulTables, column_leaves, leaves, member_leaves}
-use Rattle.stream_face.specs.Shown.{Seen}
-use Rattle.stream_face.specs.Streams.{IsFresh, Stream}
-use Rattle.stream_face.specs.Texts.{Refusal}
+use Rattle.stream_face.specs.Shown.{Seen, Shown}
+use Rattle.stream_face.specs.Streams.{Stream}
 use Rattle.plan_laws.specs.Dues.{due_with}
 use Rattle.plan_laws.specs.Structs.{column_structs, member_structs, most_structs, structs}
 use Rattle.work_parts.proofs.ColumnSets.{same_columns}
@@ -210,6 +209,44 @@ filter-answers makes gives full small root column test constant columns s n code
       codes = inl refl;
     }
 
+-- nothing of an answer without a chunk is filtered
+pub ended-answers : (column : ℕ) (test : Test) (constant : Const) (columns : List Column) (s n : Stream) (code : ℤ) (out : ArrayTree) → out ≡ Released
+    → Answers s n code out → Answers (filtered column test constant columns s) (filtered column test constant columns n) code out
+ended-answers column test constant columns s n code out gone answers =
+    let after : List (List Row) → List (List Row) = map (kept_rows column test constant) in
+    record {
+      chunk = λ live. absurd (subst IsLive gone live);
+      finish = λ e r. let end = answers.finish e r in (ap after end.0, ap after end.1, end.2);
+      bad = λ e. let end = answers.bad e in (ap after end.0, ap after end.1, end.2, end.3, end.4, end.5);
+      wants = answers.wants;
+      codes = answers.codes;
+    }
+
+-- ---- what is shown
+
+-- the chunk of the rows that pass shows what the stream's chunk did
+pub filter-shows : (old new : ℕ → List Shown) (code : ℤ) (columns : List Column) (out left : ArrayTree) (kept : List ℕ) (made : ArrayTree)
+    (seen later : Option (List Seen)) → code ≡ pos 0 → made ≡ kept_chunk columns left kept → Shows old new code out seen later
+    → Shows old new (pos 0) made seen later
+filter-shows old new code columns out left kept made seen later zero tree shows = record {
+  shown = shows.shown;
+  told = shows.told;
+  begins = shows.begins;
+  leaves = λ _. shows.leaves zero;
+  ends = λ _ e. absurd (not-released columns left kept made tree e);
+}
+
+-- a refusal shows no more than the stream's answer did
+pub refused-shows : (old new : ℕ → List Shown) (code refusal : ℤ) (chunk out : ArrayTree) (seen later : Option (List Seen)) → refusal ≢ pos 0
+    → Shows old new code chunk seen later → Shows old new refusal out seen later
+refused-shows old new code refusal chunk out seen later refused shows = record {
+  shown = shows.shown;
+  told = shows.told;
+  begins = shows.begins;
+  leaves = λ e. absurd (refused e);
+  ends = λ e. absurd (refused e);
+}
+
 -- ---- what the filter counts
 risen-more : (a b c m n : ℕ) → b ≡ risen a m → c ≡ risen b n → c ≡ risen a (m + n)
 risen-more a b c m n e f = omega (arith, e, f)
@@ -245,6 +282,30 @@ filter-counts column test constant columns s n code out left made first middle l
       fewer_nodes = omega (arith, counts.fewer_nodes, all_nodes, one_nodes);
       no_blocks = λ e. absurd (not-released columns left numbers made tree e);
       no_nodes = λ e. absurd (not-released columns left numbers made tree e);
+    }
+
+-- a stream that has ended counts what was counted of the call
+pub ended-counts : (column : ℕ) (test : Test) (constant : Const) (columns : List Column) (s n : Stream) (code : ℤ) (out : ArrayTree) (first last : Tally)
+    → code ≡ pos 0 → out ≡ Released → Answers s n code out → Counts s.due n.due first last out
+    → Counts (due_with (steps.Filter column test constant) columns (map (kept_rows column test constant) s.ahead) s.due)
+    (due_with (steps.Filter column test constant) columns (map (kept_rows column test constant) n.ahead) n.due) first last out
+ended-counts column test constant columns s n code out first last zero gone answers counts =
+    let end = answers.finish zero gone in
+    let step : Step = steps.Filter column test constant in
+    let blocks_of = λ (ahead : List (List Row)). sum_by (made_blocks (Some step) columns) (map (kept_rows column test constant) ahead) in
+    let nodes_of = λ (ahead : List (List Row)). sum_by (λ (rows : List Row). made_nodes (Some step) columns) (map (kept_rows column test constant) ahead) in
+    let old_blocks : blocks_of s.ahead ≡ 0 = ap blocks_of end.0 in
+    let new_blocks : blocks_of n.ahead ≡ 0 = ap blocks_of end.1 in
+    let old_nodes : nodes_of s.ahead ≡ 0 = ap nodes_of end.0 in
+    let new_nodes : nodes_of n.ahead ≡ 0 = ap nodes_of end.1 in
+    record {
+      made = counts.made;
+      blocks = counts.blocks;
+      nodes = counts.nodes;
+      fewer_blocks = omega (arith, counts.fewer_blocks, old_blocks, new_blocks);
+      fewer_nodes = omega (arith, counts.fewer_nodes, old_nodes, new_nodes);
+      no_blocks = λ e. let h = counts.no_blocks e in omega (arith, h, new_blocks);
+      no_nodes = λ e. let h = counts.no_nodes e in omega (arith, h, new_nodes);
     }
 
 -- ---- the laws

@@ -1,8 +1,10 @@
 -- What totals make of the answers of the stream below them.
-use Rattle.std.proofs.Common.{arith, ◌≡◌, ◌≢◌, ◌∙◌, ◌≤◌, ◌<◌, ◌+◌, ◌*◌, ◌++◌, ℕ, ℤ, pos, Bool, true}
-use Rattle.std.proofs.Common.{false, List, [], ◌∷◌, length, map, get_or, IsTrue, refl, sym, ap, subst, inl, inr}
+use Rattle.std.proofs.Common.{arith, ◌≡◌, ◌≢◌, ◌∙◌, ◌≤◌, ◌<◌, ◌+◌, ◌*◌, ◌++◌, ℕ, ℤ, pos, negsuc, Bool, true}
+use Rattle.std.proofs.Common.{false, List, [], ◌∷◌, length, map, get_or, IsTrue, refl, sym, ap, subst, inl, inr, w32, to_z, of_z}
 use Rattle.std.specs.Prelude.{◌⊎◌, ◌^◌, Option, None, Some, All}
 use Rattle.std.specs.List.{sum_by}
+use Rattle.std.specs.Int.Signed.{mag}
+use Rattle.std.proofs.lemmas.Int.{ints}
 use Rattle.std.proofs.lemmas.List.{length-map}
 use Rattle.csv_read.specs.Chunks.{FitFrom, chunk_blocks, chunk_of}
 use Rattle.data_types.specs.ColumnView.{column_of}
@@ -21,15 +23,31 @@ use Rattle.stage_model.specs.Stages.{at_end, totals_row}
 use Rattle.stage_model.specs.Traffic.{Made, made_blocks, made_nodes, table_blocks, table_nodes}
 use Rattle.stage_model.specs.declared.stage.Step.{Step}
 use Rattle.stage_model.specs.declared.stage.Step.TheVariants as steps
-use Rattle.stream_face.specs.Calls.{Answers, Counts, Repeats, Shows, Tells}
+use Rattle.stream_face.specs.Calls.{Answers, Counts, IsCode, Repeats, Shows, Tells}
 use Rattle.stream_face.specs.Lawful.{DictsAreFull, IsChunkOf, LawfulColumns, LawfulTables}
 use Rattle.stream_face.specs.Shown.{Seen, Shown}
 use Rattle.stream_face.specs.Streams.{IsFresh, Keeps, Stream}
 use Rattle.stream_face.specs.Texts.{Refusal}
+use Rattle.stream_face.proofs.Next.{same}
 use Rattle.total_stage.specs.Pulls.{IsRefused}
 use Rattle.total_stage.specs.Rows.{RowFits}
 use Rattle.total_stage.specs.Works.{TotalsFits, totals_ahead}
 use Rattle.total_stage.proofs.Fitting.{all-summed, can-total, few-kept, fit-from, from-row, kept-fit, made-blocks, made-nodes, one-table}
+
+-- ---- a code
+
+-- a code is the same as a number of the code
+pub same-code : (code : ℤ) → IsCode code → to_z w32 (of_z w32 code) ≡ code
+same-code code is = same code (fits code is)
+  where
+    fits : (code : ℤ) → IsCode code → mag code < 2147483648
+    fits (pos n) is = omega (arith, ints, is.1)
+    fits (negsuc n) is = absurd (omega (arith, ints, is.0))
+
+-- a refusal's code
+pub not-zero : (code : ℤ) → (code ≡ pos 12) ⊎ (code ≡ pos 22) → code ≡ pos 0 → ⊥
+not-zero code (inl twelve) zero_is = let k : ◌≡◌ {A = ℤ} (pos 12) (pos 0) = sym twelve ∙ zero_is in absurd (cc)
+not-zero code (inr more) zero_is = let k : ◌≡◌ {A = ℤ} (pos 22) (pos 0) = sym more ∙ zero_is in absurd (cc)
 
 -- ---- a call that answers 0
 
@@ -100,17 +118,13 @@ answers-of-refused : (picks : List ℕ) (given : Bool) (columns after : List Col
     → n.ending ≡ s.ending → out ≡ Released → Answers (totalled picks given columns s) (totalled picks given after n) code out
 answers-of-refused picks given columns after s n code out refused ending gone = record {
   chunk = λ live. absurd (subst IsLive gone live);
-  finish = λ zero_is _. absurd (not-zero refused.codes zero_is);
+  finish = λ zero_is _. absurd (not-zero code refused.codes zero_is);
   bad = λ e.
       let bad = refused.bad e in
       (none-ahead picks given s.ending s.ahead bad.0 bad.1, none-ahead picks given n.ending n.ahead bad.0 (ending ∙ bad.1), bad.0, bad.1, bad.2, bad.3);
   wants = refused.wants;
   codes = inr refused.codes;
 }
-  where
-    not-zero : (code ≡ pos 12) ⊎ (code ≡ pos 22) → code ≡ pos 0 → ⊥
-    not-zero (inl twelve) zero_is = let k : ◌≡◌ {A = ℤ} (pos 12) (pos 0) = sym twelve ∙ zero_is in absurd (cc)
-    not-zero (inr more) zero_is = let k : ◌≡◌ {A = ℤ} (pos 22) (pos 0) = sym more ∙ zero_is in absurd (cc)
 
 pub answers-refused : (picks : List ℕ) (given : Bool) (columns after : List Column) (s n : Stream) (code told : ℤ) (out : ArrayTree) → told ≡ code
     → IsRefused s n code → n.ending ≡ s.ending → out ≡ Released → Answers (totalled picks given columns s) (totalled picks given after n) told out

@@ -25,7 +25,7 @@ use Rattle.data_types.specs.Kinds.{KindOk}
 use Rattle.data_types.specs.declared.kind.DataType.{DataType}
 use Rattle.stream_face.specs.Calls.{Answers, IsCode, Shows}
 use Rattle.stream_face.specs.Lawful.{AreItems, IsChunkOf, IsTable, LawfulColumns, LawfulTables, total_rows}
-use Rattle.stream_face.specs.Streams.{IsFresh, Stream}
+use Rattle.stream_face.specs.Streams.{IsFresh, Keeps, Stream}
 use Rattle.stream_face.specs.Texts.{Refusal}
 use Rattle.work_parts.proofs.Runs.{Called, Ran, Ran-fresh}
 use Rattle.total_stage.specs.Pulls.{IsRefused}
@@ -41,6 +41,17 @@ use Rattle.total_stage.proofs.SummedKinds.{item-small}
 pub zero_code : (code : ℤ) → IsCode code → of_z w32 code ≡ 0 → code ≡ pos 0
 zero_code (pos n) is zero = ap pos zero
 zero_code (negsuc n) is zero = absurd (omega (arith, ints, is.0))
+
+-- what a stream keeps in two parts
+pub keeps-both : (s m n : Stream) → Keeps s m → Keeps m n → Keeps s n
+keeps-both s m n a b = record {
+  columns = b.columns ∙ a.columns;
+  ending = b.ending ∙ a.ending;
+  lawful = b.lawful ∙ a.lawful;
+  held = b.held ∙ a.held;
+  live = b.live ∙ a.live;
+  schema = b.schema ∙ a.schema;
+}
 
 -- ---- the tables so far
 
