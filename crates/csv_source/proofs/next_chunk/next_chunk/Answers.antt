@@ -1,5 +1,5 @@
 use Rattle.std.proofs.lemmas.Grind.{common_steps}
-use Rattle.std.proofs.Common.{rules, ◌≡◌, ◌≤◌, ◌+◌, ◌*◌, ◌∙◌, ℕ, List, length, map, ap, arith, sym, subst}
+use Rattle.std.proofs.Common.{Ok, ◌≡◌, ◌≤◌, ◌+◌, ◌*◌, ◌∙◌, ℕ, List, length, map, ap, arith, refl, sym, subst}
 use Rattle.std.proofs.lemmas.Int.{ints}
 use Rattle.csv_model.specs.Batches.{Chunks}
 use Rattle.col_build.specs.declared.builder.Builder.{Builder}
@@ -16,8 +16,8 @@ use Rattle.csv_source.proofs.Chunks.{chunk-same, next-chunk, next-short}
 use Rattle.csv_source.proofs.PlainKinds.{plain-columns}
 use Rattle.csv_source.proofs.next_chunk.next_chunk.Goals as goal
 
-pub returns-in-Ok-clause-chunk : goal.returns-in-Ok-clause-chunk
-returns-in-Ok-clause-chunk c = λ _.
+pub returns-in-Ok : goal.returns-in-Ok
+returns-in-Ok c =
     let batches = c.args.batches.now in
     let read = c.next.new.self in
     let new = c.export.new.self in
@@ -25,7 +25,7 @@ returns-in-Ok-clause-chunk c = λ _.
     let after = c.export.new.pass in
     let chunk = c.in-Ok.chunk in
     let columns = columns_in batches in
-    let found : IsNextBatch c.args.batch read.builders batches read = c.next.ensures.batch (search rules) in
+    let found : IsNextBatch c.args.batch read.builders batches read = c.next.ensures.batch (c.in-Ok-true.is ∙ ap Ok c.in-Ok-true.field-0-test) in
     let same : columns_in read ≡ columns = ap (map column_of) c.next.ensures.columns in
     let lent = subst (λ (bs : List Builder). HoldRows bs columns found.rows) (sym c.builders.ensures) found.held in
     let count = c.count_rows-rows.ensures columns found.rows lent in
@@ -44,187 +44,87 @@ returns-in-Ok-clause-chunk c = λ _.
     (c.chunks_have_their_rows.ensures.chunk columns found.rows fit (omega (arith, found.few)))
     (c.chunks_have_their_rows.ensures.rows columns found.rows fit found.held.widths)
     cost blocks nodes in
-    subst (λ (tree : ArrayTree). IsNextChunk c.args.batch tree batches new before after) (sym c.put.ensures)
-    (chunk-same c.args.batch chunk batches read new before after next (ap (batches_left c.args.batch) c.export.ensures.stays))
+    record {
+      chunk = λ _. subst (λ (tree : ArrayTree). IsNextChunk c.args.batch tree batches new before after) (sym c.put.ensures)
+          (chunk-same c.args.batch chunk batches read new before after next (ap (batches_left c.args.batch) c.export.ensures.stays));
+      ending = ap (λ (s : BatchesLeft). (batches_left c.args.batch s).ending) c.export.ensures.stays
+          ∙ sym (ap (λ (b : Chunks). b.ending)
+          (c.batches_are_read_in_turn.ensures.next c.args.batch read.builders batches read c.requires.some_rows
+          c.next.ensures.columns c.next.ensures.mark found));
+      short = next-short c.args.batch batches.records c.export.new.self.records
+          (ap (λ (s : BatchesLeft). s.records) c.export.ensures.stays ∙ found.left) c.requires.short;
+      columns = ap (λ (s : BatchesLeft). s.columns) c.export.ensures.stays ∙ c.next.ensures.columns;
+      units = grind (arith, common_steps);
+      end = grind (arith, common_steps);
+      end_stays = grind (arith, common_steps);
+      end_counts = grind (arith, common_steps);
+      fault = tt;
+      refuses = tt;
+      units_back = tt;
+    }
 
-pub returns-in-Ok-clause-ending : goal.returns-in-Ok-clause-ending
-returns-in-Ok-clause-ending c =
-    let batches = c.args.batches.now in
+pub returns-in-Err-export : goal.returns-in-Err-export
+returns-in-Err-export c =
     let read = c.next.new.self in
-    let found : IsNextBatch c.args.batch read.builders batches read = c.next.ensures.batch (search rules) in
-    ap (λ (s : BatchesLeft). (batches_left c.args.batch s).ending) c.export.ensures.stays
-    ∙ sym (ap (λ (b : Chunks). b.ending)
-    (c.batches_are_read_in_turn.ensures.next c.args.batch read.builders batches read c.requires.some_rows c.next.ensures.columns c.next.ensures.mark found))
+    let found : IsNextBatch c.args.batch read.builders c.args.batches.now read = c.next.ensures.batch (c.in-Ok-true.is ∙ ap Ok c.in-Ok-true.field-0-test) in
+    record {
+      short = next-short c.args.batch c.args.batches.now.records c.export.new.self.records
+          (ap (λ (s : BatchesLeft). s.records) c.export.ensures.stays ∙ found.left) c.requires.short;
+      columns = ap (λ (s : BatchesLeft). s.columns) c.export.ensures.stays ∙ c.next.ensures.columns;
+      chunk = tt;
+      units = tt;
+      end = tt;
+      end_stays = tt;
+      ending = tt;
+      end_counts = tt;
+      fault = grind (arith, common_steps);
+      refuses = c.requires.empty;
+      units_back = grind (arith, common_steps);
+    }
 
-pub returns-in-Ok-clause-short : goal.returns-in-Ok-clause-short
-returns-in-Ok-clause-short c =
-    let read = c.next.new.self in
-    let found : IsNextBatch c.args.batch read.builders c.args.batches.now read = c.next.ensures.batch (search rules) in
-    next-short c.args.batch c.args.batches.now.records c.export.new.self.records
-    (ap (λ (s : BatchesLeft). s.records) c.export.ensures.stays ∙ found.left) c.requires.short
+pub returns-in-Ok-false : goal.returns-in-Ok-false
+returns-in-Ok-false c =
+    record {
+      columns = c.next.ensures.columns;
+      chunk = grind (arith, common_steps);
+      units = grind (arith, common_steps);
+      end = grind (arith, common_steps);
+      end_stays = grind (arith, common_steps);
+      ending = grind (arith, common_steps);
+      end_counts = λ _. refl;
+      fault = tt;
+      refuses = tt;
+      units_back = tt;
+      short = grind (arith, common_steps);
+    }
 
-pub returns-in-Err-export-clause-short : goal.returns-in-Err-export-clause-short
-returns-in-Err-export-clause-short c =
-    let read = c.next.new.self in
-    let found : IsNextBatch c.args.batch read.builders c.args.batches.now read = c.next.ensures.batch (search rules) in
-    next-short c.args.batch c.args.batches.now.records c.export.new.self.records
-    (ap (λ (s : BatchesLeft). s.records) c.export.ensures.stays ∙ found.left) c.requires.short
+pub returns-in-Err : goal.returns-in-Err
+returns-in-Err c =
+    record {
+      columns = c.next.ensures.columns;
+      chunk = tt;
+      units = tt;
+      end = tt;
+      end_stays = tt;
+      ending = tt;
+      end_counts = tt;
+      fault = grind (arith, common_steps);
+      refuses = c.requires.empty;
+      units_back = refl;
+      short = grind (arith, common_steps);
+    }
 
-pub count_rows-rows-requires-clause-some : goal.count_rows-rows-requires-clause-some
-count_rows-rows-requires-clause-some c = grind (arith, common_steps)
+pub count_rows-rows-requires : goal.count_rows-rows-requires
+count_rows-rows-requires c =
+    record {
+      some = grind (arith, common_steps);
+      held = grind (arith, common_steps);
+    }
 
-pub batches_are_read_in_turn-requires : goal.batches_are_read_in_turn-requires
-batches_are_read_in_turn-requires c = grind (arith, common_steps)
-
-pub chunks_have_their_rows-requires : goal.chunks_have_their_rows-requires
-chunks_have_their_rows-requires c = grind (arith, common_steps)
-
-pub held_rows_fit-requires : goal.held_rows_fit-requires
-held_rows_fit-requires c = grind (arith, common_steps)
-
-pub columns-columns-requires : goal.columns-columns-requires
-columns-columns-requires c = grind (arith, common_steps)
-
-pub next-requires : goal.next-requires
-next-requires c = grind (arith, common_steps)
-
-pub returns-in-Ok-false-clause-columns : goal.returns-in-Ok-false-clause-columns
-returns-in-Ok-false-clause-columns c = grind (arith, common_steps)
-
-pub returns-in-Ok-false-clause-chunk : goal.returns-in-Ok-false-clause-chunk
-returns-in-Ok-false-clause-chunk c = grind (arith, common_steps)
-
-pub returns-in-Ok-false-clause-units : goal.returns-in-Ok-false-clause-units
-returns-in-Ok-false-clause-units c = grind (arith, common_steps)
-
-pub returns-in-Ok-false-clause-end : goal.returns-in-Ok-false-clause-end
-returns-in-Ok-false-clause-end c = grind (arith, common_steps)
-
-pub returns-in-Ok-false-clause-end_stays : goal.returns-in-Ok-false-clause-end_stays
-returns-in-Ok-false-clause-end_stays c = grind (arith, common_steps)
-
-pub returns-in-Ok-false-clause-ending : goal.returns-in-Ok-false-clause-ending
-returns-in-Ok-false-clause-ending c = grind (arith, common_steps)
-
-pub returns-in-Ok-false-clause-end_counts : goal.returns-in-Ok-false-clause-end_counts
-returns-in-Ok-false-clause-end_counts c = grind (arith, common_steps)
-
-pub returns-in-Ok-false-clause-fault : goal.returns-in-Ok-false-clause-fault
-returns-in-Ok-false-clause-fault c = grind (arith, common_steps)
-
-pub returns-in-Ok-false-clause-refuses : goal.returns-in-Ok-false-clause-refuses
-returns-in-Ok-false-clause-refuses c = grind (arith, common_steps)
-
-pub returns-in-Ok-false-clause-units_back : goal.returns-in-Ok-false-clause-units_back
-returns-in-Ok-false-clause-units_back c = grind (arith, common_steps)
-
-pub returns-in-Ok-false-clause-short : goal.returns-in-Ok-false-clause-short
-returns-in-Ok-false-clause-short c = grind (arith, common_steps)
-
-pub of-requires : goal.of-requires
-of-requires c = grind (arith, common_steps)
-
-pub returns-in-Err-clause-columns : goal.returns-in-Err-clause-columns
-returns-in-Err-clause-columns c = grind (arith, common_steps)
-
-pub returns-in-Err-clause-chunk : goal.returns-in-Err-clause-chunk
-returns-in-Err-clause-chunk c = grind (arith, common_steps)
-
-pub returns-in-Err-clause-units : goal.returns-in-Err-clause-units
-returns-in-Err-clause-units c = grind (arith, common_steps)
-
-pub returns-in-Err-clause-end : goal.returns-in-Err-clause-end
-returns-in-Err-clause-end c = grind (arith, common_steps)
-
-pub returns-in-Err-clause-end_stays : goal.returns-in-Err-clause-end_stays
-returns-in-Err-clause-end_stays c = grind (arith, common_steps)
-
-pub returns-in-Err-clause-ending : goal.returns-in-Err-clause-ending
-returns-in-Err-clause-ending c = grind (arith, common_steps)
-
-pub returns-in-Err-clause-end_counts : goal.returns-in-Err-clause-end_counts
-returns-in-Err-clause-end_counts c = grind (arith, common_steps)
-
-pub returns-in-Err-clause-fault : goal.returns-in-Err-clause-fault
-returns-in-Err-clause-fault c = grind (arith, common_steps)
-
-pub returns-in-Err-clause-refuses : goal.returns-in-Err-clause-refuses
-returns-in-Err-clause-refuses c = grind (arith, common_steps)
-
-pub returns-in-Err-clause-units_back : goal.returns-in-Err-clause-units_back
-returns-in-Err-clause-units_back c = grind (arith, common_steps)
-
-pub returns-in-Err-clause-short : goal.returns-in-Err-clause-short
-returns-in-Err-clause-short c = grind (arith, common_steps)
-
-pub builders-requires : goal.builders-requires
-builders-requires c = grind (arith, common_steps)
-
-pub count_rows-rows-requires-clause-held : goal.count_rows-rows-requires-clause-held
-count_rows-rows-requires-clause-held c = grind (arith, common_steps)
-
-pub export-requires-clause-held : goal.export-requires-clause-held
-export-requires-clause-held c = grind (arith, common_steps)
-
-pub export-requires-clause-few : goal.export-requires-clause-few
-export-requires-clause-few c = grind (arith, common_steps)
-
-pub export-requires-clause-units : goal.export-requires-clause-units
-export-requires-clause-units c = grind (arith, common_steps)
-
-pub put-requires : goal.put-requires
-put-requires c = grind (arith, common_steps)
-
-pub returns-in-Ok-clause-columns : goal.returns-in-Ok-clause-columns
-returns-in-Ok-clause-columns c = grind (arith, common_steps)
-
-pub returns-in-Ok-clause-units : goal.returns-in-Ok-clause-units
-returns-in-Ok-clause-units c = grind (arith, common_steps)
-
-pub returns-in-Ok-clause-end : goal.returns-in-Ok-clause-end
-returns-in-Ok-clause-end c = grind (arith, common_steps)
-
-pub returns-in-Ok-clause-end_stays : goal.returns-in-Ok-clause-end_stays
-returns-in-Ok-clause-end_stays c = grind (arith, common_steps)
-
-pub returns-in-Ok-clause-end_counts : goal.returns-in-Ok-clause-end_counts
-returns-in-Ok-clause-end_counts c = grind (arith, common_steps)
-
-pub returns-in-Ok-clause-fault : goal.returns-in-Ok-clause-fault
-returns-in-Ok-clause-fault c = grind (arith, common_steps)
-
-pub returns-in-Ok-clause-refuses : goal.returns-in-Ok-clause-refuses
-returns-in-Ok-clause-refuses c = grind (arith, common_steps)
-
-pub returns-in-Ok-clause-units_back : goal.returns-in-Ok-clause-units_back
-returns-in-Ok-clause-units_back c = grind (arith, common_steps)
-
-pub returns-in-Err-export-clause-columns : goal.returns-in-Err-export-clause-columns
-returns-in-Err-export-clause-columns c = grind (arith, common_steps)
-
-pub returns-in-Err-export-clause-chunk : goal.returns-in-Err-export-clause-chunk
-returns-in-Err-export-clause-chunk c = grind (arith, common_steps)
-
-pub returns-in-Err-export-clause-units : goal.returns-in-Err-export-clause-units
-returns-in-Err-export-clause-units c = grind (arith, common_steps)
-
-pub returns-in-Err-export-clause-end : goal.returns-in-Err-export-clause-end
-returns-in-Err-export-clause-end c = grind (arith, common_steps)
-
-pub returns-in-Err-export-clause-end_stays : goal.returns-in-Err-export-clause-end_stays
-returns-in-Err-export-clause-end_stays c = grind (arith, common_steps)
-
-pub returns-in-Err-export-clause-ending : goal.returns-in-Err-export-clause-ending
-returns-in-Err-export-clause-ending c = grind (arith, common_steps)
-
-pub returns-in-Err-export-clause-end_counts : goal.returns-in-Err-export-clause-end_counts
-returns-in-Err-export-clause-end_counts c = grind (arith, common_steps)
-
-pub returns-in-Err-export-clause-fault : goal.returns-in-Err-export-clause-fault
-returns-in-Err-export-clause-fault c = grind (arith, common_steps)
-
-pub returns-in-Err-export-clause-refuses : goal.returns-in-Err-export-clause-refuses
-returns-in-Err-export-clause-refuses c = grind (arith, common_steps)
-
-pub returns-in-Err-export-clause-units_back : goal.returns-in-Err-export-clause-units_back
-returns-in-Err-export-clause-units_back c = grind (arith, common_steps)
+pub export-requires : goal.export-requires
+export-requires c =
+    record {
+      held = grind (arith, common_steps);
+      few = grind (arith, common_steps);
+      units = grind (arith, common_steps);
+    }

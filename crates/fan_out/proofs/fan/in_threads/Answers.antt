@@ -42,68 +42,38 @@ back g c =
     c.put.ensures ∙ c.run_pieces-tree.ensures.tree d
     ∙ ap (λ (n : ℕ). (get_or c.in-Ok.pieces.items (n - 1) d).tree) c.in-Ok.ensures.len ∙ c.in-Ok.ensures.last d
 
-pub returns-clause-answers : goal.returns-clause-answers
-returns-clause-answers g c =
+pub returns : goal.returns
+returns g c =
     let typed = typed_of c.args.typed.now in
     let rows = rows_of typed c.args.chunk.now in
-    subst (λ (n : ℕ). IfOk c.run_pieces-tree.result.1 (λ v. GivesPieces (g.J.Job.gives c.args.job.now typed rows) (length rows) n v.items))
-    c.in-Ok.ensures.len (c.run_pieces-tree.ensures.answers rows c.in-Ok.ensures.ready)
+    record {
+      answers = subst (λ (n : ℕ). IfOk c.run_pieces-tree.result.1 (λ v. GivesPieces (g.J.Job.gives c.args.job.now typed rows) (length rows) n v.items))
+          c.in-Ok.ensures.len (c.run_pieces-tree.ensures.answers rows c.in-Ok.ensures.ready);
+      like = subst (Like c.args.chunk.now) (sym (back g c)) (c.like_trees_are_ordered.ensures.lowered_by (c.args.workers - 1) c.args.chunk.now);
+      lowered = always_on_ok c.run_pieces-tree.result.1 _ (back g c);
+      units = c.run_pieces-tree.ensures.units ∙ ap (λ (n : ℕ). c.make_pieces.new.pass.units + (n - 1) * c.args.cost) c.in-Ok.ensures.len
+          ∙ c.in-Ok.ensures.drawn;
+      blocks = c.run_pieces-tree.ensures.blocks ∙ c.make_pieces.ensures.blocks;
+      nodes = c.run_pieces-tree.ensures.nodes ∙ c.make_pieces.ensures.nodes;
+    }
 
-pub returns-clause-like : goal.returns-clause-like
-returns-clause-like g c =
-    subst (Like c.args.chunk.now) (sym (back g c)) (c.like_trees_are_ordered.ensures.lowered_by (c.args.workers - 1) c.args.chunk.now)
+pub make_pieces-requires : goal.make_pieces-requires
+make_pieces-requires g c =
+    record {
+      chunk = grind (arith, common_steps);
+      workers = grind (arith, common_steps);
+      amounts = grind (arith, common_steps);
+      cost = grind (arith, common_steps);
+      units = grind (arith, common_steps);
+    }
 
-pub returns-clause-lowered : goal.returns-clause-lowered
-returns-clause-lowered g c = always_on_ok c.run_pieces-tree.result.1 _ (back g c)
-
-pub returns-clause-units : goal.returns-clause-units
-returns-clause-units g c =
-    c.run_pieces-tree.ensures.units ∙ ap (λ (n : ℕ). c.make_pieces.new.pass.units + (n - 1) * c.args.cost) c.in-Ok.ensures.len ∙ c.in-Ok.ensures.drawn
-
-pub returns-clause-blocks : goal.returns-clause-blocks
-returns-clause-blocks g c = c.run_pieces-tree.ensures.blocks ∙ c.make_pieces.ensures.blocks
-
-pub returns-clause-nodes : goal.returns-clause-nodes
-returns-clause-nodes g c = c.run_pieces-tree.ensures.nodes ∙ c.make_pieces.ensures.nodes
-
-pub like_trees_are_ordered-requires : goal.like_trees_are_ordered-requires
-like_trees_are_ordered-requires g c = grind (arith, common_steps)
-
-pub units-supply-requires : goal.units-supply-requires
-units-supply-requires g c = grind (arith, common_steps)
-
-pub make_pieces-requires-clause-chunk : goal.make_pieces-requires-clause-chunk
-make_pieces-requires-clause-chunk g c = grind (arith, common_steps)
-
-pub make_pieces-requires-clause-workers : goal.make_pieces-requires-clause-workers
-make_pieces-requires-clause-workers g c = grind (arith, common_steps)
-
-pub make_pieces-requires-clause-amounts : goal.make_pieces-requires-clause-amounts
-make_pieces-requires-clause-amounts g c = grind (arith, common_steps)
-
-pub make_pieces-requires-clause-cost : goal.make_pieces-requires-clause-cost
-make_pieces-requires-clause-cost g c = grind (arith, common_steps)
-
-pub make_pieces-requires-clause-units : goal.make_pieces-requires-clause-units
-make_pieces-requires-clause-units g c = grind (arith, common_steps)
-
-pub returns-in-Err-clause-answers : goal.returns-in-Err-clause-answers
-returns-in-Err-clause-answers g c = grind (arith, common_steps)
-
-pub returns-in-Err-clause-like : goal.returns-in-Err-clause-like
-returns-in-Err-clause-like g c = grind (arith, common_steps)
-
-pub returns-in-Err-clause-lowered : goal.returns-in-Err-clause-lowered
-returns-in-Err-clause-lowered g c = grind (arith, common_steps)
-
-pub returns-in-Err-clause-units : goal.returns-in-Err-clause-units
-returns-in-Err-clause-units g c = grind (arith, common_steps)
-
-pub returns-in-Err-clause-blocks : goal.returns-in-Err-clause-blocks
-returns-in-Err-clause-blocks g c = grind (arith, common_steps)
-
-pub returns-in-Err-clause-nodes : goal.returns-in-Err-clause-nodes
-returns-in-Err-clause-nodes g c = grind (arith, common_steps)
-
-pub put-requires : goal.put-requires
-put-requires g c = grind (arith, common_steps)
+pub returns-in-Err : goal.returns-in-Err
+returns-in-Err g c =
+    record {
+      answers = grind (arith, common_steps);
+      like = grind (arith, common_steps);
+      lowered = grind (arith, common_steps);
+      units = grind (arith, common_steps);
+      blocks = grind (arith, common_steps);
+      nodes = grind (arith, common_steps);
+    }
