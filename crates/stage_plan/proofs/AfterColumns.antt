@@ -1,6 +1,6 @@
 -- The columns after a stage, piece by piece.
-use Rattle.std.proofs.Common.{◌≡◌, ◌∙◌, ◌+◌, ◌-◌, ◌++◌, ℕ, List, [], ◌∷◌, length, take, drop, refl, ap, sym, arith, append_assoc, length-drop}
-use Rattle.std.proofs.lemmas.List.{drop-map, take-map, take_all}
+use Rattle.std.proofs.Common.{◌≡◌, ◌∙◌, ◌<◌, ◌+◌, ◌-◌, ◌++◌, ℕ, List, [], ◌∷◌, length, get_or, take, drop, refl, ap, sym, arith, append_assoc, length-drop}
+use Rattle.std.proofs.lemmas.List.{drop-map, take-map, take_all, take_more, map-append}
 use Rattle.data_types.specs.ColumnView.{column_of, members}
 use Rattle.data_types.specs.Parts.{member_columns, replaced}
 use Rattle.data_types.specs.Table.{Column}
@@ -37,3 +37,28 @@ pub one-replaced : (columns : List ColumnType) (place : ℕ) (front before all :
 one-replaced columns place front before all item first second third =
     three-parts columns place front (item ∷ []) before all first second third
     ∙ append_assoc (take place (columns_in columns)) (item ∷ []) (drop (place + 1) (columns_in columns))
+
+-- one column more
+pub one-added : (columns all : List ColumnType) (made : ColumnType) (item : Column) → column_of made ≡ item → all ≡ columns ++ made ∷ []
+    → columns_in all ≡ columns_in columns ++ item ∷ []
+one-added columns all made item is more =
+    ap columns_in more ∙ map-append column_of columns (made ∷ []) ∙ ap (λ (c : Column). columns_in columns ++ c ∷ []) is
+
+-- four columns more, one after the other
+pub four-added : (a b c d : Column) (columns one two three four : List Column) → one ≡ columns ++ a ∷ [] → two ≡ one ++ b ∷ [] → three ≡ two ++ c ∷ []
+    → four ≡ three ++ d ∷ [] → four ≡ columns ++ a ∷ b ∷ c ∷ d ∷ []
+four-added a b c d columns one two three four first second third fourth = rw (fourth, third, second, first) (simp append_assoc)
+
+-- the first columns, and one more
+pub one-more : (columns old after all : List ColumnType) (i : ℕ) (item made : ColumnType) → i < length columns → item ≡ get_or columns i item
+    → column_of made ≡ column_of item
+    → columns_in after ≡ columns_in old ++ columns_in (take i columns)
+    → all ≡ after ++ made ∷ []
+    → columns_in all ≡ columns_in old ++ columns_in (take (i + 1) columns)
+one-more columns old after all i item made within at same far more =
+    one-added after all made (column_of item) same more
+    ∙ ap (λ (l : List Column). l ++ column_of item ∷ []) far
+    ∙ append_assoc (columns_in old) (columns_in (take i columns)) (column_of item ∷ [])
+    ∙ ap (λ (l : List Column). columns_in old ++ l)
+    (sym (ap columns_in (take_more columns i item within ∙ ap (λ (x : ColumnType). take i columns ++ x ∷ []) (sym at))
+    ∙ map-append column_of (take i columns) (item ∷ [])))

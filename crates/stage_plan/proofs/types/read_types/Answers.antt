@@ -1,4 +1,5 @@
 use Rattle.std.proofs.Common.{◌∙◌, ◌+◌, ap, sym, subst, arith, refl, List, ℕ, length, map, Err, [], ◌∷◌, ◌++◌}
+use Rattle.std.proofs.lemmas.Result.{err_from_is_err_and}
 use Rattle.stage_plan.specs.Code.{entry_of}
 use Rattle.stage_plan.specs.Types.{parts, Gives, TypesFaultIs}
 use Rattle.stage_plan.specs.declared.types.TypeEntry.{TypeEntry}
@@ -99,3 +100,29 @@ returns-clause-only c =
     let all = ap (map (λ p. p.now)) c.deref-part-items.ensures.value ∙ c.in_ok-parts.ensures ∙ ap parts c.as_bytes.ensures.value in
     done_only c.deref-part-items.result.now c.loop-part.part-index c.loop-part.names.keys c.loop-part.entries.items c.loop-part.invariant
     (omega arith) c.args.text.now all
+
+-- ---- want of memory says nothing
+pub returns-in_err-parts-clause-only : goal.returns-in_err-parts-clause-only
+returns-in_err-parts-clause-only c =
+    let p = err_from_is_err_and c.from_residual.result c.from_residual.ensures.1 in
+    rw (p.1, p.2) (λ _ _. tt)
+
+pub returns-in_err-entry-clause-only : goal.returns-in_err-entry-clause-only
+returns-in_err-entry-clause-only c =
+    let p = err_from_is_err_and c.from_residual-in_err-entry.result c.from_residual-in_err-entry.ensures.1 in
+    rw (p.1, p.2) (λ _ _. tt)
+
+pub returns-in_err-added-clause-only : goal.returns-in_err-added-clause-only
+returns-in_err-added-clause-only c =
+    let p = err_from_is_err_and c.from_residual-in_err-added.result c.from_residual-in_err-added.ensures.1 in
+    rw (p.1, p.2) (λ _ _. tt)
+
+pub returns-in_err-name-clause-only : goal.returns-in_err-name-clause-only
+returns-in_err-name-clause-only c =
+    let p = err_from_is_err_and c.from_residual-in_err-name.result c.from_residual-in_err-name.ensures.1 in
+    rw (p.1, p.2) (λ _ _. tt)
+
+pub returns-in_err-push-clause-only : goal.returns-in_err-push-clause-only
+returns-in_err-push-clause-only c =
+    let p = err_from_is_err_and c.from_residual-in_err-push.result c.from_residual-in_err-push.ensures.1 in
+    rw (p.1, p.2) (λ _ _. tt)

@@ -1,8 +1,9 @@
 use Rattle.std.proofs.lemmas.Grind.{common_steps}
-use Rattle.std.proofs.Common.{subst, sym, arith}
+use Rattle.std.proofs.Common.{◌∙◌, Err, ap, subst, sym, arith}
+use Rattle.stage_model.specs.declared.fault.PlanFault.{PlanFault}
 use Rattle.stage_plan.specs.PlanWords.{IsThere, columns_in}
 use Rattle.stage_plan.proofs.Fits.{AreFit, after-fit, fit, fit-back}
-use Rattle.stage_plan.proofs.Rules.{are-there}
+use Rattle.stage_plan.proofs.Rules.{are-there, lacks-column}
 use Rattle.stage_plan.proofs.typing.plan_stage.Goals as goal
 
 pub columns_after-requires-clause-there : goal.columns_after-requires-clause-there
@@ -32,3 +33,9 @@ returns-clause-kinds c =
 
 pub returns-clause-found : goal.returns-clause-found
 returns-clause-found c = grind (arith, common_steps)
+
+pub returns-in_default-clause-fault : goal.returns-in_default-clause-fault
+returns-in_default-clause-fault c = λ _.
+    lacks-column (columns_in c.args.columns.now) c.args.text.now c.args.number c.names_of-names.result.now c.in_ok-places.field-0 c.names_of-names.ensures
+    c.in_default.is c.in_ok-places.ensures.none
+    ∙ ap (λ (f : PlanFault). Err f) (sym c.at.ensures)

@@ -1,5 +1,6 @@
-use Rattle.std.proofs.Common.{rules, ◌<◌, ◌≡◌, ◌≢◌, ◌∙◌, ◌+◌, [], ◌∷◌, ℕ, List, Vec, Global, length, map, ap, sym, arith, Ok, Err}
+use Rattle.std.proofs.Common.{◌<◌, ◌≡◌, ◌≢◌, ◌∙◌, ◌+◌, [], ◌∷◌, ℕ, List, Vec, Global, length, map, ap, sym, arith, Ok, Err}
 use Rattle.std.proofs.lemmas.List.{map-append}
+use Rattle.std.proofs.lemmas.Result.{err_from_is_err_and}
 use Rattle.std.specs.List.{list_any}
 use Rattle.data_types.specs.ColumnView.{column_of, kind_of}
 use Rattle.data_types.specs.Table.{Column}
@@ -31,7 +32,8 @@ returns-in_err-stage-clause-fault c =
     (ap (λ (t : StageText). with_stage number (stage_over now t) (Ok [])) (sym c.index-stages-place.is)
     ∙ ap (λ (cs : List ColumnType). with_stage number (stage_over (columns_in cs) item) (Ok [])) (sym c.as_slice.ensures.value)
     ∙ c.in_err-stage.ensures.fault other) in
-    search (rules, told)
+    let p = err_from_is_err_and c.from_residual.result c.from_residual.ensures.1 in
+    rw (p.1, p.2) told
 
 -- ---- one stage more, and all stages
 pub loop-place-preserved : goal.loop-place-preserved
