@@ -11,8 +11,8 @@ use Rattle.tree_text.specs.declared.node_line.ArrayLine.{ArrayLine}
 use Rattle.tree_text.specs.Cursors.{left, ArrayRead, ArraysRead}
 use Rattle.tree_text.specs.LineView.{array_own, array_told}
 use Rattle.tree_text.proofs.LineBack.{ArrayLineIs, array_read}
-use Rattle.tree_text.proofs.ArraySteps.{buffers_stop}
-use Rattle.tree_text.proofs.ArrayNodes.{none_made, one_added, stops_inside, parts_measure, depth_parts, live_result, live_fault, released_is, steps}
+use Rattle.tree_text.proofs.ArraySteps.{buffers_stop, left_buffers}
+use Rattle.tree_text.proofs.ArrayNodes.{none_made, one_added, stops_inside, parts_measure, depth_parts, live_result, live_fault, released_is, left_all, steps}
 use Rattle.tree_text.proofs.ArrayNodes.{nodes-append, holds-append}
 use Rattle.tree_text.proofs.array_tree.+array.Goals as goal
 
@@ -154,6 +154,21 @@ live-returns-in-Err-clause-fault t c =
 
 pub live-returns-in_err-views-clause-fault : goal.live-returns-in_err-views-clause-fault
 live-returns-in_err-views-clause-fault t c = grind (arith, common_steps)
+
+pub live-with_dictionary-children-requires-clause-one : goal.live-with_dictionary-children-requires-clause-one
+live-with_dictionary-children-requires-clause-one t c = c.requires.one
+
+pub live-with_dictionary-children-requires-clause-enough : goal.live-with_dictionary-children-requires-clause-enough
+live-with_dictionary-children-requires-clause-enough t c = omega (arith, c.in-Ok.ensures.read.counted)
+
+pub live-built-requires-clause-units : goal.live-built-requires-clause-units
+live-built-requires-clause-units t c =
+    let buffers =
+    left_buffers c.args.bytes.now c.args.cursor c.in_ok-views.middle c.args.own.buffers (buffers_of c.in_ok-views.views.items) c.in_ok-views.ensures.read in
+    let parts =
+    left_all c.args.bytes.now c.in_ok-views.middle c.in-Ok.next (c.args.level + 1) (c.args.own.children + c.args.own.dictionaries) c.in-Ok.parts.items
+    c.in-Ok.ensures.read in
+    omega (arith, buffers, parts, c.requires.room, c.in_ok-views.ensures.units, c.in-Ok.ensures.units)
 
 pub live-built-requires-clause-few_children : goal.live-built-requires-clause-few_children
 live-built-requires-clause-few_children t c = grind (arith, common_steps)

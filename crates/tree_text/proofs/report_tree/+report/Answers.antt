@@ -18,7 +18,7 @@ push_children-push_tree-requires t c =
     let i = c.loop-i.i in
     let kid = c.index-kids-k.result in
     let inside : i < length kids = search rules in
-    let is : get_or kids i kid ≡ kid = search rules in
+    let is = sym c.index-kids-k.is in
     let levels = levels-kid kids i kid inside in
     let ok = kid-ok kids i kid inside c.requires.types in
     let kinds : get_or (map typed_of kids) i Released ≡ typed_of kid = get_or-typed kids i kid inside ∙ ap typed_of is in
@@ -34,7 +34,7 @@ push_children-loop-i-preserved t c =
     let i = c.loop-i.i in
     let kid = c.index-kids-k.result in
     let inside : i < length kids = search rules in
-    let is : get_or kids i kid ≡ kid = search rules in
+    let is = sym c.index-kids-k.is in
     child_more kids i kid (steps_of c.args.path.now) array c.loop-i.text.items c.push_tree.new.text.items _ inside c.requires.children c.loop-i.invariant
     (search rules)
 
@@ -47,7 +47,7 @@ push_tree-push_children-requires t c =
     let typed = c.args.typed.now in
     let array = c.args.array.now in
     let kids = c.deref.result.now in
-    let same : kids ≡ (out-Typed typed).kids.items = search rules in
+    let same = c.deref.ensures.value in
     let lawful = subst (λ (ks : List Typed). (k : ℕ) → k < length (map typed_of ks)
     → LayoutOk (get_or (map typed_of ks) k Released) (child_at array k)) (sym same) c.lawful_parts.ensures.children in
     let deep = ap (λ (ks : List Typed). depth_of_all (trees (map typed_of ks))) same in
@@ -57,7 +57,7 @@ push_tree-push_children-requires t c =
     (kids-ok typed c.requires.types) in
     let children : length (children_of array) ≡ length kids =
     c.lawful_root.ensures.children ∙ length-map (out-Typed typed).kids.items typed_of ∙ ap (λ (ks : List Typed). length ks) (sym same) in
-    search rules
+    (omega (arith, falls, c.decreases), (lawful, (levels, (types, (c.lawful_root.ensures.live, children)))))
 
 pub push_children-n_children-count-requires : goal.push_children-n_children-count-requires
 push_children-n_children-count-requires t c = grind (arith, common_steps)

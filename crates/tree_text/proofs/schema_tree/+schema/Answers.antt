@@ -8,7 +8,7 @@ use Rattle.tree_text.specs.declared.node_line.SchemaLine.{SchemaLine}
 use Rattle.tree_text.specs.Cursors.{left, SchemaRead, SchemasRead}
 use Rattle.tree_text.specs.LineView.{schema_own, schema_told}
 use Rattle.tree_text.proofs.LineBack.{SchemaLineIs, schema_read}
-use Rattle.tree_text.proofs.SchemaSteps.{none_made, one_added, stops_inside, nodes-listed, depth_parts, live_result, live_fault, released_is, steps}
+use Rattle.tree_text.proofs.SchemaSteps.{none_made, one_added, stops_inside, nodes-listed, depth_parts, live_result, live_fault, released_is, left_all, steps}
 use Rattle.tree_text.proofs.schema_tree.+schema.Goals as goal
 
 pub live-built-requires-clause-supply : goal.live-built-requires-clause-supply
@@ -123,8 +123,18 @@ schema-returns-in-Live-clause-fault t c =
 pub live-built-requires-clause-few_children : goal.live-built-requires-clause-few_children
 live-built-requires-clause-few_children t c = grind (arith, common_steps)
 
+pub live-with_dictionary-children-requires-clause-one : goal.live-with_dictionary-children-requires-clause-one
+live-with_dictionary-children-requires-clause-one t c = c.requires.one
+
+pub live-with_dictionary-children-requires-clause-enough : goal.live-with_dictionary-children-requires-clause-enough
+live-with_dictionary-children-requires-clause-enough t c = omega (arith, c.in_ok-parts.ensures.read.counted)
+
 pub live-built-requires-clause-units : goal.live-built-requires-clause-units
-live-built-requires-clause-units t c = grind (arith, steps, steps)
+live-built-requires-clause-units t c =
+    let parts =
+    left_all c.args.bytes.now c.args.cursor c.in_ok-parts.next (c.args.level + 1) (c.args.own.children + c.args.own.dictionaries) c.in_ok-parts.parts.items
+    c.in_ok-parts.ensures.read in
+    omega (arith, parts, c.requires.room, c.in_ok-parts.ensures.units)
 
 pub schemas-schema-requires : goal.schemas-schema-requires
 schemas-schema-requires t c = grind (arith, steps, steps)
