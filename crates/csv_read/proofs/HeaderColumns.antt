@@ -1,17 +1,17 @@
 -- What the columns of a header are.
 use Rattle.std.proofs.Common.{◌≡◌, ◌≢◌, ◌<◌, ◌+◌, ◌∙◌, ◌||◌, ℕ, zero, suc, Bool, true, false, true≢false, List, [], ◌∷◌, length, get_or, All, Option, Some}
-use Rattle.std.proofs.Common.{None, refl, sym, ap, arith, inl, inr}
+use Rattle.std.proofs.Common.{None, Ok, refl, sym, ap, arith, inl, inr}
 use Rattle.std.proofs.lemmas.Bool.{cases_Bool}
 use Rattle.std.proofs.lemmas.List.{get_or-map, length-map}
 use Rattle.std.proofs.lemmas.Slice.Eq.{bytes_eq-Decides}
 use Rattle.std.specs.List.{AllPairs}
-use Rattle.std.specs.Prelude.{if◌then◌else◌}
+use Rattle.std.specs.Prelude.{if◌then◌else◌, nat_le}
 use Rattle.std.specs.Str.{bytes_eq}
 use Rattle.data_types.specs.declared.kind.DataType.{DataType}
 use Rattle.data_types.specs.declared.kind.DataType.TheVariants as kinds
 use Rattle.data_types.specs.Table.{Column}
-use Rattle.csv_model.specs.Header.{Entry, column_for, fault_at, first_not_text, first_twice, header_columns, is_among, names_fault, twice_behind, twice_fault}
-use Rattle.csv_model.specs.Header.{type_for, unknown_fault}
+use Rattle.csv_model.specs.Header.{Entry, column_for, fault_at, first_not_text, first_twice, header_columns, header_of, is_among, most_columns, names_fault}
+use Rattle.csv_model.specs.Header.{twice_behind, twice_fault, type_for, unknown_fault}
 use Rattle.csv_model.specs.Reading.{Record}
 use Rattle.csv_model.specs.declared.fault.HeaderFault.{HeaderFault}
 use Rattle.csv_model.specs.declared.fault.HeaderFault.TheVariants as faults
@@ -81,3 +81,11 @@ module _ (P : DataType → Type 0) (text : P (kinds.Utf8 false)) where
   columns-have entries each [] k d within = absurd (omega arith)
   columns-have entries each (f ∷ fs) zero d within = (type_for (entries_of entries) f, refl, type-has entries each f)
   columns-have entries each (f ∷ fs) (suc k) d within = columns-have entries each fs k d (omega arith)
+
+-- ---- the header
+
+pub header-found : (entries : List Entry) (records rest : List Record) (fields : Record) → records ≡ fields ∷ rest
+    → nat_le (length fields) most_columns ≡ true
+    → names_fault entries fields ≡ None
+    → header_of entries records ≡ Ok (header_columns entries fields)
+header-found entries records rest fields first few none = rw (first, few, none) refl

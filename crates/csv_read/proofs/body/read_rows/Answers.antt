@@ -1,5 +1,6 @@
 use Rattle.std.proofs.lemmas.Grind.{common_steps}
-use Rattle.std.proofs.Common.{rules, arith, ◌≡◌, ◌≢◌, ◌<◌, ◌+◌, ◌∷◌, ◌∙◌, Bool, Result, Ok, true, false, ap, refl, subst, sym}
+use Rattle.std.proofs.Common.{arith, ◌≡◌, ◌≢◌, ◌+◌, ◌∷◌, ◌∙◌, Bool, Result, Ok, true, false, ap, refl, subst, sym}
+use Rattle.std.proofs.lemmas.Result.{err_from_is_err_and}
 use Rattle.csv.specs.Records.{fields_of}
 use Rattle.csv_model.specs.Reading.{Record}
 use Rattle.unit_pass.specs.declared.no_memory.NoMemory.{NoMemory}
@@ -41,7 +42,7 @@ pub loop-made-preserved : goal.loop-made-preserved
 loop-made-preserved c =
     let found = ok c.in_ok-next.field-0 true c.if-not-branch.false in
     let next = c.in_ok-next.ensures in
-    let below : c.loop-made.made.rows < c.args.batch = search rules in
+    let below = c.loop-made-test.true in
     record {
       forms = c.push.ensures.forms ∙ c.loop-made.invariant.forms;
       mark = c.push.ensures.mark ∙ c.loop-made.invariant.mark;
@@ -56,14 +57,15 @@ loop-made-preserved c =
 pub returns-in_err-push-clause-fault : goal.returns-in_err-push-clause-fault
 returns-in_err-push-clause-fault c =
     let found = ok c.in_ok-next.field-0 true c.if-not-branch.false in
-    let below : c.loop-made.made.rows < c.args.batch = search rules in
+    let below = c.loop-made-test.true in
     let told : RefusesBatch c.in_err-push.field-0.0 (c.args.read + 1) c.args.batch c.args.records.now.records c.args.made.now = λ columns has.
     first-refused c.args.made.now.mark (c.args.read + 1) c.args.batch columns c.args.records.now c.loop-made.records c.loop-made.made
     (fields_of c.row.result.now)
     c.next.new.self.records (c.args.read + c.loop-made.made.rows + 1) c.in_err-push.field-0.0 (c.loop-made.invariant.so_far columns has) below (omega arith)
     (c.in_ok-next.ensures.more found ∙ ap (λ (f : Record). f ∷ c.next.new.self.records) (sym c.row.ensures))
     c.in_err-push.ensures.fault in
-    search (rules, told)
+    let p = err_from_is_err_and c.from_residual-in_err-push.result c.from_residual-in_err-push.ensures.1 in
+    rw (p.1, p.2) told
 
 pub next-requires : goal.next-requires
 next-requires c = grind (arith, common_steps)

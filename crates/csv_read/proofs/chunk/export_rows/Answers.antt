@@ -1,6 +1,6 @@
 use Rattle.std.proofs.lemmas.Grind.{common_steps}
-use Rattle.std.proofs.Common.{◌≡◌, ◌∙◌, ap, arith, length, sym, subst, All, w64, to_z, of_z}
-use Rattle.std.proofs.lemmas.Int.{ints}
+use Rattle.std.proofs.Common.{◌∙◌, ap, arith, length, sym, subst, All, w64}
+use Rattle.std.proofs.lemmas.Int.{to_z-of_z}
 use Rattle.std.proofs.lemmas.Slice.Zip.{AllZip-long}
 use Rattle.unit_pass.specs.Tally.{risen}
 use Rattle.arr_export.specs.ArrayTrees.{IsColumn, table_tree}
@@ -26,7 +26,7 @@ export_table-requires-clause-columns c =
     columns-are 0 c.args.builders.now held.0 held.1 c.in_ok-arrays.arrays.items (from-each c.args.builders.now held.0 held.1 held.2.held)
     c.in_ok-arrays.ensures.columns in
     let fits = held-fit 0 c.args.builders.now held.0 held.1 (from-each c.args.builders.now held.0 held.1 held.2.held) in
-    let same : to_z w64 (of_z w64 c.args.rows) ≡ c.args.rows = omega (arith, ints) in
+    let same = to_z-of_z w64 c.args.rows c.ranges.rows in
     let rows = same ∙ held.3 in
     subst (λ rows. All (IsColumn (natural rows)) c.in_ok-arrays.arrays.items) (sym rows)
     (subst (All (IsColumn (length held.1))) (sym arrays) (are-columns 0 held.0 held.1 fits))
@@ -36,7 +36,7 @@ returns-in-Ok-clause-chunk c columns values held count =
     let arrays =
     columns-are 0 c.args.builders.now columns values c.in_ok-arrays.arrays.items (from-each c.args.builders.now columns values held.held)
     c.in_ok-arrays.ensures.columns in
-    let same : to_z w64 (of_z w64 c.args.rows) ≡ c.args.rows = omega (arith, ints) in
+    let same = to_z-of_z w64 c.args.rows c.ranges.rows in
     let rows = same ∙ count in
     c.in-Ok.ensures.tree ∙ ap (λ rows. table_tree (natural rows) c.in_ok-arrays.arrays.items) rows ∙ ap (table_tree (length values)) arrays
 

@@ -1,10 +1,14 @@
 use Rattle.std.proofs.lemmas.Grind.{common_steps}
-use Rattle.std.proofs.Common.{◌≡◌, ◌∙◌, List, ℕ, None, Bor, refl, subst, sym, arith}
+use Rattle.std.proofs.Common.{◌≡◌, ◌∙◌, List, length, ℕ, Bool, true, None, Result, Ok, Bor, ap, refl, subst, sym, arith}
+use Rattle.std.specs.Prelude.{nat_le}
+use Rattle.data_types.specs.Table.{Column}
 use Rattle.data_types.specs.Kinds.{KindOk}
-use Rattle.csv_model.specs.Header.{names_fault}
+use Rattle.csv_model.specs.Header.{header_columns, most_columns, names_fault}
+use Rattle.csv_model.specs.Reading.{Record}
+use Rattle.unit_pass.specs.declared.no_memory.NoMemory.{NoMemory}
 use Rattle.csv_read.specs.Entries.{entries_of, texts}
 use Rattle.field_codec.specs.TextColumns.{AreAllowed, AreProper, IsAllowed, NamesDiffer}
-use Rattle.csv_read.proofs.HeaderColumns.{columns-differ, columns-have, no-twice}
+use Rattle.csv_read.proofs.HeaderColumns.{columns-differ, columns-have, header-found, no-twice}
 use Rattle.csv_read.proofs.header.header_columns.Goals as goal
 
 pub returns-clause-differ : goal.returns-clause-differ
@@ -33,3 +37,17 @@ returns-clause-some c = grind (arith, common_steps)
 
 pub returns-clause-few : goal.returns-clause-few
 returns-clause-few c = grind (arith, common_steps)
+
+ok : (a b : Bool) → a ≡ b → ◌≡◌ {A = Result Bool NoMemory} (Ok a) (Ok b)
+ok a b e = ap (λ (x : Bool). Ok x) e
+
+pub returns-clause-found : goal.returns-clause-found
+returns-clause-found c =
+    let entries = entries_of c.args.entries.now in
+    let first = c.in_ok-next.ensures.more (ok c.in_ok-next.field-0 true c.if-not-branch.false) in
+    let few = subst (λ (row : Record). nat_le (length row) most_columns ≡ true) c.row.ensures c.in_ok-check_count.ensures.few in
+    let checked = ap texts c.as_slice.ensures.value ∙ c.in_ok-names.ensures ∙ c.row-2.ensures in
+    let read = ap texts c.as_slice-2.ensures.value ∙ c.in_ok-names.ensures ∙ c.row-2.ensures in
+    header-found entries c.args.records.now.records c.next.new.self.records c.next.new.self.row first few
+    (ap (names_fault entries) (sym checked) ∙ c.in_ok-check_names.ensures.none)
+    ∙ ap (λ (columns : List Column). Ok columns) (ap (header_columns entries) (sym read) ∙ sym c.in_ok-columns.ensures)

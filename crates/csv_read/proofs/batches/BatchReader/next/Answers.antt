@@ -1,5 +1,5 @@
 use Rattle.std.proofs.lemmas.Grind.{common_steps}
-use Rattle.std.proofs.Common.{rules, ◌≡◌, ◌≤◌, ◌+◌, ◌∙◌, ℕ, List, [], ap, inl, inr, map, refl, subst, sym, arith}
+use Rattle.std.proofs.Common.{◌≡◌, ◌≤◌, ◌+◌, ◌∙◌, ℕ, List, [], ap, inl, inr, map, refl, subst, sym, arith}
 use Rattle.data_types.specs.ColumnView.{column_of}
 use Rattle.field_codec.specs.TextColumns.{AreAllowed, AreProper}
 use Rattle.col_build.specs.declared.builder.Builder.{Builder}
@@ -39,7 +39,7 @@ returns-then-self-eq0-clause-end c = λ _.
     let reads =
     subst (λ (m : List ℕ). HasBatch m (inside.read + 1) c.args.batch columns inside.records made c.read_rows.new.records) c.begin.ensures.mark
     (c.in-Ok-read_rows.ensures.rows columns begun) in
-    let view : s ≡ c.args.self.now = search rules in
+    let view : s ≡ c.args.self.now = c.self.view_is in
     subst (λ (o : BatchesLeft). o.records ≡ []) view
     (next-end s c.args.batch inside.records c.read_rows.new.records made c.requires.some refl reads c.if-self-eq0.true)
 
@@ -85,10 +85,10 @@ returns-else-self-eq0-clause-batch c = λ _.
     let reads =
     subst (λ (m : List ℕ). HasBatch m (inside.read + 1) c.args.batch columns inside.records made c.read_rows.new.records) c.begin.ensures.mark
     (c.in-Ok-read_rows.ensures.rows columns begun) in
-    let view : s ≡ c.args.self.now = search rules in
+    let view : s ≡ c.args.self.now = c.self.view_is in
     let to = c.read_rows.new.records in
     let kept = c.note.new.self.builders.items in
-    let some : 1 ≤ made.rows = search rules in
+    let some : 1 ≤ made.rows = omega (arith, c.if-self-eq0.false) in
     let mark : c.note.new.self.mark ≡ inside.body.mark = c.note.ensures.mark ∙ c.in-Ok-read_rows.ensures.mark ∙ c.begin.ensures.mark in
     let next : IsNextBatch c.args.batch kept s (after s made.rows to kept) =
     subst (λ (bs : List Builder). IsNextBatch c.args.batch bs s (after s made.rows to bs)) (sym c.note.ensures.builders)

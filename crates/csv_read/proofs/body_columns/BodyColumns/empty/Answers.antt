@@ -1,5 +1,5 @@
 use Rattle.std.proofs.lemmas.Grind.{common_steps}
-use Rattle.std.proofs.Common.{◌≡◌, ◌++◌, ◌∷◌, [], length, ap, rules, arith, length-append}
+use Rattle.std.proofs.Common.{◌∷◌, [], length, ap, arith, length-append}
 use Rattle.data_types.specs.Kinds.{KindOk}
 use Rattle.csv_read.specs.ColumnForms.{IsFormOf}
 use Rattle.field_codec.specs.TextColumns.{IsAllowed}
@@ -16,8 +16,8 @@ flat_kind-kind-requires-clause-allowed c =
 
 pub loop-column-preserved : goal.loop-column-preserved
 loop-column-preserved c =
-    let forms : c.push.new.self.items ≡ c.loop-column.forms.items ++ c.flat_form.result ∷ [] = search rules in
-    let used : c.push-in-loop-column.new.self.items ≡ c.loop-column.used.items ++ (11, 64) ∷ [] = search rules in
+    let forms = c.in_ok-push.ensures.items in
+    let used = c.in_ok-push-2.ensures.items in
     record {
       forms = rw forms
           (one-more IsFormOf c.loop-column.forms.items c.args.columns.now c.loop-column.column-index c.flat_form.result c.column-item.result
