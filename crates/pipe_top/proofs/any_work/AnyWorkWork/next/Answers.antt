@@ -1,13 +1,16 @@
 use Rattle.pipe_top.proofs.any_work.AnyWorkWork.next.Goals as goal
 
-pub returns-in-Filter-clause-columns : goal.returns-in-Filter-clause-columns
-returns-in-Filter-clause-columns g c = λ before. rw c.in-Filter.is (c.next-in-Filter.ensures.columns before)
+pub returns-in-Kernel : goal.returns-in-Kernel
+returns-in-Kernel g c = rw c.in-Kernel.is c.next.ensures
 
-pub returns-in-Totals-clause-columns : goal.returns-in-Totals-clause-columns
-returns-in-Totals-clause-columns g c = λ before. rw c.in-Totals.is (c.next-in-Totals.ensures.columns before)
+pub returns-in-Filter : goal.returns-in-Filter
+returns-in-Filter g c = rw c.in-Filter.is c.next-in-Filter.ensures
 
-pub returns-in-Dict-clause-columns : goal.returns-in-Dict-clause-columns
-returns-in-Dict-clause-columns g c = λ before. rw c.in-Dict.is (c.next-in-Dict.ensures.columns before)
+pub returns-in-Dict : goal.returns-in-Dict
+returns-in-Dict g c = rw c.in-Dict.is c.next-in-Dict.ensures
 
-pub returns-in-Plain-clause-columns : goal.returns-in-Plain-clause-columns
-returns-in-Plain-clause-columns g c = λ before. rw c.in-Plain.is (c.next-in-Plain.ensures.columns before)
+pub returns-in-Plain : goal.returns-in-Plain
+returns-in-Plain g c = rw c.in-Plain.is c.next-in-Plain.ensures
+
+pub returns-in-Totals : goal.returns-in-Totals
+returns-in-Totals g c = rw c.in-Totals.is c.next-in-Totals.ensures
