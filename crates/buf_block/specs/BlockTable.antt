@@ -2,16 +2,18 @@
 use Rattle.std.specs.Prelude.{◌≡◌, ℕ, zero, suc, ◌+◌, ◌<◌, ◌≤◌, ◌==◌, ◌&&◌, nat_lt, Bool, true, false, Some, List, [], ◌∷◌, ◌++◌, length, slice_index, slice_index_or, if◌then◌else◌, MatchBool}
 use mathlib.Core.Option.{some, none}
 use lib.ListN.{get_elem?}
+use denote.RawPtr.{Ptr}
 use Rattle.atomic_table.specs.Table.{State, Me, Step}
 use Rattle.atomic_table.specs.Seated.{TableId}
 use Rattle.buf_block.specs.declared.rule.Grip.{Grip}
 use Rattle.buf_block.specs.declared.rule.Stake.{Stake}
 use Rattle.buf_block.specs.Block.{holding, done, SlotState, IsBlock}
 
--- which block it is: its table, and which of the table's words and slots are the block's
+-- which block it is: its table, which of the table's words and slots are the block's, and where its bytes lie
 pub record BlockId : Type 0 where
   pub table : TableId
   pub place : ℕ
+  pub home : Ptr
 
 abbrev pub stake : ℕ → Grip → Bool → Stake
 stake place grip later = record { place = place; grip = grip; later = later }
