@@ -1,1 +1,2 @@
+pub mod pointed
 pub mod row

@@ -1,12 +1,13 @@
-//! Values side by side in one block, by the raw pointer to the first; and raw pointers as such values.
-ghost use Rattle.std.specs.Prelude.{◌≡◌, ◌≤◌, ◌<◌, ◌^◌, List, length, [], ◌∷◌, ◌++◌, MatchResult};
-ghost use Rattle.std.specs.Ptr.{as_mut_ptr};
+//! Values side by side in one block, by the raw pointer to the first; and raw pointers as such values, to the values of a vector.
+ghost use Rattle.std.specs.Prelude.{◌≡◌, ◌≤◌, ◌<◌, ◌^◌, List, length, [], ◌∷◌, ◌++◌, MatchResult, ℕ, slice_index_or, vec_len};
+ghost use Rattle.std.specs.Borrow.{sem};
+ghost use Rattle.std.specs.Ptr.{Ptr, ptr_add};
+ghost use Rattle.std.specs.Vec.{vec_follows_item, vec_ptr};
 ghost use Rattle.std.specs.Vec.Ownership.{vec_owns, vec_shares, FitsInBlock};
 
 use std::alloc::Allocator;
 use std::marker::{Model, Send, Sync};
 use std::mem::{align_of, size_of};
-use std::ptr;
 
 /// The raw pointer to the first of `len` values, in a block that has room for `room`; where `room` is 0 there is no block,
 /// and the pointer is not followed.
@@ -118,28 +119,64 @@ unsafe impl<T: Send, A: Allocator + Send> Send for Row<T, A> {}
 
 unsafe impl<T: Sync, A: Allocator + Sync> Sync for Row<T, A> {}
 
-/// The raw pointer to a value that stands elsewhere. It owns nothing.
+/// The raw pointer to one of the values of a vector. It owns nothing: `first` is where the vector's values begin, and
+/// `number` is this value's among them.
+#[derive(Drop)]
 pub(crate) struct Pointer<T> {
     at: *mut T,
+    pub ghost first: { Ptr },
+    pub ghost number: { ℕ },
+}
+
+impl<T> Model for Pointer<T> {
+    ghost use Rattle.std.specs.Prelude.{ℕ};
+    ghost use Rattle.std.specs.Ptr.{Ptr};
+    ghost use Rattle.raw_place.specs.Ways.{leads};
+
+    ghost also_owns = { λ p. leads T.row p.first p.number p.at };
+
+    ghost also_shares = { λ p _ κ. leads T.row p.first p.number p.at };
 }
 
 impl<T> Pointer<T> {
-    /// Where the value stands.
-    pub fn to(value: &mut T) -> Pointer<T>
-        ensures address { result.at ≡ as_mut_ptr value.entry }
-        ensures unchanged { value.new ≡ value.old }
+    /// The pointer to the value `i` of a vector whose values begin at `first`.
+    pub fn to<A: Allocator>(values: &Vec<T, A>, first: *mut T, i: usize) -> Pointer<T>
+        requires within { i < vec_len values.now }
+        requires begin { first ≡ vec_ptr values.now }
+        ensures { (result.first ≡ vec_ptr values.now) × (result.number ≡ i) }
     {
         Pointer {
-            at: ptr::from_mut(value),
+            at: unsafe { first.add(i) },
         }
     }
 
-    /// Lets the pointer go, and leaves the value.
-    pub fn forget(self) {
-        let Pointer { at: _ } = self;
+    /// Where the value stands.
+    pub fn at(&self) -> *mut T
+        ensures { result ≡ ptr_add T.row self.now.number self.now.first }
+    {
+        self.at
     }
 }
 
 unsafe impl<T: Send> Send for Pointer<T> {}
 
 unsafe impl<T: Sync> Sync for Pointer<T> {}
+
+/// The value `_i` of a vector, lent, by the pointer to it.
+pub(crate) fn seen<T, A: Allocator>(values: &Vec<T, A>, at: *mut T, _i: usize) -> &T
+    requires within { _i < vec_len values.now }
+    requires leads { at ≡ ptr_add T.row _i (vec_ptr values.now) }
+    ensures { result.now ≡ slice_index_or values.now.items _i result.now }
+{
+    unsafe { &*at }
+}
+
+/// The value `_i` of a vector, lent to be changed, by the pointer to it.
+pub(crate) fn lent<T, A: Allocator>(values: &mut Vec<T, A>, at: *mut T, _i: usize) -> &mut T
+    requires within { _i < vec_len values.old }
+    requires leads { at ≡ ptr_add T.row _i (vec_ptr values.old) }
+    ensures* writes_back { sem 𝓛 (vec_follows_item T.row A.row A.Allocator values.entry _i result) }
+    ensures value { result.now ≡ slice_index_or values.old.items _i result.now }
+{
+    unsafe { &mut *at }
+}
