@@ -1,5 +1,5 @@
 //! The schemas of columns.
-ghost use Rattle.std.specs.Prelude.{◌≡◌, ◌+◌, ◌-◌, ◌^◌, ◌<◌, ◌≤◌, length, map, if◌then◌else◌, is_ok, IfOk, OnOk};
+ghost use Rattle.std.specs.Prelude.{◌≡◌, ◌+◌, ◌-◌, ◌^◌, ◌<◌, ◌≤◌, length, map, if◌then◌else◌, is_ok, None, IfOk, OnOk};
 ghost use Rattle.unit_pass.specs.Tally.{risen};
 ghost use Rattle.unit_pass.specs.declared.pass.TheConstants.{CHUNK};
 ghost use Rattle.data_types.specs.ColumnView.{kind_of};
@@ -7,7 +7,6 @@ ghost use Rattle.data_types.specs.Kinds.{KindOk};
 ghost use Rattle.data_types.specs.Table.{Dict};
 ghost use Rattle.tree_model.specs.Tree.{Depth, depth_of_all, absent};
 ghost use Rattle.raw_schema.specs.Members.{Nodes, nodes_of_all};
-ghost use Rattle.raw_schema.specs.View.{bytes_of};
 ghost use Rattle.schema_check.specs.ColumnSchema.{KindsOk, column_schema, node, struct_format, values_schema};
 ghost use Rattle.arr_export.specs.CodeSchema.{ColumnsOk, code_schema, code_schemas};
 
@@ -16,28 +15,23 @@ use data_types::{ColKind, ColumnType, DataType};
 use fmt_string::write_format;
 use raw_schema::{RawSchema, SchemaParts, release_all};
 use std::alloc::Global;
-use unit_pass::{CHUNK, NoMemory, Pass};
+use unit_pass::{CHUNK, Name, NoMemory, Pass};
 
 /// The flag of columns that may have nulls.
 const NULLABLE: i64 = 2;
 
-/// Values of a type.
-fn values_schema(
-    alloc: Global,
-    name: Option<Vec<u8>>,
-    kind: &DataType,
-    pass: &mut Pass,
-) -> Result<RawSchema, NoMemory>
+/// Values of a type, without a name.
+fn values_schema(alloc: Global, kind: &DataType, pass: &mut Pass) -> Result<RawSchema, NoMemory>
     requires kind { KindOk kind.now }
     requires units { 1 ≤ pass.old.units }
-    ensures tree { IfOk result (λ tree. tree ≡ values_schema (bytes_of name) kind.now) }
+    ensures tree { IfOk result (λ tree. tree ≡ values_schema None kind.now) }
     ensures units { pass.new.units + (if is_ok result then 1 else 0) ≡ pass.old.units }
     ensures blocks { pass.new.blocks ≡ pass.old.blocks }
     ensures nodes { OnOk result (pass.new.nodes ≡ risen pass.old.nodes 1) }
 {
     let parts = SchemaParts {
         format: write_format(alloc, kind)?,
-        name,
+        name: None,
         metadata: None,
         flags: NULLABLE,
         children: Vec::new(alloc),
@@ -49,7 +43,7 @@ fn values_schema(
 /// Indices of 32 bits into a dictionary of values of a type.
 fn dictionary_schema(
     alloc: Global,
-    name: &[u8],
+    name: &Name,
     kind: &DataType,
     pass: &mut Pass,
 ) -> Result<RawSchema, NoMemory>
@@ -61,24 +55,24 @@ fn dictionary_schema(
     ensures nodes { OnOk result (pass.new.nodes ≡ risen pass.old.nodes 2) }
 {
     let format = Vec::from_slice(alloc, b"i")?;
-    let name = Vec::from_slice(alloc, name)?;
-    let values = values_schema(alloc, None, kind, pass)?;
+    let name = name.share(alloc)?;
+    let values = values_schema(alloc, kind, pass)?;
     let parts = SchemaParts {
         format,
-        name: Some(name),
+        name: None,
         metadata: None,
         flags: NULLABLE,
         children: Vec::new(alloc),
         dictionary: Some(values),
     };
-    built(alloc, parts, pass)
+    Ok(built(alloc, parts, pass)?.named(name))
 }
 
 /// The schema of a column.
 #[cycle(schema)]
 fn column_schema(
     alloc: Global,
-    name: &[u8],
+    name: &Name,
     kind: &ColKind,
     pass: &mut Pass,
 ) -> Result<RawSchema, NoMemory>
@@ -93,12 +87,12 @@ fn column_schema(
 {
     match kind {
         ColKind::Flat(kind) => {
-            let name = Vec::from_slice(alloc, name)?;
-            values_schema(alloc, Some(name), kind, pass)
+            let name = name.share(alloc)?;
+            Ok(values_schema(alloc, kind, pass)?.named(name))
         }
         ColKind::Dict(kind) => dictionary_schema(alloc, name, kind, pass),
         ColKind::Columns(columns) => {
-            let name = Vec::from_slice(alloc, name)?;
+            let name = name.share(alloc)?;
             struct_schema(alloc, name, NULLABLE, columns.as_slice(), pass)
         }
     }
@@ -108,7 +102,7 @@ fn column_schema(
 #[cycle(schema)]
 pub(crate) fn struct_schema(
     alloc: Global,
-    name: Vec<u8>,
+    name: Name,
     flags: i64,
     columns: &[ColumnType],
     pass: &mut Pass,
@@ -117,7 +111,7 @@ pub(crate) fn struct_schema(
     requires units { 1 + nodes_of_all (code_schemas columns.now) ≤ pass.old.units }
     requires small { 1 + nodes_of_all (code_schemas columns.now) ≤ CHUNK }
     requires not_deep { depth_of_all (code_schemas columns.now) ≤ 127 }
-    ensures tree { IfOk result (λ tree. tree ≡ node struct_format (Some name.items) flags (code_schemas columns.now) absent) }
+    ensures tree { IfOk result (λ tree. tree ≡ node struct_format (Some name) flags (code_schemas columns.now) absent) }
     ensures units { pass.new.units + (if is_ok result then 1 + nodes_of_all (code_schemas columns.now) else 0) ≡ pass.old.units }
     ensures blocks { pass.new.blocks ≡ pass.old.blocks }
     ensures nodes { OnOk result (pass.new.nodes ≡ risen pass.old.nodes (1 + nodes_of_all (code_schemas columns.now))) }
@@ -126,13 +120,13 @@ pub(crate) fn struct_schema(
     let children = column_schemas(alloc, columns, pass)?;
     let parts = SchemaParts {
         format,
-        name: Some(name),
+        name: None,
         metadata: None,
         flags,
         children,
         dictionary: None,
     };
-    built(alloc, parts, pass)
+    Ok(built(alloc, parts, pass)?.named(name))
 }
 
 /// The schemas of columns, one after the other.
@@ -155,7 +149,7 @@ fn column_schemas(
         return Err(NoMemory);
     };
     for column in columns {
-        match column_schema(alloc, column.name.as_slice(), &column.kind, pass) {
+        match column_schema(alloc, &column.name, &column.kind, pass) {
             Ok(child) => children.push_reserved(child),
             Err(NoMemory) => {
                 release_all(children, pass);

@@ -11,7 +11,7 @@ use crate::columns::struct_schema;
 use data_types::ColumnType;
 use raw_schema::RawSchema;
 use std::alloc::Global;
-use unit_pass::{CHUNK, NoMemory, Pass};
+use unit_pass::{CHUNK, Name, NoMemory, Pass};
 
 /// The schema of columns: a struct with a child for each column ("The Arrow C Data Interface", "The ArrowSchema
 /// structure"). It draws a unit and counts a node for each of its structures; on want of memory all units are back, and
@@ -31,6 +31,6 @@ pub fn export_schema(
     ensures nodes { OnOk result (pass.new.nodes ≡ risen pass.old.nodes (Nodes (SchemaOf (map column_of columns.now)))) }
     ensures blocks { pass.new.blocks ≡ pass.old.blocks }
 {
-    let name = Vec::new(alloc);
+    let name = Name::from_vec(Vec::new(alloc));
     struct_schema(alloc, name, 0, columns, pass)
 }

@@ -5,7 +5,7 @@ ghost use Rattle.data_types.specs.ColumnView.{column_of, kind_of};
 
 use crate::{ColKind, ColumnType, clone_kind, struct_of};
 use std::alloc::Global;
-use unit_pass::{Name, NoMemory};
+use unit_pass::NoMemory;
 
 /// The same columns once more. `NoMemory` comes for want of memory alone.
 #[cycle(copy)]
@@ -26,7 +26,7 @@ pub fn clone_column(alloc: Global, column: &ColumnType) -> Result<ColumnType, No
     requires { KindsOk (kind_of column.now.kind) }
     ensures { IfOk result (λ copy. column_of copy ≡ column_of column.now) }
 {
-    let name = Name::from_slice(alloc, column.name.as_slice())?;
+    let name = column.name.share(alloc)?;
     let kind = column_kind(alloc, &column.kind)?;
     Ok(ColumnType { name, kind })
 }

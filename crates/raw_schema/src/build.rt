@@ -3,13 +3,14 @@ ghost use Rattle.std.specs.Prelude.{◌≡◌, ◌+◌, ◌-◌, ◌^◌, ◌<�
 ghost use Rattle.tree_model.specs.Tree.{Depth};
 ghost use Rattle.raw_place.specs.Kept.{value_if, values_of};
 ghost use Rattle.raw_schema.specs.Parts.{tree_of_parts};
+ghost use Rattle.raw_schema.specs.View.{bytes_of};
 ghost use Rattle.unit_pass.specs.Tally.{risen};
 
 use crate::private_data::{Private, give_back_placed, placed_unit};
 use crate::schema::{Node, RawSchema, SchemaParts, State};
 use raw_place::{Kids, Place, put_if, take_if};
 use std::alloc::Global;
-use unit_pass::{NoMemory, Pass};
+use unit_pass::{Name, NoMemory, Pass};
 
 /// The parts of a node that stand in places of their own.
 struct Placed {
@@ -57,7 +58,7 @@ impl RawSchema {
                 pass.count_node();
                 let node = Node {
                     format,
-                    name,
+                    name: named(name),
                     metadata,
                     flags,
                     children,
@@ -80,6 +81,16 @@ impl RawSchema {
                 Err((parts, NoMemory))
             }
         }
+    }
+}
+
+/// A name of these bytes, or none.
+pub(crate) fn named(bytes: Option<Vec<u8>>) -> Option<Name>
+    ensures { result ≡ bytes_of bytes }
+{
+    match bytes {
+        None => None,
+        Some(bytes) => Some(Name::from_vec(bytes)),
     }
 }
 

@@ -1,11 +1,27 @@
 //! Parts that move into a structure and out of it.
 ghost use Rattle.std.specs.Prelude.{◌≡◌, ◌+◌, ◌<◌, ◌≤◌, length, IfOk, OnOk, OnErr};
 ghost use Rattle.tree_model.specs.Tree.{Released, IsLive, Depth, children_of, child_at, dictionary_at, with_child, without_dictionary};
-ghost use Rattle.raw_schema.specs.Members.{Nodes};
+ghost use Rattle.raw_schema.specs.Members.{Nodes, with_name};
+ghost use Rattle.raw_schema.specs.View.{tree_of_node};
 
-use crate::schema::{Gone, RawSchema, State};
+use crate::schema::{Gone, Node, RawSchema, State};
+use unit_pass::Name;
 
 impl RawSchema {
+    /// The same structure under this name. Takes no memory, and no unit changes hands.
+    pub fn named(self, name: Name) -> RawSchema
+        requires { IsLive self }
+        ensures { result ≡ with_name self name }
+    {
+        let RawSchema { state } = self;
+        match state {
+            State::Released => unreachable!(),
+            State::Live(node) => RawSchema {
+                state: State::Live(renamed(node, name)),
+            },
+        }
+    }
+
     /// Moves a structure into the place of a child that stands released ("Moving child arrays"); the given one is
     /// released then. Takes no memory, and no unit changes hands.
     #[tactic(auto, using(crate::proofs::Moved::moved))]
@@ -73,5 +89,29 @@ impl RawSchema {
                 }
             },
         }
+    }
+}
+
+/// The same node under another name.
+fn renamed(node: Node, name: Name) -> Node
+    ensures { tree_of_node result ≡ with_name (tree_of_node node) name }
+{
+    let Node {
+        format,
+        name: _,
+        metadata,
+        flags,
+        children,
+        dictionary,
+        private,
+    } = node;
+    Node {
+        format,
+        name: Some(name),
+        metadata,
+        flags,
+        children,
+        dictionary,
+        private,
     }
 }

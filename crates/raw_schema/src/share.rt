@@ -10,10 +10,10 @@ use crate::release::{end_all, release_all};
 use crate::schema::{Node, RawSchema, State};
 use raw_place::{Kids, Place};
 use std::alloc::Global;
-use unit_pass::{NoMemory, Pass, SUPPLY};
+use unit_pass::{Name, NoMemory, Pass, SUPPLY};
 
 impl RawSchema {
-    /// A second live tree with the same members, whose texts are copies. Each of its nodes draws a unit, and none is
+    /// A second live tree with the same members, whose texts but the names are copies. Each of its nodes draws a unit, and none is
     /// counted. On want of memory every unit that was drawn on the way is back.
     pub fn share(&self, alloc: Global, pass: &mut Pass) -> Result<RawSchema, NoMemory>
         requires live { IsLive self.now }
@@ -66,6 +66,15 @@ fn copied_text(text: &Option<Vec<u8>>) -> Result<Option<Vec<u8>>, NoMemory>
     }
 }
 
+fn copied_name(name: &Option<Name>, alloc: Global) -> Result<Option<Name>, NoMemory>
+    ensures { IfOk result (λ copy. copy ≡ name.now) }
+{
+    match name {
+        None => Ok(None),
+        Some(name) => Ok(Some(name.share(alloc)?)),
+    }
+}
+
 #[cycle(copied)]
 #[tactic(auto, using(tree_model::proofs::Measures::measures))]
 fn copied_node(node: &Node, alloc: Global, pass: &mut Pass) -> Result<Node, NoMemory>
@@ -76,7 +85,7 @@ fn copied_node(node: &Node, alloc: Global, pass: &mut Pass) -> Result<Node, NoMe
     ensures nodes { pass.new.nodes ≡ pass.old.nodes }
 {
     let format = copied_bytes(&node.format)?;
-    let name = copied_text(&node.name)?;
+    let name = copied_name(&node.name, alloc)?;
     let metadata = copied_text(&node.metadata)?;
     let private = placed_unit(alloc, pass)?;
     let children = match copied_all(&node.children, alloc, pass) {

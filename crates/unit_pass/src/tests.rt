@@ -35,8 +35,23 @@ fn name_gives_its_bytes_back(rt: HostRuntime) -> Result<(), Fail> {
             return Ok(());
         };
         assert_eq!(rt; name.as_slice(), bytes);
-        let moved = Name::from_vec(name.into_vec());
-        assert_eq!(rt; moved.as_slice(), bytes);
+        let Ok(shared) = name.share(rt.alloc()) else {
+            assert!(rt; false, "no memory");
+            return Ok(());
+        };
+        let Ok(again) = shared.share(rt.alloc()) else {
+            assert!(rt; false, "no memory");
+            return Ok(());
+        };
+        assert_eq!(rt; again.as_slice(), bytes);
+        for held in [name, shared, again] {
+            let Ok(given) = held.into_vec(rt.alloc()) else {
+                assert!(rt; false, "no memory");
+                return Ok(());
+            };
+            let moved = Name::from_vec(given);
+            assert_eq!(rt; moved.as_slice(), bytes);
+        }
     }
     Ok(())
 }

@@ -34,7 +34,7 @@ column_schema-returns-in_ok-name-in-Columns-clause-tree t c =
     ap (λ (k : ColKind). column_schema c.args.name.now (kind_of k)) c.in-Columns.is ∙ struct-schema c.args.name.now c.in-Columns.columns
     ∙ ap (λ (cs : List ColumnType). node struct_format (Some c.args.name.now) nullable (code_schemas cs) absent) (sym c.as_slice.ensures.value) in
     subst (λ (x : SchemaTree). IfOk c.struct_schema.result (λ tree. tree ≡ x))
-    (ap (λ (n : List ℕ). node struct_format (Some n) nullable (code_schemas c.as_slice.result.now) absent) c.in_ok-name-in-Columns.ensures.items ∙ sym is)
+    (ap (λ (n : List ℕ). node struct_format (Some n) nullable (code_schemas c.as_slice.result.now) absent) c.in_ok-name-in-Columns.ensures ∙ sym is)
     c.struct_schema.ensures.tree
 
 pub column_schema-returns-in_ok-name-in-Columns-clause-units : goal.column_schema-returns-in_ok-name-in-Columns-clause-units
@@ -70,8 +70,7 @@ column_schemas-column_schema-requires t c =
     let i = c.loop-column.column-index in
     let columns = c.args.columns.now in
     let within : i < length columns = omega arith in
-    let is : column_schema c.as_slice.result.now (kind_of item.kind) ≡ code_schema (get_or columns i item) =
-    ap (λ (n : List ℕ). column_schema n (kind_of item.kind)) c.as_slice.ensures ∙ ap code_schema c.column-item.is in
+    let is : column_schema item.name (kind_of item.kind) ≡ code_schema (get_or columns i item) = ap code_schema c.column-item.is in
     let nodes = ap Nodes is in
     let depth = ap Depth is in
     let made = ap (λ (ts : List SchemaTree). nodes_of_all (trees ts)) c.loop-column.invariant.children in
@@ -87,8 +86,7 @@ column_schemas-loop-column-preserved t c =
     let columns = c.args.columns.now in
     let child = c.in-Ok-column_schema.child in
     let within : i < length columns = omega arith in
-    let is : column_schema c.as_slice.result.now (kind_of item.kind) ≡ code_schema (get_or columns i item) =
-    ap (λ (n : List ℕ). column_schema n (kind_of item.kind)) c.as_slice.ensures ∙ ap code_schema c.column-item.is in
+    let is : column_schema item.name (kind_of item.kind) ≡ code_schema (get_or columns i item) = ap code_schema c.column-item.is in
     let tree = c.in-Ok-column_schema.ensures.tree in
     let cost = ap Nodes tree in
     let pushed : nodes_of_all (trees c.push_reserved.new.self.items) ≡ nodes_of_all (trees c.loop-column.children.items) + Nodes child =
@@ -135,9 +133,6 @@ column_schemas-loop-column-init t c = grind (arith, common_steps)
 
 pub column_schemas-bounds-columns-column-index : goal.column_schemas-bounds-columns-column-index
 column_schemas-bounds-columns-column-index t c = grind (arith, common_steps)
-
-pub column_schemas-as_slice-requires : goal.column_schemas-as_slice-requires
-column_schemas-as_slice-requires t c = grind (arith, common_steps)
 
 pub column_schemas-push_reserved-requires : goal.column_schemas-push_reserved-requires
 column_schemas-push_reserved-requires t c = grind (arith, common_steps)
