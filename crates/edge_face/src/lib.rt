@@ -1,7 +1,7 @@
 //! Sources and sinks of bytes, seen by what they have left, what they took and how often they failed.
 //!
 //! [`read_all`] and [`write_all`] carry whole texts over any [`Source`] and [`Sink`]: the bytes are exactly those that
-//! the source had left and that the sink took, and a failure is answered only where the count of failures rose. A [`Gate`] is
+//! the source had left and that the sink took, and a failure is answered exactly where the count of failures rose. A [`Gate`] is
 //! what lets a test hold a worker.
 //!
 //! Left to others: the sources and sinks that there are, and all of this under one name (`edge_io`).

@@ -2,8 +2,8 @@
 //!
 //! What a source and a sink are, and [`read_all`] and [`write_all`], which carry whole texts over any, stand in `edge_face`, whose
 //! names are here too. [`MemSource`] and [`MemSink`] fail where they are told to; [`CountSource`] gives many bytes and keeps none.
-//! [`StdSource`] and [`StdSink`] stand over the system's streams, and [`program_words`] gives the words of the command: what those
-//! give and take is told by no contract.
+//! [`StdSource`] and [`StdSink`] stand over a reader and a writer of the system, whose bytes they pass on; a call that a signal
+//! interrupts is made again. [`program_words`] gives the words of the command, of which no contract tells.
 #![tactic(auto)]
 
 mod arguments;

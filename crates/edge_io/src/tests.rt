@@ -165,17 +165,23 @@ fn texts_of_the_system_are_read_whole_or_failed(rt: HostRuntime) -> Result<(), F
     Ok(())
 }
 
-/// A writer that takes so many bytes in turn and is flushed, and fails where the count is missing or the flush is to fail.
+/// A writer that takes so many bytes in turn and is flushed, and fails where the count is missing or the flush is to fail. It
+/// keeps what it took.
 #[derive(Drop)]
 struct Takes {
     counts: [(Option<usize>, bool); 5],
     calls: usize,
+    kept: Vec<u8>,
 }
 
 impl Write for Takes {
     fn write(&mut self, buf: &[u8]) -> io::Result<usize> {
         match self.counts.get(self.calls) {
-            Some((Some(count), _)) => Ok((*count).min(buf.len())),
+            Some((Some(count), _)) => {
+                let count = (*count).min(buf.len());
+                self.kept.extend_from_slice(&buf[..count])?;
+                Ok(count)
+            }
             _ => Err(io::Error::from(ErrorKind::TimedOut)),
         }
     }
@@ -196,7 +202,7 @@ impl Write for Takes {
 
 #[test]
 fn a_write_that_takes_nothing_or_is_not_flushed_fails(rt: HostRuntime) -> Result<(), Fail> {
-    let mut sink = StdSink::new(Takes {
+    let mut takes = Takes {
         counts: [
             (Some(3), true),
             (Some(0), true),
@@ -205,22 +211,26 @@ fn a_write_that_takes_nothing_or_is_not_flushed_fails(rt: HostRuntime) -> Result
             (Some(2), true),
         ],
         calls: 0,
-    });
-    for expected in [
-        Took::Bytes(3),
-        Took::Failed,
-        Took::Failed,
-        Took::Failed,
-        Took::Bytes(2),
+        kept: Vec::new(rt.alloc()),
+    };
+    let mut sink = StdSink::new(&mut takes);
+    for (piece, expected) in [
+        (b"abcd", Took::Bytes(3)),
+        (b"efgh", Took::Failed),
+        (b"ijkl", Took::Failed),
+        (b"mnop", Took::Failed),
+        (b"qrst", Took::Bytes(2)),
     ] {
-        assert_eq!(rt; sink.write(b"abcd"), expected);
+        assert_eq!(rt; sink.write(piece), expected);
     }
+    // A piece whose flush failed may have been taken.
+    assert_eq!(rt; takes.kept.as_slice(), b"abcmnoqr".as_slice());
     Ok(())
 }
 
 #[test]
 fn a_text_to_the_system_tells_what_was_taken(rt: HostRuntime) -> Result<(), Fail> {
-    let cases: [([(Option<usize>, bool); 5], Option<u64>); 3] = [
+    let cases: [([(Option<usize>, bool); 5], Option<u64>, &[u8]); 3] = [
         (
             [
                 (Some(3), true),
@@ -230,6 +240,7 @@ fn a_text_to_the_system_tells_what_was_taken(rt: HostRuntime) -> Result<(), Fail
                 (None, true),
             ],
             None,
+            b"abcdef",
         ),
         (
             [
@@ -240,6 +251,7 @@ fn a_text_to_the_system_tells_what_was_taken(rt: HostRuntime) -> Result<(), Fail
                 (None, true),
             ],
             Some(4),
+            b"abcdef",
         ),
         (
             [
@@ -250,15 +262,84 @@ fn a_text_to_the_system_tells_what_was_taken(rt: HostRuntime) -> Result<(), Fail
                 (None, true),
             ],
             Some(0),
+            b"",
         ),
     ];
-    for (counts, taken) in cases {
-        let mut sink = StdSink::new(Takes { counts, calls: 0 });
-        match write_all(&mut sink, b"abcdef") {
+    for (counts, taken, kept) in cases {
+        let mut takes = Takes {
+            counts,
+            calls: 0,
+            kept: Vec::new(rt.alloc()),
+        };
+        match write_all(&mut StdSink::new(&mut takes), b"abcdef") {
             Ok(()) => assert_eq!(rt; taken, None),
             Err(WriteFault::Failed { taken: count }) => assert_eq!(rt; taken, Some(count)),
         }
+        assert_eq!(rt; takes.kept.as_slice(), kept);
     }
+    Ok(())
+}
+
+/// A reader and a writer of one byte a call. A signal interrupts every other call.
+#[derive(Drop)]
+struct Interrupted {
+    calls: u64,
+    left: u64,
+    kept: Vec<u8>,
+}
+
+impl Interrupted {
+    fn call(&mut self) -> io::Result<()> {
+        self.calls = self.calls.saturating_add(1);
+        if self.calls % 2 == 1 {
+            return Err(io::Error::from(ErrorKind::Interrupted));
+        }
+        Ok(())
+    }
+}
+
+impl Read for Interrupted {
+    fn read(&mut self, buf: &mut [u8]) -> io::Result<usize> {
+        self.call()?;
+        if self.left == 0 || buf.is_empty() {
+            return Ok(0);
+        }
+        self.left -= 1;
+        buf[0] = b'x';
+        Ok(1)
+    }
+}
+
+impl Write for Interrupted {
+    fn write(&mut self, buf: &[u8]) -> io::Result<usize> {
+        self.call()?;
+        let count = buf.len().min(1);
+        self.kept.extend_from_slice(&buf[..count])?;
+        Ok(count)
+    }
+
+    fn flush(&mut self) -> io::Result<()> {
+        self.call()
+    }
+}
+
+#[test]
+fn interrupted_calls_of_the_system_are_made_again(rt: HostRuntime) -> Result<(), Fail> {
+    let alloc = rt.alloc();
+    let mut inner = Interrupted {
+        calls: 0,
+        left: 3,
+        kept: Vec::new(alloc),
+    };
+    let text = read_all(alloc, &mut StdSource::new(&mut inner), 100);
+    assert_eq!(rt; text.ok().ok_or("failed")?.as_slice(), b"xxx".as_slice());
+    // Three bytes and the end, each at the second call.
+    assert_eq!(rt; inner.calls, 8);
+    let written = write_all(&mut StdSink::new(&mut inner), b"abc");
+    assert_eq!(rt; written, Ok(()));
+    assert_eq!(rt; inner.kept.as_slice(), b"abc".as_slice());
+    // Three bytes, each written and flushed at the second call.
+    assert_eq!(rt; inner.calls, 20);
     Ok(())
 }
 
