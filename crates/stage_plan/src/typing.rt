@@ -1,5 +1,5 @@
 //! The typing of stages over columns.
-ghost use Rattle.std.specs.Prelude.{◌≡◌, ◌≢◌, ◌<◌, ◌-◌, ◌^◌, ◌||◌, ℕ, List, All, IfOk, IfErr, IfSome, IfNone, Ok, Err, [], get_or, length, map, option_map};
+ghost use Rattle.std.specs.Prelude.{◌≡◌, ◌≢◌, ◌<◌, ◌+◌, ◌-◌, ◌^◌, ◌||◌, ℕ, List, All, IfOk, IfErr, IfSome, IfNone, Ok, Err, [], get_or, length, map, option_map};
 ghost use Rattle.std.specs.Prelude.{true, false};
 ghost use Rattle.std.specs.List.{list_all, list_any};
 ghost use Rattle.data_types.specs.ColumnForms.{KindsOk};
@@ -40,6 +40,9 @@ pub fn type_plan(
     requires few { length stages.now < 2 ^ 32 - 1 }
     // The links and the steps are those that the stages have.
     ensures found { IfOk result (IsPlan (columns_in columns.items) stages.now) }
+    // A step for each stage, and a link before and behind each.
+    ensures steps { IfOk result (λ plan. length plan.steps.items ≡ length stages.now) }
+    ensures links { IfOk result (λ plan. length plan.links.items ≡ length stages.now + 1) }
     // Which fault it is.
     ensures fault { IfErr result (λ f. f ≢ faults.NoMemory → PlanFaultIs (columns_in columns.items) stages.now f) }
 {

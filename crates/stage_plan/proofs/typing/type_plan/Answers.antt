@@ -1,4 +1,4 @@
-use Rattle.std.proofs.Common.{◌<◌, ◌≡◌, ◌≢◌, ◌∙◌, ◌+◌, [], ◌∷◌, ℕ, List, Vec, Global, length, map, ap, sym, arith, Ok, Err}
+use Rattle.std.proofs.Common.{◌<◌, ◌≡◌, ◌≢◌, ◌∙◌, ◌+◌, ◌++◌, [], ◌∷◌, ℕ, List, Vec, Global, length, length-append, map, ap, sym, arith, Ok, Err}
 use Rattle.std.proofs.lemmas.List.{map-append}
 use Rattle.std.proofs.lemmas.Result.{err_from_is_err_and}
 use Rattle.std.specs.List.{list_any}
@@ -36,6 +36,9 @@ returns-in_err-stage-clause-fault c =
     rw (p.1, p.2) told
 
 -- ---- one stage more, and all stages
+one-more : {X : Type 0} (xs : List X) (x : X) (more : List X) (n : ℕ) → more ≡ xs ++ x ∷ [] → length xs ≡ n → length more ≡ n + 1
+one-more xs x more n is count = ap length is ∙ length-append xs (x ∷ []) ∙ ap (λ k. k + 1) count
+
 pub loop-place-preserved : goal.loop-place-preserved
 loop-place-preserved c =
     let columns = columns_in c.args.columns.items in
@@ -48,6 +51,10 @@ loop-place-preserved c =
     ∙ ap (λ (cs : List ColumnType). stage_over (columns_in cs) item) (sym c.as_slice.ensures.value) ∙ found in
     let within : c.loop-place.place < length c.args.stages.now = omega arith in
     record {
+      steps = one-more c.loop-place.steps.items c.in_ok-stage.stage.step c.push-in-loop-place.new.self.items c.loop-place.place c.in_ok-push-2.ensures.items
+          c.loop-place.invariant.steps;
+      links = one-more c.loop-place.links.items c.loop-place.columns c.push.new.self.items c.loop-place.place c.in_ok-push.ensures.items
+          c.loop-place.invariant.links;
       planned = stage-more columns c.args.stages.now c.loop-place.place now (map link_columns c.loop-place.links.items) c.loop-place.steps.items
           c.loop-place.invariant.planned item within s
           (map link_columns c.push.new.self.items) c.push-in-loop-place.new.self.items over
@@ -90,3 +97,14 @@ returns-clause-found c =
           ∙ far.links_are;
       steps = far.steps_are;
     }
+
+pub returns-clause-steps : goal.returns-clause-steps
+returns-clause-steps c =
+    let end : c.loop-place.place ≡ length c.args.stages.now = omega arith in
+    c.loop-place.invariant.steps ∙ end
+
+pub returns-clause-links : goal.returns-clause-links
+returns-clause-links c =
+    let end : c.loop-place.place ≡ length c.args.stages.now = omega arith in
+    one-more c.loop-place.links.items c.loop-place.columns _ (length c.args.stages.now) c.in_ok-push-3.ensures.items
+    (c.loop-place.invariant.links ∙ end)
