@@ -1,6 +1,5 @@
--- What a call for the next chunk answers, counts and shows.
-use Rattle.std.proofs.Common.{◌≡◌, ◌<◌, ◌+◌, ◌^◌, ◌∙◌, ◌⊎◌, ℕ, ℤ, List, [], ◌∷◌, map, Option, None, Some, refl, sym, ap, subst, arith, inl, inr}
-use Rattle.std.proofs.Common.{append-nil}
+-- What a call for the next chunk counts.
+use Rattle.std.proofs.Common.{◌≡◌, ◌<◌, ◌+◌, ◌^◌, ◌∙◌, ℕ, List, [], ◌∷◌, map, None, refl, sym, ap, subst}
 use Rattle.std.proofs.lemmas.List.Sums.{sum_by-cons}
 use Rattle.std.specs.List.{sum_by}
 use Rattle.csv_model.specs.Batches.{Chunks}
@@ -10,21 +9,12 @@ use Rattle.data_types.specs.Table.{Column, Row}
 use Rattle.data_types.specs.declared.kind.ColumnType.{ColumnType}
 use Rattle.raw_array.specs.Members.{ArrayTree}
 use Rattle.stage_model.specs.Traffic.{made_blocks, made_nodes}
-use Rattle.stream_face.specs.Calls.{Counts, Shows}
-use Rattle.stream_face.specs.Shown.{Seen, grown}
-use Rattle.tree_model.specs.Tree.{IsLive, Live, Released}
-use Rattle.unit_pass.specs.Tally.{Tally, risen}
+use Rattle.stream_face.specs.Calls.{Counts}
+use Rattle.stream_face.proofs.Producers.{counts-nothing, not-released}
+use Rattle.tree_model.specs.Tree.{IsLive}
+use Rattle.unit_pass.specs.Tally.{Tally}
 use Rattle.csv_source.specs.NextChunks.{IsNextChunk, no_batches}
-use Rattle.csv_source.specs.Sources.{chunks_traffic, no_joints}
-
-pub not-released : (out : ArrayTree) → IsLive out → out ≡ Released → ⊥
-not-released out live is = subst IsLive is live
-
-pub live-or-released : (out : ArrayTree) → IsLive out ⊎ (out ≡ Released)
-live-or-released Released = inr refl
-live-or-released (Live members children dictionary) = inl tt
-
--- ---- what is counted
+use Rattle.csv_source.specs.Sources.{chunks_traffic}
 
 same-columns : (old new : List ColumnType) → new ≡ old → map column_of old ≡ map column_of new
 same-columns old new same = ap (map column_of) (sym same)
@@ -50,24 +40,12 @@ chunk-counts batch chunk out old new before after next is same =
       no_nodes = λ e. absurd (not-released out (subst IsLive (sym is) next.live) e);
     }
 
-no-more : (n : ℕ) → n < 2 ^ 64 → n ≡ risen n 0
-no-more n small = omega (arith, small)
-
 pub end-counts : (columns : List Column) (batches : Chunks) (t : Tally) (out : ArrayTree) → batches ≡ no_batches None → t.blocks < 2 ^ 64 → t.nodes < 2 ^ 64
     → Counts (chunks_traffic columns batches.chunks) (chunks_traffic columns batches.chunks) t t out
 end-counts columns batches t out none blocks nodes =
     let empty : batches.chunks ≡ [] = ap (λ (b : Chunks). b.chunks) none in
-    let no_blocks : sum_by (made_blocks None columns) batches.chunks ≡ 0 = ap (sum_by (made_blocks None columns)) empty in
-    let no_nodes : sum_by (λ rows. made_nodes None columns) batches.chunks ≡ 0 = ap (sum_by (λ (rows : List Row). made_nodes None columns)) empty in
-    record {
-      made = record { blocks = 0; nodes = 0 };
-      blocks = no-more t.blocks blocks;
-      nodes = no-more t.nodes nodes;
-      fewer_blocks = omega arith;
-      fewer_nodes = omega arith;
-      no_blocks = λ _. no_blocks;
-      no_nodes = λ _. no_nodes;
-    }
+    counts-nothing (chunks_traffic columns batches.chunks) t t out refl refl blocks nodes (λ _. ap (sum_by (made_blocks None columns)) empty)
+    (λ _. ap (sum_by (λ (rows : List Row). made_nodes None columns)) empty)
 
 -- the same where the batches that are left stay
 pub same-counts : (batch : ℕ) (old new : BatchesLeft) (before after : Tally) (out : ArrayTree) → batches_left batch old ≡ no_batches None
@@ -80,18 +58,3 @@ same-counts batch old new before after out none stays columns same blocks nodes 
     (subst (λ (b : Chunks). Counts due (chunks_traffic (columns_in new) b.chunks) before before out) (sym stays)
     (subst (λ (cs : List ColumnType). Counts due (chunks_traffic (map column_of cs) (batches_left batch old).chunks) before before out) (sym columns)
     (end-counts (columns_in old) (batches_left batch old) before out none blocks nodes)))
-
--- ---- what is shown
-
-grown-none : (before : Option (List Seen)) → before ≡ grown before []
-grown-none None = refl
-grown-none (Some seen) = ap (λ (xs : List Seen). Some xs) (sym (append-nil seen))
-
-pub shows-nothing : (code : ℤ) (out : ArrayTree) (before : Option (List Seen)) → Shows no_joints no_joints code out before before
-shows-nothing code out before = record {
-  shown = [];
-  told = grown-none before;
-  begins = λ link. ([], refl);
-  leaves = λ _ link. refl;
-  ends = λ _ _ link. refl;
-}

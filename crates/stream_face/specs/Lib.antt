@@ -8,5 +8,4 @@ pub mod Faults
 pub mod Raw
 pub mod Failures
 pub mod Meaning
-pub mod Strangers
 pub mod FaultTexts

@@ -1,5 +1,5 @@
 //! What is told of the chunks of a run.
-ghost use Rattle.std.specs.Prelude.{◌≡◌, List, Option, [], ◌∷◌, OnErr, OnOk};
+ghost use Rattle.std.specs.Prelude.{◌≡◌, List, Option, [], ◌∷◌, IsOk, OnErr, OnOk};
 ghost use Rattle.schema_check.specs.Schemas.{TypedOf};
 ghost use Rattle.kind_tree.specs.TypedView.{typed_of};
 ghost use Rattle.layout_rules.specs.Walk.{ChunkOk};
@@ -32,7 +32,7 @@ pub trait Tap {
         ensures unseen { OnErr result (seen self.new ≡ seen self.old) };
 }
 
-/// A tap that keeps nothing and tells nothing.
+/// A tap that keeps nothing and tells nothing, and never wants memory.
 #[derive(Drop)]
 pub struct NoTap;
 
@@ -48,7 +48,9 @@ impl Tap for NoTap {
         _schema: &RawSchema,
         _typed: &Typed,
         _chunk: &RawArray,
-    ) -> Result<(), NoMemory> {
+    ) -> Result<(), NoMemory>
+        ensures taken { IsOk result }
+    {
         Ok(())
     }
 }

@@ -4,8 +4,9 @@ use Rattle.std.proofs.lemmas.Int.{ints}
 use Rattle.csv_model.specs.Batches.{Chunks}
 use Rattle.csv_read.specs.BatchesLeft.{batches_left}
 use Rattle.csv_source.specs.NextChunks.{IsNextChunk, no_batches}
-use Rattle.csv_source.proofs.Replies.{given-answers, no-refusal, none-left, refused-answers}
-use Rattle.csv_source.proofs.Streams.{chunk-counts, live-or-released, same-counts, shows-nothing}
+use Rattle.csv_source.proofs.Replies.{no-refusal, none-left, refused-answers}
+use Rattle.csv_source.proofs.Streams.{chunk-counts, same-counts}
+use Rattle.stream_face.proofs.Producers.{given-answers, live-or-released, shows-nothing}
 use Rattle.csv_source.proofs.source.CsvSourceArrayStream.get_next.Goals as goal
 
 pub returns-in-Ok : goal.returns-in-Ok
@@ -50,7 +51,7 @@ returns-in-Ok g c =
       failure = grind (arith, common_steps);
       faulted = grind (arith, common_steps);
       repeats = grind (arith, common_steps);
-      shows = λ _. shows-nothing _ _ _;
+      shows = λ _. shows-nothing _ _ _ _ (λ _ _ _. refl);
     }
 
 pub returns-in-Err : goal.returns-in-Err
@@ -76,7 +77,7 @@ returns-in-Err g c =
       faulted = grind (arith, common_steps);
       repeats = grind (arith, common_steps);
       counts = grind (arith, common_steps);
-      shows = λ _. shows-nothing _ _ _;
+      shows = λ _. shows-nothing _ _ _ _ (λ _ _ _. refl);
     }
 
 pub invariant_of-self : goal.invariant_of-self
@@ -96,7 +97,7 @@ returns-in-Some g c =
       repeats = grind (arith, common_steps);
       answers = grind (arith, common_steps);
       counts = grind (arith, common_steps);
-      shows = λ _. shows-nothing _ _ _;
+      shows = λ _. shows-nothing _ _ _ _ (λ _ _ _. refl);
     }
 
 pub invariant_of-self-in-Ok : goal.invariant_of-self-in-Ok
