@@ -1,13 +1,12 @@
 -- A column of a chunk, as a window over its items and as the values of the chunk's rows.
-use Rattle.std.proofs.Common.{◌≡◌, ◌∙◌, ◌+◌, ℕ, zero, suc, List, ◌∷◌, length, map, get_or, refl, sym, ap, subst, arith}
+use Rattle.std.proofs.Common.{◌≡◌, ◌∙◌, ◌+◌, ℕ, zero, suc, Bool, true, false, List, ◌∷◌, length, map, get_or, refl, sym, ap, subst, arith}
 use Rattle.std.proofs.lemmas.List.{length-map}
 use Rattle.data_types.specs.Parts.{column_values}
-use Rattle.data_types.specs.Table.{Column, Row, Kind, Flat, Dict, Columns}
+use Rattle.data_types.specs.Table.{Row}
 use Rattle.data_types.specs.Value.{Value, Null}
 use Rattle.data_types.specs.declared.kind.DataType.{DataType}
-use Rattle.tree_model.specs.Tree.{Released, Live, children_of}
+use Rattle.tree_model.specs.Tree.{Released, Live}
 use Rattle.raw_array.specs.Members.{ArrayTree, members_of}
-use Rattle.kind_tree.specs.ColumnKinds.{type_of_columns}
 use Rattle.kind_tree.specs.Kinds.{KindTree}
 use Rattle.layout_rules.specs.Layout.{natural}
 use Rattle.layout_rules.specs.Values.{each, row_items, rows_of, tree_items, value_at}
@@ -16,7 +15,7 @@ use Rattle.arr_import.specs.Window.{Window, child_window, item_at, items_of, who
 use Rattle.stream_face.specs.Lawful.{AreValues}
 use Rattle.column_fill.proofs.Counts.{length-each}
 use Rattle.dict_stage.specs.Indices.{recoded_tree}
-use Rattle.dict_stage.specs.Recoded.{CanRecode, HoldsTexts, TextsOf}
+use Rattle.dict_stage.specs.Recoded.{TextsOf, text_kind}
 use Rattle.dict_stage.specs.Texts.{HasTexts}
 use Rattle.dict_stage.proofs.Codes.{count-of}
 use Rattle.dict_stage.proofs.Recoded.{length-indices}
@@ -57,7 +56,7 @@ own-values typed chunk place w own is window same =
     (λ i. let e : 0 + i ≡ i = omega arith in sym (there i) ∙ ap (λ k. get_or (row_items typed chunk k) place Null) e)
     ∙ sym (map-each (λ (row : Row). get_or row place Null) (row_items typed chunk) 0 n)
 
-texts-in : (type : DataType) (own : Window) (vs : List Value) → items_of own ≡ vs → TextsOf type vs → HasTexts type own
+pub texts-in : (type : DataType) (own : Window) (vs : List Value) → items_of own ≡ vs → TextsOf type vs → HasTexts type own
 texts-in type own vs is texts = record {
   is = texts.is;
   bytes = texts.bytes;
@@ -65,24 +64,18 @@ texts-in type own vs is texts = record {
   few = let e = ap (length {A = Value}) is in omega (arith, e, count-of own, texts.few);
 }
 
-pub can-recode : (kind : Kind) (own : Window) (vs : List Value) → items_of own ≡ vs → HoldsTexts kind vs → CanRecode kind own
-can-recode (Flat type) own vs is texts = texts-in type own vs is texts
-can-recode (Dict type) own vs is texts = texts-in type own vs is texts
-can-recode (Columns _) own vs is texts = absurd texts
-
 items-are : (chunk : ArrayTree) → tree_items chunk ≡ natural (members_of chunk).length
 items-are Released = refl
 items-are (Live m ts d) = refl
 
-column-of : (kind : Kind) (vs : List Value) (n : ℕ) → HoldsTexts kind vs → n ≡ length vs → IsColumn n (recoded_tree kind vs)
-column-of (Flat type) vs n texts is = record { live = tt; not_deep = omega arith; long = omega (arith, is) }
-column-of (Dict type) vs n texts is = record { live = tt; not_deep = omega arith; long = omega (arith, is, length-indices vs) }
-column-of (Columns _) vs n texts is = absurd texts
+column-of : (dict : Bool) (type : DataType) (vs : List Value) (n : ℕ) → n ≡ length vs → IsColumn n (recoded_tree (text_kind dict type) vs)
+column-of false type vs n is = record { live = tt; not_deep = omega arith; long = omega (arith, is) }
+column-of true type vs n is = record { live = tt; not_deep = omega arith; long = omega (arith, is, length-indices vs) }
 
 -- the new column may stand in the chunk's table
-pub column-fits : (kind : Kind) (typed : KindTree) (chunk column : ArrayTree) (place : ℕ) → HoldsTexts kind (column_values place (rows_of typed chunk))
-    → column ≡ recoded_tree kind (column_values place (rows_of typed chunk)) → IsColumn (natural (members_of chunk).length) column
-column-fits kind typed chunk column place texts is =
+pub column-fits : (dict : Bool) (type : DataType) (typed : KindTree) (chunk column : ArrayTree) (place : ℕ)
+    → column ≡ recoded_tree (text_kind dict type) (column_values place (rows_of typed chunk)) → IsColumn (natural (members_of chunk).length) column
+column-fits dict type typed chunk column place is =
     subst (IsColumn (natural (members_of chunk).length)) (sym is)
-    (column-of kind (column_values place (rows_of typed chunk)) (natural (members_of chunk).length) texts
+    (column-of dict type (column_values place (rows_of typed chunk)) (natural (members_of chunk).length)
     (sym (items-are chunk) ∙ sym (row-count typed chunk place)))

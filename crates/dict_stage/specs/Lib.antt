@@ -1,4 +1,3 @@
 pub mod Indices
 pub mod Texts
 pub mod Recoded
-pub mod Fits

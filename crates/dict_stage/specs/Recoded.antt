@@ -1,9 +1,12 @@
 -- A column that is made anew, and the chunk with it in the place of another.
-use Rattle.std.specs.Prelude.{◌≡◌, ℕ, ◌+◌, ◌^◌, ◌<◌, ◌≤◌, Bool, true, false, not, List, length}
+use Rattle.std.specs.Prelude.{◌≡◌, ℕ, ◌+◌, ◌^◌, ◌<◌, ◌≤◌, Bool, true, false, not, List, length, map}
 use Rattle.data_types.specs.ColumnForms.{IsColumnKind}
+use Rattle.data_types.specs.ColumnView.{column_of}
 use Rattle.data_types.specs.Parts.{column_values, replaced}
 use Rattle.data_types.specs.Table.{Column, Kind, Flat, Dict, Columns}
+use Rattle.data_types.specs.declared.kind.ColumnType.{ColumnType}
 use Rattle.data_types.specs.declared.kind.DataType.{DataType}
+use Rattle.data_types.specs.declared.kind.DataType.TheVariants as kinds
 use Rattle.data_types.specs.Value.{Value}
 use Rattle.unit_pass.specs.Tally.{Tally, risen}
 use Rattle.raw_array.specs.Members.{ArrayTree, Cost}
@@ -11,19 +14,13 @@ use Rattle.kind_tree.specs.ColumnKinds.{type_of_columns}
 use Rattle.kind_tree.specs.Kinds.{KindTree}
 use Rattle.layout_rules.specs.Values.{rows_of}
 use Rattle.layout_rules.specs.Walk.{ChunkOk}
-use Rattle.arr_import.specs.Window.{Window}
 use Rattle.plan_laws.specs.Structs.{column_structs, most_structs}
 use Rattle.stage_model.specs.Traffic.{Made, kind_blocks, kind_nodes}
-use Rattle.stage_model.specs.Typing.{column, column_at}
+use Rattle.stage_model.specs.Typing.{column, column_at, is_bytes}
+use Rattle.stage_model.specs.declared.stage.Step.{Step}
+use Rattle.stage_model.specs.declared.stage.Step.TheVariants as steps
 use Rattle.stream_face.specs.Lawful.{AreValues, HasBytes}
 use Rattle.dict_stage.specs.Indices.{recoded_tree}
-use Rattle.dict_stage.specs.Texts.{HasTexts}
-
--- a column of texts or bytes
-abbrev pub CanRecode : Kind → Window → Type 0
-CanRecode (Flat type) w = HasTexts type w
-CanRecode (Dict type) w = HasTexts type w
-CanRecode (Columns _) w = ⊥
 
 -- the array of these values was made, of its units, blocks and nodes
 pub record IsRecoded (kind : Kind) (values : List Value) (tree : ArrayTree) (before after : Tally) : Type 0 where
@@ -46,18 +43,13 @@ pub record TextsOf (type : DataType) (values : List Value) : Type 0 where
   pub are : AreValues type values
   pub few : length values ≤ 2 ^ 30
 
-abbrev pub HoldsTexts : Kind → List Value → Type 0
-HoldsTexts (Flat type) values = TextsOf type values
-HoldsTexts (Dict type) values = TextsOf type values
-HoldsTexts (Columns _) values = ⊥
-
 -- a chunk whose column of this place has texts or bytes
-pub record CanRecodeChunk (kind : Kind) (place : ℕ) (typed : KindTree) (chunk : ArrayTree) : Type 0 where
+pub record CanRecodeChunk (type : DataType) (place : ℕ) (typed : KindTree) (chunk : ArrayTree) : Type 0 where
   pub columns : List Column
   pub typed_is : typed ≡ type_of_columns columns
   pub ok : ChunkOk (type_of_columns columns) chunk
   pub inside : place < length columns
-  pub texts : HoldsTexts kind (column_values place (rows_of typed chunk))
+  pub texts : TextsOf type (column_values place (rows_of typed chunk))
 
 -- ---- columns
 
@@ -65,6 +57,17 @@ pub record CanRecodeChunk (kind : Kind) (place : ℕ) (typed : KindTree) (chunk 
 abbrev pub text_kind : Bool → DataType → Kind
 text_kind true type = Dict type
 text_kind false type = Flat type
+
+-- the type of a column that is no struct
+abbrev pub type_in : Kind → DataType
+type_in (Flat type) = type
+type_in (Dict type) = type
+type_in (Columns _) = kinds.Null
+
+-- the step of the plan
+abbrev pub recode_step : Bool → ℕ → Step
+recode_step true column = steps.Dict column
+recode_step false column = steps.Plain column
 
 -- the columns with one of them made anew
 abbrev pub recoded_columns : Bool → ℕ → DataType → List Column → List Column
@@ -75,4 +78,14 @@ pub record Recodes (dict : Bool) (place : ℕ) (type : DataType) (before : List 
   pub within : place < length before
   pub is_old : (column_at before place).kind ≡ text_kind (not dict) type
   pub bytes : HasBytes type
+  pub few_structs : column_structs before ≤ most_structs
+
+-- what the step asks for: a column of these is plain and is to have a dictionary, if it has texts or bytes, or it has one and is
+-- to be plain; and the columns that are kept have it so in its place
+pub record RecodeFits (dict : Bool) (place : ℕ) (kept : List ColumnType) (before : List Column) : Type 0 where
+  pub within : place < length before
+  pub type : DataType
+  pub is_old : (column_at before place).kind ≡ text_kind (not dict) type
+  pub has_bytes : dict ≡ true → is_bytes (Flat type) ≡ true
+  pub columns : map column_of kept ≡ recoded_columns dict place type before
   pub few_structs : column_structs before ≤ most_structs

@@ -1,12 +1,11 @@
 //! A column that is made anew: of its values as they are, or of their indices into a dictionary.
 ghost use Rattle.std.specs.Prelude.{◌≡◌, ◌+◌, ◌≤◌, IfOk, OnErr};
-ghost use Rattle.data_types.specs.ColumnView.{kind_of};
 ghost use Rattle.data_types.specs.Table.{Flat, Dict};
 ghost use Rattle.unit_pass.specs.declared.pass.TheConstants.{SUPPLY};
 ghost use Rattle.col_build.specs.Holding.{Holds};
 ghost use Rattle.arr_import.specs.Cols.{window_of};
 ghost use Rattle.arr_import.specs.Window.{items_of};
-ghost use Rattle.dict_stage.specs.Recoded.{CanRecode, IsRecoded};
+ghost use Rattle.dict_stage.specs.Recoded.{IsRecoded, text_kind};
 ghost use Rattle.dict_stage.specs.Texts.{HasTexts};
 
 use crate::coder::coded;
@@ -14,7 +13,7 @@ use crate::item::{count, item_of};
 use arr_import::Col;
 use col_build::Builder;
 use column_fill::{built_column, push};
-use data_types::{ColKind, DataType, clone_kind, storage_of};
+use data_types::{DataType, clone_kind, storage_of};
 use raw_array::RawArray;
 use std::alloc::Global;
 use unit_pass::{NoMemory, Pass, SUPPLY};
@@ -74,22 +73,24 @@ fn dict_column(
     }
 }
 
-/// The array of a column's items as a column of the kind, which is of texts or bytes. On want of memory all units are back.
+/// The array of a column's items, of texts or bytes: as their indices into a dictionary, or as they are. On want of memory all
+/// units are back.
 pub(crate) fn recoded_column(
     alloc: Global,
-    kind: &ColKind,
+    dict: bool,
+    kind: &DataType,
     items: &Col<'_>,
     pass: &mut Pass,
 ) -> Result<RawArray, NoMemory>
-    requires items { CanRecode (kind_of kind.now) (window_of items.now) }
+    requires items { HasTexts kind.now (window_of items.now) }
     requires units { 8 ≤ pass.old.units }
     requires room { pass.old.units ≤ SUPPLY }
-    ensures made { IfOk result (λ array. IsRecoded (kind_of kind.now) (items_of (window_of items.now)) array pass.old pass.new) }
+    ensures made { IfOk result (λ array. IsRecoded (text_kind dict kind.now) (items_of (window_of items.now)) array pass.old pass.new) }
     ensures units_back { OnErr result (pass.new.units ≡ pass.old.units) }
 {
-    match kind {
-        ColKind::Flat(kind) => plain_column(alloc, kind, items, pass),
-        ColKind::Dict(kind) => dict_column(alloc, kind, items, pass),
-        ColKind::Columns(_) => unreachable!(),
+    if dict {
+        dict_column(alloc, kind, items, pass)
+    } else {
+        plain_column(alloc, kind, items, pass)
     }
 }

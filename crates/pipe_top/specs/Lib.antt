@@ -1,1 +1,1 @@
-pub mod AnyWorks
+pub mod AnySteps

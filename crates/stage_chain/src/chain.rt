@@ -18,7 +18,7 @@ ghost use Rattle.stream_text.specs.Runs.{Counted, ShowsAll, ShowsSome};
 use crate::boxed::Boxed;
 use crate::planned::PlannedStage;
 use crate::stage_start::start_stage;
-use crate::step_work::StepWork;
+use crate::step_of::StepOf;
 use csv_write::CsvText;
 use edge_face::Gate;
 use std::alloc::Global;
@@ -35,8 +35,8 @@ pub(crate) trait Chain {
 
     const LEFT: usize;
 
-    /// Adds the rows that come out of the stages over a source, by these works, to a text. The source is spent.
-    fn go<W: StepWork, S: ArrayStream, R: Threads + Sync, T: Tap>(
+    /// Adds the rows that come out of the stages over a source, by these steps, to a text. The source is spent.
+    fn go<W: StepOf, S: ArrayStream, R: Threads + Sync, T: Tap>(
         rt: &R,
         alloc: Global,
         source: S,
@@ -98,7 +98,7 @@ impl Chain for Zero {
 
     const LEFT: usize = 0;
 
-    fn go<W: StepWork, S: ArrayStream, R: Threads + Sync, T: Tap>(
+    fn go<W: StepOf, S: ArrayStream, R: Threads + Sync, T: Tap>(
         rt: &R,
         alloc: Global,
         source: S,
@@ -125,7 +125,7 @@ impl<N: Chain> Chain for Succ<N> {
 
     // Stands alone, so that no level holds the code of those behind it.
     #[inline(never)]
-    fn go<W: StepWork, S: ArrayStream, R: Threads + Sync, T: Tap>(
+    fn go<W: StepOf, S: ArrayStream, R: Threads + Sync, T: Tap>(
         rt: &R,
         alloc: Global,
         source: S,
@@ -146,7 +146,7 @@ impl<N: Chain> Chain for Succ<N> {
         let mut stages = stages;
         match stages.next() {
             None => write_rows(up, rt, alloc, text, pass, tap, gate),
-            Some(stage) => match Boxed::new(alloc, start_stage::<W, S>(up, stage, workers)) {
+            Some(stage) => match Boxed::new(alloc, start_stage::<W, S>(alloc, up, stage, workers)) {
                 Ok(above) => N::go::<W, _, _, _>(
                     rt,
                     alloc,

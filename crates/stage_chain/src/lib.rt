@@ -1,7 +1,7 @@
 //! The chain of stages over a stream of chunks, and the text of what comes out of it.
 //!
 //! What this crate owns: [`drive_by`], which makes the stages of a plan streams, each over the checked stream of the one before
-//! it, and writes the rows of the last one as CSV. What a stage does is a work that is made of its step ([`StepWork`]), one type
+//! it, and writes the rows of the last one as CSV. What a stage does is a step that is made of the plan's ([`StepOf`]), one type
 //! for all kinds of steps. A chain is no type that holds itself: each stage is a stream over the stream below it, and how many
 //! stages may be left is a number that is a type (`chain.rt`).
 //!
@@ -10,16 +10,16 @@
 //! source that ends at a record is refused with it; and the source is spent with all units on every outcome.
 //!
 //! What it leaves to others: what stages mean (`stage_model`), which stages fit columns (`stage_plan`), what each does to a chunk
-//! (the works: `stage_kernels`, `stage_filter`, `dict_stage`, `total_stage`), and where the rows come from.
+//! (the steps: `stage_kernels`, `stage_filter`, `dict_stage`, `total_stage`), and where the rows come from.
 #![tactic(auto)]
 
 mod boxed;
 mod chain;
 mod planned;
 mod stage_start;
-mod step_work;
+mod step_of;
 mod text;
 
-pub use step_work::StepWork;
+pub use step_of::StepOf;
 pub use stream_text::DriveFault;
 pub use text::drive_by;

@@ -9,12 +9,14 @@ ghost use Rattle.stage_chain.specs.Chains.{over_stream};
 ghost use Rattle.stage_chain.specs.Plans.{stage_in};
 
 use crate::planned::PlannedStage;
-use crate::step_work::StepWork;
+use crate::step_of::StepOf;
 use stages::{OutColumns, Stage};
+use std::alloc::Global;
 use stream_face::{ArrayStream, RawStream};
 
 /// The stream of a stage over a checked stream, by so many workers. Takes no memory.
-pub(crate) fn start_stage<W: StepWork, U: ArrayStream>(
+pub(crate) fn start_stage<W: StepOf, U: ArrayStream>(
+    alloc: Global,
     up: RawStream<U>,
     stage: PlannedStage,
     workers: u32,
@@ -24,12 +26,12 @@ pub(crate) fn start_stage<W: StepWork, U: ArrayStream>(
     requires stage { IsStageOver (meaning U.state up).columns (stage_in stage) }
     requires workers { (1 ≤ workers) × (workers ≤ 64) }
     requires structs { column_structs (meaning U.state up).columns ≤ most_structs }
-    ensures { stage_state U.state W.columns W.ahead W.due result ≡ over_stream (stage_in stage) (meaning U.state up) }
+    ensures { stage_state U.state W.columns W.ahead W.blocks W.nodes result ≡ over_stream (stage_in stage) (meaning U.state up) }
 {
     up.lawful_facts();
     plan_laws::stages_keep_columns();
     plan_laws::schemas_are_small();
     let PlannedStage { step, columns } = stage;
     let out = OutColumns::new(columns);
-    Stage::start(up, W::of(step, out, workers))
+    Stage::start(up, W::of(alloc, step, out, workers))
 }

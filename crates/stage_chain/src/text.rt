@@ -1,7 +1,6 @@
 //! The text of a table that stages make of a stream.
 ghost use Rattle.std.specs.Prelude.{◌≡◌, ◌≤◌, ◌+◌, ◌*◌, List, None, Some, ℕ, [], All, IsTrue, IfErr, IfOk, OnErr, OnOk, length, get_or};
 ghost use Rattle.std.specs.List.{AllByRecursion};
-ghost use Rattle.std.specs.Thread.{IsSync};
 ghost use Rattle.csv_model.specs.Text.{header_text, table_text};
 ghost use Rattle.csv_write.specs.CsvTexts.{HasText};
 ghost use Rattle.field_codec.specs.TextColumns.{HaveTexts};
@@ -21,7 +20,7 @@ ghost use Rattle.stream_text.specs.Runs.{Counted, ShowsAll, ShowsSome};
 use crate::boxed::Boxed;
 use crate::chain::{Chain, Sixteen, refuse};
 use crate::planned::{PlannedStage, planned};
-use crate::step_work::StepWork;
+use crate::step_of::StepOf;
 use csv_write::CsvText;
 use edge_face::Gate;
 use stage_plan::Plan;
@@ -44,11 +43,11 @@ fn prepare(alloc: Global, plan: Plan, mark: &[u8]) -> Result<(CsvText, Vec<Plann
     Ok((text, stages))
 }
 
-/// The text of the table that the stages of a plan make of all rows of a source, by these works, a null as the mark. Each stage
+/// The text of the table that the stages of a plan make of all rows of a source, by these steps, a null as the mark. Each stage
 /// works on the chunks of a checked stream, and each chunk of each link is shown to the tap: link 0 is the source's, link K
 /// that of stage K. The stages that have work for several workers (a filter, totals) give each chunk to so many; the text is
 /// the same for every number of them. The source is released and spent on every outcome.
-pub fn drive_by<W: StepWork, S: ArrayStream, R: Threads + Sync, T: Tap>(
+pub fn drive_by<W: StepOf, S: ArrayStream, R: Threads + Sync, T: Tap>(
     rt: &R,
     alloc: Global,
     source: S,
@@ -59,7 +58,6 @@ pub fn drive_by<W: StepWork, S: ArrayStream, R: Threads + Sync, T: Tap>(
     tap: &mut T,
     gate: &(dyn Gate + Sync),
 ) -> Result<Vec<u8>, DriveFault>
-    requires shared { IsSync R.row }
     requires live { IsTrue (S.state source).live }
     // The source is lawful and stands over no other checked stream.
     requires lawful { IsTrue (S.state source).lawful }

@@ -1,34 +1,29 @@
--- What a filter makes of the answers of the stream below it.
-use Rattle.std.proofs.Common.{arith, ◌≡◌, ◌≢◌, ◌∙◌, ◌≤◌, ◌<◌, ◌+◌, ◌*◌, ◌^◌, ℕ, ℤ, pos, List, [], ◌∷◌, length, map, get_or, All}
-use Rattle.std.proofs.Common.{refl, sym, ap, subst, inl}
-use Rattle.std.specs.Prelude.{Option, Some}
-use Rattle.std.specs.List.{sum_by}
+-- What a filter gives of a chunk.
+use Rattle.std.proofs.Common.{arith, ◌≡◌, ◌∙◌, ◌≤◌, ◌<◌, ◌+◌, ◌*◌, ◌^◌, ℕ, List, [], ◌∷◌, length, map, get_or, All}
+use Rattle.std.proofs.Common.{refl, sym, ap, subst, true}
+use Rattle.std.specs.Prelude.{Some}
 use Rattle.std.proofs.Math.Logic.{∥∥₁_elim}
 use Rattle.std.proofs.Props.{props}
-use Rattle.std.proofs.lemmas.List.Sums.{sum_by-cons}
 use Rattle.data_types.specs.ColumnForms.{AreColumnKinds}
 use Rattle.data_types.specs.ColumnView.{column_of}
 use Rattle.data_types.specs.Table.{Column, Row, Kind, Flat, Dict, Columns, Members, no_members, more_members}
 use Rattle.data_types.specs.Value.{Null}
 use Rattle.data_types.specs.declared.kind.ColumnType.{ColumnType}
-use Rattle.tree_model.specs.Tree.{Depth, Released, IsLive, child_at}
+use Rattle.tree_model.specs.Tree.{IsLive, child_at}
 use Rattle.unit_pass.specs.Tally.{Tally, risen}
 use Rattle.unit_pass.specs.declared.pass.TheConstants.{CHUNK}
 use Rattle.raw_array.specs.Members.{ArrayTree, Cost, Like}
 use Rattle.kind_tree.specs.ColumnKinds.{type_of_columns}
+use Rattle.kind_tree.specs.Kinds.{KindTree, TypedOk}
 use Rattle.layout_rules.specs.Values.{rows_of}
 use Rattle.layout_rules.specs.Walk.{ChunkOk}
 use Rattle.stage_model.specs.Stages.{passes, rows_after}
 use Rattle.stage_model.specs.Traffic.{Moved, made_blocks, made_nodes, table_blocks, table_nodes}
 use Rattle.stage_model.specs.declared.stage.Const.{Const}
-use Rattle.stage_model.specs.declared.stage.Step.{Step}
 use Rattle.stage_model.specs.declared.stage.Step.TheVariants as steps
 use Rattle.stage_model.specs.declared.stage.Test.{Test}
-use Rattle.stream_face.specs.Calls.{Answers, Counts, Shows}
 use Rattle.stream_face.specs.Lawful.{DictsAreFull, DictsHaveBytes, IsChunkOf, IsTable, LawfulColumns, LawfulTables, column_leaves, leaves, member_leaves}
-use Rattle.stream_face.specs.Shown.{Seen, Shown}
-use Rattle.stream_face.specs.Streams.{Stream}
-use Rattle.plan_laws.specs.Dues.{due_with}
+use Rattle.stages.specs.Steps.{GivesOut, IsNext}
 use Rattle.plan_laws.specs.Structs.{column_structs, member_structs, most_structs, structs}
 use Rattle.work_parts.proofs.ColumnSets.{same_columns}
 use Rattle.stage_filter.specs.Filters.{CanFilter, FilterFits, passing_numbers, passing_rows}
@@ -68,14 +63,7 @@ most-columns : (columns : List Column) → most_of_columns columns ≤ 4 * colum
 most-columns [] = omega arith
 most-columns (c ∷ cs) = omega (arith, most-kind c.kind, most-columns cs)
 
--- ---- a call of a lawful stream that gives a chunk
-
--- the table of a chunk, and its rows
-first-table : (columns : List Column) (ahead more : List (List Row)) (rows : List Row) → LawfulTables columns ahead → ahead ≡ rows ∷ more
-    → IsTable columns rows × (length rows ≤ 2 ^ 30)
-first-table columns ahead more rows lawful is =
-    let all : LawfulTables columns (rows ∷ more) = subst (LawfulTables columns) is lawful in
-    (all.tables.0, omega (arith, all.rows))
+-- ---- a chunk
 
 -- what a chunk that a lawful stream gives has
 pub record IsReady (column : ℕ) (columns : List Column) (rows : List Row) (out : ArrayTree) : Type 0 where
@@ -89,31 +77,31 @@ pub record IsReady (column : ℕ) (columns : List Column) (rows : List Row) (out
   pub leaves : column_leaves columns ≤ 4096
   pub structs : column_structs columns ≤ most_structs
 
-pub ready : (column : ℕ) (kept : List ColumnType) (s n : Stream) (code : ℤ) (out : ArrayTree) (live : IsLive out) (answers : Answers s n code out)
-    → ∥ FilterFits column kept s.columns ∥₁ → LawfulColumns s.columns → LawfulTables s.columns s.ahead → Depth (type_of_columns s.columns) ≤ 64
-    → IsReady column (map column_of kept) (answers.chunk live).0 out
-ready column kept s n code out live answers fits columns tables shallow =
-    let chunk = answers.chunk live in
-    let rows = chunk.0 in
-    let table = first-table s.columns s.ahead n.ahead rows tables chunk.1 in
-    let most = most-columns s.columns in
-    let structs = few-structs column kept s.columns fits in
-    subst (λ (cs : List Column). IsReady column cs rows out) (sym (same column kept s.columns fits))
+pub ready : (column : ℕ) (kept : List ColumnType) (before : List Column) (rows : List Row) (more : List (List Row)) (typed : KindTree) (chunk : ArrayTree)
+    → IsNext before rows more typed chunk → ∥ FilterFits column kept before ∥₁ → IsReady column (map column_of kept) rows chunk
+ready column kept before rows more typed chunk next fits =
+    let columns = next.columns in
+    let few : length rows ≤ 2 ^ 30 = omega (arith, next.tables.rows) in
+    let table = next.tables.tables.0 in
+    let most = most-columns before in
+    let structs = few-structs column kept before fits in
+    let types = subst TypedOk next.typed_is next.types in
+    subst (λ (cs : List Column). IsReady column cs rows chunk) (sym (same column kept before fits))
     (record {
       can = record {
-        within = within column kept s.columns fits;
+        within = within column kept before fits;
         kinds = columns.kinds;
-        not_deep = omega (arith, shallow);
-        ok = chunk.2.ok;
-        full = chunk.2.dicts;
-        table = subst (IsTable s.columns) (sym chunk.2.rows_are) table.0;
+        not_deep = omega (arith, types.0);
+        ok = next.is.ok;
+        full = next.is.dicts;
+        table = subst (IsTable before) (sym next.is.rows_are) table;
         small = omega (arith, most, structs, columns.few);
-        few = let e = ap (length {A = Row}) chunk.2.rows_are in omega (arith, e, table.1);
+        few = let e = ap (length {A = Row}) next.is.rows_are in omega (arith, e, few);
       };
-      rows_are = chunk.2.rows_are;
-      table = table.0;
-      few = table.1;
-      small = chunk.2.small;
+      rows_are = next.is.rows_are;
+      table = table;
+      few = few;
+      small = next.is.small;
       most = omega (arith, most, structs, columns.few);
       dicts = columns.dicts;
       leaves = columns.few;
@@ -135,7 +123,7 @@ ready-like laws column columns rows out left like is = record {
   structs = is.structs;
 }
 
--- ---- the answers of the filter
+-- ---- what it gives
 
 abbrev pub kept_rows : ℕ → Test → Const → List Row → List Row
 kept_rows column test constant rows = rows_after (steps.Filter column test constant) rows
@@ -183,130 +171,25 @@ is-chunk makes gives full small root column test constant columns rows out made 
           subst (λ (t : ArrayTree). DictsAreFull (get_or columns k none).kind (child_at t k)) (sym tree) (full columns out numbers k none pass.can inside);
     }
 
-not-released : (columns : List Column) (chunk : ArrayTree) (kept : List ℕ) (out : ArrayTree) → out ≡ kept_chunk columns chunk kept → out ≡ Released → ⊥
-not-released columns chunk kept out e r = let k : Released ≡ kept_chunk columns chunk kept = sym r ∙ e in absurd (cc)
-
-abbrev pub filtered : ℕ → Test → Const → List Column → Stream → Stream
-filtered column test constant columns s = record s { columns = columns; ahead = map (kept_rows column test constant) s.ahead }
-
-pub filter-answers : MakesChunk → MakesRows → MakesFull → AreSmall → RootLaw → (column : ℕ) (test : Test) (constant : Const) (columns : List Column)
-    (s n : Stream) (code : ℤ) (out left made : ArrayTree)
-    (live : IsLive out) (answers : Answers s n code out) → IsReady column columns (answers.chunk live).0 left
-    → made ≡ filtered_chunk column test constant columns left
-    → Answers (filtered column test constant columns s) (filtered column test constant columns n) (pos 0) made
-filter-answers makes gives full small root column test constant columns s n code out left made live answers is tree =
-    let chunk = answers.chunk live in
-    let numbers = passing_numbers column test constant (type_of_columns columns) left in
-    record {
-      chunk = λ _. (
-        kept_rows column test constant chunk.0,
-        ap (map (kept_rows column test constant)) chunk.1,
-        is-chunk makes gives full small root column test constant columns chunk.0 left made is tree,
-      );
-      finish = λ _ e. absurd (not-released columns left numbers made tree e);
-      bad = λ e. absurd (cc);
-      wants = λ e. absurd (cc);
-      codes = inl refl;
-    }
-
--- nothing of an answer without a chunk is filtered
-pub ended-answers : (column : ℕ) (test : Test) (constant : Const) (columns : List Column) (s n : Stream) (code : ℤ) (out : ArrayTree) → out ≡ Released
-    → Answers s n code out → Answers (filtered column test constant columns s) (filtered column test constant columns n) code out
-ended-answers column test constant columns s n code out gone answers =
-    let after : List (List Row) → List (List Row) = map (kept_rows column test constant) in
-    record {
-      chunk = λ live. absurd (subst IsLive gone live);
-      finish = λ e r. let end = answers.finish e r in (ap after end.0, ap after end.1, end.2);
-      bad = λ e. let end = answers.bad e in (ap after end.0, ap after end.1, end.2, end.3, end.4, end.5);
-      wants = answers.wants;
-      codes = answers.codes;
-    }
-
--- ---- what is shown
-
--- the chunk of the rows that pass shows what the stream's chunk did
-pub filter-shows : (old new : ℕ → List Shown) (code : ℤ) (columns : List Column) (out left : ArrayTree) (kept : List ℕ) (made : ArrayTree)
-    (seen later : Option (List Seen)) → code ≡ pos 0 → made ≡ kept_chunk columns left kept → Shows old new code out seen later
-    → Shows old new (pos 0) made seen later
-filter-shows old new code columns out left kept made seen later zero tree shows = record {
-  shown = shows.shown;
-  told = shows.told;
-  begins = shows.begins;
-  leaves = λ _. shows.leaves zero;
-  ends = λ _ e. absurd (not-released columns left kept made tree e);
+-- what a filter gives of a chunk
+pub filter-gives : MakesChunk → MakesRows → MakesFull → AreSmall → RootLaw → (column : ℕ) (test : Test) (constant : Const) (columns : List Column)
+    (t left made : ArrayTree) (rows : List Row) (more : List (List Row)) (first last : Tally) → IsReady column columns rows t
+    → IsReady column columns rows left → made ≡ filtered_chunk column test constant columns left
+    → last.blocks ≡ risen first.blocks (table_blocks Moved columns (passing_rows column test constant columns t))
+    → last.nodes ≡ risen first.nodes (table_nodes Moved columns)
+    → GivesOut columns (made_blocks (Some (steps.Filter column test constant)) columns)
+    (λ rows. made_nodes (Some (steps.Filter column test constant)) columns) (λ _ _. Unit {0})
+    (λ _. map (kept_rows column test constant) (rows ∷ more)) (λ _. map (kept_rows column test constant) more) true first last made
+filter-gives makes gives full small root column test constant columns t left made rows more first last was is tree blocks nodes = record {
+  rows = kept_rows column test constant rows;
+  ahead = λ _. refl;
+  is = is-chunk makes gives full small root column test constant columns rows left made is tree;
+  live = subst IsLive (sym tree) tt;
+  gives = tt;
+  rests = refl;
+  blocks = blocks ∙ ap (λ (rs : List Row). risen first.blocks (table_blocks Moved columns (kept_rows column test constant rs))) was.rows_are;
+  nodes = nodes;
 }
-
--- a refusal shows no more than the stream's answer did
-pub refused-shows : (old new : ℕ → List Shown) (code refusal : ℤ) (chunk out : ArrayTree) (seen later : Option (List Seen)) → refusal ≢ pos 0
-    → Shows old new code chunk seen later → Shows old new refusal out seen later
-refused-shows old new code refusal chunk out seen later refused shows = record {
-  shown = shows.shown;
-  told = shows.told;
-  begins = shows.begins;
-  leaves = λ e. absurd (refused e);
-  ends = λ e. absurd (refused e);
-}
-
--- ---- what the filter counts
-risen-more : (a b c m n : ℕ) → b ≡ risen a m → c ≡ risen b n → c ≡ risen a (m + n)
-risen-more a b c m n e f = omega (arith, e, f)
-
-pub filter-counts : (column : ℕ) (test : Test) (constant : Const) (columns : List Column) (s n : Stream) (code : ℤ) (out left made : ArrayTree)
-    (first middle last : Tally)
-    (live : IsLive out) (answers : Answers s n code out) → IsReady column columns (answers.chunk live).0 out
-    → Counts s.due n.due first middle out
-    → made ≡ filtered_chunk column test constant columns left
-    → last.blocks ≡ risen middle.blocks (table_blocks Moved columns (passing_rows column test constant columns out))
-    → last.nodes ≡ risen middle.nodes (table_nodes Moved columns)
-    → Counts (due_with (steps.Filter column test constant) columns (map (kept_rows column test constant) s.ahead) s.due)
-    (due_with (steps.Filter column test constant) columns (map (kept_rows column test constant) n.ahead) n.due) first last made
-filter-counts column test constant columns s n code out left made first middle last live answers is counts tree blocks nodes =
-    let chunk = answers.chunk live in
-    let numbers = passing_numbers column test constant (type_of_columns columns) left in
-    let step : Step = steps.Filter column test constant in
-    let kept = kept_rows column test constant chunk.0 in
-    let rest = map (kept_rows column test constant) n.ahead in
-    let here : table_blocks Moved columns (passing_rows column test constant columns out) ≡ table_blocks Moved columns kept =
-    ap (λ (rs : List Row). table_blocks Moved columns (kept_rows column test constant rs)) is.rows_are in
-    let after : List (List Row) → List (List Row) = map (kept_rows column test constant) in
-    let all_blocks = ap (λ (ahead : List (List Row)). sum_by (made_blocks (Some step) columns) (after ahead)) chunk.1 in
-    let all_nodes = ap (λ (ahead : List (List Row)). sum_by (λ (rows : List Row). made_nodes (Some step) columns) (after ahead)) chunk.1 in
-    let one_blocks = sum_by-cons (made_blocks (Some step) columns) kept rest in
-    let one_nodes = sum_by-cons (λ (rows : List Row). made_nodes (Some step) columns) kept rest in
-    record {
-      made = record { blocks = counts.made.blocks + table_blocks Moved columns kept; nodes = counts.made.nodes + table_nodes Moved columns };
-      blocks = risen-more first.blocks middle.blocks last.blocks counts.made.blocks (table_blocks Moved columns kept) counts.blocks
-          (blocks ∙ ap (risen middle.blocks) here);
-      nodes = risen-more first.nodes middle.nodes last.nodes counts.made.nodes (table_nodes Moved columns) counts.nodes nodes;
-      fewer_blocks = omega (arith, counts.fewer_blocks, all_blocks, one_blocks);
-      fewer_nodes = omega (arith, counts.fewer_nodes, all_nodes, one_nodes);
-      no_blocks = λ e. absurd (not-released columns left numbers made tree e);
-      no_nodes = λ e. absurd (not-released columns left numbers made tree e);
-    }
-
--- a stream that has ended counts what was counted of the call
-pub ended-counts : (column : ℕ) (test : Test) (constant : Const) (columns : List Column) (s n : Stream) (code : ℤ) (out : ArrayTree) (first last : Tally)
-    → code ≡ pos 0 → out ≡ Released → Answers s n code out → Counts s.due n.due first last out
-    → Counts (due_with (steps.Filter column test constant) columns (map (kept_rows column test constant) s.ahead) s.due)
-    (due_with (steps.Filter column test constant) columns (map (kept_rows column test constant) n.ahead) n.due) first last out
-ended-counts column test constant columns s n code out first last zero gone answers counts =
-    let end = answers.finish zero gone in
-    let step : Step = steps.Filter column test constant in
-    let blocks_of = λ (ahead : List (List Row)). sum_by (made_blocks (Some step) columns) (map (kept_rows column test constant) ahead) in
-    let nodes_of = λ (ahead : List (List Row)). sum_by (λ (rows : List Row). made_nodes (Some step) columns) (map (kept_rows column test constant) ahead) in
-    let old_blocks : blocks_of s.ahead ≡ 0 = ap blocks_of end.0 in
-    let new_blocks : blocks_of n.ahead ≡ 0 = ap blocks_of end.1 in
-    let old_nodes : nodes_of s.ahead ≡ 0 = ap nodes_of end.0 in
-    let new_nodes : nodes_of n.ahead ≡ 0 = ap nodes_of end.1 in
-    record {
-      made = counts.made;
-      blocks = counts.blocks;
-      nodes = counts.nodes;
-      fewer_blocks = omega (arith, counts.fewer_blocks, old_blocks, new_blocks);
-      fewer_nodes = omega (arith, counts.fewer_nodes, old_nodes, new_nodes);
-      no_blocks = λ e. let h = counts.no_blocks e in omega (arith, h, new_blocks);
-      no_nodes = λ e. let h = counts.no_nodes e in omega (arith, h, new_nodes);
-    }
 
 -- ---- the laws
 

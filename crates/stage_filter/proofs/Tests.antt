@@ -1,6 +1,6 @@
 -- What passes a test.
 use Rattle.std.proofs.Common.{◌≡◌, ◌∙◌, ℕ, Bool, true, false, List, [], ◌∷◌, refl, sym, ap}
-use Rattle.std.specs.Prelude.{Option, None, Some, if◌then◌else◌}
+use Rattle.std.specs.Prelude.{Option, None, if◌then◌else◌}
 use Rattle.std.specs.List.{filter}
 use Rattle.std.specs.Ordering.{is_some_and}
 use Rattle.std.specs.declared.cmp.Ordering.{Ordering}
@@ -24,10 +24,6 @@ by-order tests.Gt constant v is = refl
 by-order tests.Ge constant v is = refl
 by-order tests.Null constant v is = absurd cc
 by-order tests.Valid constant v is = absurd cc
-
-pub some-passes : (test : Test) (constant : Const) (v : Value) (order : Ordering) → compares test ≡ true → Some order ≡ compared v constant
-    → order_passes test order ≡ passes test constant v
-some-passes test constant v order is e = ap (is_some_and (order_passes test)) e ∙ sym (by-order test constant v is)
 
 pub none-passes : (test : Test) (constant : Const) (v : Value) → compares test ≡ true → ◌≡◌ {A = Option Ordering} None (compared v constant)
     → false ≡ passes test constant v

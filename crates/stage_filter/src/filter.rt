@@ -1,29 +1,28 @@
-//! The work that filters rows.
-ghost use Rattle.std.specs.Prelude.{◌≡◌, ◌≤◌, map};
+//! The step that filters rows.
+ghost use Rattle.std.specs.Prelude.{◌≡◌, ◌≤◌, Some, map};
 ghost use Rattle.data_types.specs.ColumnView.{column_of};
-ghost use Rattle.plan_laws.specs.Dues.{due_with};
 ghost use Rattle.stage_model.specs.Stages.{chunks_after};
 ghost use Rattle.stage_model.specs.declared.stage.Step.TheVariants as steps;
-ghost use Rattle.stages.specs.Works.{rows_alone};
+ghost use Rattle.stage_model.specs.Traffic.{made_blocks, made_nodes};
+ghost use Rattle.stages.specs.Steps.{always, any_tables, rows_only};
 ghost use Rattle.stage_filter.specs.Filters.{FilterFits};
 
 use crate::chunk::{Asked, filtered};
 use crate::laws::{kept_rows_make_a_chunk, like_trees_are_the_same};
 use edge_face::Gate;
+use kind_tree::Typed;
 use layout_rules::lawful_trees;
 use raw_array::RawArray;
-use raw_schema::RawSchema;
 use stage_model::{Const, Test};
-use stages::{OutColumns, Work};
+use stages::{ChunkStep, OutColumns};
 use std::alloc::Global;
 use std::thread::Threads;
-use stream_face::{ArrayStream, RawStream, Tap};
 use unit_pass::{NoMemory, Pass};
 use work_parts::chunks_are_small;
 
 /// The rows whose item in a column passes a test, in their order.
 #[derive(Drop)]
-pub struct FilterWork {
+pub struct FilterStep {
     column: usize,
     test: Test,
     constant: Const,
@@ -33,7 +32,7 @@ pub struct FilterWork {
     ghost few_workers: { workers ≤ 64 },
 }
 
-impl FilterWork {
+impl FilterStep {
     /// Asks this test of the items of a column, by its number from 0; `out` are the columns, which stay. The rows of each chunk
     /// are looked through by so many workers. Takes no memory.
     pub fn new(
@@ -42,7 +41,7 @@ impl FilterWork {
         constant: Const,
         out: OutColumns,
         workers: u32,
-    ) -> FilterWork
+    ) -> FilterStep
         requires workers { (1 ≤ workers) × (workers ≤ 64) }
         ensures column { result.column ≡ column }
         ensures test { result.test ≡ test }
@@ -50,7 +49,7 @@ impl FilterWork {
         ensures out { result.out ≡ out }
         ensures workers { result.workers ≡ workers }
     {
-        FilterWork {
+        FilterStep {
             column,
             test,
             constant,
@@ -60,37 +59,36 @@ impl FilterWork {
     }
 }
 
-impl Work for FilterWork {
-    ghost columns = { λ w before. map column_of w.out };
+impl ChunkStep for FilterStep {
+    ghost columns = { λ s. s.out };
 
-    ghost fits = { λ w before. FilterFits w.column w.out before };
+    ghost fits = { λ s before. FilterFits s.column s.out before };
 
-    ghost ahead = { λ w up. chunks_after (steps.Filter w.column w.test w.constant) up.ending up.ahead };
+    ghost ahead = { λ s ending tables. chunks_after (steps.Filter s.column s.test s.constant) ending tables };
 
-    ghost due = { λ w up. due_with (steps.Filter w.column w.test w.constant) (map column_of w.out)
-        (chunks_after (steps.Filter w.column w.test w.constant) up.ending up.ahead) up.due };
+    ghost blocks = { λ s rows. made_blocks (Some (steps.Filter s.column s.test s.constant)) (map column_of s.out) rows };
 
-    ghost gives = { rows_alone };
+    ghost nodes = { λ s rows. made_nodes (Some (steps.Filter s.column s.test s.constant)) (map column_of s.out) };
 
-    fn schema(&self, alloc: Global, pass: &mut Pass) -> Result<RawSchema, NoMemory> {
-        self.out.schema(alloc, pass)
+    ghost gives = { rows_only };
+
+    ghost rests = { always };
+
+    ghost takes = { any_tables };
+
+    fn after(&self) -> &OutColumns {
+        &self.out
     }
 
-    fn next<U: ArrayStream, R: Threads + Sync, T: Tap>(
+    fn push<R: Threads + Sync>(
         &mut self,
-        up: &mut RawStream<U>,
+        chunk: RawArray,
+        typed: &Typed,
         rt: &R,
         alloc: Global,
-        out: &mut RawArray,
         pass: &mut Pass,
-        tap: &mut T,
         gate: &(dyn Gate + Sync),
-    ) -> Result<i32, NoMemory> {
-        up.lawful_facts();
-        let code = up.next(rt, alloc, out, pass, tap, gate);
-        if code != 0 || out.is_released() {
-            return Ok(code);
-        }
+    ) -> Result<Option<RawArray>, NoMemory> {
         kept_rows_make_a_chunk();
         chunks_are_small();
         lawful_trees();
@@ -102,24 +100,17 @@ impl Work for FilterWork {
         };
         let columns = self.out.as_slice();
         let workers = self.workers;
-        match filtered(
-            rt,
-            alloc,
-            columns,
-            up.typed(),
-            out.move_out(),
-            asked,
-            workers,
-            pass,
-            gate,
-        ) {
-            Ok(made) => {
-                out.put(made);
-                Ok(0)
-            }
+        match filtered(rt, alloc, columns, typed, chunk, asked, workers, pass, gate) {
+            Ok(made) => Ok(Some(made)),
             Err(NoMemory) => Err(NoMemory),
         }
     }
+
+    fn finish(&mut self, _alloc: Global, _pass: &mut Pass) -> Result<Option<RawArray>, NoMemory> {
+        Ok(None)
+    }
+
+    fn forget(&mut self) {}
 
     fn lawful_facts(&self) {}
 }

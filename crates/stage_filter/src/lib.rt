@@ -1,6 +1,6 @@
-//! The work of a stage that filters: of each chunk it keeps the rows whose item in one column passes a test.
+//! The step of a stage that filters: of each chunk it keeps the rows whose item in one column passes a test.
 //!
-//! What this crate owns: [`FilterWork`], which finds the numbers of the rows that pass, and takes the chunk apart. The items of
+//! What this crate owns: [`FilterStep`], which finds the numbers of the rows that pass, and takes the chunk apart. The items of
 //! these rows are copied into new columns, value by value; of a column with a dictionary the indices are copied, and the
 //! dictionary itself is moved into the new column, at all depths. A chunk of which no row passes is still given, without rows.
 //!
@@ -23,5 +23,5 @@ mod laws;
 mod worker_tests;
 mod workers;
 
-pub use filter::FilterWork;
+pub use filter::FilterStep;
 pub use laws::kept_rows_make_a_chunk;

@@ -9,4 +9,3 @@ pub mod PackedChunks
 pub mod UnpackedChildren
 pub mod UnpackedStreams
 pub mod UnpackedChunks
-mod Given

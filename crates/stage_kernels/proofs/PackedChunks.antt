@@ -1,10 +1,7 @@
--- What the chunks of packed columns answer and count.
-use Rattle.std.proofs.Common.{arith, ◌≡◌, ◌≤◌, ◌<◌, ◌+◌, ◌*◌, ◌∙◌, ◌++◌, ◌⊎◌, inl, inr, ℕ, zero, suc, ℤ, pos, List, [], ◌∷◌, length, map, get_or}
+-- What the chunks of packed columns are.
+use Rattle.std.proofs.Common.{arith, ◌≡◌, ◌≤◌, ◌<◌, ◌+◌, ◌*◌, ◌∙◌, ◌++◌, ◌⊎◌, inl, inr, ℕ, zero, suc, ◌^◌, true, List, [], ◌∷◌, length, map, get_or}
 use Rattle.std.proofs.Common.{refl, sym, ap, subst}
-use Rattle.std.specs.Prelude.{Option, Some}
-use Rattle.std.specs.List.{sum_by}
 use Rattle.std.proofs.lemmas.List.{length-map, length_push, get_or_push, get_or_append_left}
-use Rattle.std.proofs.lemmas.List.Sums.{sum_by-cons}
 use Rattle.unit_pass.specs.Tally.{Tally, risen}
 use Rattle.unit_pass.specs.declared.pass.TheConstants.{CHUNK}
 use Rattle.data_types.specs.ColumnView.{column_of, members}
@@ -15,24 +12,18 @@ use Rattle.tree_model.specs.Tree.{Released, IsLive, child_at}
 use Rattle.tree_model.proofs.Lists.{tree_list-trees}
 use Rattle.raw_array.specs.Members.{ArrayTree, Cost, members_of}
 use Rattle.kind_tree.specs.ColumnKinds.{type_of_columns}
+use Rattle.kind_tree.specs.Kinds.{KindTree}
 use Rattle.layout_rules.specs.Values.{rows_of}
 use Rattle.layout_rules.specs.Walk.{ChunkOk}
 use Rattle.arr_move.specs.TreeActs.{Columns}
 use Rattle.column_laws.specs.Picking.{Packed}
-use Rattle.stage_model.specs.declared.stage.Step.TheVariants as steps
-use Rattle.stage_model.specs.Traffic.{made_blocks, made_nodes}
-use Rattle.stream_face.specs.Calls.{Answers, Counts, Repeats, Tells}
 use Rattle.stream_face.specs.Lawful.{DictsAreFull, MemberDictsAreFull, column_leaves}
-use Rattle.stream_face.specs.Shown.{Seen}
-use Rattle.stream_face.specs.Streams.{Stream, Traffic}
-use Rattle.stream_face.specs.Texts.{Refusal}
-use Rattle.plan_laws.specs.Dues.{due_with}
+use Rattle.stages.specs.Steps.{GivesOut, IsNext}
 use Rattle.work_parts.proofs.CutColumns.{dicts-window}
 use Rattle.stage_kernels.specs.Packs.{PackFits, column_in}
 use Rattle.stage_kernels.specs.Picks.{no_column, picked_columns}
 use Rattle.plan_laws.specs.Structs.{column_structs}
 use Rattle.plan_laws.proofs.PickedColumns.{as-many, column-at, first-within, rest-within}
-use Rattle.stage_kernels.proofs.Given.{repeats-never}
 use Rattle.stage_kernels.proofs.PackedStreams.{Kept, Numbers, kept-are, made_name, numbers-of, place-of, struct_column}
 
 -- ---- dictionaries
@@ -123,71 +114,27 @@ packed-chunk rest picks kept columns chunk fits ok rows small =
           (full-packed (made_name rest kept) rest picks columns chunk (numbers-of rest picks kept columns fits) full);
     }
 
--- the columns and the tables of a stream, packed
-abbrev pub pack_stream : List ColumnType → List ℕ → List ℕ → Stream → Stream
-pack_stream kept rest picks s = record s { columns = map column_of kept; ahead = map (map (packed rest picks)) s.ahead }
-
-not_released : (t : ArrayTree) (rest picks : List ℕ) (out : ArrayTree) → out ≡ Packed t rest picks → out ≡ Released → ⊥
-not_released t rest picks out e r = let k : Released ≡ Packed t rest picks = sym r ∙ e in absurd (cc)
-
-pub pack_answers : (s n : Stream) (kept : List ColumnType) (rest picks : List ℕ) (code : ℤ) (before out : ArrayTree) → IsLive before → Answers s n code before
-    → PackedChunk s.columns (map column_of kept) rest picks before → out ≡ Packed before rest picks
-    → Answers (pack_stream kept rest picks s) (pack_stream kept rest picks n) (pos 0) out
-pack_answers s n kept rest picks code before out live answers made is =
-    let chunk = answers.chunk live in
-    record {
-      chunk = λ _. (
-        map (packed rest picks) chunk.0,
-        ap (map (map (packed rest picks))) chunk.1,
-        record {
-          ok = subst (ChunkOk (type_of_columns (map column_of kept))) (sym is) made.ok;
-          rows_are = ap (rows_of (type_of_columns (map column_of kept))) is ∙ made.rows ∙ ap (map (packed rest picks)) chunk.2.rows_are;
-          small = let e = ap Cost is in omega (arith, e, made.small);
-          dicts = λ k none small. subst (λ t. FullAt (map column_of kept) t k none) (sym is) (made.dicts chunk.2.dicts k none small);
-        },
-      );
-      finish = λ _ e. absurd (not_released before rest picks out is e);
-      bad = λ e. absurd (cc);
-      wants = λ e. absurd (cc);
-      codes = inl refl;
-    }
-
--- ---- its counts
-
-abbrev pub pack_due : List ColumnType → List ℕ → List ℕ → Stream → Traffic
-pack_due kept rest picks s = due_with (steps.Pack rest picks) (map column_of kept) (map (map (packed rest picks)) s.ahead) s.due
-
-one-less : (f : List Row → ℕ) (change : List Row → List Row) (rows : List Row) (old new : List (List Row)) → old ≡ rows ∷ new
-    → sum_by f (map change old) ≡ f (change rows) + sum_by f (map change new)
-one-less f change rows old new e = ap (λ (chunks : List (List Row)). sum_by f (map change chunks)) e ∙ sum_by-cons f (change rows) (map change new)
-
-risen-two : (a b c m : ℕ) → b ≡ risen a m → c ≡ risen b 2 → c ≡ risen a (m + 2)
-risen-two a b c m e f = omega (arith, e, f)
-
-pub pack_counts : (s n : Stream) (kept : List ColumnType) (rest picks : List ℕ) (code : ℤ) (before out : ArrayTree) (first middle last : Tally) → IsLive before
-    → Answers s n code before → Counts s.due n.due first middle before → out ≡ Packed before rest picks
-    → last.blocks ≡ middle.blocks → last.nodes ≡ risen middle.nodes 2
-    → Counts (pack_due kept rest picks s) (pack_due kept rest picks n) first last out
-pack_counts s n kept rest picks code before out first middle last live answers counts is blocks nodes =
-    let chunk = answers.chunk live in
-    let step = Some (steps.Pack rest picks) in
-    let less_blocks = one-less (made_blocks step (map column_of kept)) (map (packed rest picks)) chunk.0 s.ahead n.ahead chunk.1 in
-    let less_nodes = one-less (λ rows. made_nodes step (map column_of kept)) (map (packed rest picks)) chunk.0 s.ahead n.ahead chunk.1 in
-    record {
-      made = record { blocks = counts.made.blocks; nodes = counts.made.nodes + 2 };
-      blocks = blocks ∙ counts.blocks;
-      nodes = risen-two first.nodes middle.nodes last.nodes counts.made.nodes counts.nodes nodes;
-      fewer_blocks = omega (arith, counts.fewer_blocks, less_blocks);
-      fewer_nodes = omega (arith, counts.fewer_nodes, less_nodes);
-      no_blocks = λ e. absurd (not_released before rest picks out is e);
-      no_nodes = λ e. absurd (not_released before rest picks out is e);
-    }
-
--- ---- a call
-
-pub pack_repeats : (s n : Stream) (code : ℤ) (before middle after : Tally) (seen shown : Option (List Seen)) → code ≡ pos 0 → Tells code n.said
-    → Repeats s n code before middle seen shown → Repeats s n (pos 0) before after seen shown
-pack_repeats s n code before middle after seen shown none tells repeats = repeats-never s n code before middle seen shown none tells repeats after
+-- what packing gives of a chunk of these columns and rows
+pub pack-gives : (before : List Column) (kept : List ColumnType) (rest picks : List ℕ) (t made : ArrayTree) (rows : List Row) (more : List (List Row))
+    (typed : KindTree) (first last : Tally) → IsNext before rows more typed t → PackedChunk before (map column_of kept) rest picks t
+    → made ≡ Packed t rest picks → last.blocks ≡ first.blocks → last.nodes ≡ risen first.nodes 2 → first.blocks < 2 ^ 64
+    → GivesOut (map column_of kept) (λ _. 0) (λ _. 2) (λ _ _. Unit {0}) (λ _. map (map (packed rest picks)) (rows ∷ more))
+    (λ _. map (map (packed rest picks)) more) true first last made
+pack-gives before kept rest picks t made rows more typed first last next are is blocks nodes b = record {
+  rows = map (packed rest picks) rows;
+  ahead = λ _. refl;
+  is = record {
+    ok = subst (ChunkOk (type_of_columns (map column_of kept))) (sym is) are.ok;
+    rows_are = ap (rows_of (type_of_columns (map column_of kept))) is ∙ are.rows ∙ ap (map (packed rest picks)) next.is.rows_are;
+    small = let e = ap Cost is in omega (arith, e, are.small);
+    dicts = λ k none small. subst (λ t. FullAt (map column_of kept) t k none) (sym is) (are.dicts next.is.dicts k none small);
+  };
+  live = subst IsLive (sym is) tt;
+  gives = tt;
+  rests = refl;
+  blocks = omega (arith, blocks, b);
+  nodes = nodes;
+}
 
 -- such columns are few
 pub small-chunk : (columns : List Column) (t : ArrayTree) → Kept columns → Cost t ≤ 7 * column_leaves columns + 2 * column_structs columns + 2 → Cost t ≤ CHUNK

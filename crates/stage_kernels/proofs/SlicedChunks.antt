@@ -1,10 +1,12 @@
 -- What a slice makes of a chunk, and of the chunks behind it.
-use Rattle.std.proofs.Common.{arith, ◌≡◌, ◌≤◌, ◌<◌, ◌+◌, ◌-◌, ◌∙◌, ℕ, ℤ, pos, List, [], ◌∷◌, length, take, drop, get_or, refl, sym, ap, subst}
+use Rattle.std.proofs.Common.{arith, ◌≡◌, ◌≤◌, ◌<◌, ◌+◌, ◌-◌, ◌^◌, ◌∙◌, ℕ, ℤ, pos, List, [], ◌∷◌, length, take, drop, map, get_or, Option, None, Some, refl, sym, ap, subst}
 use Rattle.std.proofs.Common.{if◌then◌else◌, ◌&&◌, inl, inr, true, false}
 use Rattle.std.specs.Prelude.{nat_le, nat_lt}
 use Rattle.std.proofs.lemmas.Bool.{cases_eq, cases_lt, eq-eqb, le-leb, le-ltb, lt-leb, lt-ltb, ne_eqb}
 use Rattle.std.proofs.lemmas.List.{length-drop, length-take}
+use Rattle.data_types.specs.ColumnView.{column_of}
 use Rattle.data_types.specs.Table.{Column, Row}
+use Rattle.data_types.specs.declared.kind.ColumnType.{ColumnType}
 use Rattle.tree_model.specs.Tree.{IsLive, Live, Released, children_of}
 use Rattle.raw_array.specs.Members.{ArrayTree, Cost, windowed}
 use Rattle.raw_array.specs.Windows.{Window, is_whole}
@@ -13,9 +15,9 @@ use Rattle.kind_tree.specs.Kinds.{KindTree}
 use Rattle.layout_rules.specs.Values.{rows_of, tree_items}
 use Rattle.layout_rules.specs.Walk.{ChunkOk, LayoutOk}
 use Rattle.stage_model.specs.Stages.{is_within, sliced, sliced_chunks, unless_empty, window_end, window_start}
-use Rattle.stream_face.specs.Calls.{Answers}
 use Rattle.stream_face.specs.Lawful.{DictsAreFull, IsChunkOf}
-use Rattle.stream_face.specs.Streams.{Stream}
+use Rattle.unit_pass.specs.Tally.{Tally}
+use Rattle.stages.specs.Steps.{IsNext, Pushes}
 use Rattle.work_parts.proofs.CutColumns.{window-children}
 use Rattle.stage_kernels.specs.Slices.{kept_count, kept_part}
 
@@ -89,12 +91,34 @@ unless-any : (rows : List Row) (chunks : List (List Row)) → 0 < length rows �
 unless-any [] chunks h = absurd (omega (arith, h))
 unless-any (row ∷ rows) chunks h = refl
 
-part-none : (skip keep : ℕ) (t : ArrayTree) → kept_count skip keep (tree_items t) ≡ 0 → kept_part skip keep t ≡ Released
-part-none skip keep t e = rw (eq-eqb (kept_count skip keep (tree_items t)) 0 e) refl
+-- no row is kept of a chunk where nothing is given of it
+none-left : (skip keep : ℕ) (t : ArrayTree) → kept_part skip keep t ≡ None → kept_count skip keep (tree_items t) ≡ 0
+none-left skip keep t none = elim (cases_eq (kept_count skip keep (tree_items t)) 0) [
+  | inl e ↦ e
+  | inr h ↦ let k : None ≡ Some (Window t (pos skip) (pos (kept_count skip keep (tree_items t)))) = sym none ∙ part-some skip keep t h in absurd (cc)
+]
+  where
+    part-some : (skip keep : ℕ) (t : ArrayTree) → (kept_count skip keep (tree_items t) ≡ 0 → ⊥)
+        → kept_part skip keep t ≡ Some (Window t (pos skip) (pos (kept_count skip keep (tree_items t))))
+    part-some skip keep t h = rw (ne_eqb (kept_count skip keep (tree_items t)) 0 h) refl
 
-part-some : (skip keep : ℕ) (t : ArrayTree) → (kept_count skip keep (tree_items t) ≡ 0 → ⊥)
-    → kept_part skip keep t ≡ Window t (pos skip) (pos (kept_count skip keep (tree_items t)))
-part-some skip keep t h = rw (ne_eqb (kept_count skip keep (tree_items t)) 0 h) refl
+abbrev some_or : ArrayTree → Option ArrayTree → ArrayTree
+some_or t None = t
+some_or t (Some part) = part
+
+-- what is given of it is a window
+record IsPartOf (skip keep : ℕ) (t part : ArrayTree) : Type 0 where
+  pub some : 0 < kept_count skip keep (tree_items t)
+  pub window : part ≡ Window t (pos skip) (pos (kept_count skip keep (tree_items t)))
+
+part-of : (skip keep : ℕ) (t part : ArrayTree) → Some part ≡ kept_part skip keep t → IsPartOf skip keep t part
+part-of skip keep t part made = elim (cases_eq (kept_count skip keep (tree_items t)) 0) [
+  | inl e ↦ let k : Some part ≡ None = made ∙ rw (eq-eqb (kept_count skip keep (tree_items t)) 0 e) refl in absurd (cc)
+  | inr h ↦
+      let k : Some part ≡ Some (Window t (pos skip) (pos (kept_count skip keep (tree_items t)))) =
+      made ∙ rw (ne_eqb (kept_count skip keep (tree_items t)) 0 h) refl in
+      record { some = omega (arith, h); window = ap (λ (o : Option ArrayTree). some_or t o) k }
+]
 
 -- ---- what is kept of a chunk
 -- a chunk of which rows are kept is followed by what is kept of the others
@@ -110,39 +134,6 @@ skipped-chunk skip keep n rows chunks law same none =
     let rest = after-chunk skip keep n rows chunks same in
     λ i. unless_empty (first i) (rest i)
 
--- what is kept of a chunk is a chunk, before what is kept of the others
-pub kept-chunk : (columns : List Column) (skip keep : ℕ) (t part : ArrayTree) (rows : List Row) (chunks : List (List Row)) → WindowLaws
-    → IsChunkOf columns rows t → part ≡ kept_part skip keep t → IsLive part
-    → (kept : List Row) × (sliced_chunks skip keep 0 (rows ∷ chunks) ≡ kept ∷ sliced_chunks (skip - tree_items t) (keep - (tree_items t - skip)) 0 chunks)
-    × IsChunkOf columns kept part
-kept-chunk columns skip keep t part rows chunks laws is made live =
-    let n = tree_items t in
-    let count = kept_count skip keep n in
-    let typed = type_of_columns columns in
-    let many : length rows ≡ n = ap (length {A = Row}) (sym is.rows_are) ∙ laws.count typed t in
-    let any : count ≡ 0 → ⊥ = λ e. subst IsLive (made ∙ part-none skip keep t e) live in
-    let some : 0 < count = omega (arith, any) in
-    let window : part ≡ Window t (pos skip) (pos count) = made ∙ part-some skip keep t any in
-    let within : skip + count ≤ n = omega (arith, some) in
-    let same = ap (kept_count skip keep) many in
-    let first : sliced skip keep 0 rows ≡ take count (drop skip rows) =
-    some-kept skip keep rows laws.sliced (omega (arith, some, same)) ∙ ap (λ m. take m (drop skip rows)) same in
-    let size = length-take count (drop skip rows) in
-    let left = length-drop skip rows in
-    let rest = after-chunk skip keep n rows chunks many in
-    let kept = take count (drop skip rows) in (
-      kept,
-      (λ i. unless_empty (first i) (rest i)) ∙ unless-any kept (sliced_chunks (skip - n) (keep - (n - skip)) 0 chunks) (omega (arith, size, left, some, many)),
-      record {
-        ok = subst (ChunkOk typed) (sym window) (laws.chunk typed t skip count within is.ok);
-        rows_are = ap (rows_of typed) window ∙ laws.rows typed t skip count within is.ok.0 ∙ ap (λ rs. take count (drop skip rs)) is.rows_are;
-        small = let e = ap Cost window in let f = laws.cost t (pos skip) (pos count) in omega (arith, e, f, is.small);
-        dicts = λ k none inside.
-            let children = ap children_of window ∙ window-children t (pos skip) (pos count) in
-            subst (λ cs. DictsAreFull (get_or columns k none).kind (get_or cs k Released)) (sym children) (is.dicts k none inside);
-      },
-    )
-
 windowed-live : (t : ArrayTree) (off len : ℤ) → IsLive t → IsLive (windowed t off len)
 windowed-live Released off len live = live
 windowed-live (Live m ts d) off len live = tt
@@ -151,69 +142,62 @@ window-live : (t : ArrayTree) (off len : ℤ) → IsLive t → IsLive (Window t 
 window-live t off len live =
     elim (is_whole t off len) as (λ w. IsLive (if w then t else windowed t off len)) [ true ↦ live | false ↦ windowed-live t off len live ]
 
--- no row is kept of a chunk that was released
-pub none-left : (skip keep : ℕ) (t part : ArrayTree) → IsLive t → part ≡ kept_part skip keep t → part ≡ Released → kept_count skip keep (tree_items t) ≡ 0
-none-left skip keep t part live made gone = elim (cases_eq (kept_count skip keep (tree_items t)) 0) [
-  | inl e ↦ e
-  | inr h ↦
-      let window : Released ≡ Window t (pos skip) (pos (kept_count skip keep (tree_items t))) = sym gone ∙ made ∙ part-some skip keep t h in
-      absurd (subst IsLive (sym window) (window-live t (pos skip) (pos (kept_count skip keep (tree_items t))) live))
-]
+-- ---- a call
 
--- ---- answers
+-- what a slice does with a chunk of these columns and rows
+pub slice-pushes : (before : List Column) (kept : List ColumnType) (skip keep next rest : ℕ) (t : ArrayTree) (rows : List Row) (more : List (List Row)) (typed : KindTree) (first last : Tally) (given : Option ArrayTree)
+    → WindowLaws → map column_of kept ≡ before → IsNext before rows more typed t → given ≡ kept_part skip keep t → next ≡ skip - tree_items t
+    → rest ≡ keep - (tree_items t - skip) → last.blocks ≡ first.blocks → last.nodes ≡ first.nodes → first.blocks < 2 ^ 64 → first.nodes < 2 ^ 64
+    → Pushes (map column_of kept) (λ _. 0) (λ _. 0) (λ _ _. Unit {0}) (λ _. sliced_chunks skip keep 0 (rows ∷ more))
+    (λ _. sliced_chunks next rest 0 more) (Unit {0}) true first last given
+slice-pushes before kept skip keep next rest t rows more typed first last given laws columns here made from many same_blocks same_nodes b n =
+    by-given given made
+  where
+    later : sliced_chunks (skip - tree_items t) (keep - (tree_items t - skip)) 0 more ≡ sliced_chunks next rest 0 more
+    later = λ i. sliced_chunks (sym from i) (sym many i) 0 more
 
-abbrev pub sliced_stream : List Column → ℕ → ℕ → Stream → Stream
-sliced_stream columns skip keep s = record s { columns = columns; ahead = sliced_chunks skip keep 0 s.ahead }
+    size : length rows ≡ tree_items t
+    size = ap (length {A = Row}) (sym here.is.rows_are) ∙ laws.count (type_of_columns before) t
 
--- the call that gives no chunk
-pub slice-ends : (s m n : Stream) (kept after : List Column) (skip keep skipped left : ℕ) (code done : ℤ) (out : ArrayTree) → done ≡ code
-    → sliced_chunks skip keep 0 s.ahead ≡ sliced_chunks skipped left 0 m.ahead → m.ending ≡ s.ending → Answers m n code out → out ≡ Released
-    → Answers (sliced_stream kept skip keep s) (sliced_stream after skipped left n) done out
-slice-ends s m n kept after skip keep skipped left code done out is same ending answers gone =
-    subst (λ told. Answers (sliced_stream kept skip keep s) (sliced_stream after skipped left n) told out) (sym is) (record {
-      chunk = λ live. absurd (subst IsLive gone live);
-      finish = λ zero released.
-          let end = answers.finish zero released in
-          (same ∙ ap (sliced_chunks skipped left 0) end.0, ap (sliced_chunks skipped left 0) end.1, sym ending ∙ end.2);
-      bad = λ e.
-          let end = answers.bad e in
-          (same ∙ ap (sliced_chunks skipped left 0) end.0, ap (sliced_chunks skipped left 0) end.1, end.2, sym ending ∙ end.3, end.4, end.5);
-      wants = answers.wants;
-      codes = answers.codes;
-    })
-
--- the call that gives one
-pub slice-gives : (s m n : Stream) (kept after : List Column) (skip keep skipped left next rest : ℕ) (code : ℤ) (t part : ArrayTree) → WindowLaws
-    → sliced_chunks skip keep 0 s.ahead ≡ sliced_chunks skipped left 0 m.ahead → kept ≡ m.columns → Answers m n code t → IsLive t
-    → part ≡ kept_part skipped left t → IsLive part → next ≡ skipped - tree_items t → rest ≡ left - (tree_items t - skipped)
-    → Answers (sliced_stream kept skip keep s) (sliced_stream after next rest n) (pos 0) part
-slice-gives s m n kept after skip keep skipped left next rest code t part laws same columns answers live made some from many =
-    let chunk = answers.chunk live in
-    let given = kept-chunk m.columns skipped left t part chunk.0 n.ahead laws chunk.2 made some in
-    let later : sliced_chunks (skipped - tree_items t) (left - (tree_items t - skipped)) 0 n.ahead ≡ sliced_chunks next rest 0 n.ahead =
-    λ i. sliced_chunks (sym from i) (sym many i) 0 n.ahead in
-    record {
-      chunk = λ _. (
-        given.0,
-        same ∙ ap (sliced_chunks skipped left 0) chunk.1 ∙ given.1 ∙ ap (λ (cs : List (List Row)). given.0 ∷ cs) later,
-        subst (λ cs. IsChunkOf cs given.0 part) (sym columns) given.2,
-      );
-      finish = λ _ gone. absurd (subst IsLive gone some);
-      bad = λ e. absurd (cc);
-      wants = λ e. absurd (cc);
-      codes = inl refl;
+    by-given : (given : Option ArrayTree) → given ≡ kept_part skip keep t
+        → Pushes (map column_of kept) (λ _. 0) (λ _. 0) (λ _ _. Unit {0}) (λ _. sliced_chunks skip keep 0 (rows ∷ more))
+        (λ _. sliced_chunks next rest 0 more) (Unit {0}) true first last given
+    by-given None made = record {
+      ahead = λ _. skipped-chunk skip keep (tree_items t) rows more laws.sliced size (none-left skip keep t (sym made)) ∙ later;
+      takes = tt;
+      blocks = same_blocks;
+      nodes = same_nodes;
     }
-
--- behind a chunk of which none are kept the same is still to come
-pub slice-skips : (s m n : Stream) (skip keep skipped left next rest : ℕ) (code : ℤ) (t part : ArrayTree) → WindowLaws
-    → sliced_chunks skip keep 0 s.ahead ≡ sliced_chunks skipped left 0 m.ahead → Answers m n code t → IsLive t
-    → part ≡ kept_part skipped left t → part ≡ Released → next ≡ skipped - tree_items t → rest ≡ left - (tree_items t - skipped)
-    → sliced_chunks skip keep 0 s.ahead ≡ sliced_chunks next rest 0 n.ahead
-slice-skips s m n skip keep skipped left next rest code t part laws same answers live made gone from many =
-    let chunk = answers.chunk live in
-    let rows = chunk.0 in
-    let size : length rows ≡ tree_items t = ap (length {A = Row}) (sym chunk.2.rows_are) ∙ laws.count (type_of_columns m.columns) t in
-    let none = none-left skipped left t part live made gone in
-    let later : sliced_chunks (skipped - tree_items t) (left - (tree_items t - skipped)) 0 n.ahead ≡ sliced_chunks next rest 0 n.ahead =
-    λ i. sliced_chunks (sym from i) (sym many i) 0 n.ahead in
-    same ∙ ap (sliced_chunks skipped left 0) chunk.1 ∙ skipped-chunk skipped left (tree_items t) rows n.ahead laws.sliced size none ∙ later
+    by-given (Some part) made =
+        let is = part-of skip keep t part made in
+        let typed = type_of_columns before in
+        let count = kept_count skip keep (tree_items t) in
+        let within : skip + count ≤ tree_items t = omega (arith, is.some) in
+        let same = ap (kept_count skip keep) size in
+        let some : sliced skip keep 0 rows ≡ take count (drop skip rows) =
+        some-kept skip keep rows laws.sliced (omega (arith, is.some, same)) ∙ ap (λ m. take m (drop skip rows)) same in
+        let taken = length-take count (drop skip rows) in
+        let left = length-drop skip rows in
+        let behind = after-chunk skip keep (tree_items t) rows more size in
+        let kept_rows = take count (drop skip rows) in
+        record {
+          rows = kept_rows;
+          ahead = λ _. (λ i. unless_empty (some i) (behind i))
+              ∙ unless-any kept_rows (sliced_chunks (skip - tree_items t) (keep - (tree_items t - skip)) 0 more)
+              (omega (arith, taken, left, is.some, size))
+              ∙ ap (λ (cs : List (List Row)). kept_rows ∷ cs) later;
+          is = subst (λ cs. IsChunkOf cs kept_rows part) (sym columns) (record {
+            ok = subst (ChunkOk typed) (sym is.window) (laws.chunk typed t skip count within here.is.ok);
+            rows_are = ap (rows_of typed) is.window ∙ laws.rows typed t skip count within here.is.ok.0
+                ∙ ap (λ rs. take count (drop skip rs)) here.is.rows_are;
+            small = let e = ap Cost is.window in let f = laws.cost t (pos skip) (pos count) in omega (arith, e, f, here.is.small);
+            dicts = λ k none inside.
+                let children = ap children_of is.window ∙ window-children t (pos skip) (pos count) in
+                subst (λ cs. DictsAreFull (get_or before k none).kind (get_or cs k Released)) (sym children) (here.is.dicts k none inside);
+          });
+          live = subst IsLive (sym is.window) (window-live t (pos skip) (pos count) here.live);
+          gives = tt;
+          rests = refl;
+          blocks = omega (arith, same_blocks, b);
+          nodes = omega (arith, same_nodes, n);
+        }

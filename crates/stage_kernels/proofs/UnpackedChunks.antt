@@ -1,6 +1,5 @@
--- What unpacking makes of a chunk, and of the answers of the stream below it.
-use Rattle.std.proofs.Common.{arith, ◌≡◌, ◌≤◌, ◌<◌, ◌+◌, ◌∙◌, ℕ, zero, suc, ℤ, pos, List, [], ◌∷◌, length, map, get_or, All, refl, sym, ap, subst, inl}
-use Rattle.std.specs.List.{AllByRecursion, fold}
+-- What unpacking makes of a chunk.
+use Rattle.std.proofs.Common.{arith, ◌≡◌, ◌≤◌, ◌<◌, ◌+◌, ◌∙◌, ℕ, zero, suc, ◌^◌, true, List, [], ◌∷◌, length, map, get_or, All, refl, sym, ap, subst}
 use Rattle.std.proofs.lemmas.List.{get_or-map, length-map}
 use Rattle.data_types.specs.ColumnView.{column_of}
 use Rattle.data_types.specs.Parts.{IsFields, column_values, member_columns, unpacked, unpacked_columns}
@@ -16,18 +15,13 @@ use Rattle.layout_rules.specs.Walk.{ChunkOk, LayoutOk}
 use Rattle.layout_rules.specs.Values.{rows_of}
 use Rattle.kind_tree.specs.ColumnKinds.{table_type, type_of_column, type_of_columns, types_of_columns}
 use Rattle.column_laws.specs.Picking.{Unpacked, cut_children}
-use Rattle.stage_model.specs.Stages.{chunks_after}
 use Rattle.stage_model.specs.Typing.{column_at, no_column}
-use Rattle.stage_model.specs.declared.stage.Step.TheVariants as steps
-use Rattle.stream_face.specs.Calls.{Answers, Counts}
-use Rattle.stream_face.specs.Lawful.{AreItems, DictsAreFull, HasFields, IsChunkOf, IsTable, LawfulTables, MemberDictsAreFull}
-use Rattle.stream_face.specs.Streams.{Stream, Traffic}
-use Rattle.plan_laws.specs.Dues.{due_with}
+use Rattle.stream_face.specs.Lawful.{AreItems, DictsAreFull, HasFields, IsChunkOf, IsTable, MemberDictsAreFull}
+use Rattle.stages.specs.Steps.{GivesOut, IsNext}
 use Rattle.work_parts.proofs.CutColumns.{dicts-window}
 use Rattle.work_parts.proofs.MovedChildren.{cut-at, cut_to}
 use Rattle.work_parts.proofs.Spliced.{at-behind, at-front, at-middle, each-holds, length-spliced, spliced}
 use Rattle.stage_kernels.specs.Unpacks.{UnpackFits}
-use Rattle.stage_kernels.proofs.PickedChunks.{risen-more}
 
 -- ---- dictionaries
 
@@ -119,10 +113,6 @@ all-fields columns place fields rows inside is_struct table = λ k none small.
 
 -- ---- answers
 
--- what the stage means, from what the stream below it means
-abbrev pub unpacking : ℕ → List ColumnType → Stream → Stream
-unpacking place kept s = record s { columns = map column_of kept; ahead = chunks_after (steps.Unpack place) s.ending s.ahead }
-
 -- what the laws say of a chunk with a struct's columns in its place
 pub record UnpackedChunk (place : ℕ) (fields : Members) (columns : List Column) (chunk : ArrayTree) : Type 0 where
   pub ok : ChunkOk (type_of_columns (unpacked_columns place fields columns)) (Unpacked chunk place)
@@ -165,90 +155,21 @@ chunk-of place fields columns rows before out inside is_struct made table chunk 
           (dicts-unpacked columns place fields inside is_struct before made.count made.counted chunk.dicts k none small);
     }
 
-not_released : (t out : ArrayTree) (place : ℕ) → out ≡ Unpacked t place → out ≡ Released → ⊥
-not_released t out place e r = let k : Released ≡ Unpacked t place = sym r ∙ e in absurd (cc)
-
-pub unpack_answers : (s n : Stream) (place : ℕ) (kept : List ColumnType) (code : ℤ) (before out : ArrayTree) → IsLive before → Answers s n code before
-    → LawfulTables s.columns s.ahead → (fit : UnpackFits place kept s.columns) → UnpackedChunk place fit.fields s.columns before
-    → out ≡ Unpacked before place → Cost out ≤ Cost before
-    → Answers (unpacking place kept s) (unpacking place kept n) (pos 0) out
-unpack_answers s n place kept code before out live answers lawful fit made is cost =
-    let chunk = answers.chunk live in
-    let tables = subst (AllByRecursion (IsTable s.columns)) chunk.1 lawful.tables in
-    record {
-      chunk = λ _. (
-        map (unpacked place) chunk.0,
-        ap (map (map (unpacked place))) chunk.1,
-        subst (λ cs. IsChunkOf cs (map (unpacked place) chunk.0) out) (sym fit.columns)
-            (chunk-of place fit.fields s.columns chunk.0 before out fit.inside fit.is_struct made tables.0 chunk.2 is cost),
-      );
-      finish = λ _ e. absurd (not_released before out place is e);
-      bad = λ e. absurd (cc);
-      wants = λ e. absurd (cc);
-      codes = inl refl;
-    }
-
--- ---- counts
-
-fold-zeros : (a : ℕ) (chunks : List (List Row)) → fold (λ b (rows : List Row). b + 0) a chunks ≡ a
-fold-zeros a [] = refl
-fold-zeros a (rows ∷ chunks) = let e = fold-zeros (a + 0) chunks in omega (arith, e)
-
-fold-ones : (a : ℕ) (chunks : List (List Row)) → fold (λ b (rows : List Row). b + 1) a chunks ≡ a + length chunks
-fold-ones a [] = omega arith
-fold-ones a (rows ∷ chunks) = let e = fold-ones (a + 1) chunks in omega (arith, e)
-
--- no block and a node for each chunk
-pub due-unpacked : (place : ℕ) (columns : List Column) (chunks : List (List Row)) (due : Traffic)
-    → ((due_with (steps.Unpack place) columns chunks due).blocks ≡ due.blocks)
-    × ((due_with (steps.Unpack place) columns chunks due).nodes ≡ due.nodes + length chunks)
-due-unpacked place columns chunks due = (
-  omega (arith, fold-zeros 0 chunks),
-  omega (arith, fold-ones 0 chunks),
-)
-
-pub unpack_counts : (s n : Stream) (place : ℕ) (columns : List Column) (code : ℤ) (before out : ArrayTree) (first middle last : Tally) → IsLive before
-    → Answers s n code before
-    → Counts s.due n.due first middle before → out ≡ Unpacked before place
-    → last.blocks ≡ middle.blocks → last.nodes ≡ risen middle.nodes 1
-    → Counts (due_with (steps.Unpack place) columns (chunks_after (steps.Unpack place) s.ending s.ahead) s.due)
-    (due_with (steps.Unpack place) columns (chunks_after (steps.Unpack place) n.ending n.ahead) n.due) first last out
-unpack_counts s n place columns code before out first middle last live answers counts is blocks nodes =
-    let chunk = answers.chunk live in
-    let old = due-unpacked place columns (map (map (unpacked place)) s.ahead) s.due in
-    let new = due-unpacked place columns (map (map (unpacked place)) n.ahead) n.due in
-    let a = length-map s.ahead (map (unpacked place)) in
-    let b = length-map n.ahead (map (unpacked place)) in
-    let longer = ap (length {A = List Row}) chunk.1 in
-    record {
-      made = record { blocks = counts.made.blocks; nodes = counts.made.nodes + 1 };
-      blocks = blocks ∙ counts.blocks;
-      nodes = risen-more first.nodes middle.nodes last.nodes counts.made.nodes counts.nodes nodes;
-      fewer_blocks = omega (arith, counts.fewer_blocks, old.0, new.0);
-      fewer_nodes = omega (arith, counts.fewer_nodes, longer, old.1, new.1, a, b);
-      no_blocks = λ e. absurd (not_released before out place is e);
-      no_nodes = λ e. absurd (not_released before out place is e);
-    }
-
--- where nothing is to come, nothing is due
-pub ended_counts : (s n : Stream) (place : ℕ) (columns : List Column) (out : ArrayTree) (first last : Tally) → Counts s.due n.due first last out
-    → Answers s n (pos 0) out → (IsLive out → ⊥) → out ≡ Released
-    → Counts (due_with (steps.Unpack place) columns (chunks_after (steps.Unpack place) s.ending s.ahead) s.due)
-    (due_with (steps.Unpack place) columns (chunks_after (steps.Unpack place) n.ending n.ahead) n.due) first last out
-ended_counts s n place columns out first last counts answers dead gone =
-    let end = answers.finish refl gone in
-    let old = due-unpacked place columns (map (map (unpacked place)) s.ahead) s.due in
-    let new = due-unpacked place columns (map (map (unpacked place)) n.ahead) n.due in
-    let a = length-map s.ahead (map (unpacked place)) in
-    let b = length-map n.ahead (map (unpacked place)) in
-    let none = ap (length {A = List Row}) end.0 in
-    let no_more = ap (length {A = List Row}) end.1 in
-    record {
-      made = counts.made;
-      blocks = counts.blocks;
-      nodes = counts.nodes;
-      fewer_blocks = omega (arith, counts.fewer_blocks, old.0, new.0);
-      fewer_nodes = omega (arith, counts.fewer_nodes, none, no_more, old.1, new.1, a, b);
-      no_blocks = λ e. let h = counts.no_blocks e in omega (arith, h, new.0);
-      no_nodes = λ e. let h = counts.no_nodes e in omega (arith, h, new.1, no_more, b);
-    }
+-- what unpacking gives of a chunk of these columns and rows
+pub unpack-gives : (before : List Column) (kept : List ColumnType) (place : ℕ) (t made : ArrayTree) (rows : List Row) (more : List (List Row))
+    (typed : KindTree) (first last : Tally) → IsNext before rows more typed t → (fit : UnpackFits place kept before)
+    → UnpackedChunk place fit.fields before t → made ≡ Unpacked t place → Cost made ≤ Cost t → last.blocks ≡ first.blocks
+    → last.nodes ≡ risen first.nodes 1 → first.blocks < 2 ^ 64
+    → GivesOut (map column_of kept) (λ _. 0) (λ _. 1) (λ _ _. Unit {0}) (λ _. map (map (unpacked place)) (rows ∷ more))
+    (λ _. map (map (unpacked place)) more) true first last made
+unpack-gives before kept place t made rows more typed first last next fit are is cost blocks nodes b = record {
+  rows = map (unpacked place) rows;
+  ahead = λ _. refl;
+  is = subst (λ cs. IsChunkOf cs (map (unpacked place) rows) made) (sym fit.columns)
+      (chunk-of place fit.fields before rows t made fit.inside fit.is_struct are next.tables.tables.0 next.is is cost);
+  live = subst IsLive (sym is) tt;
+  gives = tt;
+  rests = refl;
+  blocks = omega (arith, blocks, b);
+  nodes = nodes;
+}

@@ -2,4 +2,3 @@ pub mod Picks
 pub mod Slices
 pub mod Packs
 pub mod Unpacks
-pub mod KernelWorks

@@ -1,5 +1,5 @@
 -- Columns and rows that are picked.
-use Rattle.std.specs.Prelude.{◌≡◌, ◌+◌, ℕ, List, length, map}
+use Rattle.std.specs.Prelude.{◌≡◌, ℕ, List, length, map}
 use Rattle.data_types.specs.declared.kind.ColumnType.{ColumnType}
 use Rattle.data_types.specs.ColumnView.{column_of}
 use Rattle.data_types.specs.Parts.{AreWithin, picked}
@@ -8,7 +8,6 @@ use Rattle.data_types.specs.Value.{Null}
 use Rattle.arr_move.specs.TreeActs.{Distinct}
 -- stands for a column that isn't there
 pub use Rattle.stage_model.specs.Typing.{no_column}
-use Rattle.stream_face.specs.Streams.{Traffic}
 
 abbrev pub picked_columns : List ℕ → List Column → List Column
 picked_columns picks columns = picked no_column picks columns
@@ -21,7 +20,3 @@ pub record PickFits (picks : List ℕ) (kept : List ColumnType) (before : List C
   pub distinct : Distinct picks
   pub within : AreWithin (length before) picks
   pub columns : map column_of kept ≡ picked_columns picks before
-
--- a node more for each chunk that is to come
-abbrev pub with_nodes : ℕ → Traffic → Traffic
-with_nodes n due = record { blocks = due.blocks; nodes = due.nodes + n }

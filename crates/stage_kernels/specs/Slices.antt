@@ -1,9 +1,8 @@
 -- What a slice keeps of chunks.
-use Rattle.std.specs.Prelude.{◌≡◌, ◌-◌, ◌==◌, ℕ, pos, min, if◌then◌else◌, List, map}
+use Rattle.std.specs.Prelude.{◌≡◌, ◌-◌, ◌==◌, ℕ, pos, min, if◌then◌else◌, List, map, Option, None, Some}
 use Rattle.data_types.specs.ColumnView.{column_of}
 use Rattle.data_types.specs.Table.{Column}
 use Rattle.data_types.specs.declared.kind.ColumnType.{ColumnType}
-use Rattle.tree_model.specs.Tree.{Released}
 use Rattle.raw_array.specs.Members.{ArrayTree}
 use Rattle.raw_array.specs.Windows.{Window}
 use Rattle.layout_rules.specs.Values.{tree_items}
@@ -16,8 +15,8 @@ pub record SliceFits (kept : List ColumnType) (before : List Column) : Type 0 wh
 abbrev pub kept_count : ℕ → ℕ → ℕ → ℕ
 kept_count skip keep count = min keep (count - skip)
 
--- a chunk with those of its rows that are kept; a released array where there are none
-abbrev pub kept_part : ℕ → ℕ → ArrayTree → ArrayTree
+-- a chunk with those of its rows that are kept; none where there are none
+abbrev pub kept_part : ℕ → ℕ → ArrayTree → Option ArrayTree
 kept_part skip keep chunk =
     let kept = kept_count skip keep (tree_items chunk) in
-    if kept == 0 then Released else Window chunk (pos skip) (pos kept)
+    if kept == 0 then None else Some (Window chunk (pos skip) (pos kept))

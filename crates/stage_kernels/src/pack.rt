@@ -1,94 +1,94 @@
-//! The work that puts columns under a new struct.
-ghost use Rattle.std.specs.Prelude.{◌≡◌, map};
+//! The step that puts columns under a new struct.
+ghost use Rattle.std.specs.Prelude.{◌≡◌, Some, map};
 ghost use Rattle.data_types.specs.ColumnView.{column_of};
 ghost use Rattle.stage_model.specs.Stages.{chunks_after};
 ghost use Rattle.stage_model.specs.declared.stage.Step.TheVariants as steps;
-ghost use Rattle.stages.specs.Works.{rows_alone};
-ghost use Rattle.plan_laws.specs.Dues.{due_with};
+ghost use Rattle.stage_model.specs.Traffic.{made_blocks, made_nodes};
+ghost use Rattle.stages.specs.Steps.{always, any_tables, rows_only};
 ghost use Rattle.stage_kernels.specs.Packs.{PackFits};
 
 use crate::packed::packed;
 use array_laws::lawful_arrays_are_not_deep;
 use column_laws::columns_of_a_table;
 use edge_face::Gate;
+use kind_tree::Typed;
 use raw_array::RawArray;
-use raw_schema::RawSchema;
-use stages::{OutColumns, Work};
+use stages::{ChunkStep, OutColumns};
 use std::alloc::Global;
 use std::thread::Threads;
-use stream_face::{ArrayStream, RawStream, Tap};
 use unit_pass::{NoMemory, Pass};
 use work_parts::chunks_are_small;
 
 /// The columns that stay, in their order, and behind them a struct of the picked columns, in the order of the picks.
 #[derive(Drop)]
-pub struct PackWork {
+pub struct PackStep {
     rest: Vec<usize>,
     picks: Vec<usize>,
     out: OutColumns,
 }
 
-impl PackWork {
+impl PackStep {
     /// Puts columns under a struct by their numbers, from 0: `rest` are those that stay, `picks` those that go under it, and
     /// `out` the columns after it. Takes no memory.
-    pub fn new(rest: Vec<usize>, picks: Vec<usize>, out: OutColumns) -> PackWork
+    pub fn new(rest: Vec<usize>, picks: Vec<usize>, out: OutColumns) -> PackStep
         ensures rest { result.rest.items ≡ rest.items }
         ensures picks { result.picks.items ≡ picks.items }
         ensures out { result.out ≡ out }
     {
-        PackWork { rest, picks, out }
+        PackStep { rest, picks, out }
     }
 }
 
-impl Work for PackWork {
-    ghost columns = { λ w before. map column_of w.out };
+impl ChunkStep for PackStep {
+    ghost columns = { λ s. s.out };
 
-    ghost fits = { λ w before. PackFits w.rest.items w.picks.items w.out before };
+    ghost fits = { λ s before. PackFits s.rest.items s.picks.items s.out before };
 
-    ghost ahead = { λ w up. chunks_after (steps.Pack w.rest.items w.picks.items) up.ending up.ahead };
+    ghost ahead = { λ s ending tables. chunks_after (steps.Pack s.rest.items s.picks.items) ending tables };
 
-    ghost due = { λ w up. due_with (steps.Pack w.rest.items w.picks.items) (map column_of w.out)
-        (chunks_after (steps.Pack w.rest.items w.picks.items) up.ending up.ahead) up.due };
+    ghost blocks = { λ s rows. made_blocks (Some (steps.Pack s.rest.items s.picks.items)) (map column_of s.out) rows };
 
-    ghost gives = { rows_alone };
+    ghost nodes = { λ s rows. made_nodes (Some (steps.Pack s.rest.items s.picks.items)) (map column_of s.out) };
 
-    fn schema(&self, alloc: Global, pass: &mut Pass) -> Result<RawSchema, NoMemory> {
-        self.out.schema(alloc, pass)
+    ghost gives = { rows_only };
+
+    ghost rests = { always };
+
+    ghost takes = { any_tables };
+
+    fn after(&self) -> &OutColumns {
+        &self.out
     }
 
-    fn next<U: ArrayStream, R: Threads + Sync, T: Tap>(
+    fn push<R: Threads + Sync>(
         &mut self,
-        up: &mut RawStream<U>,
-        rt: &R,
+        chunk: RawArray,
+        _typed: &Typed,
+        _rt: &R,
         alloc: Global,
-        out: &mut RawArray,
         pass: &mut Pass,
-        tap: &mut T,
-        gate: &(dyn Gate + Sync),
-    ) -> Result<i32, NoMemory> {
-        let code = up.next(rt, alloc, out, pass, tap, gate);
-        if code != 0 || out.is_released() {
-            return Ok(code);
-        }
+        _gate: &(dyn Gate + Sync),
+    ) -> Result<Option<RawArray>, NoMemory> {
         columns_of_a_table();
         lawful_arrays_are_not_deep();
         chunks_are_small();
-        up.lawful_facts();
-        let _typed = up.typed();
         match packed(
             alloc,
-            out.move_out(),
+            chunk,
             self.rest.as_slice(),
             self.picks.as_slice(),
             pass,
         ) {
-            Ok(chunk) => {
-                out.put(chunk);
-                Ok(0)
-            }
+            Ok(made) => Ok(Some(made)),
             Err(NoMemory) => Err(NoMemory),
         }
     }
+
+    fn finish(&mut self, _alloc: Global, _pass: &mut Pass) -> Result<Option<RawArray>, NoMemory> {
+        Ok(None)
+    }
+
+    fn forget(&mut self) {}
 
     fn lawful_facts(&self) {
         self.out.schema_is_small();

@@ -1,5 +1,6 @@
-//! The work that picks columns.
-ghost use Rattle.std.specs.Prelude.{◌≡◌, ◌+◌, ◌≤◌, ◌^◌, List, length, map, IfOk, IfErr, MatchResult, if◌then◌else◌, is_ok};
+//! The step that picks columns.
+ghost use Rattle.std.specs.Prelude.{◌≡◌, ◌+◌, ◌≤◌, ◌^◌, List, Some, length, map, IfOk, MatchResult};
+ghost use Rattle.data_types.specs.ColumnView.{column_of};
 ghost use Rattle.data_types.specs.Parts.{AreWithin};
 ghost use Rattle.data_types.specs.Table.{Column};
 ghost use Rattle.raw_array.specs.Members.{ArrayTree, Cost};
@@ -10,35 +11,35 @@ ghost use Rattle.layout_rules.specs.Walk.{ChunkOk};
 ghost use Rattle.arr_move.specs.TreeActs.{Columns, Distinct};
 ghost use Rattle.stage_model.specs.Stages.{chunks_after};
 ghost use Rattle.stage_model.specs.declared.stage.Step.TheVariants as steps;
-ghost use Rattle.stages.specs.Works.{rows_alone};
-ghost use Rattle.stage_kernels.specs.Picks.{PickFits, picked_columns, picked_rows, with_nodes};
+ghost use Rattle.stage_model.specs.Traffic.{made_blocks, made_nodes};
+ghost use Rattle.stages.specs.Steps.{always, any_tables, rows_only};
+ghost use Rattle.stage_kernels.specs.Picks.{PickFits};
 
 use arr_move::take_columns;
 use column_laws::columns_of_a_table;
 use edge_face::Gate;
+use kind_tree::Typed;
 use layout_rules::lawful_trees;
 use raw_array::RawArray;
-use raw_schema::RawSchema;
-use stages::{OutColumns, Work};
+use stages::{ChunkStep, OutColumns};
 use std::alloc::Global;
 use std::thread::Threads;
-use stream_face::{ArrayStream, RawStream, Tap};
 use unit_pass::{NoMemory, Pass, SUPPLY};
 
 /// The picked columns, in the order of the picks.
 #[derive(Drop)]
-pub struct SelectWork {
+pub struct SelectStep {
     picks: Vec<usize>,
     out: OutColumns,
 }
 
-impl SelectWork {
+impl SelectStep {
     /// Picks columns by their numbers, from 0; `out` are those that are picked. Takes no memory.
-    pub fn new(picks: Vec<usize>, out: OutColumns) -> SelectWork
+    pub fn new(picks: Vec<usize>, out: OutColumns) -> SelectStep
         ensures picks { result.picks.items ≡ picks.items }
         ensures out { result.out ≡ out }
     {
-        SelectWork { picks, out }
+        SelectStep { picks, out }
     }
 }
 
@@ -72,45 +73,48 @@ fn select(
     }
 }
 
-impl Work for SelectWork {
-    ghost columns = { λ w before. picked_columns w.picks.items before };
+impl ChunkStep for SelectStep {
+    ghost columns = { λ s. s.out };
 
-    ghost fits = { λ w before. PickFits w.picks.items w.out before };
+    ghost fits = { λ s before. PickFits s.picks.items s.out before };
 
-    ghost ahead = { λ w up. chunks_after (steps.Select w.picks.items) up.ending up.ahead };
+    ghost ahead = { λ s ending tables. chunks_after (steps.Select s.picks.items) ending tables };
 
-    ghost due = { λ w up. with_nodes (length up.ahead) up.due };
+    ghost blocks = { λ s rows. made_blocks (Some (steps.Select s.picks.items)) (map column_of s.out) rows };
 
-    ghost gives = { rows_alone };
+    ghost nodes = { λ s rows. made_nodes (Some (steps.Select s.picks.items)) (map column_of s.out) };
 
-    fn schema(&self, alloc: Global, pass: &mut Pass) -> Result<RawSchema, NoMemory> {
-        self.out.schema(alloc, pass)
+    ghost gives = { rows_only };
+
+    ghost rests = { always };
+
+    ghost takes = { any_tables };
+
+    fn after(&self) -> &OutColumns {
+        &self.out
     }
 
-    fn next<U: ArrayStream, R: Threads + Sync, T: Tap>(
+    fn push<R: Threads + Sync>(
         &mut self,
-        up: &mut RawStream<U>,
-        rt: &R,
+        chunk: RawArray,
+        _typed: &Typed,
+        _rt: &R,
         alloc: Global,
-        out: &mut RawArray,
         pass: &mut Pass,
-        tap: &mut T,
-        gate: &(dyn Gate + Sync),
-    ) -> Result<i32, NoMemory> {
-        let code = up.next(rt, alloc, out, pass, tap, gate);
-        if code != 0 || out.is_released() {
-            return Ok(code);
-        }
+        _gate: &(dyn Gate + Sync),
+    ) -> Result<Option<RawArray>, NoMemory> {
         columns_of_a_table();
-        let _typed = up.typed();
-        match select(alloc, out.move_out(), self.picks.as_slice(), pass) {
-            Ok(taken) => {
-                out.put(taken);
-                Ok(0)
-            }
+        match select(alloc, chunk, self.picks.as_slice(), pass) {
+            Ok(taken) => Ok(Some(taken)),
             Err(NoMemory) => Err(NoMemory),
         }
     }
+
+    fn finish(&mut self, _alloc: Global, _pass: &mut Pass) -> Result<Option<RawArray>, NoMemory> {
+        Ok(None)
+    }
+
+    fn forget(&mut self) {}
 
     fn lawful_facts(&self) {}
 }

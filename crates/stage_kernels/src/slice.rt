@@ -1,5 +1,5 @@
-//! The work that keeps the rows of a window.
-ghost use Rattle.std.specs.Prelude.{◌≡◌, ◌+◌, ◌-◌, ◌≤◌, ◌^◌, pos, List, map};
+//! The step that keeps the rows of a window.
+ghost use Rattle.std.specs.Prelude.{◌≡◌, ◌+◌, ◌-◌, ◌≤◌, ◌^◌, pos, List, Some, map};
 ghost use Rattle.data_types.specs.ColumnView.{column_of};
 ghost use Rattle.data_types.specs.Table.{Column};
 ghost use Rattle.raw_array.specs.Members.{Cost};
@@ -10,39 +10,39 @@ ghost use Rattle.layout_rules.specs.Values.{tree_items};
 ghost use Rattle.layout_rules.specs.Walk.{ChunkOk};
 ghost use Rattle.stage_model.specs.Stages.{chunks_after};
 ghost use Rattle.stage_model.specs.declared.stage.Step.TheVariants as steps;
-ghost use Rattle.stages.specs.Works.{rows_alone};
+ghost use Rattle.stage_model.specs.Traffic.{made_blocks, made_nodes};
+ghost use Rattle.stages.specs.Steps.{always, any_tables, cost_given, rows_only};
 ghost use Rattle.stage_kernels.specs.Slices.{SliceFits, kept_part};
 
 use arr_move::slice;
 use array_laws::windows_are_parts;
 use edge_face::Gate;
+use kind_tree::Typed;
 use layout_rules::{chunks_are_tables, lawful_trees};
 use raw_array::{RawArray, windows_keep_measures};
-use raw_schema::RawSchema;
 use stage_model::slices_are_windows;
-use stages::{OutColumns, Work};
+use stages::{ChunkStep, OutColumns};
 use std::alloc::Global;
 use std::thread::Threads;
-use stream_face::{ArrayStream, RawStream, Tap};
 use unit_pass::{NoMemory, Pass, SUPPLY};
 
 /// The window: how many rows are still skipped, and how many are kept after them.
 #[derive(Drop)]
-pub struct SliceWork {
+pub struct SliceStep {
     skip: u64,
     keep: u64,
     out: OutColumns,
 }
 
-impl SliceWork {
+impl SliceStep {
     /// Keeps the rows from number `off` on, counted from 0 over all chunks, and at most `len` of them; `out` are the columns.
     /// Takes no memory.
-    pub fn new(off: u64, len: u64, out: OutColumns) -> SliceWork
+    pub fn new(off: u64, len: u64, out: OutColumns) -> SliceStep
         ensures skip { result.skip ≡ off }
         ensures keep { result.keep ≡ len }
         ensures out { result.out ≡ out }
     {
-        SliceWork {
+        SliceStep {
             skip: off,
             keep: len,
             out,
@@ -50,26 +50,27 @@ impl SliceWork {
     }
 
     /// Narrows a chunk to those of its rows that are kept, and counts its rows off. A chunk without such rows is released.
-    fn narrow(&mut self, chunk: &mut RawArray, pass: &mut Pass)
-        requires chunk { (columns : List Column) × ChunkOk (type_of_columns columns) chunk.old }
-        requires room { pass.old.units + Cost chunk.old ≤ SUPPLY }
-        ensures skip { self.new.skip ≡ self.old.skip - tree_items chunk.old }
-        ensures keep { self.new.keep ≡ self.old.keep - (tree_items chunk.old - self.old.skip) }
+    fn narrow(&mut self, chunk: RawArray, pass: &mut Pass) -> Option<RawArray>
+        requires chunk { (columns : List Column) × ChunkOk (type_of_columns columns) chunk }
+        requires room { pass.old.units + Cost chunk ≤ SUPPLY }
+        ensures skip { self.new.skip ≡ self.old.skip - tree_items chunk }
+        ensures keep { self.new.keep ≡ self.old.keep - (tree_items chunk - self.old.skip) }
         ensures out { self.new.out ≡ self.old.out }
-        ensures part { chunk.new ≡ kept_part self.old.skip self.old.keep chunk.old }
-        ensures units { pass.new.units + Cost chunk.new ≡ pass.old.units + Cost chunk.old }
+        ensures part { result ≡ kept_part self.old.skip self.old.keep chunk }
+        ensures units { pass.new.units + cost_given result ≡ pass.old.units + Cost chunk }
         ensures blocks { pass.new.blocks ≡ pass.old.blocks }
         ensures nodes { pass.new.nodes ≡ pass.old.nodes }
     {
-        let count = row_count(chunk);
+        let count = row_count(&chunk);
         let start = self.skip.min(count);
         let kept = self.keep.min(count - start);
         self.skip -= start;
         self.keep -= kept;
         if kept == 0 {
-            chunk.release(pass);
+            chunk.end(pass);
+            None
         } else {
-            cut(chunk, start, kept);
+            Some(cut(chunk, start, kept))
         }
     }
 }
@@ -92,64 +93,61 @@ fn signed(count: u64) -> i64
     count as i64
 }
 
-/// Narrows a chunk to so many of its rows, from row `start` on.
-fn cut(chunk: &mut RawArray, start: u64, count: u64)
-    requires chunk { (columns : List Column) × ChunkOk (type_of_columns columns) chunk.old }
-    requires within { start + count ≤ tree_items chunk.old }
+/// So many rows of a chunk, from row `start` on.
+fn cut(chunk: RawArray, start: u64, count: u64) -> RawArray
+    requires chunk { (columns : List Column) × ChunkOk (type_of_columns columns) chunk }
+    requires within { start + count ≤ tree_items chunk }
     requires few { start + count ≤ 2 ^ 40 }
-    ensures window { chunk.new ≡ Window chunk.old (pos start) (pos count) }
-    ensures cost { Cost chunk.new ≡ Cost chunk.old }
+    ensures window { result ≡ Window chunk (pos start) (pos count) }
+    ensures cost { Cost result ≡ Cost chunk }
 {
     windows_are_parts();
     windows_keep_measures();
-    let part = slice(chunk.move_out(), signed(start), signed(count));
-    chunk.put(part);
+    slice(chunk, signed(start), signed(count))
 }
 
-impl Work for SliceWork {
-    ghost columns = { λ w before. map column_of w.out };
+impl ChunkStep for SliceStep {
+    ghost columns = { λ s. s.out };
 
-    ghost fits = { λ w before. SliceFits w.out before };
+    ghost fits = { λ s before. SliceFits s.out before };
 
-    ghost ahead = { λ w up. chunks_after (steps.Slice w.skip w.keep) up.ending up.ahead };
+    ghost ahead = { λ s ending tables. chunks_after (steps.Slice s.skip s.keep) ending tables };
 
-    ghost due = { λ w up. up.due };
+    ghost blocks = { λ s rows. made_blocks (Some (steps.Slice s.skip s.keep)) (map column_of s.out) rows };
 
-    ghost gives = { rows_alone };
+    ghost nodes = { λ s rows. made_nodes (Some (steps.Slice s.skip s.keep)) (map column_of s.out) };
 
-    fn schema(&self, alloc: Global, pass: &mut Pass) -> Result<RawSchema, NoMemory> {
-        self.out.schema(alloc, pass)
+    ghost gives = { rows_only };
+
+    ghost rests = { always };
+
+    ghost takes = { any_tables };
+
+    fn after(&self) -> &OutColumns {
+        &self.out
     }
 
-    fn next<U: ArrayStream, R: Threads + Sync, T: Tap>(
+    fn push<R: Threads + Sync>(
         &mut self,
-        up: &mut RawStream<U>,
-        rt: &R,
-        alloc: Global,
-        out: &mut RawArray,
+        chunk: RawArray,
+        _typed: &Typed,
+        _rt: &R,
+        _alloc: Global,
         pass: &mut Pass,
-        tap: &mut T,
-        gate: &(dyn Gate + Sync),
-    ) -> Result<i32, NoMemory> {
-        let _units = pass.units();
-        let _blocks = pass.blocks();
-        let _nodes = pass.nodes();
+        _gate: &(dyn Gate + Sync),
+    ) -> Result<Option<RawArray>, NoMemory> {
         chunks_are_tables();
         slices_are_windows();
         windows_are_parts();
         windows_keep_measures();
-        'chunks: loop {
-            let code = up.next(rt, alloc, out, pass, tap, gate);
-            if code != 0 || out.is_released() {
-                return Ok(code);
-            }
-            let _typed = up.typed();
-            self.narrow(out, pass);
-            if !out.is_released() {
-                return Ok(0);
-            }
-        }
+        Ok(self.narrow(chunk, pass))
     }
+
+    fn finish(&mut self, _alloc: Global, _pass: &mut Pass) -> Result<Option<RawArray>, NoMemory> {
+        Ok(None)
+    }
+
+    fn forget(&mut self) {}
 
     fn lawful_facts(&self) {}
 }

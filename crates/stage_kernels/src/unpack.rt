@@ -1,10 +1,10 @@
-//! The work that unpacks a struct column.
-ghost use Rattle.std.specs.Prelude.{◌≡◌, map};
+//! The step that unpacks a struct column.
+ghost use Rattle.std.specs.Prelude.{◌≡◌, Some, map};
 ghost use Rattle.data_types.specs.ColumnView.{column_of};
 ghost use Rattle.stage_model.specs.Stages.{chunks_after};
 ghost use Rattle.stage_model.specs.declared.stage.Step.TheVariants as steps;
-ghost use Rattle.stages.specs.Works.{rows_alone};
-ghost use Rattle.plan_laws.specs.Dues.{due_with};
+ghost use Rattle.stage_model.specs.Traffic.{made_blocks, made_nodes};
+ghost use Rattle.stages.specs.Steps.{always, any_tables, rows_only};
 ghost use Rattle.stage_kernels.specs.Unpacks.{UnpackFits};
 
 use crate::unpacked::unpack_column;
@@ -12,72 +12,73 @@ use arr_export::column_schemas_are_lawful;
 use array_laws::lawful_structs_have_columns;
 use column_laws::columns_of_a_table;
 use edge_face::Gate;
+use kind_tree::Typed;
 use raw_array::RawArray;
-use raw_schema::RawSchema;
-use stages::{OutColumns, Work};
+use stages::{ChunkStep, OutColumns};
 use std::alloc::Global;
 use std::thread::Threads;
-use stream_face::{ArrayStream, RawStream, Tap};
 use unit_pass::{NoMemory, Pass};
 
 /// A struct column, replaced at its place by its columns.
 #[derive(Drop)]
-pub struct UnpackWork {
+pub struct UnpackStep {
     place: usize,
     out: OutColumns,
 }
 
-impl UnpackWork {
+impl UnpackStep {
     /// Unpacks the struct column of a number, from 0; `out` are the columns with its columns in its place. Takes no memory.
-    pub fn new(place: usize, out: OutColumns) -> UnpackWork
+    pub fn new(place: usize, out: OutColumns) -> UnpackStep
         ensures place { result.place ≡ place }
         ensures out { result.out ≡ out }
     {
-        UnpackWork { place, out }
+        UnpackStep { place, out }
     }
 }
 
-impl Work for UnpackWork {
-    ghost columns = { λ w before. map column_of w.out };
+impl ChunkStep for UnpackStep {
+    ghost columns = { λ s. s.out };
 
-    ghost fits = { λ w before. UnpackFits w.place w.out before };
+    ghost fits = { λ s before. UnpackFits s.place s.out before };
 
-    ghost ahead = { λ w up. chunks_after (steps.Unpack w.place) up.ending up.ahead };
+    ghost ahead = { λ s ending tables. chunks_after (steps.Unpack s.place) ending tables };
 
-    ghost due = { λ w up. due_with (steps.Unpack w.place) (map column_of w.out) (chunks_after (steps.Unpack w.place) up.ending up.ahead) up.due };
+    ghost blocks = { λ s rows. made_blocks (Some (steps.Unpack s.place)) (map column_of s.out) rows };
 
-    ghost gives = { rows_alone };
+    ghost nodes = { λ s rows. made_nodes (Some (steps.Unpack s.place)) (map column_of s.out) };
 
-    fn schema(&self, alloc: Global, pass: &mut Pass) -> Result<RawSchema, NoMemory> {
-        self.out.schema(alloc, pass)
+    ghost gives = { rows_only };
+
+    ghost rests = { always };
+
+    ghost takes = { any_tables };
+
+    fn after(&self) -> &OutColumns {
+        &self.out
     }
 
-    fn next<U: ArrayStream, R: Threads + Sync, T: Tap>(
+    fn push<R: Threads + Sync>(
         &mut self,
-        up: &mut RawStream<U>,
-        rt: &R,
+        chunk: RawArray,
+        _typed: &Typed,
+        _rt: &R,
         alloc: Global,
-        out: &mut RawArray,
         pass: &mut Pass,
-        tap: &mut T,
-        gate: &(dyn Gate + Sync),
-    ) -> Result<i32, NoMemory> {
-        up.lawful_facts();
-        let code = up.next(rt, alloc, out, pass, tap, gate);
-        if code != 0 || out.is_released() {
-            return Ok(code);
-        }
+        _gate: &(dyn Gate + Sync),
+    ) -> Result<Option<RawArray>, NoMemory> {
         lawful_structs_have_columns();
         columns_of_a_table();
-        let _typed = up.typed();
-        match unpack_column(alloc, out.move_out(), self.place, pass) {
-            Ok(taken) => {
-                out.put(taken);
-                Ok(0)
-            }
+        match unpack_column(alloc, chunk, self.place, pass) {
+            Ok(made) => Ok(Some(made)),
             Err(NoMemory) => Err(NoMemory),
         }
     }
+
+    fn finish(&mut self, _alloc: Global, _pass: &mut Pass) -> Result<Option<RawArray>, NoMemory> {
+        Ok(None)
+    }
+
+    fn forget(&mut self) {}
 
     fn lawful_facts(&self) {
         column_schemas_are_lawful();

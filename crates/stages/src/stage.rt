@@ -1,18 +1,16 @@
-//! A stage: the checked stream below it, and its work.
-ghost use Rattle.std.specs.Prelude.{◌≡◌, ◌≢◌, ◌≤◌, ◌+◌, List, None, true, pos, IsTrue, IfOk, OnErr, OnOk, MatchResult};
+//! A stage: the checked stream below it, and its step.
+ghost use Rattle.std.specs.Prelude.{◌≡◌, ◌≢◌, ◌+◌, ◌≤◌, IsTrue, List, [], get_or, pos, true};
 ghost use Rattle.std.specs.Thread.{IsSync};
-ghost use Rattle.data_types.specs.Table.{Column, Row};
+ghost use Rattle.data_types.specs.Table.{Row};
 ghost use Rattle.tree_model.specs.Tree.{IsLive, Released};
 ghost use Rattle.raw_array.specs.Members.{ArrayTree, Cost};
-ghost use Rattle.raw_schema.specs.Members.{Nodes};
-ghost use Rattle.unit_pass.specs.Tally.{risen};
-ghost use Rattle.unit_pass.specs.declared.pass.TheConstants.{CHUNK, ROOM};
-ghost use Rattle.schema_check.specs.ColumnSchema.{SchemaOf};
-ghost use Rattle.stream_face.specs.Calls.{Answers, Counts, IsCode, IsRowFault, Repeats, Shows, Tells};
-ghost use Rattle.stream_face.specs.Lawful.{LawfulColumns, LawfulTables};
+ghost use Rattle.unit_pass.specs.declared.pass.TheConstants.{ROOM};
+ghost use Rattle.stream_face.specs.Calls.{Answers, Counts, IsCode, IsRowFault, IsTold, Repeats, Shows, Tells};
 ghost use Rattle.stream_face.specs.Meaning.{meaning};
-ghost use Rattle.stream_face.specs.Streams.{IsFresh, Keeps, Stream, Traffic};
+ghost use Rattle.stream_face.specs.Streams.{IsFresh, Keeps};
 
+use crate::pull::pull;
+use crate::step::ChunkStep;
 use data_types::RowFault;
 use edge_face::Gate;
 use raw_array::{Acted, RawArray};
@@ -20,82 +18,7 @@ use raw_schema::RawSchema;
 use std::alloc::Global;
 use std::thread::Threads;
 use stream_face::{ArrayStream, RawStream, Tap};
-use unit_pass::{CHUNK, NoMemory, Pass, ROOM};
-
-/// What a stage does to the stream below it. It holds no stream.
-pub trait Work: Drop {
-    /// The columns after it, from those before it.
-    ghost columns: { Self → List Column → List Column };
-
-    /// It is made for these columns.
-    ghost fits: { Self → List Column → Type 0 };
-
-    /// The tables that the stage still gives, from what the stream below it means.
-    ghost ahead: { Self → Stream → List (List Row) };
-
-    /// The blocks and nodes that its calls still count.
-    ghost due: { Self → Stream → Traffic };
-
-    /// What a chunk that it gives has besides its rows, from what the stream below it means.
-    ghost gives: { Self → Stream → ArrayTree → Type 0 };
-
-    /// The schema of the columns after it.
-    fn schema(&self, alloc: Global, pass: &mut Pass) -> Result<RawSchema, NoMemory>
-        requires room { CHUNK ≤ pass.old.units }
-        ensures tree { IfOk result (λ schema. (before : List Column) → ∥ fits self.now before ∥₁ → schema ≡ SchemaOf (columns self.now before)) }
-        ensures units { MatchResult result (λ schema. pass.new.units + Nodes schema ≡ pass.old.units) (λ _. pass.new.units ≡ pass.old.units) }
-        ensures nodes { IfOk result (λ schema. pass.new.nodes ≡ risen pass.old.nodes (Nodes schema)) }
-        ensures blocks { pass.new.blocks ≡ pass.old.blocks };
-
-    /// The next chunk, or the code of the stream below; or want of memory of its own.
-    fn next<U: ArrayStream, R: Threads + Sync, T: Tap>(
-        &mut self,
-        up: &mut RawStream<U>,
-        rt: &R,
-        alloc: Global,
-        out: &mut RawArray,
-        pass: &mut Pass,
-        tap: &mut T,
-        gate: &(dyn Gate + Sync),
-    ) -> Result<i32, NoMemory>
-        requires shared { IsSync R.row }
-        requires live { IsTrue (meaning U.state up.old).live }
-        requires lawful { IsTrue (meaning U.state up.old).lawful }
-        requires fits { ∥ fits self.old (meaning U.state up.old).columns ∥₁ }
-        requires empty { out.old ≡ Released }
-        requires room { ROOM ≤ pass.old.units }
-        ensures keeps { Keeps (meaning U.state up.old) (meaning U.state up.new) }
-        ensures columns { (before : List Column) → columns self.new before ≡ columns self.old before }
-        ensures fits { (before : List Column) → ∥ fits self.old before ∥₁ → ∥ fits self.new before ∥₁ }
-        ensures code { IfOk result IsCode }
-        ensures tells { IfOk result (λ code. Tells code (meaning U.state up.new).said) }
-        ensures refuses { IfOk result (λ code. code ≢ pos 0 → out.new ≡ Released) }
-        ensures gone { OnErr result (out.new ≡ Released) }
-        ensures units { pass.new.units + Cost out.new ≡ pass.old.units }
-        ensures failure { OnOk result ((meaning U.state up.new).failure ≡ (meaning U.state up.new).said) }
-        ensures faulted { IfOk result (λ code. IsRowFault code (meaning U.state up.new).ending (meaning U.state up.new).fault) }
-        ensures worked { OnErr result ((meaning U.state up.old).failure ≡ None) }
-        ensures repeats { IfOk result
-            (λ code. Repeats (meaning U.state up.old) (meaning U.state up.new) code pass.old pass.new (T.seen tap.old) (T.seen tap.new)) }
-        ensures answers { IsFresh (meaning U.state up.old) → IfOk result
-            (λ code. Answers (worked columns ahead self.old (meaning U.state up.old)) (worked columns ahead self.new (meaning U.state up.new)) code out.new) }
-        ensures gives { IsFresh (meaning U.state up.old) → IfOk result
-            (λ code. code ≡ pos 0 → IsLive out.new → gives self.old (meaning U.state up.old) out.new) }
-        ensures counts { IsFresh (meaning U.state up.old) → IfOk result
-            (λ code. code ≡ pos 0 → Counts (due self.old (meaning U.state up.old)) (due self.new (meaning U.state up.new)) pass.old pass.new out.new) }
-        ensures shows { IsFresh (meaning U.state up.old) → MatchResult result
-            (λ code. Shows (meaning U.state up.old).joints (meaning U.state up.new).joints code out.new (T.seen tap.old) (T.seen tap.new))
-            (λ _. Shows (meaning U.state up.old).joints (meaning U.state up.new).joints (pos 12) out.new (T.seen tap.old) (T.seen tap.new)) };
-
-    /// A law: the columns after it are lawful, and so are the tables that it still gives, since those before it are. The call
-    /// does nothing.
-    fn lawful_facts(&self)
-        ensures columns { (before : List Column) → ∥ fits self.now before ∥₁ → LawfulColumns before → LawfulColumns (columns self.now before) }
-        ensures tables { (up : Stream) → ∥ fits self.now up.columns ∥₁ → LawfulColumns up.columns → LawfulTables up.columns up.ahead
-            → LawfulTables (columns self.now up.columns) (ahead self.now up) };
-
-    ghost use Rattle.stages.specs.Works.{worked};
-}
+use unit_pass::{NoMemory, Pass, ROOM};
 
 /// Who answered the last get call: the stage itself, or the stream below it.
 #[derive(Clone, Copy)]
@@ -105,44 +28,49 @@ pub(crate) enum Word {
     Upstream,
 }
 
-/// A stage: the checked stream below it, which it holds once, and its work. It can't be dropped.
-pub struct Stage<U: ArrayStream, W: Work> {
+/// A stage: the checked stream below it, which it holds once, and its step, which holds nothing of chunks between two calls. It
+/// can't be dropped.
+pub struct Stage<U: ArrayStream, S: ChunkStep> {
     up: RawStream<U>,
-    work: W,
+    step: S,
     no_memory: bool,
     word: Word,
     ghost lawful: { IsTrue (meaning U.state up).live → (meaning U.state up).lawful ≡ true },
-    ghost fits: { ∥ W.fits work (meaning U.state up).columns ∥₁ },
+    ghost fits: { ∥ S.fits step (meaning U.state up).columns ∥₁ },
+    ghost rests: { S.rests step ≡ true },
 }
 
-impl<U: ArrayStream, W: Work> Stage<U, W> {
-    ghost use Rattle.stages.specs.Works.{staged};
-    ghost use Rattle.stages.specs.Stages.{stage_state};
+impl<U: ArrayStream, S: ChunkStep> Stage<U, S> {
+    ghost use Rattle.stages.specs.Staged.{staged};
+    ghost use Rattle.stages.specs.Stages.{stage_gives, stage_state};
     ghost use Rattle.stages.specs.declared.stage.Word.TheVariants as words;
     ghost use Rattle.std.specs.Prelude.{false};
 
     /// A stage over a lawful stream. Takes no memory.
-    pub fn start(up: RawStream<U>, work: W) -> Stage<U, W>
+    pub fn start(up: RawStream<U>, step: S) -> Stage<U, S>
         requires lawful { IsTrue (meaning U.state up).lawful }
-        requires fits { W.fits work (meaning U.state up).columns }
-        ensures { stage_state U.state W.columns W.ahead W.due result ≡ staged W.columns W.ahead W.due work false words.Nothing (meaning U.state up) }
+        requires fits { S.fits step (meaning U.state up).columns }
+        requires rests { IsTrue (S.rests step) }
+        ensures means { stage_state U.state S.columns S.ahead S.blocks S.nodes result
+            ≡ staged S.columns S.ahead S.blocks S.nodes step false words.Nothing (meaning U.state up) }
+        ensures besides { (rows : List Row) (chunk : ArrayTree) → stage_gives S.gives result rows chunk → S.gives step rows chunk }
     {
         Stage {
             up,
-            work,
+            step,
             no_memory: false,
             word: Word::Nothing,
         }
     }
 }
 
-impl<U: ArrayStream, W: Work> ArrayStream for Stage<U, W> {
-    ghost use Rattle.stages.specs.Stages.{stage_state};
+impl<U: ArrayStream, S: ChunkStep> ArrayStream for Stage<U, S> {
+    ghost use Rattle.stages.specs.Stages.{stage_gives, stage_state};
 
-    ghost state = { stage_state U.state W.columns W.ahead W.due };
+    ghost state = { stage_state U.state S.columns S.ahead S.blocks S.nodes };
 
     fn get_schema(&mut self, alloc: Global, out: &mut RawSchema, pass: &mut Pass) -> i32 {
-        match self.work.schema(alloc, pass) {
+        match self.step.after().schema(alloc, pass) {
             Ok(schema) => {
                 out.put(schema);
                 self.word = Word::Nothing;
@@ -155,6 +83,8 @@ impl<U: ArrayStream, W: Work> ArrayStream for Stage<U, W> {
         }
     }
 
+    /// Gives the next chunk. Beside what each stream's call promises it says what the chunk has besides its rows, by the step (`gives`),
+    /// and that this stays what the step said when the stage was started (`besides`).
     fn get_next<R: Threads + Sync, T: Tap>(
         &mut self,
         rt: &R,
@@ -163,15 +93,51 @@ impl<U: ArrayStream, W: Work> ArrayStream for Stage<U, W> {
         pass: &mut Pass,
         tap: &mut T,
         gate: &(dyn Gate + Sync),
-    ) -> i32 {
+    ) -> i32
+        requires shared { IsSync R.row }
+        requires live { IsTrue (stage_state U.state S.columns S.ahead S.blocks S.nodes self.old).live }
+        requires empty { out.old ≡ Released }
+        requires room { ROOM ≤ pass.old.units }
+        ensures keeps { Keeps (stage_state U.state S.columns S.ahead S.blocks S.nodes self.old)
+            (stage_state U.state S.columns S.ahead S.blocks S.nodes self.new) }
+        ensures code { IsCode result }
+        ensures tells { Tells result (stage_state U.state S.columns S.ahead S.blocks S.nodes self.new).said }
+        ensures refuses { result ≢ pos 0 → out.new ≡ Released }
+        ensures told { result ≡ pos 0 → IsTold (stage_state U.state S.columns S.ahead S.blocks S.nodes self.old).chunk out.new }
+        ensures units { pass.new.units + Cost out.new ≡ pass.old.units }
+        ensures failure { (stage_state U.state S.columns S.ahead S.blocks S.nodes self.new).failure
+            ≡ (stage_state U.state S.columns S.ahead S.blocks S.nodes self.new).said }
+        ensures faulted { IsRowFault result (stage_state U.state S.columns S.ahead S.blocks S.nodes self.new).ending
+            (stage_state U.state S.columns S.ahead S.blocks S.nodes self.new).fault }
+        ensures repeats { Repeats (stage_state U.state S.columns S.ahead S.blocks S.nodes self.old)
+            (stage_state U.state S.columns S.ahead S.blocks S.nodes self.new) result pass.old pass.new (T.seen tap.old) (T.seen tap.new) }
+        ensures answers { IsFresh (stage_state U.state S.columns S.ahead S.blocks S.nodes self.old)
+            → Answers (stage_state U.state S.columns S.ahead S.blocks S.nodes self.old)
+            (stage_state U.state S.columns S.ahead S.blocks S.nodes self.new) result out.new }
+        ensures counts { IsFresh (stage_state U.state S.columns S.ahead S.blocks S.nodes self.old) → result ≡ pos 0
+            → Counts (stage_state U.state S.columns S.ahead S.blocks S.nodes self.old).due
+            (stage_state U.state S.columns S.ahead S.blocks S.nodes self.new).due pass.old pass.new out.new }
+        ensures shows { IsFresh (stage_state U.state S.columns S.ahead S.blocks S.nodes self.old)
+            → Shows (stage_state U.state S.columns S.ahead S.blocks S.nodes self.old).joints
+            (stage_state U.state S.columns S.ahead S.blocks S.nodes self.new).joints result out.new (T.seen tap.old) (T.seen tap.new) }
+        ensures gives { IsFresh (stage_state U.state S.columns S.ahead S.blocks S.nodes self.old) → result ≡ pos 0 → IsLive out.new
+            → stage_gives S.gives self.old (get_or (stage_state U.state S.columns S.ahead S.blocks S.nodes self.old).ahead 0 []) out.new }
+        ensures besides { (rows : List Row) (chunk : ArrayTree) → stage_gives S.gives self.new rows chunk → stage_gives S.gives self.old rows chunk }
+    {
         if self.no_memory {
             self.word = Word::Memory;
             return 12;
         }
-        match self
-            .work
-            .next(&mut self.up, rt, alloc, out, pass, tap, gate)
-        {
+        match pull(
+            &mut self.step,
+            &mut self.up,
+            rt,
+            alloc,
+            out,
+            pass,
+            tap,
+            gate,
+        ) {
             Ok(code) => {
                 self.word = Word::Upstream;
                 code
@@ -210,7 +176,7 @@ impl<U: ArrayStream, W: Work> ArrayStream for Stage<U, W> {
     fn discard(self) {
         let Stage {
             up,
-            work: _,
+            step: _,
             no_memory: _,
             word: _,
         } = self;
@@ -219,6 +185,6 @@ impl<U: ArrayStream, W: Work> ArrayStream for Stage<U, W> {
 
     fn lawful_facts(&self) {
         self.up.lawful_facts();
-        self.work.lawful_facts();
+        self.step.lawful_facts();
     }
 }

@@ -5,7 +5,7 @@ ghost use Rattle.tree_model.specs.Tree.{Released, trees};
 ghost use Rattle.raw_array.specs.Members.{Cost, cost_of_all};
 ghost use Rattle.raw_schema.specs.Members.{Nodes};
 ghost use Rattle.unit_pass.specs.declared.pass.TheConstants.{ROOM, SUPPLY};
-ghost use Rattle.stream_face.specs.Strangers.{held_in, holding};
+ghost use Rattle.stream_tests.specs.Strangers.{held_in, holding};
 
 use data_types::RowFault;
 use edge_io::Gate;
@@ -39,7 +39,7 @@ impl Model for Holdings {
     ghost use Rattle.tree_model.specs.Tree.{trees};
     ghost use Rattle.raw_array.specs.Members.{coded_array, cost_of_all};
     ghost use Rattle.raw_schema.specs.Members.{coded_schema, Nodes};
-    ghost use Rattle.stream_face.specs.Strangers.{Holdings as HoldingsValue};
+    ghost use Rattle.stream_tests.specs.Strangers.{Holdings as HoldingsValue};
 
     ghost Value = { HoldingsValue };
 
@@ -169,7 +169,7 @@ impl Stranger {
 }
 
 impl ArrayStream for Stranger {
-    ghost use Rattle.stream_face.specs.Strangers.{stranger};
+    ghost use Rattle.stream_tests.specs.Strangers.{stranger};
 
     ghost state = { λ s. stranger s.holdings s.code s.row s.failed s.told };
 

@@ -2,7 +2,7 @@
 ghost use Rattle.std.specs.Prelude.{◌≡◌, ◌<◌, ◌≤◌, IsTrue, is_some};
 ghost use Rattle.tree_model.specs.Tree.{trees, depth_of_all};
 ghost use Rattle.stream_face.specs.Meaning.{meaning};
-ghost use Rattle.stream_face.specs.Strangers.{held_in};
+ghost use Rattle.stream_tests.specs.Strangers.{held_in};
 
 use crate::stranger::{End, Stranger};
 use buf_block::{BufView, make};

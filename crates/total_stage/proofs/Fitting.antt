@@ -32,7 +32,9 @@ use Rattle.stage_model.specs.Typing.{is_summed, no_column, totals_columns}
 use Rattle.stream_face.specs.Lawful.{AreItems, AreValues, DictsHaveBytes, IsTable, LawfulColumns, LawfulTables, column_leaves, leaves, total_rows}
 use Rattle.work_parts.proofs.ColumnSets.{same_columns}
 use Rattle.total_stage.specs.Rows.{RowFits, ValueFits}
-use Rattle.total_stage.specs.Works.{CanTotal, TotalsFits, totals_ahead}
+use Rattle.total_stage.specs.Fits.{CanTotal, TotalsFits}
+use Rattle.total_stage.specs.Froms.{ahead_from}
+use Rattle.total_stage.specs.declared.numbers.Totals.{Totals}
 use Rattle.total_stage.proofs.Adding.{all-both}
 use Rattle.total_stage.proofs.SummedKinds.{SummedColumn, count-fits, greatest-fits, least-fits, sum-fits}
 
@@ -284,10 +286,12 @@ end-lawful : (columns : List Column) (row : Row) (ending : Option RowFault) → 
 end-lawful columns row None fits = record { tables = (one-table columns row fits, tt); rows = omega arith }
 end-lawful columns row (Some fault) fits = record { tables = tt; rows = omega arith }
 
-pub totals-tables : (picks : List ℕ) (kept : List ColumnType) (given : Bool) (ending : Option RowFault) (before : List Column) (ahead : List (List Row))
-    → ∥ TotalsFits picks kept before ∥₁ → LawfulColumns before → LawfulTables before ahead
-    → LawfulTables (map column_of kept) (totals_ahead picks given ending ahead)
-totals-tables picks kept true ending before ahead fits columns lawful = record { tables = tt; rows = omega arith }
-totals-tables picks kept false ending before ahead fits columns lawful =
-    end-lawful (map column_of kept) (totals_row picks (joined_rows ahead)) ending
-    (kept-fit picks kept before (joined_rows ahead) fits (all-summed picks before ahead (can-total picks kept before fits) columns.kinds lawful))
+-- where none have begun
+pub totals-tables : (sums : List Totals) (picks : List ℕ) (kept : List ColumnType) (given : Bool) (ending : Option RowFault) (before : List Column)
+    (tables : List (List Row)) → sums ≡ [] → ∥ TotalsFits picks kept before ∥₁ → LawfulColumns before → LawfulTables before tables
+    → LawfulTables (map column_of kept) (ahead_from sums picks given ending tables)
+totals-tables sums picks kept true ending before tables none fits columns lawful = record { tables = tt; rows = omega arith }
+totals-tables sums picks kept false ending before tables none fits columns lawful =
+    subst (λ (s : List Totals). LawfulTables (map column_of kept) (ahead_from s picks false ending tables)) (sym none)
+    (end-lawful (map column_of kept) (totals_row picks (joined_rows tables)) ending
+    (kept-fit picks kept before (joined_rows tables) fits (all-summed picks before tables (can-total picks kept before fits) columns.kinds lawful)))

@@ -1,12 +1,12 @@
 -- Builders that hold the columns of a row, one after the other.
 use Rattle.std.proofs.Common.{arith, ◌≡◌, ◌∙◌, ◌≤◌, ◌<◌, ◌+◌, ◌++◌, ℕ, zero, suc, ℤ, List}
-use Rattle.std.proofs.Common.{[], ◌∷◌, length, map, take, get_or, All, refl, sym, ap, subst, below_more}
+use Rattle.std.proofs.Common.{[], ◌∷◌, length, map, take, get_or, refl, sym, ap, subst, below_more}
 use Rattle.std.proofs.Math.Seq.{take-length}
 use Rattle.std.proofs.lemmas.List.{get_or-map, length-append, length-map}
 use Rattle.std.specs.Prelude.{Option}
 use Rattle.col_build.specs.Holding.{Holds}
 use Rattle.col_build.specs.declared.builder.Builder.{Builder}
-use Rattle.csv_read.specs.Body.{HoldRows, HoldsKind}
+use Rattle.csv_read.specs.Body.{HoldsKind}
 use Rattle.data_types.specs.ColumnView.{column_of}
 use Rattle.data_types.specs.Table.{Column, Kind, Flat, Row}
 use Rattle.data_types.specs.Value.{Value, Null}
@@ -23,20 +23,6 @@ use Rattle.total_stage.specs.declared.numbers.Totals.{Totals}
 pub record HoldFirst (builders : List Builder) (columns : List Column) (row : Row) (done : ℕ) : Type 0 where
   pub count : length builders ≡ done
   pub each : (j : ℕ) → j < done → (b : Builder) (c : Column) → HoldsKind (get_or builders j b) (get_or columns j c).kind (get_or row j Null ∷ [])
-
-pub hold-none : (columns : List Column) (row : Row) → HoldFirst [] columns row 0
-hold-none columns row = record { count = refl; each = λ j small. absurd (omega (arith, small)) }
-
-pub hold-all : (builders : List Builder) (columns : List Column) (row : Row) (done : ℕ) → done ≡ length columns → length row ≡ length columns
-    → HoldFirst builders columns row done → HoldRows builders columns (row ∷ [])
-hold-all builders columns row done all width held = record {
-  held = record { count = held.count ∙ all; each = λ j b c small. held.each j (omega (arith, all, small)) b c };
-  widths = one;
-}
-  where
-    one : All (λ (r : Row). length r ≡ length columns) (row ∷ [])
-    one zero d small = width
-    one (suc k) d small = absurd (omega (arith, small))
 
 push-before : {X : Type 0} (xs : List X) (x d : X) (j : ℕ) → j < length xs → get_or (xs ++ x ∷ []) j d ≡ get_or xs j d
 push-before [] x d j small = absurd (omega (arith, small))

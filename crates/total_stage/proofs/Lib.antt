@@ -6,4 +6,5 @@ pub mod HeldRow
 pub mod SummedKinds
 pub mod Fitting
 pub mod Pulling
+pub mod Going
 pub mod Giving

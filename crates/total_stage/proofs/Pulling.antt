@@ -1,9 +1,7 @@
--- How far a stream was pulled, and what is added up.
-use Rattle.std.proofs.Common.{arith, ◌≡◌, ◌∙◌, ◌≤◌, ◌<◌, ◌+◌, ◌++◌, ◌^◌, ℕ, ℤ, pos, negsuc, of_z, w32, List}
-use Rattle.std.proofs.Common.{[], ◌∷◌, length, get_or, All, IsTrue, refl, sym, ap, subst, inl, inr, true}
-use Rattle.std.specs.Prelude.{◌⊎◌, Option, None, Some}
+-- How far tables were pushed, and what is added up.
+use Rattle.std.proofs.Common.{arith, ◌≡◌, ◌∙◌, ◌≤◌, ◌<◌, ◌+◌, ◌++◌, ◌^◌, ℕ, List}
+use Rattle.std.proofs.Common.{[], ◌∷◌, length, get_or, All, sym, ap, subst, inr, true}
 use Rattle.std.specs.List.{AllByRecursion}
-use Rattle.std.proofs.lemmas.Int.{ints}
 use Rattle.std.proofs.lemmas.Grind.{flat_map-append}
 use Rattle.std.proofs.lemmas.List.{append-nil, append_assoc, get_or-map, length-map}
 use Rattle.data_types.specs.FieldText.{IsValueOf}
@@ -11,78 +9,39 @@ use Rattle.data_types.specs.Parts.{column_values, joined_rows}
 use Rattle.data_types.specs.Table.{Column, Flat, Row}
 use Rattle.data_types.specs.Value.{Null}
 use Rattle.raw_array.specs.Members.{ArrayTree, Cost}
-use Rattle.tree_model.specs.Tree.{IsLive}
 use Rattle.kind_tree.specs.ColumnKinds.{type_of_columns}
 use Rattle.kind_tree.specs.Kinds.{KindTree, TypedOk}
 use Rattle.layout_rules.specs.Values.{rows_of}
 use Rattle.layout_rules.specs.Walk.{ChunkOk}
 use Rattle.column_fill.proofs.Counts.{kids-long}
 use Rattle.stage_model.specs.Typing.{is_summed, no_column}
-use Rattle.unit_pass.specs.Tally.{Tally}
 use Rattle.unit_pass.specs.declared.pass.TheConstants.{CHUNK}
-use Rattle.stream_face.specs.Shown.{Seen}
 use Rattle.data_types.specs.Kinds.{KindOk}
 use Rattle.data_types.specs.declared.kind.DataType.{DataType}
-use Rattle.stream_face.specs.Calls.{Answers, IsCode, Shows}
-use Rattle.stream_face.specs.Lawful.{AreItems, IsChunkOf, IsTable, LawfulColumns, LawfulTables, total_rows}
-use Rattle.stream_face.specs.Streams.{IsFresh, Keeps, Stream}
-use Rattle.stream_face.specs.Texts.{Refusal}
-use Rattle.work_parts.proofs.Runs.{Called, Ran, Ran-fresh}
-use Rattle.total_stage.specs.Pulls.{IsRefused}
-use Rattle.total_stage.specs.Sums.{AreSums, CanAdd, CanSum, HaveBegun}
+use Rattle.stream_face.specs.Lawful.{AreItems, IsTable, LawfulColumns, LawfulTables, total_rows}
+use Rattle.stages.specs.Steps.{IsNext}
+use Rattle.total_stage.specs.Froms.{CanGoOn}
+use Rattle.total_stage.specs.Sums.{AreSums, CanAdd, CanSum}
 use Rattle.total_stage.specs.Totals.{IsSmallItem}
-use Rattle.total_stage.specs.Works.{CanTotal}
+use Rattle.total_stage.specs.Fits.{CanTotal}
 use Rattle.total_stage.specs.declared.numbers.Totals.{Totals}
 use Rattle.total_stage.proofs.Fitting.{joined-long, picked-plain}
 use Rattle.total_stage.proofs.SummedKinds.{item-small}
 
--- ---- codes
--- a code that a test found to be 0
-pub zero_code : (code : ℤ) → IsCode code → of_z w32 code ≡ 0 → code ≡ pos 0
-zero_code (pos n) is zero = ap pos zero
-zero_code (negsuc n) is zero = absurd (omega (arith, ints, is.0))
-
--- what a stream keeps in two parts
-pub keeps-both : (s m n : Stream) → Keeps s m → Keeps m n → Keeps s n
-keeps-both s m n a b = record {
-  columns = b.columns ∙ a.columns;
-  ending = b.ending ∙ a.ending;
-  lawful = b.lawful ∙ a.lawful;
-  held = b.held ∙ a.held;
-  live = b.live ∙ a.live;
-  schema = b.schema ∙ a.schema;
-}
-
 -- ---- the tables so far
 
--- these are the totals of the tables that came before those ahead
-pub record HavePulled (picks : List ℕ) (sums : List Totals) (old new : Stream) : Type 0 where
-  pub tables : List (List Row)
-  pub ahead : old.ahead ≡ tables ++ new.ahead
-  pub begun : HaveBegun sums picks (joined_rows tables)
-
-pub pulled-none : (picks : List ℕ) (sums : List Totals) (s : Stream) → sums ≡ [] → HavePulled picks sums s s
-pulled-none picks sums s none = record { tables = []; ahead = refl; begun = inl (none, refl) }
-
-joined-more : (tables : List (List Row)) (rows : List Row) → joined_rows (tables ++ rows ∷ []) ≡ joined_rows tables ++ rows
+pub joined-more : (tables : List (List Row)) (rows : List Row) → joined_rows (tables ++ rows ∷ []) ≡ joined_rows tables ++ rows
 joined-more tables rows =
     flat_map-append (λ (rows : List Row). rows) tables (rows ∷ []) ∙ ap (λ (more : List Row). joined_rows tables ++ more) (append-nil rows)
 
 -- one table more
-pub pulled-more : (picks : List ℕ) (sums made : List Totals) (s m n : Stream) (rows : List Row) (have : HavePulled picks sums s m)
-    → m.ahead ≡ rows ∷ n.ahead → AreSums made picks (joined_rows have.tables ++ rows) → HavePulled picks made s n
-pulled-more picks sums made s m n rows have ahead are = record {
-  tables = have.tables ++ rows ∷ [];
-  ahead = have.ahead ∙ ap (λ (more : List (List Row)). have.tables ++ more) ahead ∙ sym (append_assoc have.tables (rows ∷ []) n.ahead);
-  begun = inr (subst (AreSums made picks) (sym (joined-more have.tables rows)) are);
+pub gone-on : (sums made : List Totals) (picks : List ℕ) (before : List Column) (rows : List Row) (more : List (List Row))
+    (can : CanGoOn sums picks before (rows ∷ more)) → AreSums made picks (joined_rows can.done ++ rows) → CanGoOn made picks before more
+gone-on sums made picks before rows more can are = record {
+  done = can.done ++ rows ∷ [];
+  begun = inr (subst (AreSums made picks) (sym (joined-more can.done rows)) are);
+  lawful = subst (LawfulTables before) (sym (append_assoc can.done (rows ∷ []) more)) can.lawful;
 }
-
--- and all of them
-pub pulled-all : (picks : List ℕ) (sums made : List Totals) (s m : Stream) (have : HavePulled picks sums s m) → m.ahead ≡ []
-    → AreSums made picks (joined_rows have.tables) → AreSums made picks (joined_rows s.ahead)
-pulled-all picks sums made s m have ends are =
-    let all : s.ahead ≡ have.tables = have.ahead ∙ ap (λ (more : List (List Row)). have.tables ++ more) ends ∙ append-nil have.tables in
-    subst (λ (tables : List (List Row)). AreSums made picks (joined_rows tables)) (sym all) are
 
 -- ---- the next table
 
@@ -99,15 +58,12 @@ pub record IsNextTable (columns : List Column) (tables : List (List Row)) (rows 
   pub table : IsTable columns rows
   pub few : length (joined_rows tables) + length rows ≤ 2 ^ 30
 
-pub next-table : (picks : List ℕ) (sums : List Totals) (columns : List Column) (s m n : Stream) (rows : List Row) (have : HavePulled picks sums s m)
-    → m.ahead ≡ rows ∷ n.ahead → LawfulTables columns s.ahead → IsNextTable columns have.tables rows
-next-table picks sums columns s m n rows have ahead lawful =
-    let all : s.ahead ≡ have.tables ++ rows ∷ n.ahead = have.ahead ∙ ap (λ (more : List (List Row)). have.tables ++ more) ahead in
-    let total = ap total_rows all in
-    record {
-      table = behind-lawful columns have.tables rows n.ahead (subst (AllByRecursion (IsTable columns)) all lawful.tables);
-      few = omega (arith, total, total-both have.tables (rows ∷ n.ahead), joined-long have.tables, lawful.rows);
-    }
+pub next-table : (columns : List Column) (tables : List (List Row)) (rows : List Row) (more : List (List Row)) → LawfulTables columns (tables ++ rows ∷ more)
+    → IsNextTable columns tables rows
+next-table columns tables rows more lawful = record {
+  table = behind-lawful columns tables rows more lawful.tables;
+  few = omega (arith, total-both tables (rows ∷ more), joined-long tables, lawful.rows);
+}
 
 small-at : (kind : DataType) (place : ℕ) (rows : List Row) (i : ℕ) → KindOk kind → is_summed (Flat kind) ≡ true → i < length rows
     → All (IsValueOf kind) (column_values place rows) → IsSmallItem (get_or (get_or rows i []) place Null)
@@ -143,82 +99,15 @@ pub record IsAddable (picks : List ℕ) (typed : KindTree) (chunk : ArrayTree) (
   pub rows_are : rows_of typed chunk ≡ rows
   pub small : Cost chunk ≤ CHUNK
 
-pub next-add : (picks : List ℕ) (sums : List Totals) (s m n : Stream) (typed : KindTree) (chunk : ArrayTree) (rows : List Row)
-    (have : HavePulled picks sums s m) → CanTotal picks s.columns → LawfulColumns s.columns → LawfulTables s.columns s.ahead → m.columns ≡ s.columns
-    → m.ahead ≡ rows ∷ n.ahead → IsChunkOf m.columns rows chunk → typed ≡ type_of_columns s.columns → TypedOk typed
-    → IsAddable picks typed chunk have.tables rows
-next-add picks sums s m n typed chunk rows have can columns tables same ahead is_chunk is types =
-    let next = next-table picks sums s.columns s m n rows have ahead tables in
-    let here : IsChunkOf s.columns rows chunk = subst (λ (cs : List Column). IsChunkOf cs rows chunk) same is_chunk in
-    let long = ap (length {A = Row}) here.rows_are in
+pub next-add : (picks : List ℕ) (columns : List Column) (tables : List (List Row)) (rows : List Row) (more : List (List Row)) (typed : KindTree)
+    (chunk : ArrayTree) → CanTotal picks columns → LawfulTables columns (tables ++ rows ∷ more) → IsNext columns rows more typed chunk
+    → IsAddable picks typed chunk tables rows
+next-add picks columns tables rows more typed chunk can lawful here =
+    let next = next-table columns tables rows more lawful in
+    let long = ap (length {A = Row}) here.is.rows_are in
     record {
-      can = can-add picks typed chunk s.columns rows can columns next.table (omega (arith, next.few)) is here.rows_are here.ok types;
-      few = (let same = ap (λ (t : KindTree). length (rows_of t chunk)) is in omega (arith, long, same, next.few));
-      rows_are = ap (λ (t : KindTree). rows_of t chunk) is ∙ here.rows_are;
-      small = here.small;
-    }
-
--- ---- a refusal
-
--- memory is wanted after a call that gave a chunk
-pub shows-wanting : (s n : Stream) (out given : ArrayTree) (seen later : Option (List Seen)) → Shows s.joints n.joints (pos 12) out seen later
-    → Shows s.joints n.joints (pos 12) given seen later
-shows-wanting s n out given seen later shows = record {
-  shown = shows.shown;
-  told = shows.told;
-  begins = shows.begins;
-  leaves = λ e. absurd (cc);
-  ends = λ e. absurd (cc);
-}
-
-pub refused : (s m n : Stream) (code told : ℤ) (out : ArrayTree) → told ≡ code → s.ending ≡ m.ending → Answers m n code out → (code ≡ pos 0 → ⊥)
-    → IsRefused s n told
-refused s m n code told out is ending answers not_zero = record {
-  bad = λ e. let bad = answers.bad (sym is ∙ e) in (bad.2, ending ∙ bad.3, bad.4, bad.5);
-  wants = λ e. answers.wants (sym is ∙ e);
-  codes = by-code answers.codes;
-}
-  where
-    by-code : (code ≡ pos 0) ⊎ (code ≡ pos 12) ⊎ (code ≡ pos 22) → (told ≡ pos 12) ⊎ (told ≡ pos 22)
-    by-code (inl zero_is) = absurd (not_zero zero_is)
-    by-code (inr (inl twelve)) = inl (is ∙ twelve)
-    by-code (inr (inr more)) = inr (is ∙ more)
-
-none-if : {A : Type 0} (o : Option A) → ((x : A) → o ≡ Some x → ⊥) → o ≡ None
-none-if None never = refl
-none-if (Some x) never = absurd (never x refl)
-
--- a run after which the stream is fresh began with a fresh one
-pub began-fresh : (s m : Stream) (seen later : Option (List Seen)) (before after : Tally) → IsTrue s.lawful → Ran s m seen later before after → IsFresh m
-    → IsFresh s
-began-fresh s m seen later before after lawful ran fresh = record {
-  lawful = lawful;
-  no_failure = none-if s.failure (λ refusal failed.
-      let k : ◌≡◌ {A = Option Refusal} None (Some refusal) = sym fresh.no_failure ∙ ran.failed refusal failed in cc);
-}
-
--- ---- a call that gave a chunk
-
--- the table that it gave, and what can be added of the chunk
-pub record IsGiven (picks : List ℕ) (sums : List Totals) (s m n : Stream) (typed : KindTree) (chunk : ArrayTree) : Type 0 where
-  pub have : HavePulled picks sums s m
-  pub rows : List Row
-  pub ahead : m.ahead ≡ rows ∷ n.ahead
-  pub add : IsAddable picks typed chunk have.tables rows
-
-pub given : (picks : List ℕ) (sums : List Totals) (s m n : Stream) (code : ℤ) (chunk : ArrayTree) (typed : KindTree) (seen now later : Option (List Seen))
-    (first before after : Tally) → IsTrue s.lawful → Ran s m seen now first before → Called m n code chunk now later before after → code ≡ pos 0
-    → IsLive chunk → (IsFresh s → HavePulled picks sums s m) → (IsFresh m → Answers m n code chunk) → CanTotal picks s.columns
-    → LawfulColumns s.columns → LawfulTables s.columns s.ahead → typed ≡ type_of_columns n.columns → TypedOk typed
-    → IsGiven picks sums s m n typed chunk
-given picks sums s m n code chunk typed seen now later first before after lawful ran called works live pulled answers can columns tables is types =
-    let fresh = Ran-fresh s m n code chunk seen now later first before after ran called works lawful in
-    let have = pulled (began-fresh s m seen now first before lawful ran fresh) in
-    let table = (answers fresh).chunk live in
-    record {
-      have = have;
-      rows = table.0;
-      ahead = table.1;
-      add = next-add picks sums s m n typed chunk table.0 have can columns tables ran.keeps.columns table.1 table.2
-          (is ∙ ap type_of_columns (called.keeps.columns ∙ ran.keeps.columns)) types;
+      can = can-add picks typed chunk columns rows can here.columns next.table (omega (arith, next.few)) here.typed_is here.is.rows_are here.is.ok here.types;
+      few = (let same = ap (λ (t : KindTree). length (rows_of t chunk)) here.typed_is in omega (arith, long, same, next.few));
+      rows_are = ap (λ (t : KindTree). rows_of t chunk) here.typed_is ∙ here.is.rows_are;
+      small = here.is.small;
     }

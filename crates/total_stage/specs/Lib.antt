@@ -1,5 +1,5 @@
 pub mod Totals
 pub mod Sums
 pub mod Rows
-pub mod Works
-pub mod Pulls
+pub mod Fits
+pub mod Froms

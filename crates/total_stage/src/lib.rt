@@ -1,9 +1,8 @@
-//! The work of a stage that totals columns: of all rows it makes one, which has the count, the sum, the least and the greatest
+//! The step of a stage that totals columns: of all rows it makes one, which has the count, the sum, the least and the greatest
 //! of the numbers of each picked column.
 //!
-//! What this crate owns: [`TotalsWork`], which pulls the stream below it to its end, has the rows of each chunk added up by
-//! workers (`fan_out`), each a piece of them column by column, joins what they answer, releases the chunk, and then gives one
-//! chunk of one row.
+//! What this crate owns: [`TotalsStep`], which has the rows of each chunk added up by workers (`fan_out`), each a piece of
+//! them column by column, joins what they answer, releases the chunk, and at the end gives one chunk of one row.
 //!
 //! What it promises: its stage gives the one chunk that `stage_model` says of totals, and none where the stream below ends at
 //! a record; its columns are of the types that `stage_model` names, and a lawful stream stays lawful. Sums are exact: no sum
@@ -17,12 +16,11 @@
 mod chunk;
 mod job;
 mod numbers;
-mod pull;
 mod row;
 mod sums;
 #[cfg(test)]
 mod tests;
+mod totals;
 mod window;
-mod work;
 
-pub use work::TotalsWork;
+pub use totals::TotalsStep;

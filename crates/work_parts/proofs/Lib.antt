@@ -5,4 +5,3 @@ pub mod CutColumns
 pub mod MovedChildren
 pub mod StructChildren
 pub mod Spliced
-pub mod Runs

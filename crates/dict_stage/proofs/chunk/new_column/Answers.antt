@@ -1,5 +1,4 @@
 use Rattle.std.proofs.Common.{◌∙◌, ap, sym, subst, length, arith, List, IfOk}
-use Rattle.data_types.specs.ColumnView.{kind_of}
 use Rattle.data_types.specs.Parts.{column_values}
 use Rattle.data_types.specs.Value.{Value}
 use Rattle.tree_model.specs.Tree.{children_of}
@@ -10,8 +9,8 @@ use Rattle.layout_rules.specs.Walk.{LayoutOk}
 use Rattle.arr_import.specs.Cols.{window_of}
 use Rattle.arr_import.specs.Window.{IsStruct}
 use Rattle.column_fill.proofs.Counts.{kids-long}
-use Rattle.dict_stage.specs.Recoded.{IsRecoded}
-use Rattle.dict_stage.proofs.Chunks.{can-recode, own-values}
+use Rattle.dict_stage.specs.Recoded.{IsRecoded, text_kind}
+use Rattle.dict_stage.proofs.Chunks.{own-values, texts-in}
 use Rattle.dict_stage.proofs.chunk.new_column.Goals as goal
 
 pub of-rows-requires-clause-lawful : goal.of-rows-requires-clause-lawful
@@ -32,13 +31,13 @@ child-requires-clause-inside c =
 pub recoded_column-requires-clause-items : goal.recoded_column-requires-clause-items
 recoded_column-requires-clause-items c =
     let can = c.requires.chunk in
-    can-recode (kind_of c.args.kind.now) (window_of c.child.result) (column_values c.args.place (rows_of (typed_of c.args.typed.now) c.args.chunk.now))
+    texts-in c.args.kind.now (window_of c.child.result) (column_values c.args.place (rows_of (typed_of c.args.typed.now) c.args.chunk.now))
     (own-values (typed_of c.args.typed.now) c.args.chunk.now c.args.place (window_of c.of-rows.result) (window_of c.child.result) c.of-rows.ensures.window
     c.child.ensures.window c.child.ensures.fields) can.texts
 
 pub returns-clause-made : goal.returns-clause-made
 returns-clause-made c =
     subst (λ (vs : List Value). IfOk c.recoded_column.result
-    (λ column. IsRecoded (kind_of c.args.kind.now) vs column c.args.pass.now c.recoded_column.new.pass))
+    (λ column. IsRecoded (text_kind c.args.dict c.args.kind.now) vs column c.args.pass.now c.recoded_column.new.pass))
     (own-values (typed_of c.args.typed.now) c.args.chunk.now c.args.place (window_of c.of-rows.result) (window_of c.child.result) c.of-rows.ensures.window
     c.child.ensures.window c.child.ensures.fields) c.recoded_column.ensures.made

@@ -1,14 +1,12 @@
 use Rattle.std.proofs.Common.{arith}
 use Rattle.std.proofs.lemmas.Grind.{common_steps}
-use Rattle.data_types.specs.ColumnView.{kind_of}
 use Rattle.kind_tree.specs.TypedView.{typed_of}
 use Rattle.dict_stage.proofs.Chunks.{column-fits}
 use Rattle.dict_stage.proofs.chunk.recoded_chunk.Goals as goal
 
 pub replaced-requires-clause-column : goal.replaced-requires-clause-column
 replaced-requires-clause-column c =
-    column-fits (kind_of c.args.kind.now) (typed_of c.args.typed.now) c.args.chunk c.in-Ok.column c.args.place c.requires.chunk.texts
-    c.in-Ok.ensures.made.tree_is
+    column-fits c.args.dict c.args.kind.now (typed_of c.args.typed.now) c.args.chunk c.in-Ok.column c.args.place c.in-Ok.ensures.made.tree_is
 
 pub new_column-requires-clause-types : goal.new_column-requires-clause-types
 new_column-requires-clause-types c = grind (arith, common_steps)

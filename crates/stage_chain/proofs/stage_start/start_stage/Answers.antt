@@ -1,6 +1,11 @@
-use Rattle.std.proofs.Common.{arith, map}
+use Rattle.std.proofs.Common.{arith, ◌≡◌, ◌+◌, ◌∙◌, List, map, ap}
+use Rattle.std.specs.Prelude.{None, Some}
+use Rattle.std.specs.List.{sum_by}
 use Rattle.data_types.specs.ColumnView.{column_of}
+use Rattle.data_types.specs.Table.{Row}
 use Rattle.stream_face.specs.Meaning.{meaning}
+use Rattle.stage_model.specs.Traffic.{made_blocks, made_nodes}
+use Rattle.data_types.specs.declared.kind.ColumnType.{ColumnType}
 use Rattle.stage_chain.specs.Plans.{stage_in}
 use Rattle.stage_chain.proofs.TypedKinds.{kinds-ok}
 use Rattle.stage_chain.proofs.stage_start.start_stage.Goals as goal
@@ -27,3 +32,25 @@ new-out-requires-clause-not_deep g c =
     let structs = c.stages_keep_columns.ensures.structs up.columns (stage_in c.args.stage) c.requires.stage in
     let depth = c.schemas_are_small.ensures.depth (map column_of c.args.stage.columns.items) in
     omega (arith, structs, depth, c.requires.structs)
+
+pub returns : goal.returns
+returns g c =
+    let up = meaning g.U.ArrayStream.state c.args.up in
+    let step = c.args.stage.step in
+    let kept = c.new-out.ensures in
+    let columns = ap (map column_of) (c.of.ensures.columns ∙ kept) in
+    let tables = c.of.ensures.ahead up.ending up.ahead in
+    let blocks = λ (rows : List Row). c.of.ensures.blocks rows
+    ∙ ap (λ (cs : List ColumnType). made_blocks (Some step) (map column_of cs) rows) kept in
+    let nodes = λ (rows : List Row). c.of.ensures.nodes rows ∙ ap (λ (cs : List ColumnType). made_nodes (Some step) (map column_of cs)) kept in
+    c.start.ensures.means ∙ (λ i. record up {
+      columns = columns i;
+      ahead = tables i;
+      due = record {
+        blocks = up.due.blocks + sum_by (λ rows. blocks rows i) (tables i);
+        nodes = up.due.nodes + sum_by (λ rows. nodes rows i) (tables i);
+      };
+      schema = None;
+      chunk = None;
+      said = None;
+    })

@@ -38,7 +38,7 @@ go-requires-clause-links g c =
     let raw : IsStarted c.args.link (Nodes (raw_schema c.in-Ok.up)) s up = started _ c.args.link _ _ _ s
     c.in-Ok.ensures.link c.in-Ok.ensures.fault c.in-Ok.ensures.started in
     let stage = stage_in c.in-Some.stage in
-    let node = boxed_state (stage_state g.S.ArrayStream.state g.W.Work.columns g.W.Work.ahead g.W.Work.due) c.in-Ok-new.above in
+    let node = boxed_state (stage_state g.S.ArrayStream.state g.W.ChunkStep.columns g.W.ChunkStep.ahead g.W.ChunkStep.blocks g.W.ChunkStep.nodes) c.in-Ok-new.above in
     let is : node ≡ over_stream stage up = c.in-Ok-new.ensures.made ∙ c.start_stage.ensures in
     let rest = stages_left c.next.new.self in
     let are : stages_left c.args.stages ≡ stage ∷ rest = ap stages_in c.in-Some.ensures.items in
@@ -51,7 +51,7 @@ go-requires-clause-structs g c =
     let raw : IsStarted c.args.link (Nodes (raw_schema c.in-Ok.up)) s up = started _ c.args.link _ _ _ s
     c.in-Ok.ensures.link c.in-Ok.ensures.fault c.in-Ok.ensures.started in
     let stage = stage_in c.in-Some.stage in
-    let node = boxed_state (stage_state g.S.ArrayStream.state g.W.Work.columns g.W.Work.ahead g.W.Work.due) c.in-Ok-new.above in
+    let node = boxed_state (stage_state g.S.ArrayStream.state g.W.ChunkStep.columns g.W.ChunkStep.ahead g.W.ChunkStep.blocks g.W.ChunkStep.nodes) c.in-Ok-new.above in
     let is : node ≡ over_stream stage up = c.in-Ok-new.ensures.made ∙ c.start_stage.ensures in
     let rest = stages_left c.next.new.self in
     let are : stages_left c.args.stages ≡ stage ∷ rest = ap stages_in c.in-Some.ensures.items in
@@ -108,7 +108,7 @@ returns-in-Ok-new g c =
     let raw : IsStarted c.args.link (Nodes (raw_schema c.in-Ok.up)) s up = started _ c.args.link _ _ _ s
     c.in-Ok.ensures.link c.in-Ok.ensures.fault c.in-Ok.ensures.started in
     let stage = stage_in c.in-Some.stage in
-    let node = boxed_state (stage_state g.S.ArrayStream.state g.W.Work.columns g.W.Work.ahead g.W.Work.due) c.in-Ok-new.above in
+    let node = boxed_state (stage_state g.S.ArrayStream.state g.W.ChunkStep.columns g.W.ChunkStep.ahead g.W.ChunkStep.blocks g.W.ChunkStep.nodes) c.in-Ok-new.above in
     let is : node ≡ over_stream stage up = c.in-Ok-new.ensures.made ∙ c.start_stage.ensures in
     let rest = stages_left c.next.new.self in
     let are : stages_left c.args.stages ≡ stage ∷ rest = ap stages_in c.in-Some.ensures.items in

@@ -1,6 +1,7 @@
-use Rattle.std.proofs.Common.{arith, ◌≡◌, ◌<◌, ◌∙◌, Option, None, Some, ℤ, pos, negsuc, w32, to_z, of_z, inl, inr, if◌then◌else◌, refl, sym, ap, subst}
+use Rattle.std.proofs.Common.{arith, ◌≡◌, ◌<◌, ◌∙◌, Option, None, Some, ℤ, pos, negsuc, w32, to_z, of_z, inl, inr, map, if◌then◌else◌, refl, sym, ap, subst}
 use Rattle.std.specs.Int.Signed.{mag}
 use Rattle.std.proofs.lemmas.Int.{ints}
+use Rattle.data_types.specs.ColumnView.{column_of}
 use Rattle.tree_model.specs.Tree.{IsLive}
 use Rattle.raw_array.specs.Members.{Cost}
 use Rattle.stream_face.specs.Calls.{IsCode, IsRowFault, Shows, Tells}
@@ -62,34 +63,39 @@ returns-then-self g c =
       };
       answers = λ fresh. absurd (wanted _ failed fresh.no_failure);
       counts = λ _ z. absurd (not-zero z);
+      gives = λ _ z. absurd (not-zero z);
+      besides = λ _ _ h. h;
       shows = λ fresh. absurd (wanted _ failed fresh.no_failure);
     }
 
-pub next-requires-clause-live : goal.next-requires-clause-live
-next-requires-clause-live g c = c.requires.live
+pub pull-requires-clause-rests : goal.pull-requires-clause-rests
+pull-requires-clause-rests g c = λ _ _. c.args.self.now.rests
 
-pub next-requires-clause-fits : goal.next-requires-clause-fits
-next-requires-clause-fits g c = c.args.self.now.fits
+pub pull-requires-clause-live : goal.pull-requires-clause-live
+pull-requires-clause-live g c = λ _ _. c.requires.live
 
-pub next-requires-clause-empty : goal.next-requires-clause-empty
-next-requires-clause-empty g c = c.requires.empty
+pub pull-requires-clause-fits : goal.pull-requires-clause-fits
+pull-requires-clause-fits g c = λ _ _. c.args.self.now.fits
 
-pub next-requires-clause-room : goal.next-requires-clause-room
-next-requires-clause-room g c = c.requires.room
+pub pull-requires-clause-empty : goal.pull-requires-clause-empty
+pull-requires-clause-empty g c = λ _ _. c.requires.empty
 
-pub next-requires-clause-shared : goal.next-requires-clause-shared
-next-requires-clause-shared g c = record { shared = c.requires.shared.shared }
+pub pull-requires-clause-room : goal.pull-requires-clause-room
+pull-requires-clause-room g c = λ _ _. c.requires.room
+
+pub pull-requires-clause-shared : goal.pull-requires-clause-shared
+pull-requires-clause-shared g c = λ _ _. record { shared = c.requires.shared.shared }
 
 pub returns-in-Err : goal.returns-in-Err
 returns-in-Err g c =
     let up = meaning g.U.ArrayStream.state c.args.self.now.up in
-    let n = meaning g.U.ArrayStream.state c.next.new.up in
+    let n = meaning g.U.ArrayStream.state c.pull.new.up in
     let call = c.in-Err.ensures in
     let kept = call.keeps in
     let works = ap (λ t. if t then Some wanting else up.failure) c.if-self.false in
     record {
       keeps = record {
-        columns = call.columns n.columns ∙ ap (g.W.Work.columns c.args.self.now.work) kept.columns;
+        columns = ap (map column_of) call.columns;
         ending = kept.ending;
         lawful = kept.lawful;
         held = kept.held;
@@ -112,20 +118,22 @@ returns-in-Err g c =
         codes = inr (inl refl);
       };
       counts = λ _ z. absurd (not-zero z);
+      gives = λ _ z. absurd (not-zero z);
+      besides = call.besides;
       shows = λ fresh. call.shows (record { lawful = fresh.lawful; no_failure = sym works ∙ fresh.no_failure });
     }
 
 pub returns-in-Ok : goal.returns-in-Ok
 returns-in-Ok g c =
     let up = meaning g.U.ArrayStream.state c.args.self.now.up in
-    let n = meaning g.U.ArrayStream.state c.next.new.up in
+    let n = meaning g.U.ArrayStream.state c.pull.new.up in
     let call = c.in-Ok.ensures in
     let kept = call.keeps in
     let e = same-code c.in-Ok.code call.code in
     let works = ap (λ t. if t then Some wanting else up.failure) c.if-self.false in
     record {
       keeps = record {
-        columns = call.columns n.columns ∙ ap (g.W.Work.columns c.args.self.now.work) kept.columns;
+        columns = ap (map column_of) call.columns;
         ending = kept.ending;
         lawful = kept.lawful;
         held = kept.held;
@@ -159,7 +167,9 @@ returns-in-Ok g c =
             codes = elim answers.codes [ inl a ↦ inl (e ∙ a) | inr b ↦ elim b [ inl a ↦ inr (inl (e ∙ a)) | inr a ↦ inr (inr (e ∙ a)) ] ];
           };
       counts = λ fresh zero. call.counts (record { lawful = fresh.lawful; no_failure = sym works ∙ fresh.no_failure }) (sym e ∙ zero);
+      gives = λ fresh zero. call.gives (record { lawful = fresh.lawful; no_failure = sym works ∙ fresh.no_failure }) (sym e ∙ zero);
+      besides = call.besides;
       shows = λ fresh.
-          subst (λ z. Shows up.joints n.joints z c.next.new.out (g.T.Tap.seen c.args.tap.now) (g.T.Tap.seen c.next.new.tap)) (sym e)
+          subst (λ z. Shows up.joints n.joints z c.pull.new.out (g.T.Tap.seen c.args.tap.now) (g.T.Tap.seen c.pull.new.tap)) (sym e)
           (call.shows (record { lawful = fresh.lawful; no_failure = sym works ∙ fresh.no_failure }));
     }

@@ -11,4 +11,4 @@ pub returns-clause-tables : goal.returns-clause-tables
 returns-clause-tables g c = λ lawful.
     let s = c.args.self.now in
     let up = meaning g.U.ArrayStream.state s.up in
-    c.lawful_facts-2.ensures.tables up s.fits (c.lawful_facts.ensures.columns lawful) (c.lawful_facts.ensures.tables lawful)
+    c.lawful_facts-2.ensures.tables s.rests up.columns up.ending up.ahead s.fits (c.lawful_facts.ensures.columns lawful) (c.lawful_facts.ensures.tables lawful)

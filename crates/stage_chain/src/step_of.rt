@@ -1,0 +1,27 @@
+//! What the steps of stages are: each is made of a step of the plan, whatever its kind is.
+ghost use Rattle.std.specs.Prelude.{◌≡◌, ◌≤◌, IsTrue, List, Option, Some, map};
+ghost use Rattle.data_types.specs.ColumnView.{column_of};
+ghost use Rattle.data_types.specs.Table.{Column, Row};
+ghost use Rattle.data_types.specs.declared.row_fault.RowFault.{RowFault};
+ghost use Rattle.plan_laws.specs.Structs.{column_structs, most_structs};
+ghost use Rattle.stage_model.specs.Stages.{chunks_after};
+ghost use Rattle.stage_model.specs.Traffic.{made_blocks, made_nodes};
+ghost use Rattle.stage_model.specs.Typing.{IsStageOver};
+
+use stage_model::Step;
+use stages::{ChunkStep, OutColumns};
+use std::alloc::Global;
+
+/// The step of a stage, whatever its kind is: one type, so that a chain of many stages has a type that grows by one name a stage.
+pub trait StepOf: ChunkStep {
+    /// The step of a stage, whose columns after it these are, by so many workers. Takes no memory.
+    fn of(alloc: Global, step: Step, out: OutColumns, workers: u32) -> Self
+        requires workers { (1 ≤ workers) × (workers ≤ 64) }
+        ensures rests { IsTrue (Self.rests result) }
+        ensures fits { (before : List Column) → IsStageOver before (record { step = step; columns = map column_of out })
+            → column_structs before ≤ most_structs → Self.fits result before }
+        ensures columns { Self.columns result ≡ out }
+        ensures ahead { (ending : Option RowFault) (tables : List (List Row)) → Self.ahead result ending tables ≡ chunks_after step ending tables }
+        ensures blocks { (rows : List Row) → Self.blocks result rows ≡ made_blocks (Some step) (map column_of out) rows }
+        ensures nodes { (rows : List Row) → Self.nodes result rows ≡ made_nodes (Some step) (map column_of out) };
+}

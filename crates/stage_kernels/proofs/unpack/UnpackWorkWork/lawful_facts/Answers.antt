@@ -1,8 +1,0 @@
-use Rattle.stage_kernels.proofs.UnpackedStreams.{unpacked_lawful, unpacked_tables}
-use Rattle.stage_kernels.proofs.unpack.UnpackWorkWork.lawful_facts.Goals as goal
-
-pub returns-clause-columns : goal.returns-clause-columns
-returns-clause-columns c = λ before. unpacked_lawful c.args.self.now.place c.args.self.now.out before c.column_schemas_are_lawful.ensures
-
-pub returns-clause-tables : goal.returns-clause-tables
-returns-clause-tables c = λ up fits columns. unpacked_tables c.args.self.now.place c.args.self.now.out up.columns up.ahead fits
