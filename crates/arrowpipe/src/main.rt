@@ -1,11 +1,10 @@
 //! Reads CSV from standard input and writes the table that the stages of the words make of it to standard output.
 #![tactic(auto)]
 
-use edge_io::{OpenGate, StdSink, StdSource, program_words};
-use pipe_top::run;
+use edge_io::{StdSink, StdSource, program_words};
+use pipe_top::run_to_exit;
 use std::io::ErrorKind;
 use std::process::ExitCode;
-use stream_face::NoTap;
 
 /// The status for arguments that are not text, which no command takes.
 const REFUSED: u8 = 2;
@@ -34,15 +33,5 @@ fn main(rt: HostRuntime) -> ExitCode {
     let mut source = StdSource::new(rt.stdin());
     let mut sink = StdSink::new(rt.stdout());
     let mut errs = StdSink::new(rt.stderr());
-    let outcome = run(
-        &rt,
-        rt.alloc(),
-        &words,
-        &mut source,
-        &mut sink,
-        &mut errs,
-        &mut NoTap,
-        &OpenGate,
-    );
-    ExitCode::from(outcome.status)
+    run_to_exit(&rt, rt.alloc(), &words, &mut source, &mut sink, &mut errs)
 }

@@ -6,17 +6,21 @@ use Rattle.std.proofs.lemmas.Bool.{false≢true}
 use Rattle.edge_face.specs.declared.WriteFault.{WriteFault}
 use Rattle.unit_pass.specs.declared.pass.Audit.{Audit}
 use Rattle.stream_face.specs.Shown.{Seen}
-use Rattle.run_model.specs.Answer.{Answer, Asks, Task, Text, Fault, cause_of, status_of, Cause, OfWords, OfTexts, OfPlan, OfRecords}
+use Rattle.run_model.specs.Answer.{Answer, Asks, Task, Text, Tree, Fault, cause_of, Cause, OfWords, OfTexts, OfPlan, OfRecords}
 use Rattle.run_model.specs.Answer.{OfTree, OfLength, Reading, Writing, Memory}
+use Rattle.run_model.specs.MemoryFaults.{has_memory_inside}
 use Rattle.run_model.specs.Outcomes.{AtWriteFault, AtWriting, asked_of, fault_in, is_decided, task_of}
 use Rattle.run_model.specs.declared.asked.Task.{Task as AsksTask}
 use Rattle.run_model.specs.Told.{Says, Told, Took, audit_if, fault_line}
 use Rattle.run_model.specs.declared.fault.RunFault.{RunFault}
 use Rattle.run_model.specs.declared.fault.RunFault.TheVariants as run
-use Rattle.run_task.specs.Traffic.{CountsTask, IsShownInPart, IsTraffic, ShowsAsked}
+use Rattle.run_task.specs.Over.{CarriedOver, RanOver}
+use Rattle.run_task.specs.Traffic.{CountsTask, IsShownInPart, IsTraffic, ShowsAsked, ShowsTask}
 use Rattle.words.specs.Words.{made_of}
+use Rattle.run_task.proofs.Carried.{over-fault}
 use Rattle.run_task.proofs.Unshown.{unshown}
-use Rattle.run_task.specs.Answer.{IsAnswer, IsAnswerTo, IsInput, input_by}
+use Rattle.run_task.proofs.Written.{some-bytes}
+use Rattle.run_task.specs.Answer.{AreBytes, AreInput, IsAnswer, IsAnswerTo, input_by}
 use Rattle.run_task.specs.Outcomes.{GotFirst, GotText}
 
 -- ---- diagnostics
@@ -81,21 +85,9 @@ at-writing Memory P Q step holds = tt
 
 -- ---- what is asked for, and what the words ask for
 
--- what holds of the bytes that were read, holds of the input
-at-input : (words : List (List ℕ)) (left : Option (List ℕ)) (rows : Option ℕ) (bytes : List ℕ) (P : List ℕ → Type 0) → rows ≡ made_of words
-    → IsInput words left bytes → IfSome (input_by rows left) P → P bytes
-at-input words left rows bytes P same is holds = subst (λ l. IfSome l P) (ap (λ r. input_by r left) same ∙ is) holds
-
-module _ (words : List (List ℕ)) (left : Option (List ℕ)) (rows : Option ℕ) (request : Result AsksTask RunFault) (carried : Result (Unit {0}) RunFault)
-    (fault : Option RunFault) (early : IfErr request (λ f. carried ≡ Err f)) (told : fault ≡ fault_in carried)
-    (asks : (request ≡ Err run.NoMemory) ⊎ Asks words (asked_of request)) (same : (request ≡ Err run.NoMemory) ⊎ (rows ≡ made_of words)) where
-  -- the bytes that were read
-  abbrev input : Option (List ℕ)
-  input = input_by rows left
-
-  answer-is : (bytes : List ℕ) (answer : Answer) → Asks words (asked_of request) → IsAnswerTo (asked_of request) bytes answer → IsAnswer words bytes answer
-  answer-is bytes answer asked is = record { asked = asked_of request; asks = asked; is = is }
-
+module _ (words : List (List ℕ)) (request : Result AsksTask RunFault) (carried : Result (Unit {0}) RunFault) (fault : Option RunFault)
+    (early : IfErr request (λ f. carried ≡ Err f)) (told : fault ≡ fault_in carried)
+    (asks : (request ≡ Err run.NoMemory) ⊎ Asks words (asked_of request)) where
   asked-unless : (request ≡ Err run.NoMemory → ⊥) → Asks words (asked_of request)
   asked-unless never = go asks
     where
@@ -103,19 +95,14 @@ module _ (words : List (List ℕ)) (left : Option (List ℕ)) (rows : Option ℕ
       go (inl none) = absurd (never none)
       go (inr asked) = asked
 
-  made-unless : (request ≡ Err run.NoMemory → ⊥) → rows ≡ made_of words
-  made-unless never = go same
-    where
-      go : (request ≡ Err run.NoMemory) ⊎ (rows ≡ made_of words) → rows ≡ made_of words
-      go (inl none) = absurd (never none)
-      go (inr is) = is
+  memory-carried : request ≡ Err run.NoMemory → carried ≡ Err run.NoMemory
+  memory-carried none = subst (λ e. IfErr e (λ f. carried ≡ Err f)) none early
 
   module _ (f : RunFault) (is : carried ≡ Err f) where
     -- want of memory while the words are read is the fault
     fault-of-memory : request ≡ Err run.NoMemory → f ≡ run.NoMemory
     fault-of-memory none =
-        let memory : ◌≡◌ {A = Result (Unit {0}) RunFault} carried (Err run.NoMemory) = subst (λ e. IfErr e (λ f. carried ≡ Err f)) none early in
-        let same : ◌≡◌ {A = Result (Unit {0}) RunFault} (Err f) (Err run.NoMemory) = sym is ∙ memory in
+        let same : ◌≡◌ {A = Result (Unit {0}) RunFault} (Err f) (Err run.NoMemory) = sym is ∙ memory-carried none in
         let one : f ≡ run.NoMemory = cc in
         one
 
@@ -142,163 +129,217 @@ module _ (words : List (List ℕ)) (left : Option (List ℕ)) (rows : Option ℕ
   -- where the run has no fault, the words ask for what was read
   done-asked : fault ≡ None → request ≡ Err run.NoMemory → ⊥
   done-asked none memory =
-      let never : ◌≡◌ {A = Result (Unit {0}) RunFault} (Ok tt) (Err run.NoMemory) =
-      sym (carried-ok none) ∙ subst (λ e. IfErr e (λ f. carried ≡ Err f)) memory early in
+      let never : ◌≡◌ {A = Result (Unit {0}) RunFault} (Ok tt) (Err run.NoMemory) = sym (carried-ok none) ∙ memory-carried memory in
       cc
 
-  -- ---- the causes of faults that words and input don't decide
-
-  pub read-rose : (None-made Rises : Type 0) → (carried ≡ Err run.ReadFault → None-made × Rises) → fault ≡ Some run.ReadFault → Rises
-  read-rose None-made Rises cause is = (cause (carried-err run.ReadFault is)).1
-
-  pub write-rose : (Rises : Type 0) → IfErr carried (λ f. AtWriteFault f (λ taken. Rises)) → IfSome fault (λ f. AtWriteFault f (λ taken. Rises))
-  write-rose Rises cause = subst (λ o. IfSome o (λ f. AtWriteFault f (λ taken. Rises))) (sym told) (go carried cause)
+  -- what holds of the fault of what was carried out holds of that of the run
+  of-fault : (P : RunFault → Type 0) → IfErr carried P → IfSome fault P
+  of-fault P holds = subst (λ o. IfSome o P) (sym told) (go carried holds)
     where
-      go : (r : Result (Unit {0}) RunFault) → IfErr r (λ f. AtWriteFault f (λ taken. Rises)) → IfSome (fault_in r) (λ f. AtWriteFault f (λ taken. Rises))
-      go (Ok done) cause = tt
-      go (Err f) cause = cause
+      go : (r : Result (Unit {0}) RunFault) → IfErr r P → IfSome (fault_in r) P
+      go (Ok done) holds = tt
+      go (Err f) holds = holds
 
-  -- ---- what is done for the task
-
-  pub done-for-task : (P : Task → List ℕ → Type 0) → OnOk carried (IfOk request (λ t. IfSome input (λ bytes. P (task_of t) bytes)))
-      → fault ≡ None → (bytes : List ℕ) → IsInput words left bytes → (task : Task) × Asks words (Ok task) × P task bytes
-  done-for-task P holds none bytes is =
-      go request refl (subst (λ r. OnOk r (IfOk request (λ t. IfSome input (λ bytes. P (task_of t) bytes)))) (carried-ok none) holds)
+  -- so does what follows of it
+  then-fault : (P Q : RunFault → Type 0) → ((f : RunFault) → carried ≡ Err f → P f → Q f) → IfErr carried P → IfSome fault Q
+  then-fault P Q step holds = of-fault Q (go carried refl holds)
     where
-      go : (r : Result AsksTask RunFault) → request ≡ r → IfOk r (λ t. IfSome input (λ bytes. P (task_of t) bytes))
-          → (task : Task) × Asks words (Ok task) × P task bytes
-      go (Ok t) at here = (
-        task_of t,
-        subst (λ (r : Result AsksTask RunFault). Asks words (asked_of r)) at (asked-unless (done-asked none)),
-        at-input words left rows bytes (λ l. P (task_of t) l) (made-unless (done-asked none)) is here,
-      )
-      go (Err f) at here =
-          let never : ◌≡◌ {A = Result (Unit {0}) RunFault} (Ok tt) (Err f) =
-          sym (carried-ok none) ∙ subst (λ (r : Result AsksTask RunFault). IfErr r (λ f. carried ≡ Err f)) at early in
-          cc
+      go : (r : Result (Unit {0}) RunFault) → carried ≡ r → IfErr r P → IfErr r Q
+      go (Ok done) is holds = tt
+      go (Err f) is holds = step f is holds
 
-  -- the counts of a pass that began at none
-  pub counts-of-task : (old_blocks old_nodes new_blocks new_nodes blocks nodes : ℕ) → old_blocks ≡ 0 → old_nodes ≡ 0 → blocks ≡ new_blocks → nodes ≡ new_nodes
-      → OnOk carried (IfOk request (λ t. IfSome input (λ bytes. CountsTask (task_of t) bytes old_blocks old_nodes new_blocks new_nodes)))
-      → fault ≡ None → (bytes : List ℕ) → IsInput words left bytes → IsTraffic words bytes blocks nodes
-  counts-of-task old_blocks old_nodes new_blocks new_nodes blocks nodes no-blocks no-nodes same-blocks same-nodes counts none bytes is =
-      rw (same-blocks, same-nodes)
-      (done-for-task (λ task l. CountsTask task l 0 0 new_blocks new_nodes)
-      (subst (λ n. OnOk carried (IfOk request (λ t. IfSome input (λ bytes. CountsTask (task_of t) bytes 0 n new_blocks new_nodes)))) no-nodes
-      (subst (λ b. OnOk carried (IfOk request (λ t. IfSome input (λ bytes. CountsTask (task_of t) bytes b old_nodes new_blocks new_nodes)))) no-blocks counts))
-      none bytes is)
+  -- ---- over the bytes of an input
+  module _ (bytes : List ℕ) where
+    answer-is : (answer : Answer) → (request ≡ Err run.NoMemory → ⊥) → IsAnswerTo (asked_of request) bytes answer → IsAnswer words bytes answer
+    answer-is answer never is = record { asked = asked_of request; asks = asked-unless never; is = is }
 
-  -- ---- the text
+    done-for-task : (P : Task → Type 0) → OnOk carried (IfOk (asked_of request) P) → fault ≡ None → (task : Task) × Asks words (Ok task) × P task
+    done-for-task P holds none = go request refl (subst (λ r. OnOk r (IfOk (asked_of request) P)) (carried-ok none) holds)
+      where
+        go : (r : Result AsksTask RunFault) → request ≡ r → IfOk (asked_of r) P → (task : Task) × Asks words (Ok task) × P task
+        go (Ok t) at here = (task_of t, subst (λ (r : Result AsksTask RunFault). Asks words (asked_of r)) at (asked-unless (done-asked none)), here)
+        go (Err f) at here =
+            let never : ◌≡◌ {A = Result (Unit {0}) RunFault} (Ok tt) (Err f) =
+            sym (carried-ok none) ∙ subst (λ (r : Result AsksTask RunFault). IfErr r (λ f. carried ≡ Err f)) at early in
+            cc
 
-  pub text-of-answer : (old new : Option (List ℕ)) → OnOk carried (IfSome input (λ bytes. GotText (IsAnswerTo (asked_of request) bytes) old new))
-      → fault ≡ None → (bytes : List ℕ) → IsInput words left bytes → GotText (IsAnswer words bytes) old new
-  text-of-answer old new got none bytes is =
-      let whole : IfSome input (λ l. GotText (IsAnswerTo (asked_of request) l) old new) =
-      subst (λ r. OnOk r (IfSome input (λ l. GotText (IsAnswerTo (asked_of request) l) old new))) (carried-ok none) got in
-      let here = at-input words left rows bytes (λ l. GotText (IsAnswerTo (asked_of request) l) old new) (made-unless (done-asked none)) is whole in
-      (here.0, answer-is bytes (Text here.0) (asked-unless (done-asked none)) here.1, here.2)
+    text-of-answer : (old new : Option (List ℕ)) → OnOk carried (GotText (IsAnswerTo (asked_of request) bytes) old new) → fault ≡ None
+        → GotText (IsAnswer words bytes) old new
+    text-of-answer old new got none =
+        let here = subst (λ r. OnOk r (GotText (IsAnswerTo (asked_of request) bytes) old new)) (carried-ok none) got in
+        (here.0, answer-is (Text here.0) (done-asked none) here.1, here.2)
 
-  pub prefix-of-answer : (old new : Option (List ℕ))
-      → IfErr carried (λ f. AtWriteFault f (λ taken. IfSome input (λ bytes. GotFirst (IsAnswerTo (asked_of request) bytes) old new taken)))
-      → IfSome fault (λ f. AtWriteFault f (λ taken. (bytes : List ℕ) → IsInput words left bytes → GotFirst (IsAnswer words bytes) old new taken))
-  prefix-of-answer old new got =
-      subst (λ o. IfSome o (λ f. AtWriteFault f (λ taken. (bytes : List ℕ) → IsInput words left bytes → GotFirst (IsAnswer words bytes) old new taken)))
-      (sym told) (go carried refl got)
-    where
-      go : (r : Result (Unit {0}) RunFault) → carried ≡ r
-          → IfErr r (λ f. AtWriteFault f (λ taken. IfSome input (λ bytes. GotFirst (IsAnswerTo (asked_of request) bytes) old new taken)))
-          → IfSome (fault_in r) (λ f. AtWriteFault f (λ taken. (bytes : List ℕ) → IsInput words left bytes → GotFirst (IsAnswer words bytes) old new taken))
-      go (Ok done) is wrote = tt
-      go (Err f) is wrote =
-          at-writing (cause_of f) (λ taken. IfSome input (λ bytes. GotFirst (IsAnswerTo (asked_of request) bytes) old new taken))
-          (λ taken. (bytes : List ℕ) → IsInput words left bytes → GotFirst (IsAnswer words bytes) old new taken)
-          (λ n writes first bytes here-is.
-          let here : GotFirst (IsAnswerTo (asked_of request) bytes) old new n =
-          at-input words left rows bytes (λ l. GotFirst (IsAnswerTo (asked_of request) l) old new n)
-          (made-unless (writing-asked f is n writes)) here-is first in
-          (here.0, answer-is bytes (Text here.0) (asked-unless (writing-asked f is n writes)) here.1, here.2, here.3))
-          wrote
+    prefix-of-answer : (old new : Option (List ℕ)) → IfErr carried (λ f. AtWriteFault f (λ n. GotFirst (IsAnswerTo (asked_of request) bytes) old new n))
+        → IfSome fault (λ f. AtWriteFault f (λ n. GotFirst (IsAnswer words bytes) old new n))
+    prefix-of-answer old new =
+        then-fault (λ f. AtWriteFault f (λ n. GotFirst (IsAnswerTo (asked_of request) bytes) old new n))
+        (λ f. AtWriteFault f (λ n. GotFirst (IsAnswer words bytes) old new n))
+        (λ f is. at-writing (cause_of f) (λ n. GotFirst (IsAnswerTo (asked_of request) bytes) old new n) (λ n. GotFirst (IsAnswer words bytes) old new n)
+        (λ n writes first. (first.0, answer-is (Text first.0) (writing-asked f is n writes) first.1, first.2, first.3)))
 
-  -- ---- the refusal
+    refused-by-answer : IfErr carried (λ f. is_decided f ≡ true → IsAnswerTo (asked_of request) bytes (Fault f))
+        → IfSome fault (λ f. is_decided f ≡ true → IsAnswer words bytes (Fault f))
+    refused-by-answer =
+        then-fault (λ f. is_decided f ≡ true → IsAnswerTo (asked_of request) bytes (Fault f)) (λ f. is_decided f ≡ true → IsAnswer words bytes (Fault f))
+        (λ f is refused decided. answer-is (Fault f) (decided-asked f is decided) (refused decided))
 
-  pub refused-by-answer : IfErr carried (λ f. is_decided f ≡ true → IfSome input (λ bytes. IsAnswerTo (asked_of request) bytes (Fault f)))
-      → IfSome fault (λ f. is_decided f ≡ true → (bytes : List ℕ) → IsInput words left bytes → IsAnswer words bytes (Fault f))
-  refused-by-answer got =
-      subst (λ o. IfSome o (λ f. is_decided f ≡ true → (bytes : List ℕ) → IsInput words left bytes → IsAnswer words bytes (Fault f)))
-      (sym told) (go carried refl got)
-    where
-      go : (r : Result (Unit {0}) RunFault) → carried ≡ r
-          → IfErr r (λ f. is_decided f ≡ true → IfSome input (λ bytes. IsAnswerTo (asked_of request) bytes (Fault f)))
-          → IfSome (fault_in r) (λ f. is_decided f ≡ true → (bytes : List ℕ) → IsInput words left bytes → IsAnswer words bytes (Fault f))
-      go (Ok done) is refused = tt
-      go (Err f) is refused = λ decided bytes here-is.
-          answer-is bytes (Fault f) (asked-unless (decided-asked f is decided))
-          (at-input words left rows bytes (λ l. IsAnswerTo (asked_of request) l (Fault f)) (made-unless (decided-asked f is decided)) here-is (refused decided))
+    shown-in-part : (old new : Option (List Seen)) → IfErr request (λ _. new ≡ old)
+        → (request ≡ Err run.NoMemory) ⊎ ((asked : Result Task RunFault) → Asks words asked → asked ≡ asked_of request)
+        → OnErr carried (ShowsAsked (asked_of request) bytes old new) → IfSome fault (λ _. IsShownInPart words bytes old new)
+    shown-in-part old new none (inl memory) shows =
+        of-fault (λ _. IsShownInPart words bytes old new) (subst (λ (r : Result (Unit {0}) RunFault). IfErr r (λ _. IsShownInPart words bytes old new))
+        (sym (memory-carried memory))
+        (λ asked asks. unshown asked bytes old new (subst (λ (r : Result AsksTask RunFault). IfErr r (λ _. new ≡ old)) memory none)))
+    shown-in-part old new none (inr only) shows =
+        then-fault (λ _. ShowsAsked (asked_of request) bytes old new) (λ _. IsShownInPart words bytes old new)
+        (λ f is all asked asks. subst (λ (a : Result Task RunFault). ShowsAsked a bytes old new) (sym (only asked asks)) all) shows
 
-  -- ---- which outcome it is
+    -- the counts of a pass that began at none
+    counts-of-task : (old_blocks old_nodes new_blocks new_nodes blocks nodes : ℕ) → old_blocks ≡ 0 → old_nodes ≡ 0 → blocks ≡ new_blocks → nodes ≡ new_nodes
+        → OnOk carried (IfOk (asked_of request) (λ t. CountsTask t bytes old_blocks old_nodes new_blocks new_nodes))
+        → fault ≡ None → IsTraffic words bytes blocks nodes
+    counts-of-task old_blocks old_nodes new_blocks new_nodes blocks nodes no-blocks no-nodes same-blocks same-nodes counts none =
+        rw (same-blocks, same-nodes)
+        (done-for-task (λ task. CountsTask task bytes 0 0 new_blocks new_nodes)
+        (subst (λ n. OnOk carried (IfOk (asked_of request) (λ t. CountsTask t bytes 0 n new_blocks new_nodes))) no-nodes
+        (subst (λ b. OnOk carried (IfOk (asked_of request) (λ t. CountsTask t bytes b old_nodes new_blocks new_nodes))) no-blocks counts))
+        none)
 
-  module _ (alone : (words : List (List ℕ)) (bytes : List ℕ) (one other : Answer) → IsAnswer words bytes one → IsAnswer words bytes other → one ≡ other) where
-    module _ (ReadRose : Type 0) (status : ℕ) (status-is : status ≡ status_of fault) (read : fault ≡ Some run.ReadFault → ReadRose)
-        (refused : IfSome fault (λ f. is_decided f ≡ true → (bytes : List ℕ) → IsInput words left bytes → IsAnswer words bytes (Fault f))) where
-      refused-at : (f : RunFault) → fault ≡ Some f → is_decided f ≡ true → (bytes : List ℕ) → IsInput words left bytes → IsAnswer words bytes (Fault f)
-      refused-at f is =
-          subst (λ o. IfSome o (λ f. is_decided f ≡ true → (bytes : List ℕ) → IsInput words left bytes → IsAnswer words bytes (Fault f))) is refused
+    -- ---- which outcome it is
+    module _ (alone : (words : List (List ℕ)) (bytes : List ℕ) (one other : Answer) → IsAnswer words bytes one → IsAnswer words bytes other → one ≡ other)
+        (ReadRose WriteRose : Type 0) (read : fault ≡ Some run.ReadFault → ReadRose)
+        (refused : IfSome fault (λ f. is_decided f ≡ true → IsAnswer words bytes (Fault f))) where
+      refused-at : (f : RunFault) → fault ≡ Some f → is_decided f ≡ true → IsAnswer words bytes (Fault f)
+      refused-at f is = subst (λ o. IfSome o (λ f. is_decided f ≡ true → IsAnswer words bytes (Fault f))) is refused
 
-      memory-status : (f : RunFault) → fault ≡ Some f → f ≡ run.NoMemory → status ≡ 9
-      memory-status f is none = status-is ∙ ap status_of is ∙ ap (λ g. status_of (Some g)) none
-
-      pub is-complete-fault : (old new : Option (List ℕ)) (bytes : List ℕ) (told_fault : RunFault)
-          → (fault ≡ None → (bytes : List ℕ) → IsInput words left bytes → GotText (IsAnswer words bytes) old new)
-          → IfSome fault (λ f. AtWriteFault f (λ taken. (bytes : List ℕ) → IsInput words left bytes → GotFirst (IsAnswer words bytes) old new taken))
-          → IsInput words left bytes → IsAnswer words bytes (Fault told_fault) → (ReadRose → ⊥) → (fault ≡ Some told_fault) ⊎ (status ≡ 9)
-      is-complete-fault old new bytes told_fault text first given answer no-read = go fault refl
+      -- where the answer is a fault, it is told, unless a read fails
+      complete-fault : (old new : Option (List ℕ)) → (fault ≡ None → GotText (IsAnswer words bytes) old new)
+          → IfSome fault (λ f. AtWriteFault f (λ n. GotFirst (IsAnswer words bytes) old new n))
+          → (other : RunFault) → IsAnswer words bytes (Fault other) → (ReadRose → ⊥) → (fault ≡ Some other) ⊎ (fault ≡ Some run.NoMemory)
+      complete-fault old new text first other answer no-read = go fault refl
         where
           by-cause : (f : RunFault) → fault ≡ Some f
               → (is_decided f ≡ true) ⊎ ((f ≡ run.ReadFault) ⊎ (((taken : ℕ) × (f ≡ run.WriteFault taken)) ⊎ (f ≡ run.NoMemory)))
-              → (fault ≡ Some told_fault) ⊎ (status ≡ 9)
+              → (fault ≡ Some other) ⊎ (fault ≡ Some run.NoMemory)
           by-cause f is (inl decided) =
-              let same : ◌≡◌ {A = Answer} (Fault f) (Fault told_fault) =
-              alone words bytes (Fault f) (Fault told_fault) (refused-at f is decided bytes given) answer in
-              let one : f ≡ told_fault = cc in
+              let same : ◌≡◌ {A = Answer} (Fault f) (Fault other) = alone words bytes (Fault f) (Fault other) (refused-at f is decided) answer in
+              let one : f ≡ other = cc in
               inl (is ∙ ap Some one)
           by-cause f is (inr (inl reading)) = absurd (no-read (read (is ∙ ap Some reading)))
           by-cause f is (inr (inr (inl (taken, writing)))) =
-              let all =
-              subst (λ o. IfSome o (λ f. AtWriteFault f (λ taken. (bytes : List ℕ) → IsInput words left bytes → GotFirst (IsAnswer words bytes) old new taken)))
-              (is ∙ ap Some writing) first in
-              let here = all bytes given in
-              let never : ◌≡◌ {A = Answer} (Text here.0) (Fault told_fault) =
-              alone words bytes (Text here.0) (Fault told_fault) here.1 answer in
+              let here = subst (λ o. IfSome o (λ f. AtWriteFault f (λ n. GotFirst (IsAnswer words bytes) old new n))) (is ∙ ap Some writing) first in
+              let never : ◌≡◌ {A = Answer} (Text here.0) (Fault other) = alone words bytes (Text here.0) (Fault other) here.1 answer in
               cc
-          by-cause f is (inr (inr (inr memory))) = inr (memory-status f is memory)
+          by-cause f is (inr (inr (inr memory))) = inr (is ∙ ap Some memory)
 
-          go : (o : Option RunFault) → fault ≡ o → (fault ≡ Some told_fault) ⊎ (status ≡ 9)
+          go : (o : Option RunFault) → fault ≡ o → (fault ≡ Some other) ⊎ (fault ≡ Some run.NoMemory)
           go None is =
-              let here = text is bytes given in
-              let never : ◌≡◌ {A = Answer} (Text here.0) (Fault told_fault) =
-              alone words bytes (Text here.0) (Fault told_fault) here.1 answer in
+              let here = text is in
+              let never : ◌≡◌ {A = Answer} (Text here.0) (Fault other) = alone words bytes (Text here.0) (Fault other) here.1 answer in
               cc
           go (Some f) is = by-cause f is (fault-cases f)
 
-      -- where the answer is a text, nothing is refused
-      pub is-complete : (WriteRose : Type 0) (bytes text : List ℕ) → IfSome fault (λ f. AtWriteFault f (λ taken. WriteRose))
-          → IsInput words left bytes → IsAnswer words bytes (Text text) → (ReadRose → ⊥) → (WriteRose → ⊥) → (status ≡ 0) ⊎ (status ≡ 9)
-      is-complete WriteRose bytes text wrote given answer no-read no-write = go fault refl
+      -- where it is a text, nothing is refused, unless a read or a write fails
+      complete-text : IfSome fault (λ f. AtWriteFault f (λ taken. WriteRose))
+          → (text : List ℕ) → IsAnswer words bytes (Text text) → (ReadRose → ⊥) → (WriteRose → ⊥) → (fault ≡ None) ⊎ (fault ≡ Some run.NoMemory)
+      complete-text wrote text answer no-read no-write = go fault refl
         where
           by-cause : (f : RunFault) → fault ≡ Some f
               → (is_decided f ≡ true) ⊎ ((f ≡ run.ReadFault) ⊎ (((taken : ℕ) × (f ≡ run.WriteFault taken)) ⊎ (f ≡ run.NoMemory)))
-              → (status ≡ 0) ⊎ (status ≡ 9)
+              → (fault ≡ None) ⊎ (fault ≡ Some run.NoMemory)
           by-cause f is (inl decided) =
-              let never : ◌≡◌ {A = Answer} (Fault f) (Text text) = alone words bytes (Fault f) (Text text) (refused-at f is decided bytes given) answer in
+              let never : ◌≡◌ {A = Answer} (Fault f) (Text text) = alone words bytes (Fault f) (Text text) (refused-at f is decided) answer in
               cc
           by-cause f is (inr (inl reading)) = absurd (no-read (read (is ∙ ap Some reading)))
           by-cause f is (inr (inr (inl (taken, writing)))) =
               absurd (no-write (subst (λ o. IfSome o (λ f. AtWriteFault f (λ taken. WriteRose))) (is ∙ ap Some writing) wrote))
-          by-cause f is (inr (inr (inr memory))) = inr (memory-status f is memory)
+          by-cause f is (inr (inr (inr memory))) = inr (is ∙ ap Some memory)
 
-          go : (o : Option RunFault) → fault ≡ o → (status ≡ 0) ⊎ (status ≡ 9)
-          go None is = inl (status-is ∙ ap status_of is)
+          go : (o : Option RunFault) → fault ≡ o → (fault ≡ None) ⊎ (fault ≡ Some run.NoMemory)
+          go None is = inl is
           go (Some f) is = by-cause f is (fault-cases f)
+
+  -- ---- the input
+
+  -- what was carried out over the bytes of what was to be read was over those of the words' input; without memory for the words
+  -- it is so of any
+  module _ (rows : Option ℕ) (left : Option (List ℕ)) (taken got : Option (List ℕ)) (seen shown : Option (List Seen))
+      (old_blocks old_nodes blocks nodes : ℕ) (none : IfErr request (λ _. shown ≡ seen)) where
+    pub over-input : (request ≡ Err run.NoMemory) ⊎ (rows ≡ made_of words)
+        → ((bytes : List ℕ) × AreBytes (input_by rows left) bytes
+        × CarriedOver (asked_of request) bytes carried taken got seen shown old_blocks old_nodes blocks nodes)
+        → (bytes : List ℕ) × AreInput words left bytes
+        × CarriedOver (asked_of request) bytes carried taken got seen shown old_blocks old_nodes blocks nodes
+    over-input (inl memory) over =
+        let some = some-bytes (input_by (made_of words) left) in
+        let same : shown ≡ seen = subst (λ (r : Result AsksTask RunFault). IfErr r (λ _. shown ≡ seen)) memory none in (
+          some.0,
+          some.1,
+          over-fault (asked_of request) some.0 carried taken got seen shown old_blocks old_nodes blocks nodes run.NoMemory
+              (memory-carried memory) refl (λ decided. absurd (false≢true decided)) (unshown (asked_of request) some.0 seen shown same),
+        )
+    over-input (inr same) over = (over.0, subst (λ r. AreBytes (input_by r left) over.0) same over.1, over.2)
+
+  -- ---- what the tap didn't see
+
+  pub unshown-early : (seen shown : Option (List Seen)) → IfErr request (λ _. shown ≡ seen)
+      → (request ≡ Err run.NoMemory) ⊎ ((asked : Result Task RunFault) → Asks words asked → asked ≡ asked_of request)
+      → (f : RunFault) → Asks words (Err f) → shown ≡ seen
+  unshown-early seen shown none (inl memory) f refuses = subst (λ (r : Result AsksTask RunFault). IfErr r (λ _. shown ≡ seen)) memory none
+  unshown-early seen shown none (inr only) f refuses = go request refl none
+    where
+      go : (r : Result AsksTask RunFault) → request ≡ r → IfErr r (λ _. shown ≡ seen) → shown ≡ seen
+      go (Ok t) is none =
+          let never : ◌≡◌ {A = Result Task RunFault} (Err f) (Ok (task_of t)) = only (Err f) refuses ∙ ap asked_of is in
+          cc
+      go (Err other) is none = none
+
+  pub unshown-check : (bytes : List ℕ) (taken got : Option (List ℕ)) (seen shown : Option (List Seen)) (old_blocks old_nodes blocks nodes : ℕ)
+      → CarriedOver (asked_of request) bytes carried taken got seen shown old_blocks old_nodes blocks nodes → IfErr request (λ _. shown ≡ seen)
+      → (request ≡ Err run.NoMemory) ⊎ ((asked : Result Task RunFault) → Asks words asked → asked ≡ asked_of request)
+      → Asks words (Ok Tree) → shown ≡ seen
+  unshown-check bytes taken got seen shown old_blocks old_nodes blocks nodes over none (inl memory) tree =
+      subst (λ (r : Result AsksTask RunFault). IfErr r (λ _. shown ≡ seen)) memory none
+  unshown-check bytes taken got seen shown old_blocks old_nodes blocks nodes over none (inr only) tree =
+      let is = sym (only (Ok Tree) tree) in
+      go carried (subst (λ (a : Result Task RunFault). OnOk carried (IfOk a (λ task. ShowsTask task bytes seen shown))) is over.shows)
+      (subst (λ (a : Result Task RunFault). OnErr carried (ShowsAsked a bytes seen shown)) is over.shows_some)
+    where
+      go : (r : Result (Unit {0}) RunFault) → OnOk r (shown ≡ seen) → OnErr r (shown ≡ seen) → shown ≡ seen
+      go (Ok done) shows some = shows
+      go (Err f) shows some = some
+
+  -- ---- the run
+  module _ (bytes : List ℕ) (taken got : Option (List ℕ)) (seen shown : Option (List Seen)) (old_blocks old_nodes new_blocks new_nodes blocks nodes : ℕ)
+      (over : CarriedOver (asked_of request) bytes carried taken got seen shown old_blocks old_nodes new_blocks new_nodes)
+      (alone : (words : List (List ℕ)) (bytes : List ℕ) (one other : Answer) → IsAnswer words bytes one → IsAnswer words bytes other → one ≡ other)
+      (NoneMade ReadRose WriteRose : Type 0) (read : carried ≡ Err run.ReadFault → NoneMade × ReadRose)
+      (wrote : IfErr carried (λ f. AtWriteFault f (λ taken. WriteRose))) (none : IfErr request (λ _. shown ≡ seen))
+      (only : (request ≡ Err run.NoMemory) ⊎ ((asked : Result Task RunFault) → Asks words asked → asked ≡ asked_of request)) where
+    pub ran-over : old_blocks ≡ 0 → old_nodes ≡ 0 → blocks ≡ new_blocks → nodes ≡ new_nodes
+        → RanOver words bytes fault taken got seen shown blocks nodes ReadRose WriteRose
+    ran-over no-blocks no-nodes same-blocks same-nodes =
+        let text = text-of-answer bytes taken got over.text in
+        let refused = refused-by-answer bytes over.refused in
+        let first = prefix-of-answer bytes taken got over.first in
+        let read-rose = (λ (is : fault ≡ Some run.ReadFault). (read (carried-err run.ReadFault is)).1) in
+        record {
+          text = text;
+          refused = refused;
+          first = first;
+          shows = done-for-task bytes (λ task. ShowsTask task bytes seen shown) over.shows;
+          shows_some = shown-in-part bytes seen shown none only over.shows_some;
+          counts = counts-of-task bytes old_blocks old_nodes new_blocks new_nodes blocks nodes no-blocks no-nodes same-blocks same-nodes over.counts;
+          complete = complete-text bytes alone ReadRose WriteRose read-rose refused (of-fault (λ f. AtWriteFault f (λ taken. WriteRose)) wrote);
+          complete_fault = complete-fault bytes alone ReadRose WriteRose read-rose refused taken got text first;
+        }
+
+-- no fault of a run has a want of memory inside it, as none that is an answer has
+pub memory-alone : (words : List (List ℕ)) (bytes : List ℕ) (fault : Option RunFault)
+    → ((words : List (List ℕ)) (bytes : List ℕ) (f : RunFault) → (is_decided f ≡ true → IsAnswer words bytes (Fault f)) → has_memory_inside f ≡ false)
+    → IfSome fault (λ f. is_decided f ≡ true → IsAnswer words bytes (Fault f)) → IfSome fault (λ f. has_memory_inside f ≡ false)
+memory-alone words bytes None law refused = tt
+memory-alone words bytes (Some f) law refused = law words bytes f refused
 
 -- ---- where rows are made
 
@@ -311,29 +352,3 @@ pub made-keeps : (A : Type 0) (words : List (List ℕ)) (rows : Option ℕ) (req
     → (request ≡ Err run.NoMemory) ⊎ (rows ≡ made_of words) → IfErr request (λ f. A) → IfSome rows (λ n. A) → IfSome (made_of words) (λ n. A)
 made-keeps A words rows request (inl none) early made = if-some (made_of words) (subst (λ r. IfErr r (λ f. A)) none early)
 made-keeps A words rows request (inr same) early made = subst (λ r. IfSome r (λ n. A)) same made
-
--- ---- what is shown
-
-module _ (words : List (List ℕ)) (left : Option (List ℕ)) (rows : Option ℕ) (request : Result AsksTask RunFault) (old new : Option (List Seen))
-    (none : IfErr request (λ _. new ≡ old)) where
-  asked-shown : (request ≡ Err run.NoMemory) ⊎ ((asked : Result Task RunFault) → Asks words asked → asked ≡ asked_of request)
-      → (request ≡ Err run.NoMemory) ⊎ (rows ≡ made_of words) → IfSome (input_by rows left) (λ bytes. ShowsAsked (asked_of request) bytes old new)
-      → (bytes : List ℕ) → IsInput words left bytes → IsShownInPart words bytes old new
-  asked-shown (inl memory) same shows bytes is asked asks =
-      unshown asked bytes old new (subst (λ (r : Result AsksTask RunFault). IfErr r (λ _. new ≡ old)) memory none)
-  asked-shown (inr only) (inl memory) shows bytes is asked asks =
-      unshown asked bytes old new (subst (λ (r : Result AsksTask RunFault). IfErr r (λ _. new ≡ old)) memory none)
-  asked-shown (inr only) (inr same) shows bytes is asked asks =
-      subst (λ (a : Result Task RunFault). ShowsAsked a bytes old new) (sym (only asked asks))
-      (at-input words left rows bytes (λ l. ShowsAsked (asked_of request) l old new) same is shows)
-
-  pub shown-in-part : (carried : Result (Unit {0}) RunFault) (fault : Option RunFault) → fault ≡ fault_in carried
-      → (request ≡ Err run.NoMemory) ⊎ ((asked : Result Task RunFault) → Asks words asked → asked ≡ asked_of request)
-      → (request ≡ Err run.NoMemory) ⊎ (rows ≡ made_of words)
-      → OnErr carried (IfSome (input_by rows left) (λ bytes. ShowsAsked (asked_of request) bytes old new))
-      → IfSome fault (λ _. (bytes : List ℕ) → IsInput words left bytes → IsShownInPart words bytes old new)
-  shown-in-part (Ok done) fault told only same shows =
-      subst (λ o. IfSome o (λ _. (bytes : List ℕ) → IsInput words left bytes → IsShownInPart words bytes old new)) (sym told) tt
-  shown-in-part (Err f) fault told only same shows =
-      subst (λ o. IfSome o (λ _. (bytes : List ℕ) → IsInput words left bytes → IsShownInPart words bytes old new)) (sym told)
-      (asked-shown only same shows)

@@ -1,6 +1,5 @@
 //! The text of a table that stages make of a stream.
 ghost use Rattle.std.specs.Prelude.{◌≡◌, ◌≤◌, ◌+◌, ◌*◌, List, None, Some, ℕ, [], IsTrue, IfErr, IfOk, OnErr, OnOk, length};
-ghost use Rattle.std.specs.Thread.{IsSync};
 ghost use Rattle.csv_model.specs.Text.{table_text};
 ghost use Rattle.data_types.specs.Parts.{joined_rows};
 ghost use Rattle.plan_laws.specs.Structs.{column_structs};
@@ -15,7 +14,7 @@ ghost use Rattle.stage_chain.specs.Plans.{plan_stages};
 ghost use Rattle.stream_text.specs.Faults.{IfRow};
 ghost use Rattle.stream_text.specs.Runs.{Counted, ShowsAll, ShowsSome};
 
-use crate::any_work::AnyWork;
+use crate::any_step::AnyStep;
 use edge_face::Gate;
 use stage_chain::{DriveFault, drive_by};
 use stage_plan::Plan;
@@ -24,8 +23,8 @@ use std::thread::Threads;
 use stream_face::{ArrayStream, Tap};
 use unit_pass::{Pass, ROOM, SUPPLY};
 
-/// The text of the table that the stages of a plan make of all rows of a source, a null as the mark: [`drive_by`] by the works
-/// of all kinds of steps.
+/// The text of the table that the stages of a plan make of all rows of a source, a null as the mark: [`drive_by`] by steps of
+/// all kinds.
 pub fn drive<S: ArrayStream, R: Threads + Sync, T: Tap>(
     rt: &R,
     alloc: Global,
@@ -37,7 +36,6 @@ pub fn drive<S: ArrayStream, R: Threads + Sync, T: Tap>(
     tap: &mut T,
     gate: &(dyn Gate + Sync),
 ) -> Result<Vec<u8>, DriveFault>
-    requires shared { IsSync R.row }
     requires live { IsTrue (S.state source).live }
     // The source is lawful and stands over no other checked stream.
     requires lawful { IsTrue (S.state source).lawful }
@@ -62,5 +60,5 @@ pub fn drive<S: ArrayStream, R: Threads + Sync, T: Tap>(
     ensures shows { OnOk result (ShowsAll (link_shows (chain_links (S.state source) (plan_stages plan))) (T.seen tap.old) (T.seen tap.new)) }
     ensures shows_some { OnErr result (ShowsSome (link_shows (chain_links (S.state source) (plan_stages plan))) (T.seen tap.old) (T.seen tap.new)) }
 {
-    drive_by::<AnyWork, _, _, _>(rt, alloc, source, plan, mark, workers, pass, tap, gate)
+    drive_by::<AnyStep, _, _, _>(rt, alloc, source, plan, mark, workers, pass, tap, gate)
 }

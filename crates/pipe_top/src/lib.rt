@@ -11,8 +11,8 @@
 //! Each fault has a line of its own, which goes to a sink of diagnostics, and so does the audit's where the words ask for it;
 //! no line takes memory, and a failed write there changes nothing else.
 //!
-//! It owns, too, which works the stages have: [`AnyWork`], the work of a step of one of the eight kinds, and [`drive`], the chain
-//! of stages over a stream by these works.
+//! It owns, too, which steps the stages have: [`AnyStep`], a step of one of the eight kinds, and [`drive`], the chain of stages
+//! over a stream by these steps.
 //!
 //! What the words ask for, the faults, the outcome and the lines stand in `run_model`, what a run does between its words and its
 //! lines in `run_task`, what CSV means in `csv_model`, the words in `words`, what stages mean in `stage_model`, their texts in
@@ -20,12 +20,14 @@
 //! structures in `raw_schema` and `raw_array`, the sources and sinks in `edge_face` and `edge_io`.
 #![tactic(auto)]
 
-mod any_work;
+mod any_step;
 mod driven;
+mod exit;
 mod top;
 
-pub use any_work::AnyWork;
+pub use any_step::AnyStep;
 pub use driven::drive;
+pub use exit::run_to_exit;
 pub use run_model::{Outcome, PlanRule, RunFault, StageFault, TreeFault, TypesRule, WordsFault};
 pub use run_task::one_answer;
 pub use stage_chain::DriveFault;

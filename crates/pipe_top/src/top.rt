@@ -1,21 +1,21 @@
 //! The top call.
-ghost use Rattle.std.specs.Prelude.{◌≡◌, ◌⊎◌, true, false, Some, None, Err, IfSome, ℕ, List};
-ghost use Rattle.std.specs.Thread.{IsSync};
+ghost use Rattle.std.specs.Prelude.{◌≡◌, ◌⊎◌, true, false, Some, None, Ok, Err, IfSome, ℕ, List};
 ghost use Rattle.std.specs.Io.KnownBytes.{Keeps};
 ghost use Rattle.edge_face.specs.Edge.{LosesPrefix, Rose};
 ghost use Rattle.words.specs.Words.{audit_of, made_of, texts_of};
-ghost use Rattle.run_model.specs.Answer.{Asks, Fault, Text, status_of};
-ghost use Rattle.run_model.specs.Outcomes.{AtWriteFault, is_decided, is_early, is_write_fault};
+ghost use Rattle.run_model.specs.Answer.{Asks, Tree, status_of};
+ghost use Rattle.run_model.specs.MemoryFaults.{has_memory_inside};
+ghost use Rattle.run_model.specs.Outcomes.{AtWriteFault, is_early, is_write_fault};
 ghost use Rattle.run_model.specs.Told.{Told, audit_if};
 ghost use Rattle.run_model.specs.declared.fault.RunFault.{RunFault as AFault};
-ghost use Rattle.run_task.specs.Answer.{IsAnswer, IsInput};
-ghost use Rattle.run_task.specs.Outcomes.{GotFirst, GotText, IsRead};
-ghost use Rattle.run_task.specs.Traffic.{IsShown, IsShownInPart, IsTraffic};
+ghost use Rattle.run_task.specs.Answer.{AreInput};
+ghost use Rattle.run_task.specs.Outcomes.{IsRead};
+ghost use Rattle.run_task.specs.Over.{RanOver};
 
-use crate::any_work::AnyWork;
+use crate::any_step::AnyStep;
 use edge_face::{Gate, Sink, Source};
 use run_model::{Asked, Outcome, RunFault, outcome_of, read_asked, tell};
-use run_task::{carry_out, one_answer};
+use run_task::{carry_out, memory_stands_alone, one_answer};
 use std::alloc::Global;
 use std::thread::Threads;
 use stream_face::Tap;
@@ -56,14 +56,17 @@ pub fn run<R: Threads + Sync, S: Source, K: Sink, E: Sink, T: Tap>(
     tap: &mut T,
     gate: &(dyn Gate + Sync),
 ) -> Outcome
-    requires shared { IsSync R.row }
-    // Success: the answer is a text, all of it is in the sink, and the source was read to its end, or rows were made in its place.
-    ensures text { result.fault ≡ None → (bytes : List ℕ) → IsInput (texts_of words.now) (S.left source.old) bytes
-        → GotText (IsAnswer (texts_of words.now) bytes) (K.taken sink.old) (K.taken sink.new) }
+    // Of the bytes of one input all of this is so: those that the source tells or that are made in its place; where the source
+    // tells none, of some bytes. Success: the answer is a text, and all of it is in the sink. A fault of the words or of the
+    // input is exactly the answer's; after a failed write the sink has the first bytes of the text. The tap was shown each chunk of
+    // each link, once and in order, or the first ones, and as many blocks and nodes were made as the links or the tree need. Where
+    // no fault rises the answer is given, or there was no memory.
+    ensures over { (bytes : List ℕ) × AreInput (texts_of words.now) (S.left source.old) bytes
+        × RanOver (texts_of words.now) bytes result.fault (K.taken sink.old) (K.taken sink.new) (T.seen tap.old) (T.seen tap.new)
+        result.audit.blocks result.audit.nodes
+        (Rose (S.faults source.old) (S.faults source.new)) (Rose (K.faults sink.old) (K.faults sink.new)) }
+    // On success the source was read to its end, or rows were made in its place.
     ensures text_read_to_end { result.fault ≡ None → IsRead (made_of (texts_of words.now)) (S.left source.old) (S.left source.new) }
-    // A fault of the words or of the input is exactly the answer's.
-    ensures refused { IfSome result.fault (λ fault. is_decided fault ≡ true → (bytes : List ℕ) → IsInput (texts_of words.now) (S.left source.old) bytes
-        → IsAnswer (texts_of words.now) bytes (Fault fault)) }
     // The words and the texts among them are refused exactly where they are at fault, whatever the source tells, which is then
     // as before.
     ensures refused_early { (fault : AFault) → Asks (texts_of words.now) (Err fault) → (result.fault ≡ Some fault) ⊎ (result.fault ≡ Some RunFault.NoMemory) }
@@ -77,44 +80,33 @@ pub fn run<R: Threads + Sync, S: Source, K: Sink, E: Sink, T: Tap>(
     ensures read_fault { result.fault ≡ Some RunFault.ReadFault
         → (made_of (texts_of words.now) ≡ None) × Rose (S.faults source.old) (S.faults source.new) }
     ensures write_fault { IfSome result.fault (λ fault. AtWriteFault fault (λ taken. Rose (K.faults sink.old) (K.faults sink.new))) }
-    // After a failed write the sink has the first bytes of the text, and after any other fault it is as before.
-    ensures write_fault_prefix { IfSome result.fault
-        (λ fault. AtWriteFault fault (λ taken. (bytes : List ℕ) → IsInput (texts_of words.now) (S.left source.old) bytes
-        → GotFirst (IsAnswer (texts_of words.now) bytes) (K.taken sink.old) (K.taken sink.new) taken)) }
+    // After a fault that is no failed write the sink is as before.
     ensures no_memory { result.fault ≡ Some RunFault.NoMemory → Keeps (K.taken sink.old) (K.taken sink.new) }
     ensures unwritten { IfSome result.fault (λ fault. is_write_fault fault ≡ false → Keeps (K.taken sink.old) (K.taken sink.new)) }
+    // Want of memory is a fault of its own: no other fault has one inside it.
+    ensures memory_alone { IfSome result.fault (λ fault. has_memory_inside fault ≡ false) }
     // The status is a function of the fault, and the source has lost a prefix.
     ensures status { result.status ≡ status_of result.fault }
     ensures prefix { LosesPrefix (S.left source.old) (S.left source.new) }
-    // On success the tap was shown each chunk of each link, once and in order; else the first ones of each, and nothing where
-    // there are no links. The check of a tree shows nothing.
-    ensures shows { result.fault ≡ None → (bytes : List ℕ) → IsInput (texts_of words.now) (S.left source.old) bytes
-        → IsShown (texts_of words.now) bytes (T.seen tap.old) (T.seen tap.new) }
-    ensures shows_some { IfSome result.fault (λ _. (bytes : List ℕ) → IsInput (texts_of words.now) (S.left source.old) bytes
-        → IsShownInPart (texts_of words.now) bytes (T.seen tap.old) (T.seen tap.new)) }
-    // Nothing is left, and on success as many blocks and nodes were made as the links or the tree need.
+    // Where the words are refused or a tree is checked, the tap saw nothing.
+    ensures unshown_early { (fault : AFault) → Asks (texts_of words.now) (Err fault) → T.seen tap.new ≡ T.seen tap.old }
+    ensures unshown_check { Asks (texts_of words.now) (Ok Tree) → T.seen tap.new ≡ T.seen tap.old }
+    // Nothing is left.
     ensures audit { result.audit.left ≡ 0 }
-    ensures audit_counts { result.fault ≡ None → (bytes : List ℕ) → IsInput (texts_of words.now) (S.left source.old) bytes
-        → IsTraffic (texts_of words.now) bytes result.audit.blocks result.audit.nodes }
     // The sink of diagnostics took the fault's line and then the audit's where the words ask for it and aren't refused, or the first bytes
     // of that where its own faults rose. Without memory the audit's line may be missing.
     ensures diagnostics { Told (E.taken errs.old) (E.taken errs.new) (E.faults errs.old) (E.faults errs.new) result.fault
         (audit_if (audit_of (texts_of words.now)) result.audit) }
-    // Where no fault rises the answer is given, or there was no memory.
-    ensures complete { (bytes text : List ℕ) → IsInput (texts_of words.now) (S.left source.old) bytes → IsAnswer (texts_of words.now) bytes (Text text)
-        → ¬ (Rose (S.faults source.old) (S.faults source.new)) → ¬ (Rose (K.faults sink.old) (K.faults sink.new)) → (result.status ≡ 0) ⊎ (result.status ≡ 9) }
-    ensures complete_fault { (bytes : List ℕ) (fault : AFault) → IsInput (texts_of words.now) (S.left source.old) bytes
-        → IsAnswer (texts_of words.now) bytes (Fault fault)
-        → ¬ (Rose (S.faults source.old) (S.faults source.new)) → (result.fault ≡ Some fault) ⊎ (result.status ≡ 9) }
 {
     one_answer();
+    memory_stands_alone();
     let (desk, mut pass) = open_desk();
     let Asked {
         audit: wanted,
         made,
         task,
     } = read_asked(alloc, words);
-    let carried = carry_out::<AnyWork, _, _, _, _>(
+    let carried = carry_out::<AnyStep, _, _, _, _>(
         rt, alloc, made, task, source, sink, &mut pass, tap, gate,
     );
     let audit = desk.close(pass);

@@ -4,7 +4,7 @@ ghost use Rattle.std.specs.Option.{unwrap_or};
 ghost use Rattle.field_codec.specs.TextColumns.{IsAllowed};
 ghost use Rattle.data_types.specs.Kinds.{KindOk};
 ghost use Rattle.stage_plan.specs.declared.types.TypeEntry.{TypeEntry as AnEntry};
-ghost use Rattle.words.specs.Words.{audit_of, made_of, options_of, texts_of};
+ghost use Rattle.words.specs.Words.{audit_of, made_of, options_of, texts_of, words_of};
 ghost use Rattle.run_model.specs.Answer.{Asks, EntriesAsk, Request as ARequest, RequestIs, StagesAsk, Task as ATask, TaskIs, chain_of, meant_by};
 ghost use Rattle.run_model.specs.Answer.{stages_from};
 ghost use Rattle.run_model.specs.Outcomes.{IfTable, asked_of, entries_asked, is_early, request_asked};
@@ -69,6 +69,7 @@ pub fn read_asked(alloc: Global, words: &[String]) -> Asked
     ensures few { IfOk result.task (λ t. IfTable t (λ r. length r.stages.items ≤ 16)) }
     ensures batch { IfOk result.task (λ t. IfTable t (λ r. (1 ≤ r.batch) × (r.batch ≤ 1000000))) }
     ensures workers { IfOk result.task (λ t. IfTable t (λ r. (1 ≤ r.workers) × (r.workers ≤ 64))) }
+    ensures as_asked { IfOk result.task (λ t. IfTable t (λ r. IfOk (words_of (texts_of words.now)) (λ options. r.workers ≡ options.workers))) }
     ensures audit { (result.task ≡ Err RunFault.NoMemory) × (result.audit ≡ false) ⊎ (result.audit ≡ audit_of (texts_of words.now)) }
     ensures made { (result.task ≡ Err RunFault.NoMemory) ⊎ (result.made ≡ made_of (texts_of words.now)) }
     ensures few_rows { IfSome result.made (λ rows. rows ≤ 1000000) }
@@ -113,6 +114,7 @@ fn read_task(alloc: Global, options: &Words<'_>) -> Result<Task, RunFault>
     ensures few { IfOk result (λ t. IfTable t (λ r. length r.stages.items ≤ 16)) }
     ensures batch { IfOk result (λ t. IfTable t (λ r. (1 ≤ r.batch) × (r.batch ≤ 1000000))) }
     ensures workers { IfOk result (λ t. IfTable t (λ r. (1 ≤ r.workers) × (r.workers ≤ 64))) }
+    ensures as_asked { IfOk result (λ t. IfTable t (λ r. r.workers ≡ options.now.workers)) }
 {
     if options.check {
         return Ok(Task::Tree);
@@ -160,6 +162,7 @@ fn read_table(alloc: Global, options: &Words<'_>) -> Result<Task, RunFault>
     ensures few { IfOk result (λ t. IfTable t (λ r. length r.stages.items ≤ 16)) }
     ensures batch { IfOk result (λ t. IfTable t (λ r. (1 ≤ r.batch) × (r.batch ≤ 1000000))) }
     ensures workers { IfOk result (λ t. IfTable t (λ r. (1 ≤ r.workers) × (r.workers ≤ 64))) }
+    ensures as_asked { IfOk result (λ t. IfTable t (λ r. r.workers ≡ options.now.workers)) }
 {
     match read_request(alloc, options) {
         Ok(request) => Ok(Task::Table(request)),

@@ -24,10 +24,11 @@ use Rattle.run_model.specs.Answer.{cause_of, fault_of_header, fault_of_plan}
 use Rattle.run_model.specs.Outcomes.{AtWriteFault, AtWriting, decides_early, is_decided, is_early, is_write_fault, is_writing}
 use Rattle.run_model.specs.declared.fault.RunFault.{RunFault}
 use Rattle.run_model.specs.declared.fault.RunFault.TheVariants as run
-use Rattle.run_task.specs.Answer.{AnswersBytes, AnswersWithin, answer_of_check, answer_of_columns, answer_of_plan}
+use Rattle.run_task.specs.Answer.{AnswersBytes, AnswersWithin, AreBytes, IsTooLong, answer_of_check, answer_of_columns, answer_of_plan}
 use Rattle.run_task.specs.Answer.{answer_of_rows, input_limit, is_too_long, IsAnswerTo}
+use Rattle.run_task.specs.Over.{CarriedOver}
 use Rattle.run_task.specs.Traffic.{ShowsAsked, ShowsTask}
-use Rattle.run_task.proofs.Written.{answered, at-left, shown-within}
+use Rattle.run_task.proofs.Written.{answered, shown-within, some-bytes}
 
 -- ---- a result that is known
 pub at-ok : {T E : Type 0} (P : T → Type 0) (r : Result T E) (t : T) → r ≡ Ok t → P t → IfOk r P
@@ -190,23 +191,27 @@ pub early-not_reading : (X : Type 0) (fault : RunFault) → (is_early fault ≡ 
 early-not_reading X fault (inl early) read = let e : false ≡ true = subst (λ f. is_early f ≡ true) read early in absurd (cc)
 early-not_reading X fault (inr none) read = absurd (cc)
 
-pub refused-asked : (left : Option (List ℕ)) (asked : Result Task RunFault) (fault : RunFault) → asked ≡ Err fault
-    → IfSome left (λ l. IsAnswerTo asked l (Fault fault))
-refused-asked None asked fault is = tt
-refused-asked (Some l) asked fault is = subst (λ a. IsAnswerTo a l (Fault fault)) (sym is) refl
-
 -- ---- the outcome of a task
-module _ (left : Option (List ℕ)) (asked : Result Task RunFault) (task : Task) (bytes : List ℕ) (is : asked ≡ Ok task)
-    (read : IfSome left (λ l. l ≡ bytes)) where
-  -- a fault that the words and the bytes decide is the answer
-  pub refused-with : (fault : RunFault) → (fault ≡ run.NoMemory) ⊎ AnswersBytes task bytes (Fault fault) → is_decided fault ≡ true
-      → IfSome left (λ l. IsAnswerTo asked l (Fault fault))
-  refused-with fault (inl none) decided = let e : false ≡ true = subst (λ f. is_decided f ≡ true) none decided in absurd (cc)
-  refused-with fault (inr answers) decided = answered left left left asked task bytes is read (Fault fault) answers
 
-  -- what was shown for the bytes
-  pub shown-for : (old new : Option (List Seen)) → ShowsAsked (Ok task) bytes old new → IfSome left (λ l. ShowsAsked asked l old new)
-  shown-for old new shows = at-left left bytes (λ l. ShowsAsked asked l old new) read (subst (λ a. ShowsAsked a bytes old new) (sym is) shows)
+-- a fault that the words and the bytes decide is the answer
+pub refused-with : (asked : Result Task RunFault) (task : Task) (bytes : List ℕ) → asked ≡ Ok task → (fault : RunFault)
+    → (fault ≡ run.NoMemory) ⊎ AnswersBytes task bytes (Fault fault) → is_decided fault ≡ true → IsAnswerTo asked bytes (Fault fault)
+refused-with asked task bytes is fault (inl none) decided = let e : false ≡ true = subst (λ f. is_decided f ≡ true) none decided in absurd (cc)
+refused-with asked task bytes is fault (inr answers) decided = answered asked task bytes is (Fault fault) answers
+
+-- a run that ends in a fault, but for that of a write
+pub over-fault : (asked : Result Task RunFault) (bytes : List ℕ) (result : Result (Unit {0}) RunFault) (taken got : Option (List ℕ))
+    (seen shown : Option (List Seen)) (old_blocks old_nodes blocks nodes : ℕ) (fault : RunFault) → result ≡ Err fault → is_write_fault fault ≡ false
+    → (is_decided fault ≡ true → IsAnswerTo asked bytes (Fault fault)) → ShowsAsked asked bytes seen shown
+    → CarriedOver asked bytes result taken got seen shown old_blocks old_nodes blocks nodes
+over-fault asked bytes result taken got seen shown old_blocks old_nodes blocks nodes fault same unwritten refused shows = record {
+  text = no-ok _ _ _ same;
+  refused = at-err (λ f. is_decided f ≡ true → IsAnswerTo asked bytes (Fault f)) result fault same refused;
+  first = no-write _ _ fault same unwritten;
+  counts = no-ok _ _ _ same;
+  shows = no-ok _ _ _ same;
+  shows_some = at-err (λ f. ShowsAsked asked bytes seen shown) result fault same shows;
+}
 
 -- where all was shown, the first chunks were
 pub all-asked : (task : Task) (bytes : List ℕ) (old new : Option (List Seen)) → length bytes ≤ input_limit → ShowsTask task bytes old new
@@ -223,22 +228,27 @@ too-long : (task : Task) (bytes : List ℕ) → input_limit < length bytes → A
 too-long task bytes more = let long : nat_lt input_limit (length bytes) ≡ true = grind (arith, nat_tests) in
     subst (λ l. AnswersWithin l task bytes (Fault run.InputTooLong)) (sym long) refl
 
--- it is none, it is that of the source, or that of a length that is told
+-- it is none, it is that of the source, or that of the length
 abbrev pub Unread : Option ℕ → Type 0 → Option (List ℕ) → RunFault → Type 0
-Unread rows Rises left fault =
-    (fault ≡ run.NoMemory) ⊎ (fault ≡ run.ReadFault) × (rows ≡ None) × Rises ⊎ (fault ≡ run.InputTooLong) × IfSome left (λ l. input_limit < length l)
+Unread rows Rises told fault = (fault ≡ run.NoMemory) ⊎ (fault ≡ run.ReadFault) × (rows ≡ None) × Rises ⊎ (fault ≡ run.InputTooLong) × IsTooLong told
+
+-- the bytes of an input that wasn't read whole, over which its fault is the answer where it is decided
+abbrev pub RefusedOver : Option (List ℕ) → Result Task RunFault → RunFault → Type 0
+RefusedOver told asked fault = (bytes : List ℕ) × AreBytes told bytes × (is_decided fault ≡ true → IsAnswerTo asked bytes (Fault fault))
+
+undecided : (told : Option (List ℕ)) (asked : Result Task RunFault) (fault : RunFault) → is_decided fault ≡ false → RefusedOver told asked fault
+undecided told asked fault none =
+    let some = some-bytes told in
+    (some.0, some.1, λ decided. absurd (untrue (sym none ∙ decided)))
 
 module _ (rows : Option ℕ) (Rises : Type 0) where
-  pub unread-refused : (left : Option (List ℕ)) (asked : Result Task RunFault) (task : Task) (fault : RunFault) → asked ≡ Ok task
-      → Unread rows Rises left fault → is_decided fault ≡ true → IfSome left (λ l. IsAnswerTo asked l (Fault fault))
-  unread-refused left asked task fault is (inl none) decided =
-      let e : false ≡ true = subst (λ f. is_decided f ≡ true) none decided in absurd (cc)
-  unread-refused left asked task fault is (inr (inl read)) decided =
-      let e : false ≡ true = subst (λ f. is_decided f ≡ true) read.0 decided in absurd (cc)
-  unread-refused None asked task fault is (inr (inr long)) decided = tt
-  unread-refused (Some l) asked task fault is (inr (inr long)) decided =
-      subst (λ f. IsAnswerTo asked l (Fault f)) (sym long.0)
-      (subst (λ a. IsAnswerTo a l (Fault run.InputTooLong)) (sym is) (too-long task l long.1))
+  pub unread-refused : (told : Option (List ℕ)) (asked : Result Task RunFault) (task : Task) (fault : RunFault) → asked ≡ Ok task
+      → Unread rows Rises told fault → RefusedOver told asked fault
+  unread-refused told asked task fault is (inl none) = undecided told asked fault (ap is_decided none)
+  unread-refused told asked task fault is (inr (inl read)) = undecided told asked fault (ap is_decided read.0)
+  unread-refused told asked task fault is (inr (inr (long, (bytes, are, more)))) =
+      let answers : IsAnswerTo asked bytes (Fault run.InputTooLong) = answered asked task bytes is (Fault run.InputTooLong) (too-long task bytes more) in
+      (bytes, are, λ decided. subst (λ f. IsAnswerTo asked bytes (Fault f)) (sym long) answers)
 
   pub unread-late : (left : Option (List ℕ)) (fault : RunFault) → Unread rows Rises left fault → is_early fault ≡ false
   unread-late left fault (inl none) = subst (λ f. is_early f ≡ false) (sym none) refl

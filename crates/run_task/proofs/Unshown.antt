@@ -1,5 +1,5 @@
 -- What is shown where nothing is.
-use Rattle.std.proofs.Common.{ℕ, ◌≡◌, List, Option, Some, None, IfSome, Result, Ok, Err, OnErr, sym, subst}
+use Rattle.std.proofs.Common.{ℕ, ◌≡◌, List, Option, Result, Ok, Err, sym, subst}
 use Rattle.stage_chain.proofs.Chaining.{shows-nothing}
 use Rattle.stream_face.specs.Shown.{Seen}
 use Rattle.run_model.specs.Answer.{Table, Task, Tree}
@@ -12,9 +12,3 @@ unshown (Ok (Table request)) bytes old new same =
     subst (λ n. ShowsAsked (Ok (Table request)) bytes old n) (sym same) (shows-nothing _ old)
 unshown (Ok Tree) bytes old new same = same
 unshown (Err fault) bytes old new same = same
-
-pub unshown-input : (r : Result (Unit {0}) RunFault) (left : Option (List ℕ)) (asked : Result Task RunFault) (old new : Option (List Seen)) → new ≡ old
-    → OnErr r (IfSome left (λ bytes. ShowsAsked asked bytes old new))
-unshown-input (Ok done) left asked old new same = tt
-unshown-input (Err fault) None asked old new same = tt
-unshown-input (Err fault) (Some bytes) asked old new same = unshown asked bytes old new same

@@ -1,6 +1,8 @@
--- What the answer to a task is for the input that was read, and for what the source told.
-use Rattle.std.proofs.Common.{◌≡◌, ◌≤◌, ℕ, false, List, Option, Some, None, IfSome, Result, Ok, nat_lt, length, take, sym, subst, arith}
+-- What the answer to a task is for the input that was read.
+use Rattle.std.proofs.Common.{◌≡◌, ◌≤◌, ◌+◌, ◌∙◌, ℕ, false, List, [], Option, Some, None, Result, Ok, nat_lt, length, take, ap, refl, sym, subst, arith}
 use Rattle.std.proofs.lemmas.Bool.Decides.{nat_tests}
+use Rattle.std.proofs.lemmas.List.{length-append}
+use Rattle.edge_face.specs.Edge.{LosesCount}
 use Rattle.std.specs.Io.KnownBytes.{Appends}
 use Rattle.stage_chain.specs.Chains.{link_shows}
 use Rattle.stream_text.specs.Runs.{ShowsSome}
@@ -8,7 +10,7 @@ use Rattle.stream_face.specs.Shown.{Seen}
 use Rattle.csv_model.specs.Reading.{records_of}
 use Rattle.run_model.specs.Answer.{Answer, Request, Table, Task, Text}
 use Rattle.run_model.specs.declared.fault.RunFault.{RunFault}
-use Rattle.run_task.specs.Answer.{AnswersBytes, AnswersTask, AnswersWithin, IsAnswerTo, input_limit}
+use Rattle.run_task.specs.Answer.{AnswersBytes, AnswersTask, AnswersWithin, AreBytes, IsAnswerTo, IsTooLong, input_limit}
 use Rattle.run_task.specs.Outcomes.{GotFirst, GotText}
 use Rattle.run_task.specs.Traffic.{ShowsAsked, links_of, links_within}
 
@@ -26,23 +28,30 @@ module _ (bytes : List ℕ) (fits : length bytes ≤ input_limit) where
   shown-within request old new shows =
       subst (λ long. ShowsSome (link_shows (links_within long request bytes)) old new) (sym (not-long (length bytes) fits)) shows
 
--- what holds of the bytes that were read, holds of those that the source told
-pub at-left : (left : Option (List ℕ)) (bytes : List ℕ) (P : List ℕ → Type 0) → IfSome left (λ l. l ≡ bytes) → P bytes → IfSome left P
-at-left None bytes P read holds = tt
-at-left (Some l) bytes P read holds = subst P (sym read) holds
+-- there are bytes that may be an input's
+pub some-bytes : (told : Option (List ℕ)) → (bytes : List ℕ) × AreBytes told bytes
+some-bytes None = ([], tt)
+some-bytes (Some l) = (l, refl)
 
-module _ (left old new : Option (List ℕ)) (asked : Result Task RunFault) (task : Task) (bytes : List ℕ) (is : asked ≡ Ok task)
-    (read : IfSome left (λ l. l ≡ bytes)) where
-  pub answered : (answer : Answer) → AnswersBytes task bytes answer → IfSome left (λ l. IsAnswerTo asked l answer)
-  answered answer answers = at-left left bytes (λ l. IsAnswerTo asked l answer) read (subst (λ a. IsAnswerTo a bytes answer) (sym is) answers)
+-- a source that gave one byte more than are read has too many
+pub too-many : (old new : Option (List ℕ)) → LosesCount old new (input_limit + 1) → IsTooLong old
+too-many None new (bytes, gave, n) = (bytes, tt, omega (arith, n))
+too-many (Some l) None (bytes, gave, n) = absurd gave
+too-many (Some l) (Some rest) (bytes, gave, n) =
+    let all : length l ≡ length bytes + length rest = ap length gave ∙ length-append bytes rest in
+    (l, refl, omega (arith, n, all))
 
-  pub all-written : (text : List ℕ) → AnswersBytes task bytes (Text text) → Appends old new text
-      → IfSome left (λ l. GotText (IsAnswerTo asked l) old new)
-  all-written text answers wrote =
-      at-left left bytes (λ l. GotText (IsAnswerTo asked l) old new) read (text, subst (λ a. IsAnswerTo a bytes (Text text)) (sym is) answers, wrote)
+module _ (asked : Result Task RunFault) (task : Task) (bytes : List ℕ) (is : asked ≡ Ok task) where
+  pub answered : (answer : Answer) → AnswersBytes task bytes answer → IsAnswerTo asked bytes answer
+  answered answer answers = subst (λ a. IsAnswerTo a bytes answer) (sym is) answers
 
-  pub first-written : (text : List ℕ) (taken : ℕ) → AnswersBytes task bytes (Text text) → taken ≤ length text → Appends old new (take taken text)
-      → IfSome left (λ l. GotFirst (IsAnswerTo asked l) old new taken)
-  first-written text taken answers within wrote =
-      at-left left bytes (λ l. GotFirst (IsAnswerTo asked l) old new taken) read
-      (text, subst (λ a. IsAnswerTo a bytes (Text text)) (sym is) answers, within, wrote)
+  pub all-written : (old new : Option (List ℕ)) (text : List ℕ) → AnswersBytes task bytes (Text text) → Appends old new text
+      → GotText (IsAnswerTo asked bytes) old new
+  all-written old new text answers wrote = (text, answered (Text text) answers, wrote)
+
+  pub first-written : (old new : Option (List ℕ)) (text : List ℕ) (taken : ℕ) → AnswersBytes task bytes (Text text) → taken ≤ length text
+      → Appends old new (take taken text) → GotFirst (IsAnswerTo asked bytes) old new taken
+  first-written old new text taken answers within wrote = (text, answered (Text text) answers, within, wrote)
+
+  pub shown-for : (old new : Option (List Seen)) → ShowsAsked (Ok task) bytes old new → ShowsAsked asked bytes old new
+  shown-for old new shows = subst (λ a. ShowsAsked a bytes old new) (sym is) shows

@@ -1,5 +1,5 @@
 -- What a run answers: the text of the table that was read or the report of the tree that was checked, or the first fault.
-use Rattle.std.specs.Prelude.{◌≡◌, ℕ, nat_lt, Bool, true, false, List, length, Option, None, Some, Result, Ok, Err}
+use Rattle.std.specs.Prelude.{◌≡◌, ◌<◌, ℕ, nat_lt, Bool, true, false, List, length, Option, None, Some, IfSome, Result, Ok, Err}
 use Rattle.data_types.specs.Table.{Column, Row}
 use Rattle.csv_read.specs.Entries.{entries_of}
 use Rattle.csv_model.specs.Header.{header_of}
@@ -81,7 +81,19 @@ abbrev pub input_by : Option ℕ → Option (List ℕ) → Option (List ℕ)
 input_by None left = left
 input_by (Some rows) left = Some (made rows)
 
--- the input of a run with these words
+-- the bytes are those that are told, where some are told
+abbrev pub AreBytes : Option (List ℕ) → List ℕ → Type 0
+AreBytes told bytes = IfSome told (λ l. l ≡ bytes)
+
+-- an input, told or not, is too long
+abbrev pub IsTooLong : Option (List ℕ) → Type 0
+IsTooLong told = (bytes : List ℕ) × AreBytes told bytes × (input_limit < length bytes)
+
+-- the bytes are the input of a run with these words: those that its source tells or that are made; where it tells none, any may be
+abbrev pub AreInput : List (List ℕ) → Option (List ℕ) → List ℕ → Type 0
+AreInput words left bytes = AreBytes (input_by (made_of words) left) bytes
+
+-- the input of a run with these words, where its source tells it
 abbrev pub IsInput : List (List ℕ) → Option (List ℕ) → List ℕ → Type 0
 IsInput words left bytes = input_by (made_of words) left ≡ Some bytes
 

@@ -1,6 +1,5 @@
 //! The text of a table, made of the bytes of an input.
 ghost use Rattle.std.specs.Prelude.{◌≡◌, ◌⊎◌, ◌≤◌, ◌*◌, ◌^◌, vec_len, length, ℕ, List, IfErr, IfOk, OnErr, OnOk, All, Ok, map, get_or, []};
-ghost use Rattle.std.specs.Thread.{IsSync};
 ghost use Rattle.csv_model.specs.Batches.{batches_in};
 ghost use Rattle.csv_model.specs.Header.{header_of, most_columns};
 ghost use Rattle.csv_model.specs.Reading.{behind_header, records_of};
@@ -26,7 +25,7 @@ use csv_source::CsvSource;
 use data_types::{ColumnType, RowFault, clone_columns};
 use edge_face::Gate;
 use run_model::{Request, RunFault};
-use stage_chain::{DriveFault, StepWork, drive_by};
+use stage_chain::{DriveFault, StepOf, drive_by};
 use stage_plan::{Plan, StageText, TypeEntry, type_plan};
 use std::alloc::Global;
 use std::thread::Threads;
@@ -152,9 +151,9 @@ fn begin<'a>(
     Ok((source, plan))
 }
 
-/// The text of the table that stages make, by these works, of the table that a text spells, or the first fault: of the header,
+/// The text of the table that stages make, by these steps, of the table that a text spells, or the first fault: of the header,
 /// of the stages over its columns, of the records.
-pub(crate) fn answer_input<W: StepWork, R: Threads + Sync, T: Tap>(
+pub(crate) fn answer_input<W: StepOf, R: Threads + Sync, T: Tap>(
     rt: &R,
     alloc: Global,
     bytes: &[u8],
@@ -163,7 +162,6 @@ pub(crate) fn answer_input<W: StepWork, R: Threads + Sync, T: Tap>(
     tap: &mut T,
     gate: &(dyn Gate + Sync),
 ) -> Result<Vec<u8>, RunFault>
-    requires shared { IsSync R.row }
     requires short { length bytes.now ≤ input_limit }
     requires units { 2 * ROOM ≤ pass.old.units }
     requires proper { All (λ e. KindOk e.kind) request.now.entries.items }

@@ -1,6 +1,5 @@
 //! What a run does between its words and its lines: it reads, makes the text and writes it.
 ghost use Rattle.std.specs.Prelude.{◌≡◌, ◌<◌, ◌≤◌, ◌*◌, ◌⊎◌, true, false, All, Some, None, Ok, Err, IfOk, IfErr, IfSome, OnOk, OnErr, length, ℕ, List};
-ghost use Rattle.std.specs.Thread.{IsSync};
 ghost use Rattle.std.specs.Io.KnownBytes.{IsAtEnd, Keeps};
 ghost use Rattle.field_codec.specs.TextColumns.{IsAllowed};
 ghost use Rattle.data_types.specs.Kinds.{KindOk};
@@ -8,16 +7,17 @@ ghost use Rattle.edge_face.specs.Edge.{LosesPrefix, Rose};
 ghost use Rattle.unit_pass.specs.declared.pass.TheConstants.{ROOM};
 ghost use Rattle.made_table.specs.Made.{made};
 ghost use Rattle.run_model.specs.Answer.{Fault, Text};
-ghost use Rattle.run_model.specs.Outcomes.{AtWriteFault, IfTable, asked_of, is_decided, is_early, is_write_fault, task_of};
-ghost use Rattle.run_task.specs.Answer.{AnswersBytes, IsAnswerTo, input_by, input_limit};
-ghost use Rattle.run_task.specs.Outcomes.{GotFirst, GotText, IsRead};
+ghost use Rattle.run_model.specs.Outcomes.{AtWriteFault, IfTable, asked_of, is_early, is_write_fault, task_of};
+ghost use Rattle.run_task.specs.Answer.{AnswersBytes, AreBytes, IsTooLong, input_by, input_limit};
+ghost use Rattle.run_task.specs.Outcomes.{IsRead};
+ghost use Rattle.run_task.specs.Over.{CarriedOver};
 ghost use Rattle.run_task.specs.Traffic.{CountsTask, ShowsAsked, ShowsTask};
 
 use crate::answer::answer_input;
 use edge_face::{Gate, ReadFault, Sink, Source, WriteFault, read_all, write_all};
 use made_table::{made, made_is_short};
 use run_model::{RunFault, Task};
-use stage_chain::StepWork;
+use stage_chain::StepOf;
 use std::alloc::Global;
 use std::thread::Threads;
 use stream_face::Tap;
@@ -34,12 +34,12 @@ fn read_input<S: Source>(
     source: &mut S,
 ) -> Result<Vec<u8>, RunFault>
     requires few { IfSome rows (λ n. n ≤ 1000000) }
-    ensures bytes { IfOk result (λ v. IfSome (input_by rows (S.left source.old)) (λ bytes. bytes ≡ v.items)) }
+    ensures bytes { IfOk result (λ v. AreBytes (input_by rows (S.left source.old)) v.items) }
     ensures fits { IfOk result (λ v. length v.items ≤ input_limit) }
     ensures end { OnOk result (IsRead rows (S.left source.old) (S.left source.new)) }
     ensures fault { IfErr result (λ fault. (fault ≡ RunFault.NoMemory)
         ⊎ (fault ≡ RunFault.ReadFault) × (rows ≡ None) × Rose (S.faults source.old) (S.faults source.new)
-        ⊎ (fault ≡ RunFault.InputTooLong) × IfSome (input_by rows (S.left source.old)) (λ bytes. input_limit < length bytes)) }
+        ⊎ (fault ≡ RunFault.InputTooLong) × IsTooLong (input_by rows (S.left source.old))) }
     ensures made_unread { IfSome rows (λ n. Keeps (S.left source.old) (S.left source.new)) }
     ensures made_unfailed { IfSome rows (λ n. S.faults source.new ≡ S.faults source.old) }
     ensures prefix { LosesPrefix (S.left source.old) (S.left source.new) }
@@ -64,12 +64,12 @@ fn make_input(alloc: Global, rows: u32) -> Result<Vec<u8>, RunFault>
 
 /// Reads the source to its end.
 fn read_source<S: Source>(alloc: Global, source: &mut S) -> Result<Vec<u8>, RunFault>
-    ensures bytes { IfOk result (λ v. IfSome (S.left source.old) (λ bytes. bytes ≡ v.items)) }
+    ensures bytes { IfOk result (λ v. AreBytes (S.left source.old) v.items) }
     ensures fits { IfOk result (λ v. length v.items ≤ input_limit) }
     ensures end { OnOk result (IsAtEnd (S.left source.new)) }
     ensures fault { IfErr result (λ fault. (fault ≡ RunFault.NoMemory)
         ⊎ (fault ≡ RunFault.ReadFault) × Rose (S.faults source.old) (S.faults source.new)
-        ⊎ (fault ≡ RunFault.InputTooLong) × IfSome (S.left source.old) (λ bytes. input_limit < length bytes)) }
+        ⊎ (fault ≡ RunFault.InputTooLong) × IsTooLong (S.left source.old)) }
     ensures prefix { LosesPrefix (S.left source.old) (S.left source.new) }
 {
     match read_all(alloc, source, INPUT_LIMIT) {
@@ -81,7 +81,7 @@ fn read_source<S: Source>(alloc: Global, source: &mut S) -> Result<Vec<u8>, RunF
 }
 
 /// The text that answers a task and an input, or the first fault of the input.
-fn answer_task<W: StepWork, R: Threads + Sync, T: Tap>(
+fn answer_task<W: StepOf, R: Threads + Sync, T: Tap>(
     rt: &R,
     alloc: Global,
     bytes: &[u8],
@@ -90,7 +90,6 @@ fn answer_task<W: StepWork, R: Threads + Sync, T: Tap>(
     tap: &mut T,
     gate: &(dyn Gate + Sync),
 ) -> Result<Vec<u8>, RunFault>
-    requires shared { IsSync R.row }
     requires short { length bytes.now ≤ input_limit }
     requires units { 2 * ROOM ≤ pass.old.units }
     requires proper { IfTable task.now (λ r. All (λ e. KindOk e.kind) r.entries.items) }
@@ -114,9 +113,9 @@ fn answer_task<W: StepWork, R: Threads + Sync, T: Tap>(
     }
 }
 
-/// Reads the source or makes so many rows, makes the text, by these works of the stages, and writes it, where the words are
+/// Reads the source or makes so many rows, makes the text, by these steps of the stages, and writes it, where the words are
 /// taken.
-pub fn carry_out<W: StepWork, R: Threads + Sync, S: Source, K: Sink, T: Tap>(
+pub fn carry_out<W: StepOf, R: Threads + Sync, S: Source, K: Sink, T: Tap>(
     rt: &R,
     alloc: Global,
     rows: Option<u32>,
@@ -127,7 +126,6 @@ pub fn carry_out<W: StepWork, R: Threads + Sync, S: Source, K: Sink, T: Tap>(
     tap: &mut T,
     gate: &(dyn Gate + Sync),
 ) -> Result<(), RunFault>
-    requires shared { IsSync R.row }
     requires few_rows { IfSome rows (λ n. n ≤ 1000000) }
     requires units { 2 * ROOM ≤ pass.old.units }
     requires proper { IfOk task (λ t. IfTable t (λ r. All (λ e. KindOk e.kind) r.entries.items)) }
@@ -136,11 +134,11 @@ pub fn carry_out<W: StepWork, R: Threads + Sync, S: Source, K: Sink, T: Tap>(
     requires batch { IfOk task (λ t. IfTable t (λ r. (1 ≤ r.batch) × (r.batch ≤ 1000000))) }
     requires workers { IfOk task (λ t. IfTable t (λ r. (1 ≤ r.workers) × (r.workers ≤ 64))) }
     requires early { IfErr task (λ fault. (is_early fault ≡ true) ⊎ (fault ≡ RunFault.NoMemory)) }
-    ensures text { OnOk result (IfSome (input_by rows (S.left source.old))
-        (λ bytes. GotText (IsAnswerTo (asked_of task) bytes) (K.taken sink.old) (K.taken sink.new))) }
+    // Of the bytes of one input all of this is so: those that are made or that the source tells; where it tells none, some bytes.
+    ensures over { (bytes : List ℕ) × AreBytes (input_by rows (S.left source.old)) bytes
+        × CarriedOver (asked_of task) bytes result (K.taken sink.old) (K.taken sink.new) (T.seen tap.old) (T.seen tap.new)
+        pass.old.blocks pass.old.nodes pass.new.blocks pass.new.nodes }
     ensures text_read_to_end { OnOk result (IsRead rows (S.left source.old) (S.left source.new)) }
-    ensures refused { IfErr result (λ fault. is_decided fault ≡ true
-        → IfSome (input_by rows (S.left source.old)) (λ bytes. IsAnswerTo (asked_of task) bytes (Fault fault))) }
     ensures refused_early { IfErr task (λ fault. result ≡ Err fault) }
     ensures refused_early_only { IfErr result (λ fault. is_early fault ≡ true → asked_of task ≡ Err fault) }
     ensures refused_unread { IfErr task (λ _. Keeps (S.left source.old) (S.left source.new)) }
@@ -149,19 +147,10 @@ pub fn carry_out<W: StepWork, R: Threads + Sync, S: Source, K: Sink, T: Tap>(
     ensures made_unfailed { IfSome rows (λ n. S.faults source.new ≡ S.faults source.old) }
     ensures read_fault { result ≡ Err RunFault.ReadFault → (rows ≡ None) × Rose (S.faults source.old) (S.faults source.new) }
     ensures write_fault { IfErr result (λ fault. AtWriteFault fault (λ taken. Rose (K.faults sink.old) (K.faults sink.new))) }
-    ensures write_fault_prefix { IfErr result (λ fault. AtWriteFault fault
-        (λ taken. IfSome (input_by rows (S.left source.old))
-        (λ bytes. GotFirst (IsAnswerTo (asked_of task) bytes) (K.taken sink.old) (K.taken sink.new) taken))) }
     ensures unwritten { IfErr result (λ fault. is_write_fault fault ≡ false → Keeps (K.taken sink.old) (K.taken sink.new)) }
     ensures prefix { LosesPrefix (S.left source.old) (S.left source.new) }
     ensures units { pass.new.units ≡ pass.old.units }
-    ensures counts { OnOk result (IfOk task (λ t. IfSome (input_by rows (S.left source.old))
-        (λ bytes. CountsTask (task_of t) bytes pass.old.blocks pass.old.nodes pass.new.blocks pass.new.nodes))) }
-    ensures shows { OnOk result (IfOk task (λ t. IfSome (input_by rows (S.left source.old))
-        (λ bytes. ShowsTask (task_of t) bytes (T.seen tap.old) (T.seen tap.new)))) }
     ensures unshown { IfErr task (λ _. T.seen tap.new ≡ T.seen tap.old) }
-    ensures shows_some { OnErr result (IfSome (input_by rows (S.left source.old))
-        (λ bytes. ShowsAsked (asked_of task) bytes (T.seen tap.old) (T.seen tap.new))) }
 {
     let task = task?;
     let bytes = read_input(alloc, rows, source)?;

@@ -1,7 +1,10 @@
 //! What holds of the answers of runs. The calls do nothing.
-ghost use Rattle.std.specs.Prelude.{◌≡◌, ℕ, List};
-ghost use Rattle.run_model.specs.Answer.{Answer};
-ghost use Rattle.run_task.specs.Answer.{IsAnswer};
+ghost use Rattle.std.specs.Prelude.{◌≡◌, ℕ, List, Option, true, false};
+ghost use Rattle.run_model.specs.Answer.{Answer, Fault};
+ghost use Rattle.run_model.specs.MemoryFaults.{has_memory_inside};
+ghost use Rattle.run_model.specs.Outcomes.{is_decided};
+ghost use Rattle.run_model.specs.declared.fault.RunFault.{RunFault as AFault};
+ghost use Rattle.run_task.specs.Answer.{AreInput, IsAnswer, IsInput};
 
 /// A law: whatever the words and the bytes of the input are, there is an answer, and one alone.
 pub fn one_answer()
@@ -11,3 +14,15 @@ pub fn one_answer()
     stage_plan::one_reading();
     tree_check::one_check();
 }
+
+/// A law: the bytes of an input are those that its source tells or that are made, where there are such.
+pub fn one_input()
+    ensures alone { (words : List (List ℕ)) (left : Option (List ℕ)) (bytes told : List ℕ)
+        → AreInput words left bytes → IsInput words left told → told ≡ bytes }
+{}
+
+/// A law: no fault that is an answer has a want of memory inside it, nor has any that words and bytes don't decide.
+pub fn memory_stands_alone()
+    ensures faults { (words : List (List ℕ)) (bytes : List ℕ) (fault : AFault)
+        → (is_decided fault ≡ true → IsAnswer words bytes (Fault fault)) → has_memory_inside fault ≡ false }
+{}

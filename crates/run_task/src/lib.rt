@@ -2,12 +2,12 @@
 //!
 //! What this crate owns: what the answer of a run is (`specs/Answer.antt`) and what it shows and counts (`specs/Traffic.antt`);
 //! the law that there is one answer to all words and bytes, and one alone ([`one_answer`]); and [`carry_out`], which carries out
-//! what the words ask for, by works of the stages of whatever type.
+//! what the words ask for, by steps of the stages of whatever type.
 //!
 //! What it promises: on success the sink got exactly the text that the definitions give; each refusal has its cause; each chunk
 //! of each link was shown, once and in order; and the units that were drawn are back on every path.
 //!
-//! What it leaves to others: what the words ask for, and the lines of diagnostics (`run_model`); the works (`pipe_top`).
+//! What it leaves to others: what the words ask for, and the lines of diagnostics (`run_model`); the steps (`pipe_top`).
 #![tactic(auto)]
 
 ghost use Rattle.std.specs.Prelude.{◌≡◌, ◌∷◌, ◌++◌, [], codes};
@@ -20,7 +20,7 @@ mod carry;
 mod laws;
 
 pub use carry::carry_out;
-pub use laws::one_answer;
+pub use laws::{memory_stands_alone, one_answer, one_input};
 
 /// The answers to texts that are written out here.
 pub fn worked_answers()

@@ -35,6 +35,38 @@ impl Gate for Meet {
     }
 }
 
+/// Counts how often each of the workers 0 to 3 passes, and then how often any other does.
+#[derive(Drop)]
+struct Counted {
+    passed: [AtomicU64; 5],
+}
+
+impl Counted {
+    fn new() -> Counted {
+        Counted {
+            passed: [
+                AtomicU64::new(0),
+                AtomicU64::new(0),
+                AtomicU64::new(0),
+                AtomicU64::new(0),
+                AtomicU64::new(0),
+            ],
+        }
+    }
+
+    fn counts(&self) -> [u64; 5] {
+        let [a, b, c, d, others] = &self.passed;
+        [a, b, c, d, others].map(|count| count.load(Ordering::SeqCst))
+    }
+}
+
+impl Gate for Counted {
+    fn pass(&self, worker: u32) {
+        let place = (worker as usize).min(4);
+        self.passed[place].fetch_add(1, Ordering::SeqCst);
+    }
+}
+
 /// Runs with so many workers and the words of a line over a text.
 fn run_by<R: Threads + Sync>(
     rt: &R,
@@ -113,6 +145,23 @@ fn two_of_four_workers_are_seen_side_by_side(rt: HostRuntime) -> Result<(), Fail
 }
 
 #[test]
+fn as_many_workers_pass_as_are_asked_for(rt: HostRuntime) -> Result<(), Fail> {
+    for row in &ROWS {
+        for (workers, counts) in [
+            (1u32, [1u64, 0, 0, 0, 0]),
+            (2, [1, 1, 0, 0, 0]),
+            (4, [1, 1, 1, 1, 0]),
+            (64, [1, 1, 1, 1, 60]),
+        ] {
+            let gate = Counted::new();
+            expect_by(&rt, rt.alloc(), workers, row, &gate)?;
+            assert_eq!(rt; gate.counts(), counts, "{workers} workers of {row:?}");
+        }
+    }
+    Ok(())
+}
+
+#[test]
 fn any_number_of_workers_gives_the_same(rt: HostRuntime) -> Result<(), Fail> {
     for row in &ROWS {
         for workers in [1u32, 2, 3, 64] {
@@ -129,9 +178,12 @@ fn four_workers_total_a_thousand_payments_in_chunks_of_seven(rt: HostRuntime) ->
     let bytes = payments(alloc, 1000)?;
     let mut text = TOTALS.to_vec(alloc)?;
     text.extend_from_slice(b"500,250000,1,999,500,250125.00,1.25,999.25\n")?;
-    let ran = run_by(&rt, alloc, 4, line.as_str(), &bytes, &OpenGate)?;
+    let gate = Counted::new();
+    let ran = run_by(&rt, alloc, 4, line.as_str(), &bytes, &gate)?;
     let came = (ran.outcome.status, ran.outcome.audit.left);
     assert_eq!(rt; came, (0, 0));
     assert_eq!(rt; ran.sink.taken(), text.as_slice());
+    // A filter and totals of 143 chunks.
+    assert_eq!(rt; gate.counts(), [286, 286, 286, 286, 0]);
     Ok(())
 }

@@ -1,8 +1,37 @@
 use Rattle.std.proofs.Common.{◌∙◌, ap}
-use Rattle.run_task.specs.Traffic.{ShowsTask}
-use Rattle.pipe_top.proofs.Runs.{counts-of-task, done-for-task, is-complete, is-complete-fault, made-keeps, prefix-of-answer, read-rose}
-use Rattle.pipe_top.proofs.Runs.{refused-by-answer, shown-in-part, silent-audit, text-of-answer, told-all, write-rose}
+use Rattle.edge_face.specs.Edge.{Rose}
+use Rattle.pipe_top.proofs.Runs.{made-keeps, memory-alone, over-input, ran-over, silent-audit, told-all, unshown-check, unshown-early}
 use Rattle.pipe_top.proofs.top.run.Goals as goal
+
+pub returns-clause-over : goal.returns-clause-over
+returns-clause-over g c =
+    let request = c.read_asked-wanted.result.task in
+    let rows = c.read_asked-wanted.result.made in
+    let result = c.carry_out-carried.result in
+    let left = g.S.Source.left c.args.source.now in
+    let taken = g.K.Sink.taken c.args.sink.now in
+    let got = g.K.Sink.taken c.carry_out-carried.new.sink in
+    let seen = g.T.Tap.seen c.args.tap.now in
+    let shown = g.T.Tap.seen c.carry_out-carried.new.tap in
+    let carried = c.carry_out-carried.ensures in
+    let asked = c.read_asked-wanted.ensures in
+    let told = c.outcome_of-outcome.ensures.fault in
+    let audit = c.outcome_of-outcome.ensures.audit in
+    let over = over-input _ request result _ carried.refused_early told asked.asks rows left taken got seen shown _ _ _ _ carried.unshown asked.made
+    carried.over in (
+      over.0,
+      over.1,
+      ran-over _ request result _ carried.refused_early told asked.asks over.0 taken got seen shown _ _ _ _ _ _ over.2 c.one_answer.ensures.alone
+          _ (Rose (g.S.Source.faults c.args.source.now) (g.S.Source.faults c.carry_out-carried.new.source))
+          (Rose (g.K.Sink.faults c.args.sink.now) (g.K.Sink.faults c.carry_out-carried.new.sink)) carried.read_fault carried.write_fault carried.unshown
+          asked.only c.open_desk-pass.ensures.blocks c.open_desk-pass.ensures.nodes (ap (λ a. a.blocks) audit ∙ c.close-audit.ensures.blocks)
+          (ap (λ a. a.nodes) audit ∙ c.close-audit.ensures.nodes),
+    )
+
+pub returns-clause-memory_alone : goal.returns-clause-memory_alone
+returns-clause-memory_alone g c =
+    let over = returns-clause-over g c in
+    memory-alone _ over.0 c.outcome_of-outcome.result.fault c.memory_stands_alone.ensures.faults over.2.refused
 
 pub returns-clause-diagnostics : goal.returns-clause-diagnostics
 returns-clause-diagnostics g c =
@@ -14,79 +43,23 @@ returns-clause-diagnostics g c =
     told-all c.tell-told.result _ _ _ _ c.outcome_of-outcome.result.fault c.outcome_of-outcome.result.audit c.read_asked-wanted.result.audit _
     audit c.tell-told.ensures
 
-pub returns-clause-refused : goal.returns-clause-refused
-returns-clause-refused g c =
-    let carried = c.carry_out-carried.ensures in
-    refused-by-answer _ (g.S.Source.left c.args.source.now) c.read_asked-wanted.result.made c.read_asked-wanted.result.task c.carry_out-carried.result _
-    carried.refused_early c.outcome_of-outcome.ensures.fault c.read_asked-wanted.ensures.asks c.read_asked-wanted.ensures.made carried.refused
-
-pub returns-clause-write_fault_prefix : goal.returns-clause-write_fault_prefix
-returns-clause-write_fault_prefix g c =
-    let carried = c.carry_out-carried.ensures in
-    prefix-of-answer _ (g.S.Source.left c.args.source.now) c.read_asked-wanted.result.made c.read_asked-wanted.result.task c.carry_out-carried.result _
-    carried.refused_early c.outcome_of-outcome.ensures.fault c.read_asked-wanted.ensures.asks c.read_asked-wanted.ensures.made _ _ carried.write_fault_prefix
-
-pub returns-clause-complete_fault : goal.returns-clause-complete_fault
-returns-clause-complete_fault g c bytes fault input answer no-read =
-    let request = c.read_asked-wanted.result.task in
-    let left = g.S.Source.left c.args.source.now in
-    let carried = c.carry_out-carried.ensures in
-    let told = c.outcome_of-outcome.ensures.fault in
-    let asks = c.read_asked-wanted.ensures.asks in
-    let rows = c.read_asked-wanted.result.made in
-    let same = c.read_asked-wanted.ensures.made in
-    let read = read-rose _ left rows request c.carry_out-carried.result _ carried.refused_early told asks same _ _ carried.read_fault in
-    let refused = refused-by-answer _ left rows request c.carry_out-carried.result _ carried.refused_early told asks same carried.refused in
-    let text = text-of-answer _ left rows request c.carry_out-carried.result _ carried.refused_early told asks same _ _ carried.text in
-    let first = prefix-of-answer _ left rows request c.carry_out-carried.result _ carried.refused_early told asks same _ _ carried.write_fault_prefix in
-    is-complete-fault _ left rows request c.carry_out-carried.result _ carried.refused_early told asks same c.one_answer.ensures.alone
-    _ c.outcome_of-outcome.result.status c.outcome_of-outcome.ensures.status read refused _ _ bytes fault text first input answer no-read
-
-pub returns-clause-complete : goal.returns-clause-complete
-returns-clause-complete g c bytes text input answer no-read no-write =
-    let request = c.read_asked-wanted.result.task in
-    let left = g.S.Source.left c.args.source.now in
-    let carried = c.carry_out-carried.ensures in
-    let told = c.outcome_of-outcome.ensures.fault in
-    let asks = c.read_asked-wanted.ensures.asks in
-    let rows = c.read_asked-wanted.result.made in
-    let same = c.read_asked-wanted.ensures.made in
-    let read = read-rose _ left rows request c.carry_out-carried.result _ carried.refused_early told asks same _ _ carried.read_fault in
-    let refused = refused-by-answer _ left rows request c.carry_out-carried.result _ carried.refused_early told asks same carried.refused in
-    let wrote = write-rose _ left rows request c.carry_out-carried.result _ carried.refused_early told asks same _ carried.write_fault in
-    is-complete _ left rows request c.carry_out-carried.result _ carried.refused_early told asks same c.one_answer.ensures.alone
-    _ c.outcome_of-outcome.result.status c.outcome_of-outcome.ensures.status read refused _ bytes text wrote input answer no-read no-write
-
-pub returns-clause-text : goal.returns-clause-text
-returns-clause-text g c =
-    let carried = c.carry_out-carried.ensures in
-    text-of-answer _ (g.S.Source.left c.args.source.now) c.read_asked-wanted.result.made c.read_asked-wanted.result.task c.carry_out-carried.result _
-    carried.refused_early c.outcome_of-outcome.ensures.fault c.read_asked-wanted.ensures.asks c.read_asked-wanted.ensures.made _ _ carried.text
-
-pub returns-clause-shows_some : goal.returns-clause-shows_some
-returns-clause-shows_some g c =
-    let carried = c.carry_out-carried.ensures in
-    shown-in-part _ (g.S.Source.left c.args.source.now) c.read_asked-wanted.result.made c.read_asked-wanted.result.task _ _ carried.unshown
-    c.carry_out-carried.result _ c.outcome_of-outcome.ensures.fault c.read_asked-wanted.ensures.only c.read_asked-wanted.ensures.made carried.shows_some
-
 pub returns-clause-made_unread : goal.returns-clause-made_unread
 returns-clause-made_unread g c =
     let carried = c.carry_out-carried.ensures in
     made-keeps _ _ c.read_asked-wanted.result.made c.read_asked-wanted.result.task c.read_asked-wanted.ensures.made carried.refused_unread
     carried.made_unread
 
-pub returns-clause-shows : goal.returns-clause-shows
-returns-clause-shows g c =
+pub returns-clause-unshown_early : goal.returns-clause-unshown_early
+returns-clause-unshown_early g c =
     let carried = c.carry_out-carried.ensures in
-    done-for-task _ (g.S.Source.left c.args.source.now) c.read_asked-wanted.result.made c.read_asked-wanted.result.task c.carry_out-carried.result _
-    carried.refused_early c.outcome_of-outcome.ensures.fault c.read_asked-wanted.ensures.asks c.read_asked-wanted.ensures.made
-    (λ task bytes. ShowsTask task bytes _ _) carried.shows
+    let asked = c.read_asked-wanted.ensures in
+    unshown-early _ c.read_asked-wanted.result.task c.carry_out-carried.result _ carried.refused_early c.outcome_of-outcome.ensures.fault asked.asks
+    (g.T.Tap.seen c.args.tap.now) (g.T.Tap.seen c.carry_out-carried.new.tap) carried.unshown asked.only
 
-pub returns-clause-audit_counts : goal.returns-clause-audit_counts
-returns-clause-audit_counts g c =
+pub returns-clause-unshown_check : goal.returns-clause-unshown_check
+returns-clause-unshown_check g c =
     let carried = c.carry_out-carried.ensures in
-    let audit = c.outcome_of-outcome.ensures.audit in
-    counts-of-task _ (g.S.Source.left c.args.source.now) c.read_asked-wanted.result.made c.read_asked-wanted.result.task c.carry_out-carried.result _
-    carried.refused_early c.outcome_of-outcome.ensures.fault c.read_asked-wanted.ensures.asks c.read_asked-wanted.ensures.made
-    _ _ _ _ _ _ c.open_desk-pass.ensures.blocks c.open_desk-pass.ensures.nodes (ap (λ a. a.blocks) audit ∙ c.close-audit.ensures.blocks)
-    (ap (λ a. a.nodes) audit ∙ c.close-audit.ensures.nodes) carried.counts
+    let asked = c.read_asked-wanted.ensures in
+    unshown-check _ c.read_asked-wanted.result.task c.carry_out-carried.result _ carried.refused_early c.outcome_of-outcome.ensures.fault asked.asks
+    carried.over.0 (g.K.Sink.taken c.args.sink.now) (g.K.Sink.taken c.carry_out-carried.new.sink) (g.T.Tap.seen c.args.tap.now)
+    (g.T.Tap.seen c.carry_out-carried.new.tap) _ _ _ _ carried.over.2 carried.unshown asked.only

@@ -1,7 +1,7 @@
-use Rattle.std.proofs.Common.{◌≡◌, ◌⊎◌, ℕ, List, Result, Ok, Err, subst, sym, inl, inr}
+use Rattle.std.proofs.Common.{◌≡◌, ◌⊎◌, ℕ, List, Result, Ok, Err, IfOk, subst, sym, inl, inr}
 use Rattle.words.specs.Words.{Options, words_of}
 use Rattle.run_model.specs.Answer.{Asks, OptionsAsk, Task, TaskIs, meant_by}
-use Rattle.run_model.specs.Outcomes.{asked_of}
+use Rattle.run_model.specs.Outcomes.{IfTable, asked_of}
 use Rattle.run_model.specs.declared.asked.Task.{Task as AsksTask}
 use Rattle.run_model.specs.declared.fault.RunFault.{RunFault}
 use Rattle.run_model.specs.declared.fault.RunFault.TheVariants as run
@@ -18,6 +18,14 @@ all-asked : (words : List (List ℕ)) (options : Options) (r : Result AsksTask R
     → (r ≡ Err run.NoMemory) ⊎ TaskIs options.check (meant_by options.selftest options) (asked_of r) → (r ≡ Err run.NoMemory) ⊎ Asks words (asked_of r)
 all-asked words options r is (inl none) = inl none
 all-asked words options r is (inr asks) = inr (subst (λ w. OptionsAsk w (asked_of r)) (sym is) asks)
+
+-- so many workers as the options ask for, the words ask for
+workers-asked : (words : List (List ℕ)) (options : Options) (r : Result AsksTask RunFault) → words_of words ≡ Ok options
+    → IfOk r (λ t. IfTable t (λ q. q.workers ≡ options.workers)) → IfOk r (λ t. IfTable t (λ q. IfOk (words_of words) (λ o. q.workers ≡ o.workers)))
+workers-asked words options r is same = subst (λ w. IfOk r (λ t. IfTable t (λ q. IfOk w (λ o. q.workers ≡ o.workers)))) (sym is) same
+
+pub returns-in-Ok-clause-as_asked : goal.returns-in-Ok-clause-as_asked
+returns-in-Ok-clause-as_asked c = workers-asked _ _ c.read_task.result c.in-Ok.ensures.taken c.read_task.ensures.as_asked
 
 pub returns-in-Ok-clause-asks : goal.returns-in-Ok-clause-asks
 returns-in-Ok-clause-asks c = all-asked _ _ c.read_task.result c.in-Ok.ensures.taken c.read_task.ensures.asks

@@ -1,7 +1,7 @@
-use Rattle.std.proofs.Common.{◌∙◌, ap, sym}
+use Rattle.std.proofs.Common.{◌≡◌, ◌∙◌, IfOk, ap, subst, sym}
 use Rattle.words.specs.Words.{options_of}
 use Rattle.run_model.specs.Answer.{meant_by}
-use Rattle.run_model.specs.Outcomes.{asked_of}
+use Rattle.run_model.specs.Outcomes.{IfTable, asked_of}
 use Rattle.run_model.proofs.Meant.{meant-only}
 use Rattle.run_model.proofs.asked.read_task.Goals as goal
 
@@ -16,3 +16,7 @@ returns-in_ok-chain-in-Some-clause-only c =
     let options = options_of c.args.options.now in
     meant-only options.check options.selftest options (options_of c.in_ok-chain-in-Some.chain) (asked_of c.read_table-in-Some.result) c.if-options.false
     (c.in_ok-chain-in-Some.ensures.chain ∙ ap (λ r. meant_by r options) (sym c.in-Some.is)) c.read_table-in-Some.ensures.only
+
+pub returns-in_ok-chain-in-Some-clause-as_asked : goal.returns-in_ok-chain-in-Some-clause-as_asked
+returns-in_ok-chain-in-Some-clause-as_asked c =
+    subst (λ n. IfOk c.read_table-in-Some.result (λ t. IfTable t (λ r. r.workers ≡ n))) c.in_ok-chain-in-Some.ensures.workers c.read_table-in-Some.ensures.as_asked

@@ -1,16 +1,16 @@
-use Rattle.std.proofs.Common.{◌≡◌, ◌∙◌, ◌≤◌, ◌⊎◌, true, IfSome, length, ap, refl, rules, subst, sym, take}
+use Rattle.std.proofs.Common.{◌≡◌, ◌∙◌, ◌≤◌, ◌⊎◌, true, length, ap, refl, rules, subst, sym, take}
 use Rattle.std.specs.Io.KnownBytes.{Appends}
 use Rattle.edge_face.specs.Edge.{Rose, taken_by}
-use Rattle.run_model.specs.Answer.{cause_of}
+use Rattle.run_model.specs.Answer.{Fault, cause_of}
 use Rattle.run_model.specs.Outcomes.{asked_of, is_early, task_of}
 use Rattle.run_model.specs.declared.fault.RunFault.TheVariants as run
-use Rattle.run_task.specs.Answer.{input_by, input_limit}
+use Rattle.run_task.specs.Answer.{AreBytes, IsAnswerTo, input_by, input_limit}
 use Rattle.run_task.proofs.Carried.{all-asked, at-err, at-ok, early-not_reading, early-not_writing, if-some}
 use Rattle.run_task.proofs.Carried.{keeps-same, late, late-not_early, late-not_writing, no-write}
-use Rattle.run_task.proofs.Carried.{late-not_reading, loses-nothing, no-err, no-ok, of-err, one-error, refused-asked, refused-with, shown-for, the-error}
+use Rattle.run_task.proofs.Carried.{late-not_reading, loses-nothing, no-err, no-ok, of-err, one-error, over-fault, refused-with, the-error}
 use Rattle.run_task.proofs.Carried.{unread-failed, unread-late, unread-not_writing, unread-refused, untrue}
-use Rattle.run_task.proofs.Unshown.{unshown-input}
-use Rattle.run_task.proofs.Written.{all-written, at-left, first-written}
+use Rattle.run_task.proofs.Unshown.{unshown}
+use Rattle.run_task.proofs.Written.{all-written, first-written, shown-for, some-bytes}
 use Rattle.run_task.proofs.carry.carry_out.Goals as goal
 
 -- ---- the words were refused
@@ -23,10 +23,18 @@ returns-in_err-task g c =
     let same = the-error c.from_residual.result fault c.from_residual.ensures.1 in
     let early = of-err (λ f. (is_early f ≡ true) ⊎ (f ≡ run.NoMemory)) c.args.task fault was c.requires.early in
     let unwritten = early-not_writing fault early in
+    let asked = asked_of c.args.task in
+    let refused = ap asked_of was in
+    let bytes = some-bytes input in
+    let seen = g.T.Tap.seen c.args.tap.now in
     record {
-      text = no-ok _ _ _ same;
+      over = (
+        bytes.0,
+        bytes.1,
+        over-fault asked bytes.0 _ _ _ seen seen _ _ _ _ fault same unwritten
+            (λ _. subst (λ a. IsAnswerTo a bytes.0 (Fault fault)) (sym refused) refl) (unshown asked bytes.0 seen seen refl),
+      );
       text_read_to_end = no-ok _ _ _ same;
-      refused = at-err _ _ _ same (λ _. refused-asked input (asked_of c.args.task) fault (ap asked_of was));
       refused_early = at-err _ _ _ was same;
       refused_early_only = at-err _ _ _ same (λ _. ap asked_of was);
       refused_unread = at-err _ _ _ was (keeps-same left);
@@ -35,14 +43,10 @@ returns-in_err-task g c =
       made_unfailed = if-some _ c.args.rows refl;
       read_fault = λ e. early-not_reading _ fault early (one-error _ fault run.ReadFault same e);
       write_fault = no-write _ _ fault same unwritten;
-      write_fault_prefix = no-write _ _ fault same unwritten;
       unwritten = at-err _ _ _ same (λ _. keeps-same (g.K.Sink.taken c.args.sink.now));
       prefix = loses-nothing left;
       units = refl;
-      counts = no-ok _ _ _ same;
-      shows = no-ok _ _ _ same;
       unshown = at-err _ _ _ was refl;
-      shows_some = unshown-input _ input (asked_of c.args.task) (g.T.Tap.seen c.args.tap.now) (g.T.Tap.seen c.args.tap.now) refl;
     }
 
 -- ---- the input was refused
@@ -56,10 +60,16 @@ returns-in_err-bytes g c =
     let rises = Rose (g.S.Source.faults c.args.source.now) (g.S.Source.faults c.read_input.new.source) in
     let late_one = unread-late c.args.rows rises input fault why in
     let unwritten = unread-not_writing c.args.rows rises input fault why in
+    let asked = asked_of c.args.task in
+    let refused = unread-refused c.args.rows rises input asked (task_of c.in_ok-task.task) fault (ap asked_of was) why in
+    let seen = g.T.Tap.seen c.args.tap.now in
     record {
-      text = no-ok _ _ _ same;
+      over = (
+        refused.0,
+        refused.1,
+        over-fault asked refused.0 _ _ _ seen seen _ _ _ _ fault same unwritten refused.2 (unshown asked refused.0 seen seen refl),
+      );
       text_read_to_end = no-ok _ _ _ same;
-      refused = at-err _ _ _ same (unread-refused c.args.rows rises input (asked_of c.args.task) (task_of c.in_ok-task.task) fault (ap asked_of was) why);
       refused_early = no-err _ _ _ was;
       refused_early_only = at-err _ _ _ same (λ early. absurd (untrue (sym late_one ∙ early)));
       refused_unread = no-err _ _ _ was;
@@ -68,14 +78,10 @@ returns-in_err-bytes g c =
       made_unfailed = c.read_input.ensures.made_unfailed;
       read_fault = λ e. unread-failed c.args.rows rises input fault why (one-error _ fault run.ReadFault same e);
       write_fault = no-write _ _ fault same unwritten;
-      write_fault_prefix = no-write _ _ fault same unwritten;
       unwritten = at-err _ _ _ same (λ _. keeps-same (g.K.Sink.taken c.args.sink.now));
       prefix = c.read_input.ensures.prefix;
       units = refl;
-      counts = no-ok _ _ _ same;
-      shows = no-ok _ _ _ same;
       unshown = no-err _ _ _ was;
-      shows_some = unshown-input _ input (asked_of c.args.task) (g.T.Tap.seen c.args.tap.now) (g.T.Tap.seen c.args.tap.now) refl;
     }
 
 -- ---- the task has a fault
@@ -88,14 +94,19 @@ returns-in_err-text g c =
     let fault = c.in_err-text.field-0.0 in
     let was = c.in_ok-task.was in
     let same = the-error c.from_residual-in_err-text.result fault c.from_residual-in_err-text.ensures.1 in
-    let read = subst (λ b. IfSome input (λ l. l ≡ b)) (sym c.deref.ensures.value) c.in_ok-bytes.ensures.bytes in
+    let read = subst (AreBytes input) (sym c.deref.ensures.value) c.in_ok-bytes.ensures.bytes in
     let seen = g.T.Tap.seen c.args.tap.now in
     let shown = g.T.Tap.seen c.answer_task.new.tap in
     let late_one = late task bytes fault c.in_err-text.ensures.fault in
     record {
-      text = no-ok _ _ _ same;
+      over = (
+        bytes,
+        read,
+        over-fault asked bytes _ _ _ seen shown _ _ _ _ fault same (late-not_writing (cause_of fault) late_one)
+            (refused-with asked task bytes (ap asked_of was) fault c.in_err-text.ensures.fault)
+            (shown-for asked task bytes (ap asked_of was) seen shown c.in_err-text.ensures.shows_some),
+      );
       text_read_to_end = no-ok _ _ _ same;
-      refused = at-err _ _ _ same (refused-with input asked task bytes (ap asked_of was) read fault c.in_err-text.ensures.fault);
       refused_early = no-err _ _ _ was;
       refused_early_only = at-err _ _ _ same (λ early. absurd (late-not_early (cause_of fault) late_one early));
       refused_unread = no-err _ _ _ was;
@@ -104,14 +115,10 @@ returns-in_err-text g c =
       made_unfailed = c.read_input.ensures.made_unfailed;
       read_fault = λ e. late-not_reading _ fault late_one (one-error _ fault run.ReadFault same e);
       write_fault = no-write _ _ fault same (late-not_writing (cause_of fault) late_one);
-      write_fault_prefix = no-write _ _ fault same (late-not_writing (cause_of fault) late_one);
       unwritten = at-err _ _ _ same (λ _. keeps-same (g.K.Sink.taken c.args.sink.now));
       prefix = c.read_input.ensures.prefix;
       units = c.answer_task.ensures.units;
-      counts = no-ok _ _ _ same;
-      shows = no-ok _ _ _ same;
       unshown = no-err _ _ _ was;
-      shows_some = at-err _ _ _ same (shown-for input asked task bytes (ap asked_of was) read seen shown c.in_err-text.ensures.shows_some);
     }
 
 -- ---- all was written
@@ -122,14 +129,24 @@ returns-in-Ok g c =
     let task = task_of c.in_ok-task.task in
     let bytes = c.deref.result.now in
     let was = c.in_ok-task.was in
-    let read = subst (λ b. IfSome input (λ l. l ≡ b)) (sym c.deref.ensures.value) c.in_ok-bytes.ensures.bytes in
+    let read = subst (AreBytes input) (sym c.deref.ensures.value) c.in_ok-bytes.ensures.bytes in
     let old = g.K.Sink.taken c.args.sink.now in
     let new = g.K.Sink.taken c.write_all.new.sink in
     let wrote = subst (Appends old new) c.deref-2.ensures.value c.in-Ok.ensures.all in
     record {
-      text = all-written input old new asked task bytes (ap asked_of was) read c.in_ok-text.text.items c.in_ok-text.ensures.text wrote;
+      over = (
+        bytes,
+        read,
+        record {
+          text = all-written asked task bytes (ap asked_of was) old new c.in_ok-text.text.items c.in_ok-text.ensures.text wrote;
+          refused = tt;
+          first = tt;
+          counts = at-ok _ _ _ (ap asked_of was) c.in_ok-text.ensures.counts;
+          shows = at-ok _ _ _ (ap asked_of was) c.in_ok-text.ensures.shows;
+          shows_some = tt;
+        },
+      );
       text_read_to_end = c.in_ok-bytes.ensures.end;
-      refused = tt;
       refused_early = no-err _ _ _ was;
       refused_early_only = tt;
       refused_unread = no-err _ _ _ was;
@@ -138,14 +155,10 @@ returns-in-Ok g c =
       made_unfailed = c.read_input.ensures.made_unfailed;
       read_fault = λ e. absurd (cc);
       write_fault = tt;
-      write_fault_prefix = tt;
       unwritten = tt;
       prefix = c.read_input.ensures.prefix;
       units = c.answer_task.ensures.units;
-      counts = at-ok _ _ _ was (at-left input bytes _ read c.in_ok-text.ensures.counts);
-      shows = at-ok _ _ _ was (at-left input bytes _ read c.in_ok-text.ensures.shows);
       unshown = no-err _ _ _ was;
-      shows_some = tt;
     }
 
 -- ---- a write failed
@@ -156,7 +169,7 @@ returns g c =
     let task = task_of c.in_ok-task.task in
     let bytes = c.deref.result.now in
     let was = c.in_ok-task.was in
-    let read = subst (λ b. IfSome input (λ l. l ≡ b)) (sym c.deref.ensures.value) c.in_ok-bytes.ensures.bytes in
+    let read = subst (AreBytes input) (sym c.deref.ensures.value) c.in_ok-bytes.ensures.bytes in
     let old = g.K.Sink.taken c.args.sink.now in
     let new = g.K.Sink.taken c.write_all.new.sink in
     let text = c.in_ok-text.text.items in
@@ -166,11 +179,21 @@ returns g c =
     let fits = subst (λ b. length b ≤ input_limit) (sym c.deref.ensures.value) c.in_ok-bytes.ensures.fits in
     let seen = g.T.Tap.seen c.args.tap.now in
     let shown = g.T.Tap.seen c.answer_task.new.tap in
-    let got = first-written input old new asked task bytes (ap asked_of was) read text taken c.in_ok-text.ensures.text within wrote in
+    let got = first-written asked task bytes (ap asked_of was) old new text taken c.in_ok-text.ensures.text within wrote in
     record {
-      text = tt;
+      over = (
+        bytes,
+        read,
+        record {
+          text = tt;
+          refused = λ decided. absurd (untrue decided);
+          first = search (rules, got);
+          counts = tt;
+          shows = tt;
+          shows_some = shown-for asked task bytes (ap asked_of was) seen shown (all-asked task bytes seen shown fits c.in_ok-text.ensures.shows);
+        },
+      );
       text_read_to_end = tt;
-      refused = λ decided. absurd (untrue decided);
       refused_early = no-err _ _ _ was;
       refused_early_only = λ early. absurd (untrue early);
       refused_unread = no-err _ _ _ was;
@@ -179,12 +202,8 @@ returns g c =
       made_unfailed = c.read_input.ensures.made_unfailed;
       read_fault = λ e. absurd (cc);
       write_fault = c.in-Err-Failed.ensures.failed;
-      write_fault_prefix = search (rules, got);
       unwritten = λ e. absurd (untrue (sym e));
       prefix = c.read_input.ensures.prefix;
       units = c.answer_task.ensures.units;
-      counts = tt;
-      shows = tt;
       unshown = no-err _ _ _ was;
-      shows_some = shown-for input asked task bytes (ap asked_of was) read seen shown (all-asked task bytes seen shown fits c.in_ok-text.ensures.shows);
     }
