@@ -1,0 +1,123 @@
+# Proves the crates of crates.txt side by side and builds the programs among them.
+#
+#   make             the programs and what they stand on, as many crates at a time as there are processors (or -jN)
+#   make NAME        one crate or program, and what it stands on
+#   make edits-NAME  the must-fail edits of a crate, those in bench/edits/NAME too: the prover must refuse each
+#   make try         a first look at arrowpipe, without any proof: make try WORDS='select=name' < FILE
+#   make dist        out/rekuyomi.tar.gz: the programs, their manuals, README and the SHA-256 sums of these
+#   make check       the gate
+#   make clean       removes what the others made
+#
+# A crate stays proved until the kit, one of its files or a crate below it changes: what they hold counts, not their times.
+# The programs and the logs are in out/. The libraries are in POOL: they hold source files, which rt refuses elsewhere.
+SHELL := /bin/bash
+.SHELLFLAGS := -O globstar -O nullglob -c
+export LC_ALL := C
+POOL := crates/arrowpipe/out/rlib
+LANES := $(shell nproc)
+.DELETE_ON_ERROR:
+
+ifndef LOCKED
+# One build at a time: one more make, which waits for the lock, makes all goals. What it starts holds the lock, too.
+MAKEFLAGS += -j$(LANES) --no-print-directory
+GOALS := $(filter-out check clean try,$(or $(MAKECMDGOALS),all))
+.PHONY: all build check clean try $(GOALS)
+$(sort all $(GOALS)): build ; @:
+build: $(filter clean,$(MAKECMDGOALS))
+	+@mkdir -p out/log $(POOL)
+	+@flock -n crates true || echo 'waiting for another build' >&2
+	+@exec flock -F crates $(MAKE) LOCKED=1 $(GOALS)
+check:
+	@.ci/run
+clean:
+	@flock crates rm -rf out $(POOL)
+try:
+	@echo 'a first look: nothing is proved, and it runs some hundred times slower than the program' >&2
+	@cd crates/arrowpipe && rt try -- $(WORDS)
+else
+
+# Its time is that before the sources are looked at.
+$(shell touch out/begun)
+KIT_LINE := $(shell rt version)
+KIT := $(patsubst %/START-HERE.md,%,$(shell rt doc))
+$(if $(KIT),,$(error the Rattle kit's rt isn't on the path))
+README_KIT := $(shell sed -n 's/^Kit: `\([^`]*\)`.*/\1/p' README.md)
+OTHER_KIT := $(if $(filter $(lastword $(KIT_LINE)),$(README_KIT)),, by $(KIT_LINE), where README has $(README_KIT))
+
+# What each crate stands on: as crates.txt has it; of that our own crates; and all of ours below it, with itself.
+comma := ,
+LINES := $(shell sed -n 's/^\([a-z0-9_]*\)[^:\#]*: */\1:/p' crates.txt | tr ' ' ,)
+CRATES := $(foreach it,$(LINES),$(firstword $(subst :, ,$(it))))
+PROGRAMS := $(foreach it,$(CRATES),$(if $(wildcard crates/$(it)/src/main.rt),$(it)))
+define read_line
+DEPS_$(1) := $(subst $(comma), ,$(2))
+OURS_$(1) := $(filter $(CRATES),$(subst $(comma), ,$(2)))
+BELOW_$(1) := $$(sort $(1) $$(foreach it,$$(OURS_$(1)),$$(or $$(BELOW_$$(it)),$$(error crates.txt has $(1) before $$(it)))))
+endef
+$(foreach it,$(LINES),$(eval $(call read_line,$(firstword $(subst :, ,$(it))),$(word 2,$(subst :, ,$(it))))))
+
+# The sum of what a crate is made of: the kit, what it stands on, and its files. A stamp with the sum in its name stands
+# where the library is proved, or the program built, of just that.
+sum = { echo '$(KIT_LINE)' $(DEPS_$(1)) $(foreach it,$(OURS_$(1)),$(SUM_$(it))); cd crates/$(1) && \
+  sha256sum {src,specs,proofs}/**/*.* < /dev/null; } | sha256sum | cut -c1-16
+$(foreach it,$(CRATES),$(eval SUM_$(it) := $(shell $(call sum,$(it)))))
+$(foreach it,$(CRATES),$(eval STAMP_$(it) := $(if $(filter $(it),$(PROGRAMS)),out,$(POOL))/$(it)-$(SUM_$(it)).proved))
+
+# What the goals need. A program that its sources no longer give goes first.
+NEEDED := $(sort $(foreach it,$(MAKECMDGOALS:edits-%=%) $(if $(filter all dist,$(MAKECMDGOALS)),$(PROGRAMS)),$(BELOW_$(it))))
+$(foreach it,$(filter $(NEEDED),$(PROGRAMS)),$(if $(and $(wildcard out/$(it)),$(wildcard $(STAMP_$(it)))),, \
+  $(shell rm -f out/$(it) out/$(it).built $(STAMP_$(it)))))
+LEFT := $(strip $(foreach it,$(NEEDED),$(if $(wildcard $(STAMP_$(it))),,$(it))))
+$(if $(LEFT),$(shell echo '$(words $(LEFT)) of $(words $(NEEDED)) crates are to be proved; the logs are in out/log' >&2))
+
+# The kit's calls, made in the crate's folder. A prover ends with the shell that called it. A library gets a second job where
+# half of the processors would be idle without: what is being made has a log.
+TOP := '$(CURDIR)'
+rattle = setpriv --pdeathsig TERM $(KIT)/bin/rattle build --crate-name $(1) --links $(1)= -L dependency=$(KIT)/rlibs \
+  -L dependency=$(TOP)/$(POOL) $(foreach it,$(OURS_$(1)),--extern $(it)=$(TOP)/$(POOL)/$(it).rlib) \
+  $(foreach it,std $(filter-out $(CRATES),$(DEPS_$(1))),--extern $(it)=$(KIT)/rlibs/$(it).rlib) \
+  --antt-project $(KIT)/rattle/logic/antt-project.json --logic-built $(KIT)/logic_built
+library = $(rattle) --jobs $$((2 * $$(ls $(TOP)/out/log | wc -l) > $(LANES) ? 1 : 2)) --statements src/lib.rt -o $(2)
+object = $(rattle) --jobs $(LANES) --toolchain $(KIT)/toolchain --backend llvm src/main.rt -o $(2).o
+program = $(object) && $(KIT)/bin/rattle-link --target x86_64-unknown-linux-gnu --toolchain $(KIT)/toolchain -o $(2) $(2).o \
+  $(KIT)/c/libos_c.a $(KIT)/c/liblibc_c.a
+# On the words and the input that its crate has stored a program must write and answer what is stored.
+stored = $(if $(wildcard crates/$(1)/$(2)),$(2),/dev/null)
+runs = mapfile -t words < $(call stored,$(1),args) && { $(2) "$${words[@]}" < $(call stored,$(1),stdin) > $(2).stdout; \
+  [ $$? -eq "$$(grep . $(call stored,$(1),status) || echo 0)" ]; } && cmp $(2).stdout $(call stored,$(1),stdout)
+
+# Makes one crate by this call; else says why, by the lines of its log that tell it. What it made replaces what was there.
+name = $(firstword $(subst -, ,$(@F)))
+log = out/log/$(name).log
+why = { grep -E '^(error|note: src/|fn .*: no proof)' $(log) | cut -c1-200 | head -n 20; tail -n 2 $(log); \
+  ! grep -q 'No space left' $(log) || echo 'the disk is full'; echo 'not proved: $(name)$(OTHER_KIT); the log is $(log)'; } >&2
+define made
+@{ cd crates/$(name) && $(1); } > $(log) 2>&1 || { cd $(TOP); $(why); exit 1; }
+@[ "$$($(call sum,$(name)))" = $(SUM_$(name)) ] || { echo 'a source of $(name) has changed meanwhile' >&2; exit 1; }
+@rm -rf $(@D)/$(name)-*.proved $(2) && mv $(2).new $(2) && touch $@ && rm -f $(log) $(2).new.*
+@echo "proved $$(ls $(foreach it,$(NEEDED),$(STAMP_$(it))) 2> /dev/null | wc -l) of $(words $(NEEDED)) crates: $(name)"
+endef
+
+.SECONDEXPANSION:
+.PHONY: all dist $(CRATES) $(CRATES:%=edits-%)
+all: $(PROGRAMS)
+$(CRATES): $$(foreach it,$$(filter $$(BELOW_$$@),$(CRATES)),$$(STAMP_$$(it)))
+	@$(if $(filter $@,$(PROGRAMS)),touch -r out/begun out/$@.built && echo 'built: out/$@',echo 'proved: $@')
+$(foreach it,$(filter-out $(PROGRAMS),$(CRATES)),$(STAMP_$(it))): | $$(foreach it,$$(OURS_$$(name)),$$(STAMP_$$(it)))
+	$(call made,$(call library,$(name),$(TOP)/$(POOL)/$(name).rlib.new),$(POOL)/$(name).rlib)
+$(foreach it,$(PROGRAMS),$(STAMP_$(it))): | $$(foreach it,$$(OURS_$$(name)),$$(STAMP_$$(it)))
+	$(call made,$(call program,$(name),$(TOP)/out/$(name).new) && $(call runs,$(name),$(TOP)/out/$(name).new),out/$(name))
+
+# An edit is tried once its crate is proved without it.
+EDITS := $(wildcard crates/*/must-fail/*.edit bench/edits/*/*.edit)
+owner = $(word 2,$(subst /, ,$(1:bench/%=%)))
+.PHONY: $(EDITS:%=try/%)
+$(CRATES:%=edits-%): edits-%: $$(foreach it,$(EDITS),$$(if $$(filter $$*,$$(call owner,$$(it))),try/$$(it)))
+	@echo 'refused: $(words $^) edits'
+$(EDITS:%=try/%): try/%: | $$(STAMP_$$(call owner,$$*))
+	@.ci/try-edit crates/$(call owner,$*) $* $(call $(if $(filter $(call owner,$*),$(PROGRAMS)),object,library),$(call owner,$*),made)
+dist: $(PROGRAMS)
+	@rm -rf out/rekuyomi && mkdir out/rekuyomi && cp README.md $(PROGRAMS:%=out/%) $(wildcard $(PROGRAMS:%=docs/%.1)) out/rekuyomi
+	@cd out/rekuyomi && sha256sum * > ../SHA256SUMS && mv ../SHA256SUMS . && tar -C .. -czf ../rekuyomi.tar.gz rekuyomi
+	@rm -r out/rekuyomi && echo 'made: out/rekuyomi.tar.gz'
+endif
