@@ -2,7 +2,7 @@
 ghost use Rattle.std.specs.Prelude.{◌≡◌, ◌↔◌, ◌+◌, ◌<◌, ◌≤◌, ℕ, [], ◌∷◌, ◌++◌, IsTrue, nat_eq};
 ghost use Rattle.std.specs.Cmp.{on_equiv, on_per, partial_equiv_from_equiv};
 ghost use Rattle.std.specs.Cmp.Lexicographic.{nat_list_eq_equiv, pointwise};
-ghost use Rattle.kind_tree.specs.Ways.{Steps, steps_of};
+ghost use Rattle.kind_tree.specs.Ways.{Steps, path_of, steps_of};
 
 /// Where a node stands: the numbers of the children on the way to it, or [`DICTIONARY_STEP`]. The first `depth` of the
 /// steps lead there; what stands behind them means nothing, and two paths are equal where their steps are.
@@ -67,6 +67,19 @@ impl Path {
     {
         let depth = (self.depth as usize).min(64);
         &self.steps[..depth]
+    }
+
+    /// The same way, with 0 in each place behind it, so that two such paths are equal as values where their ways are.
+    pub fn cleared(&self) -> Path
+        ensures { result ≡ path_of (steps_of self.now) }
+    {
+        let depth = self.way().len();
+        let mut steps = self.steps;
+        steps[depth..].fill(0);
+        Path {
+            depth: depth as u8,
+            steps,
+        }
     }
 }
 

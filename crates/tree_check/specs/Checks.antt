@@ -1,16 +1,15 @@
 -- What the check of a text of trees comes to: a report, or the first fault of the text, of the schema or of the array.
-use Rattle.std.specs.Prelude.{◌≡◌, ℕ, ◌+◌, ◌-◌, List, ◌++◌, length, replicate, Option, None, Some, Result, Ok, Err}
+use Rattle.std.specs.Prelude.{◌≡◌, ℕ, ◌+◌, List, Option, None, Some, Result, Ok, Err}
 use Rattle.unit_pass.specs.Tally.{risen}
 use Rattle.tree_model.specs.TreeCost.{Holds, Nodes}
 use Rattle.raw_schema.specs.Members.{SchemaTree}
 use Rattle.raw_array.specs.Members.{ArrayTree, holds}
-use Rattle.kind_tree.specs.Ways.{steps_of, Steps}
+use Rattle.kind_tree.specs.Ways.{path_of, steps_of}
 use Rattle.layout_rules.specs.Found.{fault_of}
 use Rattle.kind_tree.specs.Kinds.{KindTree}
 use Rattle.schema_check.specs.SchemaAnswers.{FirstFault, SchemaReads}
 use Rattle.layout_rules.specs.Walk.{Fault, first_fault}
 use Rattle.layout_rules.specs.declared.rule.LayoutFault.{LayoutFault}
-use Rattle.kind_tree.specs.declared.path.Path.{Path}
 use Rattle.schema_check.specs.declared.schema.SchemaFault.{SchemaFault}
 use Rattle.schema_check.specs.declared.schema.SchemaFault.TheVariants as schemas
 use Rattle.tree_text.specs.Answers.{Reads}
@@ -24,10 +23,6 @@ use Rattle.tree_check.specs.declared.fault.TreeFault.{TreeFault}
 use Rattle.tree_check.specs.declared.fault.TreeFault.TheVariants as trees
 
 -- ---- the faults
-
--- the path of these steps, with 0 in each place behind them
-abbrev pub path_of : Steps → Path
-path_of steps = record { depth = length steps; steps = steps ++ replicate (64 - length steps) 0 }
 
 -- the first fault of a schema
 abbrev pub schema_fault : FirstFault → TreeFault

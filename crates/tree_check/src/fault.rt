@@ -1,7 +1,5 @@
 //! Why a text of trees has no report.
 ghost use Rattle.std.specs.Prelude.{◌≡◌};
-ghost use Rattle.kind_tree.specs.Ways.{steps_of};
-ghost use Rattle.tree_check.specs.Checks.{path_of};
 
 use kind_tree::Path;
 use layout_rules::LayoutFault;
@@ -63,7 +61,7 @@ impl From<SchemaFault> for CheckFault {
     fn from(fault: SchemaFault) -> CheckFault {
         match fault {
             SchemaFault::At { path, rule } => CheckFault::Tree(TreeFault::Schema {
-                path: cleared(&path),
+                path: path.cleared(),
                 rule,
             }),
             SchemaFault::NoMemory => CheckFault::NoMemory,
@@ -78,25 +76,12 @@ impl From<LayoutFault> for CheckFault {
 
     fn from(fault: LayoutFault) -> CheckFault {
         CheckFault::Tree(TreeFault::Layout(LayoutFault {
-            path: cleared(&fault.path),
+            path: fault.path.cleared(),
             rule: fault.rule,
             place: fault.place,
             left: fault.left,
             right: fault.right,
         }))
-    }
-}
-
-/// The same way, with 0 in each place behind it.
-fn cleared(path: &Path) -> Path
-    ensures { result ≡ path_of (steps_of path.now) }
-{
-    let depth = path.way().len();
-    let mut steps = path.steps;
-    steps[depth..].fill(0);
-    Path {
-        depth: depth as u8,
-        steps,
     }
 }
 
