@@ -28,7 +28,7 @@ use Rattle.stage_model.specs.Typing.{column, column_at, no_column}
 use Rattle.stream_face.specs.Lawful.{AreItems, AreValues, DictsAreFull, DictsHaveBytes, HasBytes, IsChunkOf, IsTable, LawfulColumns, column_leaves, leaves}
 use Rattle.column_fill.proofs.ValuesTaken.{values-fit}
 use Rattle.work_parts.proofs.CutColumns.{dicts-window}
-use Rattle.work_parts.proofs.MovedChildren.{cut-at}
+use Rattle.arr_move.proofs.MovedChildren.{cut-at}
 use Rattle.dict_stage.specs.Indices.{Indices, index_type, recoded_tree}
 use Rattle.dict_stage.specs.Recoded.{Recodes, TextsOf, recoded_columns, text_kind}
 use Rattle.dict_stage.proofs.Chunks.{row-count}

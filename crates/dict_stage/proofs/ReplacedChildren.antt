@@ -18,7 +18,7 @@ use Rattle.arr_move.specs.TreeActs.{struct_members}
 use Rattle.column_laws.specs.Picking.{Replaced, cut_children}
 use Rattle.work_parts.specs.Children.{ShowsChildren}
 use Rattle.work_parts.proofs.CutColumns.{ItemsLaw, natural-is, window-live}
-use Rattle.work_parts.proofs.MovedChildren.{cut_to}
+use Rattle.arr_move.proofs.MovedChildren.{cut_to}
 use Rattle.work_parts.proofs.Spliced.{at-behind, at-front, at-middle, each-holds, length-spliced, spliced}
 
 -- ---- a list with another item in the place of one

@@ -11,12 +11,12 @@ ghost use Rattle.work_parts.specs.Children.{ShowsChildren};
 ghost use Rattle.dict_stage.specs.Recoded.{HasPlace};
 
 use arr_export::export_table;
+use arr_move::{count_children, move_children};
 use array_laws::{lawful_structs_have_columns, windows_are_parts};
 use column_laws::{column_types_follow_picks, columns_can_be_taken};
 use raw_array::{PartlyMoved, RawArray, release_all, windows_keep_measures};
 use std::alloc::Global;
 use unit_pass::{NoMemory, Pass, SUPPLY};
-use work_parts::{count_children, move_children};
 
 /// A law: a chunk has children that can be cut to what it shows, and with another column in the place of one they make the
 /// columns of a table.

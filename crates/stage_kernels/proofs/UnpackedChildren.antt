@@ -18,7 +18,7 @@ use Rattle.arr_export.specs.ArrayTrees.{IsColumn, table_tree}
 use Rattle.arr_move.specs.TreeActs.{struct_members}
 use Rattle.column_laws.specs.Picking.{AreLive, Unpacked, cut_children}
 use Rattle.stage_model.specs.Typing.{column_at, no_column}
-use Rattle.work_parts.proofs.MovedChildren.{cut-at, cut_to}
+use Rattle.arr_move.proofs.MovedChildren.{cut-at, cut_to}
 use Rattle.work_parts.proofs.StructChildren.{StructLaws, shown}
 use Rattle.stage_kernels.specs.Unpacks.{HasStruct, ShowsInner}
 

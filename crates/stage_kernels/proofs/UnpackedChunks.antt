@@ -19,7 +19,7 @@ use Rattle.stage_model.specs.Typing.{column_at, no_column}
 use Rattle.stream_face.specs.Lawful.{AreItems, DictsAreFull, HasFields, IsChunkOf, IsTable, MemberDictsAreFull}
 use Rattle.stages.specs.Steps.{GivesOut, IsNext}
 use Rattle.work_parts.proofs.CutColumns.{dicts-window}
-use Rattle.work_parts.proofs.MovedChildren.{cut-at, cut_to}
+use Rattle.arr_move.proofs.MovedChildren.{cut-at, cut_to}
 use Rattle.work_parts.proofs.Spliced.{at-behind, at-front, at-middle, each-holds, length-spliced, spliced}
 use Rattle.stage_kernels.specs.Unpacks.{UnpackFits}
 

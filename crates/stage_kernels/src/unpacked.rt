@@ -13,7 +13,7 @@ ghost use Rattle.work_parts.specs.Children.{ShowsChildren};
 ghost use Rattle.stage_kernels.specs.Unpacks.{HasStruct, ShowsInner};
 
 use arr_export::export_table;
-use arr_move::slice;
+use arr_move::{count_children, move_children, slice};
 use array_laws::{lawful_structs_have_columns, windows_are_parts};
 use column_laws::{
     column_types_follow_picks, columns_can_be_taken, columns_of_a_table,
@@ -22,7 +22,6 @@ use column_laws::{
 use raw_array::{Gone, PartlyMoved, RawArray, release_all, windows_keep_measures};
 use std::alloc::Global;
 use unit_pass::{NoMemory, Pass, SUPPLY};
-use work_parts::{count_children, move_children};
 
 /// A chunk with a struct's columns in the struct's place, each cut to the items that it shows ("The Arrow C Data Interface",
 /// "Moving child arrays"). No block is made or copied. The new struct of all columns draws one unit; the old one and the

@@ -2,6 +2,5 @@ pub mod CodedColumns
 pub mod ColumnSets
 pub mod ChunkCosts
 pub mod CutColumns
-pub mod MovedChildren
 pub mod StructChildren
 pub mod Spliced

@@ -3,7 +3,7 @@ use Rattle.std.proofs.Common.{arith, ◌≡◌, ◌+◌, ◌-◌, ◌∙◌, ◌
 use Rattle.std.proofs.lemmas.Int.{ints}
 use Rattle.tree_model.specs.Tree.{children_of, child_at, trees}
 use Rattle.raw_array.specs.Members.{Cost, cost_of_all, members_of}
-use Rattle.work_parts.proofs.MovedChildren.{at-later, cost-push, cut_to, fits-same}
+use Rattle.arr_move.proofs.MovedChildren.{at-later, cost-push, cut_to, fits-same}
 use Rattle.dict_stage.proofs.ReplacedChildren.{parts-are, rest-later}
 use Rattle.dict_stage.proofs.replaced.move_replaced_children.Goals as goal
 

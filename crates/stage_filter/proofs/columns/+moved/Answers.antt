@@ -15,7 +15,7 @@ use Rattle.layout_rules.specs.Layout.{first, natural}
 use Rattle.kind_tree.specs.declared.typed.Typed.{out-Typed}
 use Rattle.kind_tree.specs.TypedView.{kids_of, typed_of}
 use Rattle.arr_export.specs.ArrayTrees.{IsColumn}
-use Rattle.work_parts.proofs.MovedChildren.{at-place, children-set, cost-push, rest-taken}
+use Rattle.arr_move.proofs.MovedChildren.{at-place, children-set, cost-push, rest-taken}
 use Rattle.stage_filter.specs.Kept.{rows_at}
 use Rattle.stage_filter.specs.Moving.{AreMoved, CanMove, CanMoveRows, IsMoved}
 use Rattle.stage_filter.specs.Plain.{most_cost, most_of_columns}

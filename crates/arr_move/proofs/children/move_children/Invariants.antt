@@ -1,8 +1,8 @@
 use Rattle.std.proofs.Common.{◌≡◌, ◌+◌, ◌-◌, ◌≤◌, ◌++◌, map, take, drop, length, vec_len, vec_capacity}
 use Rattle.tree_model.specs.Tree.{children_of, trees}
 use Rattle.raw_array.specs.Members.{Cost, cost_of_all}
-use Rattle.work_parts.proofs.MovedChildren.{cut_to}
-use Rattle.work_parts.proofs.children.move_children.Given as goal
+use Rattle.arr_move.proofs.MovedChildren.{cut_to}
+use Rattle.arr_move.proofs.children.move_children.Given as goal
 
 -- the children before this place stand in the list, and those from it on as they were
 abbrev pub invariant-loop-place : goal.invariant-loop-place

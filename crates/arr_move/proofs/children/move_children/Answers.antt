@@ -2,8 +2,8 @@ use Rattle.std.proofs.Common.{arith, ◌<◌, ◌≤◌, ◌∙◌, length, ap, 
 use Rattle.std.proofs.lemmas.Int.{ints}
 use Rattle.std.proofs.lemmas.List.{length-set}
 use Rattle.tree_model.specs.Tree.{Released, children_of, child_at}
-use Rattle.work_parts.proofs.MovedChildren.{at-place, children-set, fits-same, items-next, rest-taken}
-use Rattle.work_parts.proofs.children.move_children.Goals as goal
+use Rattle.arr_move.proofs.MovedChildren.{at-place, children-set, fits-same, items-next, rest-taken}
+use Rattle.arr_move.proofs.children.move_children.Goals as goal
 
 pub move_child-requires-clause-fits : goal.move_child-requires-clause-fits
 move_child-requires-clause-fits c =

@@ -2,8 +2,8 @@ use Rattle.std.proofs.lemmas.Grind.{common_steps}
 use Rattle.std.proofs.Common.{arith, ap, w64, to_z, of_z}
 use Rattle.tree_model.specs.Tree.{trees}
 use Rattle.raw_array.specs.Members.{cost_of_all}
-use Rattle.work_parts.proofs.MovedChildren.{cost-cut, cost-push}
-use Rattle.work_parts.proofs.children.move_child.Goals as goal
+use Rattle.arr_move.proofs.MovedChildren.{cost-cut, cost-push}
+use Rattle.arr_move.proofs.children.move_child.Goals as goal
 
 pub returns-clause-cost : goal.returns-clause-cost
 returns-clause-cost c =

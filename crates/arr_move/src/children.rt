@@ -4,7 +4,7 @@ ghost use Rattle.tree_model.specs.Tree.{Released, IsLive, children_of, child_at,
 ghost use Rattle.raw_array.specs.Members.{Cost, cost_of_all};
 ghost use Rattle.raw_array.specs.Windows.{FitsWindow, Window};
 
-use arr_move::slice;
+use crate::columns::slice;
 use raw_array::{Gone, PartlyMoved, RawArray, windows_keep_measures};
 
 /// The number of children.
