@@ -1,5 +1,5 @@
 -- What a finished column costs: a node, and a hold for each buffer of its encoding.
-use Rattle.std.proofs.Common.{◌≡◌, ◌∙◌, ◌≤◌, ◌+◌, ℕ, Bool, List, [], ◌∷◌, length, Option, None, Some, refl, ap, arith}
+use Rattle.std.proofs.Common.{◌≡◌, ◌≤◌, ◌+◌, ℕ, Bool, List, [], ◌∷◌, length, Option, None, Some, refl, ap, arith}
 use Rattle.buf_block.specs.declared.hold.BufView.{BufView}
 use Rattle.data_types.specs.FieldText.{Form, Truths, Wholes, FloatBits, Text, HexBytes, SizedHex, Decimals, form_of}
 use Rattle.data_types.specs.Value.{Value}
@@ -31,7 +31,7 @@ pub column-cost : (kind : DataType) (values : List Value) (dictionary : Option A
     → Cost (column_tree kind values dictionary) ≡ 1 + blocks_of kind values + cost_of_maybe (maybe_tree dictionary)
 column-cost kind values dictionary = omega (arith, made-holds (encoded kind values).buffers)
 
-few-present : (buffers : List (Option (List ℕ))) → present_count buffers ≤ length buffers
+pub few-present : (buffers : List (Option (List ℕ))) → present_count buffers ≤ length buffers
 few-present [] = omega arith
 few-present (None ∷ buffers) = omega (arith, few-present buffers)
 few-present (Some bytes ∷ buffers) = omega (arith, few-present buffers)

@@ -3,3 +3,4 @@ pub mod ItemsMoved
 pub mod ColumnBlocks
 pub mod ColumnCosts
 pub mod Counts
+pub mod LawfulTables

@@ -6,13 +6,16 @@
 //!
 //! What it promises: the item that the column has then is the one that was read ([`Takes`](../specs/Takes.antt) says which are
 //! taken), the array is the one that `arr_export` says of the values, and it costs a node and a hold for each buffer of its
-//! encoding, of which there are at most three.
+//! encoding, of which there are at most three. [`fitting_values_make_a_lawful_chunk`] is the law for producers: a table whose
+//! columns are made of values that fit ([`Tables`](../specs/Tables.antt)) is lawful, in its columns, its rows and its chunk.
 //!
 //! What it leaves to others: which items are taken, and what becomes of the chunk.
 #![tactic(auto)]
 
 mod built;
 mod item;
+mod laws;
 
 pub use built::built_column;
 pub use item::{push, push_item};
+pub use laws::fitting_values_make_a_lawful_chunk;
