@@ -1,4 +1,3 @@
-use Rattle.std.proofs.lemmas.Grind.{common_steps}
 use Rattle.std.proofs.Common.{rules, ap, arith}
 use Rattle.raw_place.specs.Kept.{values_of}
 use Rattle.tree_model.specs.Tree.{Released, Depth}
@@ -17,6 +16,3 @@ measures::costs-loop-i-preserved t c =
     let next = cost_of_all-take holds (values_of c.args.children.now) c.loop-i.i (omega (arith, c.len-i-end.ensures.exact, c.loop-i-test.true)) in
     let item = ap Cost (c.get.ensures.by_index Released) in
     search rules
-
-pub measures::costs-returns : goal.measures::costs-returns
-measures::costs-returns t c = grind (arith, common_steps)

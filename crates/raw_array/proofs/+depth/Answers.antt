@@ -1,4 +1,3 @@
-use Rattle.std.proofs.lemmas.Grind.{common_steps}
 use Rattle.std.proofs.Common.{rules, ap, arith}
 use Rattle.raw_place.specs.Kept.{values_of}
 use Rattle.tree_model.specs.Tree.{Released, Depth}
@@ -16,9 +15,3 @@ measures::deepest-loop-i-preserved t c =
     let next = depth_of_all-take (values_of c.args.children.now) c.loop-i.i (omega (arith, c.len-i-end.ensures.exact, c.loop-i-test.true)) in
     let item = ap Depth (c.get.ensures.by_index Released) in
     search rules
-
-pub measures::deepest-returns-clause-exact : goal.measures::deepest-returns-clause-exact
-measures::deepest-returns-clause-exact t c = grind (arith, common_steps)
-
-pub measures::deepest-returns-clause-bounded : goal.measures::deepest-returns-clause-bounded
-measures::deepest-returns-clause-bounded t c = grind (arith, common_steps)

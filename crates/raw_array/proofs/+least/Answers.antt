@@ -1,4 +1,3 @@
-use Rattle.std.proofs.lemmas.Grind.{common_steps}
 use Rattle.std.proofs.Common.{rules, ap, arith}
 use Rattle.raw_place.specs.Kept.{values_of}
 use Rattle.tree_model.specs.Tree.{Depth}
@@ -18,6 +17,3 @@ measures::least_below-loop-i-preserved t c =
     let next = least_of_all-take whole least (values_of c.args.children.now) c.loop-i.i (omega (arith, c.len-i-end.ensures.exact, c.loop-i-test.true)) in
     let item = ap LeastAmount (c.get.ensures.by_index Released) in
     search rules
-
-pub measures::least_below-returns-clause-exact : goal.measures::least_below-returns-clause-exact
-measures::least_below-returns-clause-exact t c = grind (arith, common_steps)

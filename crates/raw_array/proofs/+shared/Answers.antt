@@ -1,5 +1,4 @@
 use Rattle.raw_array.proofs.Shares.{OneLower-lowered, AllOneLower-same, MaybeOneLower-same, Cost-shared, AllOneLower-lowered, cost_of_all-shared}
-use Rattle.std.proofs.lemmas.Grind.{common_steps}
 use Rattle.std.proofs.Common.{◌≡◌, ◌+◌, ◌<◌, length, take, ap, sym, subst, ◌∙◌, arith, refl, Bool, true, false, ℕ, Result, Ok, Err, get_or, set}
 use Rattle.std.proofs.Math.Seq.{take-length}
 use Rattle.raw_place.specs.Kept.{values_of, value_if, value_of}
@@ -57,9 +56,6 @@ array::RawArray::shared-invariant_of-self t c =
           let like = Bounded-one_lower (tree_of_node w.in-Live.node) (tree_of_node w.shared_node.new.node) w.in-Err.ensures.one_lower was in
           subst (λ s. Bounded (tree_of s.state)) (sym w.self-inside-is) like
     ]
-
-pub array::RawArray::shared-returns-clause-tree : goal.array::RawArray::shared-returns-clause-tree
-array::RawArray::shared-returns-clause-tree t c = grind (arith, common_steps)
 
 -- ---- a node
 pub share::shared_node-shared_private-requires-clause-amounts : goal.share::shared_node-shared_private-requires-clause-amounts
@@ -149,9 +145,6 @@ share::shared_node-null_count-requires t c = tt
 
 pub share::shared_node-offset-requires : goal.share::shared_node-offset-requires
 share::shared_node-offset-requires t c = tt
-
-pub share::shared_node-returns-clause-tree : goal.share::shared_node-returns-clause-tree
-share::shared_node-returns-clause-tree t c = grind (arith, common_steps)
 
 pub share::shared_node-returns-clause-lowered : goal.share::shared_node-returns-clause-lowered
 share::shared_node-returns-clause-lowered t c =

@@ -1,10 +1,6 @@
 use Rattle.tree_model.proofs.Measures.{measures}
 use Rattle.std.proofs.Common.{arith}
-use Rattle.std.proofs.lemmas.Grind.{common_steps}
 use Rattle.raw_schema.proofs.+ending.Goals as goal
-
-pub release::end_all-loop-child-smaller : goal.release::end_all-loop-child-smaller
-release::end_all-loop-child-smaller t c = grind (arith, common_steps)
 
 pub release::end_all-end-requires : goal.release::end_all-end-requires
 release::end_all-end-requires t c = grind (arith, measures)

@@ -1,10 +1,6 @@
 use Rattle.arr_move.proofs.Vacant.{vacant}
 use Rattle.std.proofs.Common.{arith}
-use Rattle.std.proofs.lemmas.Grind.{common_steps}
 use Rattle.arr_move.proofs.columns.vacant_places.Goals as goal
-
-pub loop-place-preserved : goal.loop-place-preserved
-loop-place-preserved c = grind (arith, common_steps)
 
 pub returns-in_err-children : goal.returns-in_err-children
 returns-in_err-children c = grind (arith, vacant)

@@ -1,10 +1,6 @@
 use Rattle.arr_move.proofs.Vacant.{vacant}
 use Rattle.std.proofs.Common.{arith}
-use Rattle.std.proofs.lemmas.Grind.{common_steps}
 use Rattle.arr_move.proofs.columns.vacant_struct.Goals as goal
-
-pub build-requires-clause-few_children : goal.build-requires-clause-few_children
-build-requires-clause-few_children c = grind (arith, common_steps)
 
 pub build-requires-clause-not_deep : goal.build-requires-clause-not_deep
 build-requires-clause-not_deep c = grind (arith, vacant)

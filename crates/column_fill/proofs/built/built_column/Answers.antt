@@ -1,4 +1,3 @@
-use Rattle.std.proofs.lemmas.Grind.{common_steps}
 use Rattle.std.proofs.Common.{ap, arith}
 use Rattle.tree_model.specs.Tree.{maybe_tree}
 use Rattle.raw_array.specs.Members.{cost_of_maybe, holds_of}
@@ -45,63 +44,3 @@ returns-in-Err-export_column-clause-units_back c =
       c.give_up.ensures.units,
       holds_of-count c.in-Err-export_column.built.buffers.items,
     )
-
-pub finish-requires-clause-holds : goal.finish-requires-clause-holds
-finish-requires-clause-holds c = grind (arith, common_steps)
-
-pub finish-requires-clause-units : goal.finish-requires-clause-units
-finish-requires-clause-units c = grind (arith, common_steps)
-
-pub export_column-requires-clause-holds : goal.export_column-requires-clause-holds
-export_column-requires-clause-holds c = grind (arith, common_steps)
-
-pub end_dictionary-requires : goal.end_dictionary-requires
-end_dictionary-requires c = grind (arith, common_steps)
-
-pub returns-in-Ok-export_column-clause-tree : goal.returns-in-Ok-export_column-clause-tree
-returns-in-Ok-export_column-clause-tree c = grind (arith, common_steps)
-
-pub returns-in-Ok-export_column-clause-fits : goal.returns-in-Ok-export_column-clause-fits
-returns-in-Ok-export_column-clause-fits c = grind (arith, common_steps)
-
-pub returns-in-Ok-export_column-clause-units : goal.returns-in-Ok-export_column-clause-units
-returns-in-Ok-export_column-clause-units c = grind (arith, common_steps)
-
-pub returns-in-Ok-export_column-clause-blocks : goal.returns-in-Ok-export_column-clause-blocks
-returns-in-Ok-export_column-clause-blocks c = grind (arith, common_steps)
-
-pub returns-in-Ok-export_column-clause-nodes : goal.returns-in-Ok-export_column-clause-nodes
-returns-in-Ok-export_column-clause-nodes c = grind (arith, common_steps)
-
-pub returns-in-Err-export_column-clause-tree : goal.returns-in-Err-export_column-clause-tree
-returns-in-Err-export_column-clause-tree c = grind (arith, common_steps)
-
-pub returns-in-Err-export_column-clause-fits : goal.returns-in-Err-export_column-clause-fits
-returns-in-Err-export_column-clause-fits c = grind (arith, common_steps)
-
-pub returns-in-Err-export_column-clause-units : goal.returns-in-Err-export_column-clause-units
-returns-in-Err-export_column-clause-units c = grind (arith, common_steps)
-
-pub returns-in-Err-export_column-clause-blocks : goal.returns-in-Err-export_column-clause-blocks
-returns-in-Err-export_column-clause-blocks c = grind (arith, common_steps)
-
-pub returns-in-Err-export_column-clause-nodes : goal.returns-in-Err-export_column-clause-nodes
-returns-in-Err-export_column-clause-nodes c = grind (arith, common_steps)
-
-pub returns-in-Err-clause-tree : goal.returns-in-Err-clause-tree
-returns-in-Err-clause-tree c = grind (arith, common_steps)
-
-pub returns-in-Err-clause-fits : goal.returns-in-Err-clause-fits
-returns-in-Err-clause-fits c = grind (arith, common_steps)
-
-pub returns-in-Err-clause-units : goal.returns-in-Err-clause-units
-returns-in-Err-clause-units c = grind (arith, common_steps)
-
-pub returns-in-Err-clause-blocks : goal.returns-in-Err-clause-blocks
-returns-in-Err-clause-blocks c = grind (arith, common_steps)
-
-pub returns-in-Err-clause-nodes : goal.returns-in-Err-clause-nodes
-returns-in-Err-clause-nodes c = grind (arith, common_steps)
-
-pub returns-in-Err-clause-units_back : goal.returns-in-Err-clause-units_back
-returns-in-Err-clause-units_back c = grind (arith, common_steps)

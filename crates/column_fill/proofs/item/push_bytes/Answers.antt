@@ -1,4 +1,3 @@
-use Rattle.std.proofs.lemmas.Grind.{common_steps}
 use Rattle.std.proofs.Common.{◌≡◌, ◌≢◌, ◌∙◌, OnOk, ℕ, List, pos, to_z, w64, sym, ap, subst, arith}
 use Rattle.std.proofs.lemmas.Int.{ints}
 use Rattle.arr_import.specs.Cols.{window_of}
@@ -10,15 +9,6 @@ use Rattle.layout_rules.specs.Layout.{natural}
 use Rattle.column_fill.specs.Takes.{Takes}
 use Rattle.column_fill.proofs.ItemsMoved.{no-bytes, taken}
 use Rattle.column_fill.proofs.item.push_bytes.Goals as goal
-
-pub overflow_cast-i : goal.overflow_cast-i
-overflow_cast-i c = grind (arith, common_steps)
-
-pub bytes-requires-clause-from : goal.bytes-requires-clause-from
-bytes-requires-clause-from c = grind (arith, common_steps)
-
-pub bytes-requires-clause-below : goal.bytes-requires-clause-below
-bytes-requires-clause-below c = grind (arith, common_steps)
 
 pub add_bytes-requires : goal.add_bytes-requires
 add_bytes-requires c =

@@ -1,4 +1,3 @@
-use Rattle.std.proofs.lemmas.Grind.{common_steps}
 use Rattle.std.proofs.Common.{◌≡◌, ◌≢◌, OnOk, Bool, pos, to_z, w64, sym, ap, subst, arith}
 use Rattle.std.proofs.lemmas.Int.{ints}
 use Rattle.arr_import.specs.Cols.{window_of}
@@ -16,21 +15,3 @@ returns-in-None c =
     let none = subst (λ n. (truth : Bool) → item_at w n ≢ Truth truth) (ap natural at) c.in-None.ensures.none in
     subst (λ (v : Value). OnOk c.add_null.result (Adds v c.args.builder.now c.add_null.new.self))
     (sym (no-truth c.args.builder.now (item_at w c.args.i) c.requires.takes none)) c.add_null.ensures.added
-
-pub overflow_cast-i : goal.overflow_cast-i
-overflow_cast-i c = grind (arith, common_steps)
-
-pub truth-requires-clause-from : goal.truth-requires-clause-from
-truth-requires-clause-from c = grind (arith, common_steps)
-
-pub truth-requires-clause-below : goal.truth-requires-clause-below
-truth-requires-clause-below c = grind (arith, common_steps)
-
-pub add_truth-requires : goal.add_truth-requires
-add_truth-requires c = grind (arith, common_steps)
-
-pub add_null-requires : goal.add_null-requires
-add_null-requires c = grind (arith, common_steps)
-
-pub returns-in-Some : goal.returns-in-Some
-returns-in-Some c = grind (arith, common_steps)

@@ -1,4 +1,3 @@
-use Rattle.std.proofs.lemmas.Grind.{common_steps}
 use Rattle.std.proofs.Common.{◌≡◌, ◌≢◌, ◌*◌, ◌∙◌, OnOk, ℤ, pos, to_z, of_z, w64, rules, sym, ap, subst, arith}
 use Rattle.std.specs.Int.{w128}
 use Rattle.std.proofs.lemmas.Int.{ints}
@@ -25,21 +24,3 @@ returns-in-None c =
     let none = subst (λ n. (number : ℤ) → item_at w n ≢ Whole number) (ap natural at) c.in-None.ensures.none in
     subst (λ (v : Value). OnOk c.add_null.result (Adds v c.args.builder.now c.add_null.new.self))
     (sym (no-whole c.args.builder.now (8 * c.args.width) c.requires.takes.0 (item_at w c.args.i) c.requires.takes.1 none)) c.add_null.ensures.added
-
-pub overflow_cast-i : goal.overflow_cast-i
-overflow_cast-i c = grind (arith, common_steps)
-
-pub whole-requires-clause-from : goal.whole-requires-clause-from
-whole-requires-clause-from c = grind (arith, common_steps)
-
-pub whole-requires-clause-below : goal.whole-requires-clause-below
-whole-requires-clause-below c = grind (arith, common_steps)
-
-pub add_whole-requires-clause-takes : goal.add_whole-requires-clause-takes
-add_whole-requires-clause-takes c = grind (arith, common_steps)
-
-pub add_whole-requires-clause-width : goal.add_whole-requires-clause-width
-add_whole-requires-clause-width c = grind (arith, common_steps)
-
-pub add_null-requires : goal.add_null-requires
-add_null-requires c = grind (arith, common_steps)

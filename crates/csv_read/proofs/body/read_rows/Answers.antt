@@ -1,4 +1,3 @@
-use Rattle.std.proofs.lemmas.Grind.{common_steps}
 use Rattle.std.proofs.Common.{arith, ◌≡◌, ◌≢◌, ◌+◌, ◌∷◌, ◌∙◌, Bool, Result, Ok, true, false, ap, refl, subst, sym}
 use Rattle.std.proofs.lemmas.Result.{err_from_is_err_and}
 use Rattle.csv.specs.Records.{fields_of}
@@ -66,69 +65,3 @@ returns-in_err-push-clause-fault c =
     c.in_err-push.ensures.fault in
     let p = err_from_is_err_and c.from_residual-in_err-push.result c.from_residual-in_err-push.ensures.1 in
     rw (p.1, p.2) told
-
-pub next-requires : goal.next-requires
-next-requires c = grind (arith, common_steps)
-
-pub returns-in_err-next-clause-rows : goal.returns-in_err-next-clause-rows
-returns-in_err-next-clause-rows c = grind (arith, common_steps)
-
-pub returns-in_err-next-clause-fault : goal.returns-in_err-next-clause-fault
-returns-in_err-next-clause-fault c = grind (arith, common_steps)
-
-pub returns-in_err-next-clause-forms : goal.returns-in_err-next-clause-forms
-returns-in_err-next-clause-forms c = grind (arith, common_steps)
-
-pub returns-in_err-next-clause-mark : goal.returns-in_err-next-clause-mark
-returns-in_err-next-clause-mark c = grind (arith, common_steps)
-
-pub returns-then-not-branch-clause-fault : goal.returns-then-not-branch-clause-fault
-returns-then-not-branch-clause-fault c = grind (arith, common_steps)
-
-pub returns-then-not-branch-clause-forms : goal.returns-then-not-branch-clause-forms
-returns-then-not-branch-clause-forms c = grind (arith, common_steps)
-
-pub returns-then-not-branch-clause-mark : goal.returns-then-not-branch-clause-mark
-returns-then-not-branch-clause-mark c = grind (arith, common_steps)
-
-pub row-requires : goal.row-requires
-row-requires c = grind (arith, common_steps)
-
-pub are_texts-requires : goal.are_texts-requires
-are_texts-requires c = grind (arith, common_steps)
-
-pub overflow_add-read : goal.overflow_add-read
-overflow_add-read c = grind (arith, common_steps)
-
-pub overflow_add-read-in-loop-made : goal.overflow_add-read-in-loop-made
-overflow_add-read-in-loop-made c = grind (arith, common_steps)
-
-pub push-requires-clause-few : goal.push-requires-clause-few
-push-requires-clause-few c = grind (arith, common_steps)
-
-pub push-requires-clause-texts : goal.push-requires-clause-texts
-push-requires-clause-texts c = grind (arith, common_steps)
-
-pub loop-made-smaller : goal.loop-made-smaller
-loop-made-smaller c = grind (arith, common_steps)
-
-pub returns-in_err-push-clause-rows : goal.returns-in_err-push-clause-rows
-returns-in_err-push-clause-rows c = grind (arith, common_steps)
-
-pub returns-in_err-push-clause-forms : goal.returns-in_err-push-clause-forms
-returns-in_err-push-clause-forms c = grind (arith, common_steps)
-
-pub returns-in_err-push-clause-mark : goal.returns-in_err-push-clause-mark
-returns-in_err-push-clause-mark c = grind (arith, common_steps)
-
-pub returns-clause-rows : goal.returns-clause-rows
-returns-clause-rows c = grind (arith, common_steps)
-
-pub returns-clause-fault : goal.returns-clause-fault
-returns-clause-fault c = grind (arith, common_steps)
-
-pub returns-clause-forms : goal.returns-clause-forms
-returns-clause-forms c = grind (arith, common_steps)
-
-pub returns-clause-mark : goal.returns-clause-mark
-returns-clause-mark c = grind (arith, common_steps)

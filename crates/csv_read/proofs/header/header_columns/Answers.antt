@@ -1,5 +1,4 @@
-use Rattle.std.proofs.lemmas.Grind.{common_steps}
-use Rattle.std.proofs.Common.{◌≡◌, ◌∙◌, List, length, ℕ, Bool, true, None, Result, Ok, Bor, ap, refl, subst, sym, arith}
+use Rattle.std.proofs.Common.{◌≡◌, ◌∙◌, List, length, ℕ, Bool, true, None, Result, Ok, Bor, ap, refl, subst, sym}
 use Rattle.std.specs.Prelude.{nat_le}
 use Rattle.data_types.specs.Table.{Column}
 use Rattle.data_types.specs.Kinds.{KindOk}
@@ -28,15 +27,6 @@ pub returns-clause-allowed : goal.returns-clause-allowed
 returns-clause-allowed c =
     λ each.
     subst AreAllowed (sym c.in_ok-columns.ensures) (columns-have IsAllowed refl c.args.entries.now each (texts c.as_slice-2.result.now))
-
-pub check_names-requires : goal.check_names-requires
-check_names-requires c = grind (arith, common_steps)
-
-pub returns-clause-some : goal.returns-clause-some
-returns-clause-some c = grind (arith, common_steps)
-
-pub returns-clause-few : goal.returns-clause-few
-returns-clause-few c = grind (arith, common_steps)
 
 ok : (a b : Bool) → a ≡ b → ◌≡◌ {A = Result Bool NoMemory} (Ok a) (Ok b)
 ok a b e = ap (λ (x : Bool). Ok x) e

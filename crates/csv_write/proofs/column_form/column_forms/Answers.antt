@@ -1,4 +1,3 @@
-use Rattle.std.proofs.lemmas.Grind.{common_steps}
 use Rattle.std.proofs.Common.{◌+◌, ◌++◌, ◌∷◌, ◌∙◌, ◌<◌, [], take, map, length, ap, sym, subst, arith}
 use Rattle.std.proofs.lemmas.List.{get_or-map, length-map, map_more}
 use Rattle.data_types.specs.ColumnView.{column_of}
@@ -29,6 +28,3 @@ loop-column-preserved c =
     (subst (λ cs. AreFormsOf (forms ++ c.column_form.result ∷ []) cs) (sym more)
     (zip-push (λ form column. IsFormOf form column.kind) forms (map column_of (take k columns)) c.column_form.result (column_of column)
     c.loop-column.invariant c.column_form.ensures))
-
-pub returns : goal.returns
-returns c = grind (arith, common_steps)

@@ -1,5 +1,4 @@
-use Rattle.std.proofs.lemmas.Grind.{common_steps}
-use Rattle.std.proofs.Common.{rules, ◌≡◌, ◌∙◌, ◌/◌, true, to_z, of_z, ap, subst, arith}
+use Rattle.std.proofs.Common.{rules, ◌≡◌, ◌∙◌, ◌/◌, true, to_z, of_z, ap, subst}
 use Rattle.std.specs.Fmt.{signed_decimal}
 use Rattle.std.specs.Int.{w128}
 use Rattle.std.proofs.lemmas.Result.{IfOk-weaker}
@@ -73,66 +72,3 @@ returns-in-Bytes c =
     let shown = subst (λ r. Reads r column) c.in-Bytes.is reads in
     same ∙ item-text HexBytes (ShowsTexts c.in-Bytes.texts) column c.args.i shown has c.args.mark.now (Bytes bytes) c.get-in-Bytes.ensures)
     c.bytes_text.ensures
-
-pub get-requires : goal.get-requires
-get-requires c = grind (arith, common_steps)
-
-pub get-requires-in-Ints : goal.get-requires-in-Ints
-get-requires-in-Ints c = grind (arith, common_steps)
-
-pub whole_text-requires : goal.whole_text-requires
-whole_text-requires c = grind (arith, common_steps)
-
-pub get-requires-in-Longs : goal.get-requires-in-Longs
-get-requires-in-Longs c = grind (arith, common_steps)
-
-pub whole_text-requires-in-Longs : goal.whole_text-requires-in-Longs
-whole_text-requires-in-Longs c = grind (arith, common_steps)
-
-pub get-requires-in-Decimals : goal.get-requires-in-Decimals
-get-requires-in-Decimals c = grind (arith, common_steps)
-
-pub decimal_text-requires : goal.decimal_text-requires
-decimal_text-requires c = grind (arith, common_steps)
-
-pub get-requires-in-Truths : goal.get-requires-in-Truths
-get-requires-in-Truths c = grind (arith, common_steps)
-
-pub truth_text-requires : goal.truth_text-requires
-truth_text-requires c = grind (arith, common_steps)
-
-pub get-requires-in-Doubles : goal.get-requires-in-Doubles
-get-requires-in-Doubles c = grind (arith, common_steps)
-
-pub bits_text-requires : goal.bits_text-requires
-bits_text-requires c = grind (arith, common_steps)
-
-pub get-requires-in-Bytes : goal.get-requires-in-Bytes
-get-requires-in-Bytes c = grind (arith, common_steps)
-
-pub bytes_text-requires : goal.bytes_text-requires
-bytes_text-requires c = grind (arith, common_steps)
-
-pub some_text-requires-clause-inside : goal.some_text-requires-clause-inside
-some_text-requires-clause-inside c = grind (arith, common_steps)
-
-pub some_text-requires-clause-small : goal.some_text-requires-clause-small
-some_text-requires-clause-small c = grind (arith, common_steps)
-
-pub entry_text-requires-clause-inside : goal.entry_text-requires-clause-inside
-entry_text-requires-clause-inside c = grind (arith, common_steps)
-
-pub entry_text-requires-clause-small : goal.entry_text-requires-clause-small
-entry_text-requires-clause-small c = grind (arith, common_steps)
-
-pub rare_text-requires : goal.rare_text-requires
-rare_text-requires c = grind (arith, common_steps)
-
-pub returns-in-SomeTexts : goal.returns-in-SomeTexts
-returns-in-SomeTexts c = grind (arith, common_steps)
-
-pub returns-in-Entries : goal.returns-in-Entries
-returns-in-Entries c = grind (arith, common_steps)
-
-pub returns-in-Any : goal.returns-in-Any
-returns-in-Any c = grind (arith, common_steps)

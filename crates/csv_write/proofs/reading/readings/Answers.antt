@@ -1,4 +1,3 @@
-use Rattle.std.proofs.lemmas.Grind.{common_steps}
 use Rattle.std.proofs.Common.{◌≡◌, ◌+◌, ◌++◌, ◌∷◌, ◌∙◌, ◌<◌, [], List, take, length, ap, sym, subst, arith}
 use Rattle.std.specs.List.{AllZip}
 use Rattle.std.proofs.lemmas.List.{take_more}
@@ -26,6 +25,3 @@ loop-column-preserved c =
     subst (λ rs. AllZip Reads rs (take (k + 1) columns)) (sym {A = List Reading} c.in_ok-push.ensures.items)
     (subst (λ cs. AllZip Reads (readings ++ c.reading_of.result ∷ []) cs) (sym more)
     (zip-push Reads readings (take k columns) c.reading_of.result column c.loop-column.invariant c.reading_of.ensures))
-
-pub returns : goal.returns
-returns c = grind (arith, common_steps)

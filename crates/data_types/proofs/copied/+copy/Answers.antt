@@ -1,5 +1,4 @@
-use Rattle.std.proofs.lemmas.Grind.{common_steps}
-use Rattle.std.proofs.Common.{◌≡◌, ◌∙◌, ◌<◌, ◌+◌, ap, arith, sym, subst, rules, length, map, get_or, All, List}
+use Rattle.std.proofs.Common.{◌≡◌, ◌∙◌, ◌<◌, ap, arith, sym, subst, rules, length, map, List}
 use Rattle.data_types.specs.ColumnForms.{KindsOk}
 use Rattle.data_types.specs.ColumnView.{column_of, kind_of, members}
 use Rattle.data_types.specs.Table.{Column, Columns}
@@ -33,9 +32,3 @@ column_kind-returns-in_ok-columns-in-Columns t c =
     ap kind_of c.in-Columns.is ∙ struct-view c.in-Columns.columns
     ∙ ap (λ (cs : List ColumnType). Columns (members (map column_of cs))) (sym c.as_slice.ensures.value) in
     c.struct_of.ensures ∙ ap (λ (cs : List Column). Columns (members cs)) c.in_ok-columns-in-Columns.ensures ∙ sym is
-
-pub clone_columns-loop-column-preserved : goal.clone_columns-loop-column-preserved
-clone_columns-loop-column-preserved t c = grind (arith, common_steps)
-
-pub clone_columns-returns : goal.clone_columns-returns
-clone_columns-returns t c = grind (arith, common_steps)

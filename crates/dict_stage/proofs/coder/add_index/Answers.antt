@@ -1,4 +1,3 @@
-use Rattle.std.proofs.lemmas.Grind.{common_steps}
 use Rattle.std.proofs.Common.{◌≡◌, ◌∙◌, ℕ, pos, to_z, List, [], ◌∷◌, sym, ap, subst, arith}
 use Rattle.std.specs.Int.{w128}
 use Rattle.std.proofs.lemmas.Int.{ints}
@@ -41,36 +40,3 @@ returns-after-new-clause-coded c =
           (ap (λ d. texts_in d.texts) w.coder-is ∙ found.texts) (ap (λ d. d.entries) w.coder-is)
     ]))
     c.add_whole.ensures.added
-
-pub numbered-requires : goal.numbered-requires
-numbered-requires c = grind (arith, common_steps)
-
-pub returns-in_err-number-in-Bytes-clause-added : goal.returns-in_err-number-in-Bytes-clause-added
-returns-in_err-number-in-Bytes-clause-added c = grind (arith, common_steps)
-
-pub returns-in_err-number-in-Bytes-clause-coded : goal.returns-in_err-number-in-Bytes-clause-coded
-returns-in_err-number-in-Bytes-clause-coded c = grind (arith, common_steps)
-
-pub new_entry-requires : goal.new_entry-requires
-new_entry-requires c = grind (arith, common_steps)
-
-pub overflow_cast-number : goal.overflow_cast-number
-overflow_cast-number c = grind (arith, common_steps)
-
-pub add_whole-requires-clause-takes : goal.add_whole-requires-clause-takes
-add_whole-requires-clause-takes c = grind (arith, common_steps)
-
-pub add_whole-requires-clause-width : goal.add_whole-requires-clause-width
-add_whole-requires-clause-width c = grind (arith, common_steps)
-
-pub add_null-requires : goal.add_null-requires
-add_null-requires c = grind (arith, common_steps)
-
-pub unreachable-requires : goal.unreachable-requires
-unreachable-requires c = grind (arith, common_steps)
-
-pub unreachable-unreachable : goal.unreachable-unreachable
-unreachable-unreachable c = grind (arith, common_steps)
-
-pub returns-in-Null-clause-coded : goal.returns-in-Null-clause-coded
-returns-in-Null-clause-coded c = grind (arith, common_steps)

@@ -1,4 +1,3 @@
-use Rattle.std.proofs.lemmas.Grind.{common_steps}
 use Rattle.std.proofs.Common.{◌≤◌, ◌^◌, length, sym, subst, arith}
 use Rattle.arr_export.specs.ArrayTrees.{AreIndices}
 use Rattle.arr_import.specs.Cols.{window_of}
@@ -33,36 +32,3 @@ returns-in-Ok-clause-made c =
     c.requires.items.is c.requires.items.bytes c.requires.items.items few
     (first.tree type (Dictionary vs) entries) (first.units type (Dictionary vs) entries) (first.blocks type (Dictionary vs) entries) first.nodes
     (second.tree index_type (Indices vs) indices) (second.units index_type (Indices vs) indices) (second.blocks index_type (Indices vs) indices) second.nodes
-
-pub coded-requires : goal.coded-requires
-coded-requires c = grind (arith, common_steps)
-
-pub returns-in_err-builders-clause-made : goal.returns-in_err-builders-clause-made
-returns-in_err-builders-clause-made c = grind (arith, common_steps)
-
-pub returns-in_err-builders-clause-units_back : goal.returns-in_err-builders-clause-units_back
-returns-in_err-builders-clause-units_back c = grind (arith, common_steps)
-
-pub built_column-requires-clause-holds : goal.built_column-requires-clause-holds
-built_column-requires-clause-holds c = grind (arith, common_steps)
-
-pub built_column-requires-clause-units : goal.built_column-requires-clause-units
-built_column-requires-clause-units c = grind (arith, common_steps)
-
-pub built_column-requires-clause-room : goal.built_column-requires-clause-room
-built_column-requires-clause-room c = grind (arith, common_steps)
-
-pub drop-builders-requires : goal.drop-builders-requires
-drop-builders-requires c κs = grind (arith, common_steps)
-
-pub returns-in_err-dictionary-clause-made : goal.returns-in_err-dictionary-clause-made
-returns-in_err-dictionary-clause-made c = grind (arith, common_steps)
-
-pub returns-in_err-dictionary-clause-units_back : goal.returns-in_err-dictionary-clause-units_back
-returns-in_err-dictionary-clause-units_back c = grind (arith, common_steps)
-
-pub returns-in-Ok-clause-units_back : goal.returns-in-Ok-clause-units_back
-returns-in-Ok-clause-units_back c = grind (arith, common_steps)
-
-pub returns-in-Err-clause-made : goal.returns-in-Err-clause-made
-returns-in-Err-clause-made c = grind (arith, common_steps)

@@ -1,4 +1,3 @@
-use Rattle.std.proofs.lemmas.Grind.{common_steps}
 use Rattle.std.proofs.Common.{arith, ◌≡◌, ◌+◌, ◌-◌, ◌∙◌, ◌++◌, map, take, drop, ap, w64, to_z, of_z}
 use Rattle.std.proofs.lemmas.Int.{ints}
 use Rattle.tree_model.specs.Tree.{children_of, child_at, trees}
@@ -43,69 +42,3 @@ returns-clause-units c =
     let none = ap (λ cs. cost_of_all (trees cs)) c.requires.empty in
     let whole = ap Cost c.begin-moved.ensures in
     omega (arith, items, push, none, whole)
-
-pub windows_keep_measures-requires : goal.windows_keep_measures-requires
-windows_keep_measures-requires c = grind (arith, common_steps)
-
-pub count_children-count-requires : goal.count_children-count-requires
-count_children-count-requires c = grind (arith, common_steps)
-
-pub offset-off-requires : goal.offset-off-requires
-offset-off-requires c = grind (arith, common_steps)
-
-pub length-len-requires : goal.length-len-requires
-length-len-requires c = grind (arith, common_steps)
-
-pub begin-moved-requires : goal.begin-moved-requires
-begin-moved-requires c = grind (arith, common_steps)
-
-pub move_children-requires-clause-off : goal.move_children-requires-clause-off
-move_children-requires-clause-off c = grind (arith, common_steps)
-
-pub move_children-requires-clause-len : goal.move_children-requires-clause-len
-move_children-requires-clause-len c = grind (arith, common_steps)
-
-pub move_children-requires-clause-order : goal.move_children-requires-clause-order
-move_children-requires-clause-order c = grind (arith, common_steps)
-
-pub move_children-requires-clause-inside : goal.move_children-requires-clause-inside
-move_children-requires-clause-inside c = grind (arith, common_steps)
-
-pub move_children-requires-clause-fit : goal.move_children-requires-clause-fit
-move_children-requires-clause-fit c = grind (arith, common_steps)
-
-pub move_children-requires-clause-room : goal.move_children-requires-clause-room
-move_children-requires-clause-room c = grind (arith, common_steps)
-
-pub push_reserved-requires : goal.push_reserved-requires
-push_reserved-requires c = grind (arith, common_steps)
-
-pub overflow_add-place : goal.overflow_add-place
-overflow_add-place c = grind (arith, common_steps)
-
-pub move_children-requires-2-clause-off : goal.move_children-requires-2-clause-off
-move_children-requires-2-clause-off c = grind (arith, common_steps)
-
-pub move_children-requires-2-clause-len : goal.move_children-requires-2-clause-len
-move_children-requires-2-clause-len c = grind (arith, common_steps)
-
-pub move_children-requires-2-clause-order : goal.move_children-requires-2-clause-order
-move_children-requires-2-clause-order c = grind (arith, common_steps)
-
-pub move_children-requires-2-clause-inside : goal.move_children-requires-2-clause-inside
-move_children-requires-2-clause-inside c = grind (arith, common_steps)
-
-pub move_children-requires-2-clause-room : goal.move_children-requires-2-clause-room
-move_children-requires-2-clause-room c = grind (arith, common_steps)
-
-pub finish-requires : goal.finish-requires
-finish-requires c = grind (arith, common_steps)
-
-pub returns-clause-more : goal.returns-clause-more
-returns-clause-more c = grind (arith, common_steps)
-
-pub returns-clause-nodes : goal.returns-clause-nodes
-returns-clause-nodes c = grind (arith, common_steps)
-
-pub returns-clause-blocks : goal.returns-clause-blocks
-returns-clause-blocks c = grind (arith, common_steps)

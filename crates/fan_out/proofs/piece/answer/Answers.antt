@@ -4,7 +4,6 @@ use Rattle.std.proofs.lemmas.Int.{ints}
 use Rattle.std.proofs.lemmas.Nat.{le-div}
 use Rattle.layout_rules.specs.Layout.{natural}
 use Rattle.array_laws.specs.Pieces.{border}
-use Rattle.std.proofs.lemmas.Grind.{common_steps}
 use Rattle.fan_out.proofs.piece.answer.Goals as goal
 
 between : (a b x y : ℤ) → a ≡ b → x ≡ y → b ≤ℤ x → a ≤ℤ y
@@ -20,36 +19,6 @@ rises items workers w less =
     let more : (w + 1) * items ≡ w * items + items = omega arith in
     le-div (w * items / workers) ((w + 1) * items) workers (omega (arith, less)) (omega (arith, below, more))
 
-pub overflow_cast-worker : goal.overflow_cast-worker
-overflow_cast-worker g c = grind (arith, common_steps)
-
-pub count_rows-rows-requires : goal.count_rows-rows-requires
-count_rows-rows-requires g c = grind (arith, common_steps)
-
-pub border_at-from-requires-clause-rows : goal.border_at-from-requires-clause-rows
-border_at-from-requires-clause-rows g c = grind (arith, common_steps)
-
-pub border_at-from-requires-clause-workers : goal.border_at-from-requires-clause-workers
-border_at-from-requires-clause-workers g c = grind (arith, common_steps)
-
-pub overflow_add-worker : goal.overflow_add-worker
-overflow_add-worker g c = grind (arith, common_steps)
-
-pub border_at-to-requires-clause-rows : goal.border_at-to-requires-clause-rows
-border_at-to-requires-clause-rows g c = grind (arith, common_steps)
-
-pub border_at-to-requires-clause-workers : goal.border_at-to-requires-clause-workers
-border_at-to-requires-clause-workers g c = grind (arith, common_steps)
-
-pub run-requires-clause-types : goal.run-requires-clause-types
-run-requires-clause-types g c = grind (arith, common_steps)
-
-pub run-requires-clause-chunk : goal.run-requires-clause-chunk
-run-requires-clause-chunk g c = grind (arith, common_steps)
-
-pub run-requires-clause-fits : goal.run-requires-clause-fits
-run-requires-clause-fits g c = grind (arith, common_steps)
-
 pub run-requires-clause-window : goal.run-requires-clause-window
 run-requires-clause-window g c =
     let from : to_z w64 (of_z w64 c.border_at-from.result) ≡ c.border_at-from.result = omega (arith, ints, c.border_at-from.type_inv) in
@@ -63,6 +32,3 @@ run-requires-clause-window g c =
       below _ _ _ _ first second (rises (natural (to_z w64 (of_z w64 count))) c.args.workers c.args.worker c.requires.worker.0),
       between _ _ _ _ to (rows ∙ c.count_rows-rows.ensures) within,
     )
-
-pub returns : goal.returns
-returns g c = grind (arith, common_steps)

@@ -1,4 +1,3 @@
-use Rattle.std.proofs.lemmas.Grind.{common_steps}
 use Rattle.std.proofs.Common.{rules, arith, ap, sym, ◌∙◌, ◌≡◌, Some}
 use Rattle.std.proofs.lemmas.List.{get_or-set_other, get_or_default}
 use Rattle.fan_out.proofs.Collecting.{same_set, collected_more}
@@ -23,33 +22,3 @@ loop-worker-preserved g c =
           (sym (i.2 w d (omega arith)) ∙ get_or_default ps w d c.index-pieces-worker.result (search rules)) ∙ told),
       λ w d h. get_or-set_other _ _ w _ d (λ (e : w ≡ c.loop-worker.worker). omega arith) ∙ i.2 w d (omega arith),
     )
-
-pub loop-worker-init : goal.loop-worker-init
-loop-worker-init g c = grind (arith, common_steps)
-
-pub offset_bounds-pieces-worker : goal.offset_bounds-pieces-worker
-offset_bounds-pieces-worker g c = grind (arith, common_steps)
-
-pub bounds-pieces-worker : goal.bounds-pieces-worker
-bounds-pieces-worker g c = grind (arith, common_steps)
-
-pub take_answer-requires : goal.take_answer-requires
-take_answer-requires g c κs = grind (arith, common_steps)
-
-pub drop-push-requires : goal.drop-push-requires
-drop-push-requires g c κs within = grind (arith, common_steps)
-
-pub returns-then-is_err-clause-answers : goal.returns-then-is_err-clause-answers
-returns-then-is_err-clause-answers g c = grind (arith, common_steps)
-
-pub returns-in_default-clause-answers : goal.returns-in_default-clause-answers
-returns-in_default-clause-answers g c = grind (arith, common_steps)
-
-pub loop-worker-smaller : goal.loop-worker-smaller
-loop-worker-smaller g c = grind (arith, common_steps)
-
-pub returns-clause-answers : goal.returns-clause-answers
-returns-clause-answers g c = grind (arith, common_steps)
-
-pub returns-clause-kept : goal.returns-clause-kept
-returns-clause-kept g c = grind (arith, common_steps)

@@ -1,4 +1,3 @@
-use Rattle.std.proofs.lemmas.Grind.{common_steps}
 use Rattle.std.proofs.Common.{◌≡◌, ℕ, ◌+◌, ◌-◌, ◌*◌, ◌<◌, ◌≤◌, arith, vec_len, ap, sym, subst, refl, ◌∙◌}
 use Rattle.std.proofs.Math.Nat.{mul-le-mul_right}
 use Rattle.raw_array.specs.Members.{LeastAmount, Lowered, LoweredBy}
@@ -171,57 +170,3 @@ returns-clause-blocks g c = c.ready-2.ensures.kept.1 ∙ c.loop-worker.invariant
 
 pub returns-clause-nodes : goal.returns-clause-nodes
 returns-clause-nodes g c = c.ready-2.ensures.kept.2 ∙ c.loop-worker.invariant.7
-
-pub like_trees_are_ordered-requires : goal.like_trees_are_ordered-requires
-like_trees_are_ordered-requires g c = grind (arith, common_steps)
-
-pub shares_add_up-requires : goal.shares_add_up-requires
-shares_add_up-requires g c = grind (arith, common_steps)
-
-pub units-supply-requires : goal.units-supply-requires
-units-supply-requires g c = grind (arith, common_steps)
-
-pub returns-in_default-clause-len : goal.returns-in_default-clause-len
-returns-in_default-clause-len g c = grind (arith, common_steps)
-
-pub returns-in_default-clause-ready : goal.returns-in_default-clause-ready
-returns-in_default-clause-ready g c = grind (arith, common_steps)
-
-pub returns-in_default-clause-last : goal.returns-in_default-clause-last
-returns-in_default-clause-last g c = grind (arith, common_steps)
-
-pub returns-in_default-clause-lent : goal.returns-in_default-clause-lent
-returns-in_default-clause-lent g c = grind (arith, common_steps)
-
-pub returns-in_default-clause-drawn : goal.returns-in_default-clause-drawn
-returns-in_default-clause-drawn g c = grind (arith, common_steps)
-
-pub ready-requires : goal.ready-requires
-ready-requires g c κs = grind (arith, common_steps)
-
-pub returns-in-Err-clause-len : goal.returns-in-Err-clause-len
-returns-in-Err-clause-len g c = grind (arith, common_steps)
-
-pub returns-in-Err-clause-ready : goal.returns-in-Err-clause-ready
-returns-in-Err-clause-ready g c = grind (arith, common_steps)
-
-pub returns-in-Err-clause-last : goal.returns-in-Err-clause-last
-returns-in-Err-clause-last g c = grind (arith, common_steps)
-
-pub returns-in-Err-clause-lent : goal.returns-in-Err-clause-lent
-returns-in-Err-clause-lent g c = grind (arith, common_steps)
-
-pub returns-in-Err-clause-drawn : goal.returns-in-Err-clause-drawn
-returns-in-Err-clause-drawn g c = grind (arith, common_steps)
-
-pub loop-worker-smaller : goal.loop-worker-smaller
-loop-worker-smaller g c = grind (arith, common_steps)
-
-pub move_out-requires : goal.move_out-requires
-move_out-requires g c = grind (arith, common_steps)
-
-pub ready-requires-2 : goal.ready-requires-2
-ready-requires-2 g c κs = grind (arith, common_steps)
-
-pub returns-clause-refused : goal.returns-clause-refused
-returns-clause-refused g c = grind (arith, common_steps)

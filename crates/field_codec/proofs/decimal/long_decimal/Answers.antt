@@ -1,4 +1,3 @@
-use Rattle.std.proofs.lemmas.Grind.{common_steps}
 use Rattle.std.proofs.Common.{sym, arith}
 use Rattle.std.proofs.Math.Nat.{pow-le-pow_right}
 use Rattle.field_codec.proofs.Unscaled.{past_decimal}
@@ -16,18 +15,3 @@ pub returns-in_err-number : goal.returns-in_err-number
 returns-in_err-number c =
     rw c.from_residual.ensures (sym (past_decimal c.args.precision c.args.places c.args.text.now c.split_sign-minus.result.1.now
     c.split_sign-minus.ensures.digits c.requires c.in_err-number.ensures.none))
-
-pub split_sign-minus-requires : goal.split_sign-minus-requires
-split_sign-minus-requires c = grind (arith, common_steps)
-
-pub unscaled-requires : goal.unscaled-requires
-unscaled-requires c = grind (arith, common_steps)
-
-pub long_power-requires : goal.long_power-requires
-long_power-requires c = grind (arith, common_steps)
-
-pub returns-then-number-long_power : goal.returns-then-number-long_power
-returns-then-number-long_power c = grind (arith, common_steps)
-
-pub returns : goal.returns
-returns c = grind (arith, common_steps)

@@ -1,4 +1,3 @@
-use Rattle.std.proofs.lemmas.Grind.{common_steps}
 use Rattle.std.proofs.Common.{◌≡◌, ℕ, ◌*◌, ◌^◌, Some, drop, take, ap, sym, ◌∙◌, arith}
 use Rattle.std.specs.List.{prefix_len}
 use Rattle.std.specs.Char.{is_ascii_digit}
@@ -69,60 +68,3 @@ returns-clause-some c =
     record { len = whole.ensures.count; found = found; fine_len = fraction.ensures.count } in
     parts_read c.args.places whole.count text digits fraction.fine whole.whole fraction.fraction c.in_ok-whole-2.whole c.in_ok-fraction-2.fraction
     parts c.if-count-eq0.false c.if-fine-digits.false whole.ensures.value fraction.ensures.value c.in_ok-whole-2.ensures.some c.in_ok-fraction-2.ensures.some
-
-pub split_at-requires : goal.split_at-requires
-split_at-requires c = grind (arith, common_steps)
-
-pub overflow_sub-places : goal.overflow_sub-places
-overflow_sub-places c = grind (arith, common_steps)
-
-pub front-requires : goal.front-requires
-front-requires c = grind (arith, common_steps)
-
-pub returns-in_err-whole-clause-some : goal.returns-in_err-whole-clause-some
-returns-in_err-whole-clause-some c = grind (arith, common_steps)
-
-pub returns-then-count-eq0-clause-some : goal.returns-then-count-eq0-clause-some
-returns-then-count-eq0-clause-some c = grind (arith, common_steps)
-
-pub returns-then-count-eq0-clause-none : goal.returns-then-count-eq0-clause-none
-returns-then-count-eq0-clause-none c = grind (arith, common_steps)
-
-pub fraction_text-requires : goal.fraction_text-requires
-fraction_text-requires c = grind (arith, common_steps)
-
-pub branch-digits-requires : goal.branch-digits-requires
-branch-digits-requires c κs = grind (arith, common_steps)
-
-pub returns-in_err-digits-clause-some : goal.returns-in_err-digits-clause-some
-returns-in_err-digits-clause-some c = grind (arith, common_steps)
-
-pub returns-in_err-digits-clause-none : goal.returns-in_err-digits-clause-none
-returns-in_err-digits-clause-none c = grind (arith, common_steps)
-
-pub front-requires-2 : goal.front-requires-2
-front-requires-2 c = grind (arith, common_steps)
-
-pub returns-in_err-fraction-clause-some : goal.returns-in_err-fraction-clause-some
-returns-in_err-fraction-clause-some c = grind (arith, common_steps)
-
-pub returns-then-fine-digits-clause-some : goal.returns-then-fine-digits-clause-some
-returns-then-fine-digits-clause-some c = grind (arith, common_steps)
-
-pub shifted-requires : goal.shifted-requires
-shifted-requires c = grind (arith, common_steps)
-
-pub returns-in_err-whole-2-clause-some : goal.returns-in_err-whole-2-clause-some
-returns-in_err-whole-2-clause-some c = grind (arith, common_steps)
-
-pub shifted-requires-2 : goal.shifted-requires-2
-shifted-requires-2 c = grind (arith, common_steps)
-
-pub returns-in_err-fraction-2-clause-some : goal.returns-in_err-fraction-2-clause-some
-returns-in_err-fraction-2-clause-some c = grind (arith, common_steps)
-
-pub overflow_add-result : goal.overflow_add-result
-overflow_add-result c = grind (arith, common_steps)
-
-pub returns-clause-none : goal.returns-clause-none
-returns-clause-none c = grind (arith, common_steps)

@@ -1,4 +1,3 @@
-use Rattle.std.proofs.lemmas.Grind.{common_steps}
 use Rattle.std.proofs.Common.{◌≡◌, ℕ, ◌-◌, ◌*◌, ◌^◌, ◌<◌, Some, drop, ap, sym, ◌∙◌, arith}
 use Rattle.std.specs.Char.{is_ascii_digit}
 use Rattle.std.proofs.lemmas.List.Sums.{prefix_len-le-length}
@@ -6,7 +5,7 @@ use Rattle.field_codec.specs.Fractions.{fraction_text}
 use Rattle.field_codec.proofs.Unscaled.{fine_few, other_behind, parts_read, times_below}
 use Rattle.field_codec.proofs.PlacedPoint.{parts_small}
 use Rattle.field_codec.proofs.decimal.short_unscaled.Goals as goal
-use Rattle.field_codec.proofs.decimal.short_unscaled.Goals.{After-power, After-power-2}
+use Rattle.field_codec.proofs.decimal.short_unscaled.Goals.{After-power-2}
 
 pub returns-then-fine-digits-clause-is : goal.returns-then-fine-digits-clause-is
 returns-then-fine-digits-clause-is c =
@@ -81,9 +80,3 @@ returns-clause-small c =
     (record { len = whole.ensures.count; found = found; fine_len = fraction.ensures.count }) in
     parts_small whole.result.0 whole.result.1 fraction.result.0 fraction.result.1 c.args.places c.power.result c.power-2.result whole.ensures.small
     fraction.ensures.small few (omega (arith, c.requires, whole.ensures.count, prefix_len-le-length is_ascii_digit text)) c.power.ensures c.power-2.ensures
-
-pub split_at-requires : goal.split_at-requires
-split_at-requires c = grind (arith, common_steps)
-
-pub overflow_sub-places : goal.overflow_sub-places
-overflow_sub-places c = grind (arith, common_steps)

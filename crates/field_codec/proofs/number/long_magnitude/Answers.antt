@@ -1,4 +1,3 @@
-use Rattle.std.proofs.lemmas.Grind.{common_steps}
 use Rattle.std.proofs.Common.{inl, inr, arith}
 use Rattle.std.proofs.lemmas.Str.Parse.{digits_value-take-le}
 use Rattle.field_codec.proofs.Numbers.{large_text, part_front, whole_front}
@@ -23,6 +22,3 @@ pub returns-clause-numeral : goal.returns-clause-numeral
 returns-clause-numeral c =
     let front = c.in_ok-value in
     (whole_front c.args.text.now front.count front.value front.ensures.count front.ensures.value c.if-count-eq0.false c.if-count-text.false).is
-
-pub returns-clause-value : goal.returns-clause-value
-returns-clause-value c = grind (arith, common_steps)

@@ -1,4 +1,3 @@
-use Rattle.std.proofs.lemmas.Grind.{common_steps}
 use Rattle.std.proofs.Common.{arith}
 use Rattle.field_codec.proofs.DigitText.{most_digits, without-point}
 use Rattle.field_codec.proofs.MovedDigits.{moved_digits, moved_minus}
@@ -27,60 +26,3 @@ returns-clause-text c =
     (omega (arith, c.write_digits-start.auto.buf, c.requires.room)) c.write_digits-start.ensures.start
     (omega (arith, c.if-start-point.false)) (omega (arith, c.if-start-point-2.false)) c.write_digits-start.ensures.written c.move_ahead.ensures.text
     (omega (arith, c.move_ahead.auto.text, c.write_digits-start.auto.buf, c.requires.room)))
-
-pub write_whole-requires-clause-room : goal.write_whole-requires-clause-room
-write_whole-requires-clause-room c = grind (arith, common_steps)
-
-pub write_whole-requires-clause-within : goal.write_whole-requires-clause-within
-write_whole-requires-clause-within c = grind (arith, common_steps)
-
-pub returns-then-places-eq0-clause-start : goal.returns-then-places-eq0-clause-start
-returns-then-places-eq0-clause-start c = grind (arith, common_steps)
-
-pub overflow_sub-point : goal.overflow_sub-point
-overflow_sub-point c = grind (arith, common_steps)
-
-pub overflow_add-start : goal.overflow_add-start
-overflow_add-start c = grind (arith, common_steps)
-
-pub rare_decimal-requires-clause-few : goal.rare_decimal-requires-clause-few
-rare_decimal-requires-clause-few c = grind (arith, common_steps)
-
-pub rare_decimal-requires-clause-room : goal.rare_decimal-requires-clause-room
-rare_decimal-requires-clause-room c = grind (arith, common_steps)
-
-pub returns-then-start-point-clause-text : goal.returns-then-start-point-clause-text
-returns-then-start-point-clause-text c = grind (arith, common_steps)
-
-pub returns-then-start-point-clause-start : goal.returns-then-start-point-clause-start
-returns-then-start-point-clause-start c = grind (arith, common_steps)
-
-pub move_ahead-requires-clause-room : goal.move_ahead-requires-clause-room
-move_ahead-requires-clause-room c = grind (arith, common_steps)
-
-pub move_ahead-requires-clause-within : goal.move_ahead-requires-clause-within
-move_ahead-requires-clause-within c = grind (arith, common_steps)
-
-pub overflow_sub-text : goal.overflow_sub-text
-overflow_sub-text c = grind (arith, common_steps)
-
-pub bounds-text-point : goal.bounds-text-point
-bounds-text-point c = grind (arith, common_steps)
-
-pub overflow_sub-result : goal.overflow_sub-result
-overflow_sub-result c = grind (arith, common_steps)
-
-pub returns-then-not-minus-clause-start : goal.returns-then-not-minus-clause-start
-returns-then-not-minus-clause-start c = grind (arith, common_steps)
-
-pub overflow_sub-text-2 : goal.overflow_sub-text-2
-overflow_sub-text-2 c = grind (arith, common_steps)
-
-pub bounds-text-start : goal.bounds-text-start
-bounds-text-start c = grind (arith, common_steps)
-
-pub overflow_sub-result-2 : goal.overflow_sub-result-2
-overflow_sub-result-2 c = grind (arith, common_steps)
-
-pub returns-clause-start : goal.returns-clause-start
-returns-clause-start c = grind (arith, common_steps)

@@ -1,5 +1,4 @@
-use Rattle.std.proofs.lemmas.Grind.{common_steps}
-use Rattle.std.proofs.Common.{List, ℕ, subst, IfErr, arith}
+use Rattle.std.proofs.Common.{List, ℕ, subst, IfErr}
 use Rattle.fmt_string.specs.FormatString.{NumbersFail}
 use Rattle.fmt_string.proofs.Decimals.{precision_and_more}
 use Rattle.fmt_string.proofs.decimal.decimal.Goals as goal
@@ -10,6 +9,3 @@ returns-in-Some-behind_byte-clause-fault c =
     (precision_and_more c.args.text.now c.split_at.result.0.now c.split_at.result.1.now c.in-Some-behind_byte.rest.now c.in-Some.len c.split_at.ensures.front
     c.split_at.ensures.back c.in-Some-behind_byte.ensures.some)
     c.with_precision.ensures.fault
-
-pub returns-in-Some-behind_byte-clause-found : goal.returns-in-Some-behind_byte-clause-found
-returns-in-Some-behind_byte-clause-found c = grind (arith, common_steps)

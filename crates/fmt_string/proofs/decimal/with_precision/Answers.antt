@@ -1,5 +1,4 @@
-use Rattle.std.proofs.lemmas.Grind.{common_steps}
-use Rattle.std.proofs.Common.{List, ℕ, ◌++◌, subst, IfErr, arith}
+use Rattle.std.proofs.Common.{List, ℕ, ◌++◌, subst, IfErr}
 use Rattle.fmt_string.specs.FormatString.{comma, NumbersFail}
 use Rattle.fmt_string.proofs.Decimals.{no_scale, scale_and_more}
 use Rattle.fmt_string.proofs.decimal.with_precision.Goals as goal
@@ -14,6 +13,3 @@ returns-clause-fault c =
     (scale_and_more (c.args.precision.now ++ comma) c.args.text.now c.split_at.result.0.now c.split_at.result.1.now c.in-Some.len c.split_at.ensures.front
     c.split_at.ensures.back)
     c.with_scale.ensures.fault
-
-pub returns-clause-found : goal.returns-clause-found
-returns-clause-found c = grind (arith, common_steps)

@@ -1,5 +1,4 @@
-use Rattle.std.proofs.lemmas.Grind.{common_steps}
-use Rattle.std.proofs.Common.{◌<◌, length, rules, arith}
+use Rattle.std.proofs.Common.{◌<◌, length, rules}
 use Rattle.fmt_string.proofs.Decimals.{no_width, behind_scale, behind_width}
 use Rattle.fmt_string.proofs.decimal.with_scale.Goals as goal
 
@@ -19,6 +18,3 @@ returns-then-len-digits-clause-fault c =
     behind_width c.args.precision.now c.args.scale.now c.requires.precision c.requires.scale c.args.text.now c.in-Some.digits.now c.in-Some-number_len.len
     c.trailing-then-len-digits.result.rule c.trailing-then-len-digits.result.place c.trailing-then-len-digits.ensures.rule
     c.trailing-then-len-digits.ensures.place c.in-Some.ensures.some c.in-Some-number_len.ensures.found c.if-len-digits.true
-
-pub in_range-requires-2-clause-numbers : goal.in_range-requires-2-clause-numbers
-in_range-requires-2-clause-numbers c = grind (arith, common_steps)

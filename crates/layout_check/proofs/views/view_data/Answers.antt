@@ -1,4 +1,3 @@
-use Rattle.std.proofs.lemmas.Grind.{common_steps}
 use Rattle.std.proofs.Common.{◌<◌, ◌+◌, ◌-◌, ◌≡◌, ℕ, Fits, length, w64, arith}
 use Rattle.raw_array.specs.Members.{members_of}
 use Rattle.layout_rules.specs.Layout.{natural}
@@ -53,48 +52,3 @@ overflow_add-result c =
     c.view_length-size.ensures c.if-size-gt-MOST_IN_VIEW.true) in
     sum_fits _ _ (cast_below c.view_offset-from.result (view_offset own c.args.i) c.view_offset-from.type_inv c.view_offset-from.ensures named.from)
     (cast_below c.view_length-size.result (view_length own c.args.i) c.view_length-size.type_inv c.view_length-size.ensures c.requires.within.size)
-
-pub view_length-size-requires-clause-buffers : goal.view_length-size-requires-clause-buffers
-view_length-size-requires-clause-buffers c = grind (arith, common_steps)
-
-pub view_length-size-requires-clause-inside : goal.view_length-size-requires-clause-inside
-view_length-size-requires-clause-inside c = grind (arith, common_steps)
-
-pub view_length-size-requires-clause-long : goal.view_length-size-requires-clause-long
-view_length-size-requires-clause-long c = grind (arith, common_steps)
-
-pub view_offset-from-requires-clause-buffers : goal.view_offset-from-requires-clause-buffers
-view_offset-from-requires-clause-buffers c = grind (arith, common_steps)
-
-pub view_offset-from-requires-clause-inside : goal.view_offset-from-requires-clause-inside
-view_offset-from-requires-clause-inside c = grind (arith, common_steps)
-
-pub view_offset-from-requires-clause-long : goal.view_offset-from-requires-clause-long
-view_offset-from-requires-clause-long c = grind (arith, common_steps)
-
-pub view_buffer-requires-clause-buffers : goal.view_buffer-requires-clause-buffers
-view_buffer-requires-clause-buffers c = grind (arith, common_steps)
-
-pub view_buffer-requires-clause-inside : goal.view_buffer-requires-clause-inside
-view_buffer-requires-clause-inside c = grind (arith, common_steps)
-
-pub view_buffer-requires-clause-long : goal.view_buffer-requires-clause-long
-view_buffer-requires-clause-long c = grind (arith, common_steps)
-
-pub slice_bounds-result-count : goal.slice_bounds-result-count
-slice_bounds-result-count c = grind (arith, common_steps)
-
-pub slice_bounds-result-start : goal.slice_bounds-result-start
-slice_bounds-result-start c = grind (arith, common_steps)
-
-pub bytes-views-requires : goal.bytes-views-requires
-bytes-views-requires c = grind (arith, common_steps)
-
-pub overflow_add-from : goal.overflow_add-from
-overflow_add-from c = grind (arith, common_steps)
-
-pub overflow_mul-from : goal.overflow_mul-from
-overflow_mul-from c = grind (arith, common_steps)
-
-pub overflow_add-from-else-size-gt-MOST_IN_VIEW : goal.overflow_add-from-else-size-gt-MOST_IN_VIEW
-overflow_add-from-else-size-gt-MOST_IN_VIEW c = grind (arith, common_steps)

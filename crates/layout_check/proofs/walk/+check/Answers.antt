@@ -1,4 +1,3 @@
-use Rattle.std.proofs.lemmas.Grind.{common_steps}
 use Rattle.std.proofs.Common.{rules, ◌≡◌, ◌<◌, length, get_or, arith}
 use Rattle.tree_model.specs.Tree.{children_of}
 use Rattle.kind_tree.specs.Ways.{steps_of}
@@ -36,9 +35,6 @@ check_children-loop-i-preserved t c =
     let is : get_or kids i kid ≡ kid = search rules in
     let step = children_fault-step kids i kid (steps_of c.args.path.now) (children_of c.args.array.now) inside c.requires.children in
     search rules
-
-pub check_children-returns-clause-fault : goal.check_children-returns-clause-fault
-check_children-returns-clause-fault t c = grind (arith, common_steps)
 
 pub check_from-check_own-requires : goal.check_from-check_own-requires
 check_from-check_own-requires t c = grind (arith, walks)

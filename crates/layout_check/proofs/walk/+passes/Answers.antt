@@ -1,5 +1,4 @@
 use Rattle.layout_check.proofs.Faults.{walks}
-use Rattle.std.proofs.lemmas.Grind.{common_steps}
 use Rattle.std.proofs.Common.{rules, ◌≡◌, ◌<◌, ◌++◌, ◌∷◌, [], length, get_or, arith}
 use Rattle.tree_model.specs.Tree.{children_of}
 use Rattle.kind_tree.proofs.Levels.{levels-kid, kid-ok}
@@ -40,9 +39,6 @@ children_pass-loop-i-preserved t c path =
     let here = c.passes.ensures (path ++ i ∷ []) in
     let whole = c.loop-i.invariant path in
     search rules
-
-pub children_pass-returns : goal.children_pass-returns
-children_pass-returns t c = grind (arith, common_steps)
 
 pub passes-own_passes-requires : goal.passes-own_passes-requires
 passes-own_passes-requires t c = grind (arith, walks, walks)

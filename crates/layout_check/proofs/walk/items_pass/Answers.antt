@@ -1,4 +1,3 @@
-use Rattle.std.proofs.lemmas.Grind.{common_steps}
 use Rattle.std.proofs.Common.{◌≡◌, ◌&&◌, true, rules, sym, ◌∙◌, arith}
 use Rattle.std.proofs.lemmas.Bool.{and_parts}
 use Rattle.std.specs.Prelude.{is_none}
@@ -26,42 +25,6 @@ returns-then-indices_pass c path =
     let window : c.is_none-then-indices_pass.result ≡ is_none (fails WindowTooLong node) = search rules in
     held _ _ _ counts.0 (held _ _ _ counts.1 (held _ _ _ placed.0 (held _ _ _ placed.1 (held _ _ _ texts.1 (held _ _ _ indices.1 (held-last _ _ window))))))
     ∙ sym (none-rules item_rules path node)
-
-pub children_short-requires : goal.children_short-requires
-children_short-requires c = grind (arith, common_steps)
-
-pub nulls_wrong-requires : goal.nulls_wrong-requires
-nulls_wrong-requires c = grind (arith, common_steps)
-
-pub views_pass-requires : goal.views_pass-requires
-views_pass-requires c = grind (arith, common_steps)
-
-pub texts_pass-requires-clause-layout : goal.texts_pass-requires-clause-layout
-texts_pass-requires-clause-layout c = grind (arith, common_steps)
-
-pub texts_pass-requires-clause-buffers : goal.texts_pass-requires-clause-buffers
-texts_pass-requires-clause-buffers c = grind (arith, common_steps)
-
-pub texts_pass-requires-clause-rise : goal.texts_pass-requires-clause-rise
-texts_pass-requires-clause-rise c = grind (arith, common_steps)
-
-pub texts_pass-requires-clause-placed : goal.texts_pass-requires-clause-placed
-texts_pass-requires-clause-placed c = grind (arith, common_steps)
-
-pub indices_pass-requires-clause-type_ok : goal.indices_pass-requires-clause-type_ok
-indices_pass-requires-clause-type_ok c = grind (arith, common_steps)
-
-pub indices_pass-requires-clause-layout : goal.indices_pass-requires-clause-layout
-indices_pass-requires-clause-layout c = grind (arith, common_steps)
-
-pub indices_pass-requires-clause-buffers : goal.indices_pass-requires-clause-buffers
-indices_pass-requires-clause-buffers c = grind (arith, common_steps)
-
-pub indices_pass-requires-clause-dictionary : goal.indices_pass-requires-clause-dictionary
-indices_pass-requires-clause-dictionary c = grind (arith, common_steps)
-
-pub window_too_long-requires : goal.window_too_long-requires
-window_too_long-requires c = grind (arith, common_steps)
 
 pub returns-else-indices_pass : goal.returns-else-indices_pass
 returns-else-indices_pass c = grind (arith, node)

@@ -1,5 +1,4 @@
 use Rattle.raw_array.proofs.Shares.{shares}
-use Rattle.std.proofs.lemmas.Grind.{common_steps}
 use Rattle.std.proofs.Common.{rules, ◌≡◌, ◌+◌, ◌<◌, ◌∷◌, [], length, map, take, ap, ◌∙◌, arith}
 use Rattle.raw_array.specs.Members.{holds_of, least_of, shared_buffer, lowered_buffer}
 use Rattle.raw_array.specs.View.{buffers_of}
@@ -88,54 +87,6 @@ returns-clause-units c =
     let made = holds_of-first bs c.loop-i.i (buffers_of c.loop-i.views.items) c.loop-i.invariant.1 in
     let all = ap holds_of (ap (λ n. take n bs) end ∙ take-length bs) in
     omega (arith, made, all, c.loop-i.invariant.2)
-
-pub returns-in_default-clause-shared : goal.returns-in_default-clause-shared
-returns-in_default-clause-shared c = grind (arith, common_steps)
-
-pub returns-in_default-clause-lowered : goal.returns-in_default-clause-lowered
-returns-in_default-clause-lowered c = grind (arith, common_steps)
-
-pub returns-in_default-clause-units : goal.returns-in_default-clause-units
-returns-in_default-clause-units c = grind (arith, common_steps)
-
-pub returns-in_default-clause-blocks : goal.returns-in_default-clause-blocks
-returns-in_default-clause-blocks c = grind (arith, common_steps)
-
-pub returns-in_default-clause-nodes : goal.returns-in_default-clause-nodes
-returns-in_default-clause-nodes c = grind (arith, common_steps)
-
-pub loop-i-init : goal.loop-i-init
-loop-i-init c = grind (arith, common_steps)
-
-pub index_mut-requires : goal.index_mut-requires
-index_mut-requires c = grind (arith, common_steps)
-
-pub push_reserved-requires : goal.push_reserved-requires
-push_reserved-requires c = grind (arith, common_steps)
-
-pub returns-in-Err-clause-shared : goal.returns-in-Err-clause-shared
-returns-in-Err-clause-shared c = grind (arith, common_steps)
-
-pub returns-in-Err-clause-lowered : goal.returns-in-Err-clause-lowered
-returns-in-Err-clause-lowered c = grind (arith, common_steps)
-
-pub returns-in-Err-clause-blocks : goal.returns-in-Err-clause-blocks
-returns-in-Err-clause-blocks c = grind (arith, common_steps)
-
-pub returns-in-Err-clause-nodes : goal.returns-in-Err-clause-nodes
-returns-in-Err-clause-nodes c = grind (arith, common_steps)
-
-pub loop-i-smaller : goal.loop-i-smaller
-loop-i-smaller c = grind (arith, common_steps)
-
-pub returns-clause-one_lower : goal.returns-clause-one_lower
-returns-clause-one_lower c = grind (arith, common_steps)
-
-pub returns-clause-blocks : goal.returns-clause-blocks
-returns-clause-blocks c = grind (arith, common_steps)
-
-pub returns-clause-nodes : goal.returns-clause-nodes
-returns-clause-nodes c = grind (arith, common_steps)
 
 pub returns-in_default-clause-one_lower : goal.returns-in_default-clause-one_lower
 returns-in_default-clause-one_lower c = grind (arith, shares)

@@ -1,5 +1,4 @@
-use Rattle.std.proofs.lemmas.Grind.{common_steps}
-use Rattle.std.proofs.Common.{rules, ◌≡◌, ◌∙◌, ◌<◌, ◌++◌, [], ◌∷◌, length, take, ap, sym, subst, append_assoc, OnOk, arith}
+use Rattle.std.proofs.Common.{rules, ◌≡◌, ◌∙◌, ◌<◌, ◌++◌, [], ◌∷◌, length, take, ap, sym, subst, append_assoc, OnOk}
 use Rattle.tree_model.specs.Tree.{Depth, IsLive, trees, children_of}
 use Rattle.raw_schema.specs.Members.{members_of}
 use Rattle.stream_face.specs.Shown.{names_of, names_of_all}
@@ -57,51 +56,3 @@ add_names-returns-in-Some t c =
     ∙ append_assoc before (name ∷ below) (names_of dictionary)
     ∙ ap (λ ns. before ++ ns) (sym (names-below schema dictionary live c.in-Some.ensures)) in
     subst (λ ns. OnOk c.add_names.result (c.add_names.new.names.items ≡ ns)) all c.add_names.ensures
-
-pub add_child_names-returns : goal.add_child_names-returns
-add_child_names-returns t c = grind (arith, common_steps)
-
-pub add_child_names-n_children-count-requires : goal.add_child_names-n_children-count-requires
-add_child_names-n_children-count-requires t c = grind (arith, common_steps)
-
-pub add_child_names-overflow_cast-count : goal.add_child_names-overflow_cast-count
-add_child_names-overflow_cast-count t c = grind (arith, common_steps)
-
-pub add_child_names-loop-i-init : goal.add_child_names-loop-i-init
-add_child_names-loop-i-init t c = grind (arith, common_steps)
-
-pub add_child_names-child-requires : goal.add_child_names-child-requires
-add_child_names-child-requires t c = grind (arith, common_steps)
-
-pub add_child_names-returns-in_err-add_names : goal.add_child_names-returns-in_err-add_names
-add_child_names-returns-in_err-add_names t c = grind (arith, common_steps)
-
-pub add_child_names-loop-i-smaller : goal.add_child_names-loop-i-smaller
-add_child_names-loop-i-smaller t c = grind (arith, common_steps)
-
-pub add_names-is_released-requires : goal.add_names-is_released-requires
-add_names-is_released-requires t c = grind (arith, common_steps)
-
-pub add_names-returns-then-is_released : goal.add_names-returns-then-is_released
-add_names-returns-then-is_released t c = grind (arith, common_steps)
-
-pub add_names-name_of-requires : goal.add_names-name_of-requires
-add_names-name_of-requires t c = grind (arith, common_steps)
-
-pub add_names-returns-in_err-name_of : goal.add_names-returns-in_err-name_of
-add_names-returns-in_err-name_of t c = grind (arith, common_steps)
-
-pub add_names-returns-in_err-push : goal.add_names-returns-in_err-push
-add_names-returns-in_err-push t c = grind (arith, common_steps)
-
-pub add_names-add_child_names-requires : goal.add_names-add_child_names-requires
-add_names-add_child_names-requires t c = grind (arith, common_steps)
-
-pub add_names-returns-in_err-add_child_names : goal.add_names-returns-in_err-add_child_names
-add_names-returns-in_err-add_child_names t c = grind (arith, common_steps)
-
-pub add_names-dictionary-requires : goal.add_names-dictionary-requires
-add_names-dictionary-requires t c = grind (arith, common_steps)
-
-pub add_names-add_names-requires : goal.add_names-add_names-requires
-add_names-add_names-requires t c = grind (arith, common_steps)

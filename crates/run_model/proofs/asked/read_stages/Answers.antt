@@ -1,4 +1,3 @@
-use Rattle.std.proofs.lemmas.Grind.{common_steps}
 use Rattle.std.proofs.Common.{rules, ◌≡◌, ◌⊎◌, ◌+◌, Err, arith, sym, subst}
 use Rattle.run_model.specs.Answer.{stages_from}
 use Rattle.run_model.specs.declared.fault.RunFault.TheVariants as run
@@ -18,6 +17,3 @@ loop-place-preserved c =
     let texts = c.args.texts.now in
     subst (ReadTo texts (c.loop-place.place + 1)) (sym c.in-Ok.ensures.items)
     (read-more texts c.loop-place.place c.loop-place.stages.items c.loop-place.invariant _ (omega arith) c.in_ok-stage.stage c.in_ok-stage.ensures.found)
-
-pub returns-clause-found : goal.returns-clause-found
-returns-clause-found c = grind (arith, common_steps)

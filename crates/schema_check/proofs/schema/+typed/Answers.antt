@@ -1,4 +1,3 @@
-use Rattle.std.proofs.lemmas.Grind.{common_steps}
 use Rattle.std.proofs.Common.{rules, ◌≡◌, ◌+◌, ◌<◌, [], ◌∷◌, ◌++◌, length, get_or, map, arith}
 use Rattle.tree_model.specs.Tree.{Released, children_of}
 use Rattle.kind_tree.specs.declared.typed.Typed.{Typed}
@@ -39,9 +38,6 @@ typed_kids-loop-i-preserved t c =
     let same : c.down.result.depth + 1 ≡ level = omega (arith, c.down.ensures.depth) in
     kids-step (c.down.result.depth + 1) level children i c.child.result.now c.loop-i.kids.items c.push.new.self.items c.in_ok-kid.kid inside c.loop-i.invariant
     same c.child.ensures c.in_ok-kid.ensures.found c.in_ok-push.ensures.items
-
-pub typed_kids-returns-clause-found : goal.typed_kids-returns-clause-found
-typed_kids-returns-clause-found t c = grind (arith, common_steps)
 
 pub typed_from-returns-in_err-kids-clause-fault : goal.typed_from-returns-in_err-kids-clause-fault
 typed_from-returns-in_err-kids-clause-fault t c = grind (arith, parts)

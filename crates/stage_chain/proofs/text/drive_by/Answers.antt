@@ -38,9 +38,6 @@ prepare-requires-clause-texts g c =
     subst HaveTexts (sym (last-link-is s.columns c.requires.plan.0 c.args.plan c.requires.plan.1))
     (last-texts c.stages_keep_columns.ensures.kinds s.columns (plan_stages c.args.plan) are (c.lawful_facts.ensures.columns c.requires.lawful).kinds)
 
-pub prepare-requires-clause-as_many : goal.prepare-requires-clause-as_many
-prepare-requires-clause-as_many g c = grind (arith, common_steps)
-
 pub go-requires-clause-stages : goal.go-requires-clause-stages
 go-requires-clause-stages g c =
     let s = g.S.ArrayStream.state c.args.source in

@@ -1,4 +1,3 @@
-use Rattle.std.proofs.lemmas.Grind.{common_steps}
 use Rattle.std.proofs.Common.{◌≡◌, ◌∙◌, ◌+◌, ◌++◌, ℕ, [], ◌∷◌, List, sym, ap, subst, take, length, get_or, arith}
 use Rattle.std.proofs.Math.Seq.{take-length}
 use Rattle.arr_import.specs.Cols.{window_of}
@@ -58,48 +57,3 @@ returns c =
     let all : c.loop-i.i-index ≡ length kept = omega (arith, c.loop-i-test.false, c.loop-i.auto.i-index-end) in
     subst (λ (ks : List ℕ). Holds c.loop-i.builder c.args.kind.now (values_at typed c.args.array.now c.args.start ks)) (take-length kept)
     (subst (λ n. Holds c.loop-i.builder c.args.kind.now (values_at typed c.args.array.now c.args.start (take n kept))) all c.loop-i.invariant)
-
-pub lawful_trees-requires : goal.lawful_trees-requires
-lawful_trees-requires c = grind (arith, common_steps)
-
-pub of-items-requires-clause-lawful : goal.of-items-requires-clause-lawful
-of-items-requires-clause-lawful c = grind (arith, common_steps)
-
-pub of-items-requires-clause-types : goal.of-items-requires-clause-types
-of-items-requires-clause-types c = grind (arith, common_steps)
-
-pub clone_kind-requires : goal.clone_kind-requires
-clone_kind-requires c = grind (arith, common_steps)
-
-pub returns-in_err-clone_kind : goal.returns-in_err-clone_kind
-returns-in_err-clone_kind c = grind (arith, common_steps)
-
-pub new-builder-requires-clause-kind : goal.new-builder-requires-clause-kind
-new-builder-requires-clause-kind c = grind (arith, common_steps)
-
-pub new-builder-requires-clause-flat : goal.new-builder-requires-clause-flat
-new-builder-requires-clause-flat c = grind (arith, common_steps)
-
-pub storage_of-storage-requires : goal.storage_of-storage-requires
-storage_of-storage-requires c = grind (arith, common_steps)
-
-pub offset_bounds-kept-i-index : goal.offset_bounds-kept-i-index
-offset_bounds-kept-i-index c = grind (arith, common_steps)
-
-pub bounds-kept-i-index : goal.bounds-kept-i-index
-bounds-kept-i-index c = grind (arith, common_steps)
-
-pub from-requires : goal.from-requires
-from-requires c = grind (arith, common_steps)
-
-pub overflow_add-start : goal.overflow_add-start
-overflow_add-start c = grind (arith, common_steps)
-
-pub push_item-requires-clause-inside : goal.push_item-requires-clause-inside
-push_item-requires-clause-inside c = grind (arith, common_steps)
-
-pub returns-in_err-push_item : goal.returns-in_err-push_item
-returns-in_err-push_item c = grind (arith, common_steps)
-
-pub loop-i-smaller : goal.loop-i-smaller
-loop-i-smaller c = grind (arith, common_steps)

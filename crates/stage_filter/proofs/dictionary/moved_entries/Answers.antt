@@ -1,5 +1,4 @@
-use Rattle.std.proofs.lemmas.Grind.{common_steps}
-use Rattle.std.proofs.Common.{sym, subst, arith}
+use Rattle.std.proofs.Common.{sym, subst}
 use Rattle.arr_export.specs.ArrayTrees.{AreIndices}
 use Rattle.stage_filter.specs.KeptTrees.{index_type, indices_at}
 use Rattle.stage_filter.proofs.MovedColumns.{moved-dict}
@@ -42,27 +41,3 @@ returns-in-Ok-built_column-clause-moved c =
     c.built_column.new.pass can has own.dictionary
     (made.tree index_type indices holds) own.units own.more own.blocks own.nodes
     (made.units index_type indices holds) (made.blocks index_type indices holds) made.nodes
-
-pub lawful_trees-requires : goal.lawful_trees-requires
-lawful_trees-requires c = grind (arith, common_steps)
-
-pub moved_indices-indices-requires : goal.moved_indices-indices-requires
-moved_indices-indices-requires c = grind (arith, common_steps)
-
-pub built_column-requires-clause-units : goal.built_column-requires-clause-units
-built_column-requires-clause-units c = grind (arith, common_steps)
-
-pub built_column-requires-clause-room : goal.built_column-requires-clause-room
-built_column-requires-clause-room c = grind (arith, common_steps)
-
-pub end-requires : goal.end-requires
-end-requires c = grind (arith, common_steps)
-
-pub returns-in-Err-built_column-clause-moved : goal.returns-in-Err-built_column-clause-moved
-returns-in-Err-built_column-clause-moved c = grind (arith, common_steps)
-
-pub returns-in-Err-clause-moved : goal.returns-in-Err-clause-moved
-returns-in-Err-clause-moved c = grind (arith, common_steps)
-
-pub returns-in-Err-clause-units_back : goal.returns-in-Err-clause-units_back
-returns-in-Err-clause-units_back c = grind (arith, common_steps)

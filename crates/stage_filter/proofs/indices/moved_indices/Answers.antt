@@ -1,4 +1,3 @@
-use Rattle.std.proofs.lemmas.Grind.{common_steps}
 use Rattle.std.proofs.Common.{◌∙◌, ◌+◌, ◌++◌, ℕ, [], ◌∷◌, None, refl, true, sym, ap, subst, take, get_or, arith}
 use Rattle.std.proofs.lemmas.Int.{ints}
 use Rattle.arr_export.specs.ArrayTrees.{flat_type}
@@ -107,6 +106,3 @@ loop-i-preserved c =
     subst (Holds c.add_index.new.builder index_type)
     (ap (λ (v : Value). before ++ v ∷ []) (place.is ∙ ap f c.from.ensures) ∙ sym (one-more f kept k c.loop-i-test.true))
     (c.in_ok-add_index.ensures index_type before c.loop-i.invariant)
-
-pub returns : goal.returns
-returns c = grind (arith, common_steps)

@@ -1,5 +1,4 @@
-use Rattle.std.proofs.lemmas.Grind.{common_steps}
-use Rattle.std.proofs.Common.{◌∙◌, ◌++◌, ◌∷◌, [], List, ℕ, Bool, ap, sym, arith}
+use Rattle.std.proofs.Common.{◌∙◌, ◌++◌, ◌∷◌, [], List, ℕ, Bool, ap, sym}
 use Rattle.arr_import.specs.Cols.{window_of}
 use Rattle.arr_import.specs.Window.{item_at}
 use Rattle.stage_model.specs.Stages.{passes}
@@ -19,18 +18,3 @@ loop-i-preserved c constant =
           ap (λ v. v.items) w.kept-is ∙ c.loop-i.invariant constant
           ∙ sym (more-no passing c.args.from c.loop-i.i c.loop-i.auto.i (sym is ∙ w.if-null_passes.false))
     ]
-
-pub loop-i-init : goal.loop-i-init
-loop-i-init c = grind (arith, common_steps)
-
-pub null_passes-requires-clause-inside : goal.null_passes-requires-clause-inside
-null_passes-requires-clause-inside c = grind (arith, common_steps)
-
-pub null_passes-requires-clause-test : goal.null_passes-requires-clause-test
-null_passes-requires-clause-test c = grind (arith, common_steps)
-
-pub returns-in_err-push : goal.returns-in_err-push
-returns-in_err-push c = grind (arith, common_steps)
-
-pub loop-i-smaller : goal.loop-i-smaller
-loop-i-smaller c = grind (arith, common_steps)

@@ -1,5 +1,4 @@
-use Rattle.std.proofs.lemmas.Grind.{common_steps}
-use Rattle.std.proofs.Common.{◌∙◌, ◌++◌, ◌∷◌, [], List, ℕ, Bool, ap, sym, arith}
+use Rattle.std.proofs.Common.{◌∙◌, ◌++◌, ◌∷◌, [], List, ℕ, Bool, ap, sym}
 use Rattle.arr_import.specs.Cols.{window_of}
 use Rattle.arr_import.specs.Window.{item_at}
 use Rattle.stage_model.specs.Stages.{passes}
@@ -20,21 +19,3 @@ loop-i-preserved c =
           ap (λ v. v.items) w.kept-is ∙ c.loop-i.invariant
           ∙ sym (more-no passing c.args.from c.loop-i.i c.loop-i.auto.i (sym is ∙ w.if-comparison_passes.false))
     ]
-
-pub loop-i-init : goal.loop-i-init
-loop-i-init c = grind (arith, common_steps)
-
-pub truth_order-requires : goal.truth_order-requires
-truth_order-requires c = grind (arith, common_steps)
-
-pub comparison_passes-requires : goal.comparison_passes-requires
-comparison_passes-requires c = grind (arith, common_steps)
-
-pub returns-in_err-push : goal.returns-in_err-push
-returns-in_err-push c = grind (arith, common_steps)
-
-pub loop-i-smaller : goal.loop-i-smaller
-loop-i-smaller c = grind (arith, common_steps)
-
-pub returns : goal.returns
-returns c = grind (arith, common_steps)

@@ -1,4 +1,3 @@
-use Rattle.std.proofs.lemmas.Grind.{common_steps}
 use Rattle.std.proofs.Common.{arith, ◌<◌, ◌∙◌, ◌++◌, ◌∷◌, [], length, get_or, ap, sym}
 use Rattle.std.proofs.lemmas.List.{map_more}
 use Rattle.tree_model.specs.Tree.{Released, child_at, children_of, trees}
@@ -39,6 +38,3 @@ loop-place-preserved c =
         before.cost,
       );
     }
-
-pub returns-clause-columns : goal.returns-clause-columns
-returns-clause-columns c = grind (arith, common_steps)

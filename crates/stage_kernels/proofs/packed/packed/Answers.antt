@@ -1,4 +1,3 @@
-use Rattle.std.proofs.lemmas.Grind.{common_steps}
 use Rattle.std.proofs.Common.{arith, ◌≡◌, ◌≤◌, ◌≤ℤ◌, ◌∙◌, All, IfOk, length, map, pos, get_or, ap, sym, subst, w64, to_z, of_z}
 use Rattle.std.proofs.lemmas.Int.{ints}
 use Rattle.tree_model.specs.Tree.{IsLive, depth_of_all, trees}
@@ -137,6 +136,3 @@ returns-clause-tree c =
     let cols = c.move_columns.ensures.columns ∙ ap (λ t. map (column_in t) rest) c.begin-moved.ensures in
     let mems = c.move_columns-2.ensures.columns ∙ columns-stay c.args.chunk c.move_columns.new.moved rest picks left c.requires.distinct in
     subst (λ t. IfOk c.built.result (λ tree. tree ≡ t)) (packed-tree c.args.chunk rest picks _ _ _ len root.sized cols mems) c.built.ensures.tree
-
-pub built-requires-clause-room : goal.built-requires-clause-room
-built-requires-clause-room c = grind (arith, common_steps)

@@ -1,5 +1,4 @@
-use Rattle.std.proofs.lemmas.Grind.{common_steps}
-use Rattle.std.proofs.Common.{◌∙◌, ◌++◌, ap, sym, get_or, List, arith}
+use Rattle.std.proofs.Common.{◌∙◌, ◌++◌, ap, sym, get_or, List}
 use Rattle.std.proofs.lemmas.List.{get_or-map}
 use Rattle.data_types.specs.ColumnView.{column_of}
 use Rattle.data_types.specs.Parts.{member_columns}
@@ -18,9 +17,3 @@ returns c =
     three-parts columns place (columns_in c.in_ok-after.after.items) (member_columns (struct_members (get_or (columns_in columns) place no_column).kind))
     (columns_in c.add_columns.new.after.items) (columns_in c.add_columns-2.new.after.items) c.in_ok-after.ensures
     (c.in_ok-add_columns.ensures ∙ ap (λ (l : List Column). columns_in c.in_ok-after.after.items ++ l) fields) c.in_ok-add_columns-2.ensures
-
-pub clone_columns-requires : goal.clone_columns-requires
-clone_columns-requires c = grind (arith, common_steps)
-
-pub add_columns-requires-2 : goal.add_columns-requires-2
-add_columns-requires-2 c = grind (arith, common_steps)

@@ -1,5 +1,4 @@
-use Rattle.std.proofs.lemmas.Grind.{common_steps}
-use Rattle.std.proofs.Common.{◌≡◌, ◌∙◌, ◌++◌, [], ◌∷◌, ap, sym, get_or, arith}
+use Rattle.std.proofs.Common.{◌≡◌, ◌∙◌, ◌++◌, [], ◌∷◌, ap, sym, get_or}
 use Rattle.std.proofs.lemmas.List.{get_or-map, map-append}
 use Rattle.data_types.specs.ColumnView.{column_of, kind_of}
 use Rattle.data_types.specs.Table.{Column, Kind}
@@ -23,9 +22,3 @@ returns c =
     (ap columns_in c.in_ok-add.ensures
     ∙ map-append column_of c.in_ok-after.after.items (record { name = c.in_ok-name.field-0.name; kind = c.kind_by-kind.result } ∷ [])
     ∙ ap (λ (x : Column). columns_in c.in_ok-after.after.items ++ x ∷ []) made) c.in_ok-add_columns.ensures
-
-pub clone_columns-requires : goal.clone_columns-requires
-clone_columns-requires c = grind (arith, common_steps)
-
-pub add_columns-requires : goal.add_columns-requires
-add_columns-requires c = grind (arith, common_steps)

@@ -1,4 +1,3 @@
-use Rattle.std.proofs.lemmas.Grind.{common_steps}
 use Rattle.std.proofs.Common.{arith}
 use Rattle.stage_plan.proofs.Loop.{put_in, was_new}
 use Rattle.stage_plan.proofs.Twice.{twice-miss}
@@ -9,9 +8,3 @@ loop-name-preserved c =
     twice-miss c.args.names.now c.loop-name.name-index c.loop-name.known.keys c.loop-name.invariant _ (omega arith) c.insert.new.self.keys
     (was_new c.in_ok-insert.field-0 _ c.in_ok-insert.ensures.added c.if-not-branch.false)
     (put_in _ _ c.in_ok-insert.field-0 c.in_ok-insert.ensures.keys c.if-not-branch.false)
-
-pub returns-then-not-branch : goal.returns-then-not-branch
-returns-then-not-branch c = grind (arith, common_steps)
-
-pub returns : goal.returns
-returns c = grind (arith, common_steps)

@@ -1,5 +1,4 @@
-use Rattle.std.proofs.lemmas.Grind.{common_steps}
-use Rattle.std.proofs.Common.{◌∙◌, Err, ap, subst, sym, arith}
+use Rattle.std.proofs.Common.{◌∙◌, Err, ap, subst, sym}
 use Rattle.stage_model.specs.declared.fault.PlanFault.{PlanFault}
 use Rattle.stage_plan.specs.PlanWords.{IsThere, columns_in}
 use Rattle.stage_plan.proofs.Fits.{AreFit, after-fit, fit, fit-back}
@@ -30,9 +29,6 @@ pub returns-clause-kinds : goal.returns-clause-kinds
 returns-clause-kinds c =
     let columns = columns_in c.args.columns.now in
     fit-back c.in_ok-after.after.items (subst AreFit (sym c.in_ok-after.ensures) (after-fit columns c.args.text.now (fit c.args.columns.now c.requires)))
-
-pub returns-clause-found : goal.returns-clause-found
-returns-clause-found c = grind (arith, common_steps)
 
 pub returns-in_default-clause-fault : goal.returns-in_default-clause-fault
 returns-in_default-clause-fault c = λ _.

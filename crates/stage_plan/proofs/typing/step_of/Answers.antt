@@ -1,5 +1,4 @@
-use Rattle.std.proofs.lemmas.Grind.{common_steps}
-use Rattle.std.proofs.Common.{◌≡◌, ◌∙◌, ℕ, List, ap, get_or, sym, arith}
+use Rattle.std.proofs.Common.{◌≡◌, ◌∙◌, ℕ, List, ap, get_or, sym}
 use Rattle.stage_model.specs.Typing.{names_of, place_of, places_of}
 use Rattle.stage_model.specs.declared.stage.StageText.{StageText}
 use Rattle.stage_model.specs.declared.stage.StageText.TheVariants as texts
@@ -39,12 +38,3 @@ returns-in-Filter-clause-wrong c =
     let is = c.in-Filter.is ∙ ap (λ (k : List ℕ). texts.Filter name test k) (sym c.as_slice-in-Filter.ensures) in
     filter-lacks columns c.args.text.now name test c.as_slice-in-Filter.result.now c.index.result.now is (c.index.ensures ∙ first)
     c.filter_step.result c.filter_step.ensures
-
-pub filter_step-requires-clause-within : goal.filter_step-requires-clause-within
-filter_step-requires-clause-within c = grind (arith, common_steps)
-
-pub returns-in_ok-rest-in-Drop-clause-found : goal.returns-in_ok-rest-in-Drop-clause-found
-returns-in_ok-rest-in-Drop-clause-found c = grind (arith, common_steps)
-
-pub returns-in_ok-rest-in-Pack-clause-found : goal.returns-in_ok-rest-in-Pack-clause-found
-returns-in_ok-rest-in-Pack-clause-found c = grind (arith, common_steps)

@@ -1,4 +1,3 @@
-use Rattle.std.proofs.lemmas.Grind.{common_steps}
 use Rattle.std.proofs.Common.{◌≡◌, ◌∙◌, ◌<◌, ap, subst, sym, arith, false, length, get_or, List, ℕ}
 use Rattle.std.specs.List.{list_all}
 use Rattle.std.proofs.lemmas.List.{get_or-map, length-map}
@@ -26,15 +25,3 @@ returns-then-not-takes c =
     ap (λ (ps : List ℕ). list_all (λ x. takes text x.kind) (picked no_column ps (columns_in columns))) (sym c.requires.are)
     ∙ all-fails (λ x. takes text x.kind) (columns_in columns) places i 0 within fails
     )
-
-pub offset_bounds-columns-place : goal.offset_bounds-columns-place
-offset_bounds-columns-place c = grind (arith, common_steps)
-
-pub bounds-columns-place : goal.bounds-columns-place
-bounds-columns-place c = grind (arith, common_steps)
-
-pub loop-place-preserved : goal.loop-place-preserved
-loop-place-preserved c = grind (arith, common_steps)
-
-pub returns : goal.returns
-returns c = grind (arith, common_steps)

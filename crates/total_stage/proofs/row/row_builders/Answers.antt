@@ -1,5 +1,4 @@
-use Rattle.std.proofs.lemmas.Grind.{common_steps}
-use Rattle.std.proofs.Common.{arith, map, rules, None}
+use Rattle.std.proofs.Common.{map, rules, None}
 use Rattle.data_types.specs.ColumnView.{column_of}
 use Rattle.total_stage.specs.Totals.{number_value}
 use Rattle.total_stage.proofs.HeldRow.{column-is, fits-at, hold-more, value-is}
@@ -18,9 +17,3 @@ loop-k-preserved c =
     (column_of c.index-columns-k.result) _
     c.loop-k.invariant (search rules) (column-is columns k c.index-columns-k.result c.loop-k-test.true c.index-columns-k.is)
     (value-is columns values k None c.requires c.loop-k-test.true) c.in_ok-number_builder.ensures
-
-pub bounds-values-k : goal.bounds-values-k
-bounds-values-k c = grind (arith, common_steps)
-
-pub returns-clause-held : goal.returns-clause-held
-returns-clause-held c = grind (arith, common_steps)

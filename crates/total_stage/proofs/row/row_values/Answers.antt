@@ -1,4 +1,3 @@
-use Rattle.std.proofs.lemmas.Grind.{common_steps}
 use Rattle.std.proofs.Common.{arith, map}
 use Rattle.total_stage.specs.Totals.{number_value}
 use Rattle.total_stage.proofs.HeldRow.{row-all}
@@ -8,6 +7,3 @@ pub returns : goal.returns
 returns c = λ picks rows are.
     row-all c.args.sums.now picks rows (map number_value c.loop-totals.values.items) c.loop-totals.totals-index are
     (omega (arith, c.loop-totals-test.false, c.loop-totals.auto.totals-index-end)) (c.loop-totals.invariant picks rows are)
-
-pub loop-totals-preserved : goal.loop-totals-preserved
-loop-totals-preserved c = grind (arith, common_steps)

@@ -1,5 +1,4 @@
-use Rattle.std.proofs.lemmas.Grind.{common_steps}
-use Rattle.std.proofs.Common.{◌≡◌, Ok, Err, refl, sym, subst, true≢false, arith}
+use Rattle.std.proofs.Common.{◌≡◌, Ok, Err, refl, sym, subst, true≢false}
 use Rattle.schema_check.specs.declared.schema.SchemaFault.{SchemaFault}
 use Rattle.schema_check.specs.declared.schema.SchemaFault.TheVariants.{At, NoMemory}
 use Rattle.kind_tree.specs.Kinds.{KindTree}
@@ -25,45 +24,3 @@ returns-in-Err-check_array-clause-only c =
     let given : Gives (Ok c.in-Ok.typed) (Ok typed) = c.in-Ok.ensures.only (Ok typed) kinds in
     let same : typed ≡ typed_of c.in-Ok.typed = cc given in
     absurd (true≢false (sym (c.in-Err-check_array.ensures.lawful.1 (subst (λ t. LayoutOk t c.args.array) same lawful))))
-
-pub one_schema_answer-requires : goal.one_schema_answer-requires
-one_schema_answer-requires c = grind (arith, common_steps)
-
-pub check_schema-requires : goal.check_schema-requires
-check_schema-requires c = grind (arith, common_steps)
-
-pub returns-in-Err-clause-taken : goal.returns-in-Err-clause-taken
-returns-in-Err-clause-taken c = grind (arith, common_steps)
-
-pub returns-in-Err-clause-back : goal.returns-in-Err-clause-back
-returns-in-Err-clause-back c = grind (arith, common_steps)
-
-pub returns-in-Err-clause-fault : goal.returns-in-Err-clause-fault
-returns-in-Err-clause-fault c = grind (arith, common_steps)
-
-pub check_array-requires : goal.check_array-requires
-check_array-requires c = grind (arith, common_steps)
-
-pub invariant_of-result : goal.invariant_of-result
-invariant_of-result c = grind (arith, common_steps)
-
-pub returns-in-Ok-check_array-clause-taken : goal.returns-in-Ok-check_array-clause-taken
-returns-in-Ok-check_array-clause-taken c = grind (arith, common_steps)
-
-pub returns-in-Ok-check_array-clause-back : goal.returns-in-Ok-check_array-clause-back
-returns-in-Ok-check_array-clause-back c = grind (arith, common_steps)
-
-pub returns-in-Ok-check_array-clause-fault : goal.returns-in-Ok-check_array-clause-fault
-returns-in-Ok-check_array-clause-fault c = grind (arith, common_steps)
-
-pub returns-in-Ok-check_array-clause-only : goal.returns-in-Ok-check_array-clause-only
-returns-in-Ok-check_array-clause-only c = grind (arith, common_steps)
-
-pub returns-in-Err-check_array-clause-taken : goal.returns-in-Err-check_array-clause-taken
-returns-in-Err-check_array-clause-taken c = grind (arith, common_steps)
-
-pub returns-in-Err-check_array-clause-back : goal.returns-in-Err-check_array-clause-back
-returns-in-Err-check_array-clause-back c = grind (arith, common_steps)
-
-pub returns-in-Err-check_array-clause-fault : goal.returns-in-Err-check_array-clause-fault
-returns-in-Err-check_array-clause-fault c = grind (arith, common_steps)

@@ -1,4 +1,3 @@
-use Rattle.std.proofs.lemmas.Grind.{common_steps}
 use Rattle.std.proofs.Common.{rules, ◌+◌, ◌≤◌, List, [], ◌∷◌, length, replicate, sym, ap, ◌∙◌, arith, subst, Some}
 use Rattle.tree_model.specs.Tree.{trees}
 use Rattle.tree_model.specs.TreeCost.{Nodes, nodes_of_all, Holds, holds_of_all}
@@ -152,9 +151,6 @@ live-returns-in-Err-clause-fault t c =
     (replicate (c.args.own.children + c.args.own.dictionaries) (AtArray (c.args.level + 1))) c.in-Err.fault c.requires.cursor c.in_ok-views.ensures.read
     c.in-Err.ensures.fault
 
-pub live-returns-in_err-views-clause-fault : goal.live-returns-in_err-views-clause-fault
-live-returns-in_err-views-clause-fault t c = grind (arith, common_steps)
-
 pub live-with_dictionary-children-requires-clause-one : goal.live-with_dictionary-children-requires-clause-one
 live-with_dictionary-children-requires-clause-one t c = c.requires.one
 
@@ -170,9 +166,6 @@ live-built-requires-clause-units t c =
     c.in-Ok.ensures.read in
     omega (arith, buffers, parts, c.requires.room, c.in_ok-views.ensures.units, c.in-Ok.ensures.units)
 
-pub live-built-requires-clause-few_children : goal.live-built-requires-clause-few_children
-live-built-requires-clause-few_children t c = grind (arith, common_steps)
-
 pub arrays-array-requires : goal.arrays-array-requires
 arrays-array-requires t c = grind (arith, steps, steps)
 
@@ -184,132 +177,3 @@ live-let_go_all-requires t c = grind (arith, steps, steps)
 
 pub live-returns-in-Err-clause-units : goal.live-returns-in-Err-clause-units
 live-returns-in-Err-clause-units t c = grind (arith, steps, steps)
-
-pub array-node_line-requires : goal.array-node_line-requires
-array-node_line-requires t c = grind (arith, common_steps)
-
-pub array-returns-in_err-told-clause-read : goal.array-returns-in_err-told-clause-read
-array-returns-in_err-told-clause-read t c = grind (arith, common_steps)
-
-pub array-returns-in_err-told-clause-fault : goal.array-returns-in_err-told-clause-fault
-array-returns-in_err-told-clause-fault t c = grind (arith, common_steps)
-
-pub array-returns-in_err-told-clause-units : goal.array-returns-in_err-told-clause-units
-array-returns-in_err-told-clause-units t c = grind (arith, common_steps)
-
-pub array-returns-in_err-told-clause-nodes : goal.array-returns-in_err-told-clause-nodes
-array-returns-in_err-told-clause-nodes t c = grind (arith, common_steps)
-
-pub array-returns-in_err-told-clause-blocks : goal.array-returns-in_err-told-clause-blocks
-array-returns-in_err-told-clause-blocks t c = grind (arith, common_steps)
-
-pub array-released-requires : goal.array-released-requires
-array-released-requires t c = grind (arith, common_steps)
-
-pub array-returns-in-Live-clause-units : goal.array-returns-in-Live-clause-units
-array-returns-in-Live-clause-units t c = grind (arith, common_steps)
-
-pub array-returns-in-Live-clause-nodes : goal.array-returns-in-Live-clause-nodes
-array-returns-in-Live-clause-nodes t c = grind (arith, common_steps)
-
-pub array-returns-in-Live-clause-blocks : goal.array-returns-in-Live-clause-blocks
-array-returns-in-Live-clause-blocks t c = grind (arith, common_steps)
-
-pub array-returns-in-Released-clause-fault : goal.array-returns-in-Released-clause-fault
-array-returns-in-Released-clause-fault t c = grind (arith, common_steps)
-
-pub array-returns-in-Released-clause-units : goal.array-returns-in-Released-clause-units
-array-returns-in-Released-clause-units t c = grind (arith, common_steps)
-
-pub array-returns-in-Released-clause-nodes : goal.array-returns-in-Released-clause-nodes
-array-returns-in-Released-clause-nodes t c = grind (arith, common_steps)
-
-pub array-returns-in-Released-clause-blocks : goal.array-returns-in-Released-clause-blocks
-array-returns-in-Released-clause-blocks t c = grind (arith, common_steps)
-
-pub arrays-added-requires : goal.arrays-added-requires
-arrays-added-requires t c = grind (arith, common_steps)
-
-pub arrays-release_all-requires : goal.arrays-release_all-requires
-arrays-release_all-requires t c = grind (arith, common_steps)
-
-pub arrays-returns-in-Err-clause-read : goal.arrays-returns-in-Err-clause-read
-arrays-returns-in-Err-clause-read t c = grind (arith, common_steps)
-
-pub arrays-returns-in-Err-clause-units : goal.arrays-returns-in-Err-clause-units
-arrays-returns-in-Err-clause-units t c = grind (arith, common_steps)
-
-pub arrays-returns-in-Err-clause-nodes : goal.arrays-returns-in-Err-clause-nodes
-arrays-returns-in-Err-clause-nodes t c = grind (arith, common_steps)
-
-pub arrays-returns-in-Err-clause-blocks : goal.arrays-returns-in-Err-clause-blocks
-arrays-returns-in-Err-clause-blocks t c = grind (arith, common_steps)
-
-pub arrays-loop-smaller : goal.arrays-loop-smaller
-arrays-loop-smaller t c = grind (arith, common_steps)
-
-pub arrays-returns-clause-read : goal.arrays-returns-clause-read
-arrays-returns-clause-read t c = grind (arith, common_steps)
-
-pub arrays-returns-clause-fault : goal.arrays-returns-clause-fault
-arrays-returns-clause-fault t c = grind (arith, common_steps)
-
-pub arrays-returns-clause-units : goal.arrays-returns-clause-units
-arrays-returns-clause-units t c = grind (arith, common_steps)
-
-pub arrays-returns-clause-nodes : goal.arrays-returns-clause-nodes
-arrays-returns-clause-nodes t c = grind (arith, common_steps)
-
-pub arrays-returns-clause-blocks : goal.arrays-returns-clause-blocks
-arrays-returns-clause-blocks t c = grind (arith, common_steps)
-
-pub live-buffers-requires-clause-cursor : goal.live-buffers-requires-clause-cursor
-live-buffers-requires-clause-cursor t c = grind (arith, common_steps)
-
-pub live-buffers-requires-clause-room : goal.live-buffers-requires-clause-room
-live-buffers-requires-clause-room t c = grind (arith, common_steps)
-
-pub live-returns-in_err-views-clause-read : goal.live-returns-in_err-views-clause-read
-live-returns-in_err-views-clause-read t c = grind (arith, common_steps)
-
-pub live-returns-in_err-views-clause-units : goal.live-returns-in_err-views-clause-units
-live-returns-in_err-views-clause-units t c = grind (arith, common_steps)
-
-pub live-returns-in_err-views-clause-nodes : goal.live-returns-in_err-views-clause-nodes
-live-returns-in_err-views-clause-nodes t c = grind (arith, common_steps)
-
-pub live-returns-in_err-views-clause-blocks : goal.live-returns-in_err-views-clause-blocks
-live-returns-in_err-views-clause-blocks t c = grind (arith, common_steps)
-
-pub live-overflow_add-count : goal.live-overflow_add-count
-live-overflow_add-count t c = grind (arith, common_steps)
-
-pub live-overflow_add-level : goal.live-overflow_add-level
-live-overflow_add-level t c = grind (arith, common_steps)
-
-pub live-returns-in-Ok-built-clause-read : goal.live-returns-in-Ok-built-clause-read
-live-returns-in-Ok-built-clause-read t c = grind (arith, common_steps)
-
-pub live-returns-in-Ok-built-clause-fault : goal.live-returns-in-Ok-built-clause-fault
-live-returns-in-Ok-built-clause-fault t c = grind (arith, common_steps)
-
-pub live-returns-in-Err-built-clause-read : goal.live-returns-in-Err-built-clause-read
-live-returns-in-Err-built-clause-read t c = grind (arith, common_steps)
-
-pub live-returns-in-Err-built-clause-fault : goal.live-returns-in-Err-built-clause-fault
-live-returns-in-Err-built-clause-fault t c = grind (arith, common_steps)
-
-pub live-returns-in-Err-built-clause-nodes : goal.live-returns-in-Err-built-clause-nodes
-live-returns-in-Err-built-clause-nodes t c = grind (arith, common_steps)
-
-pub live-returns-in-Err-built-clause-blocks : goal.live-returns-in-Err-built-clause-blocks
-live-returns-in-Err-built-clause-blocks t c = grind (arith, common_steps)
-
-pub live-returns-in-Err-clause-read : goal.live-returns-in-Err-clause-read
-live-returns-in-Err-clause-read t c = grind (arith, common_steps)
-
-pub live-returns-in-Err-clause-nodes : goal.live-returns-in-Err-clause-nodes
-live-returns-in-Err-clause-nodes t c = grind (arith, common_steps)
-
-pub live-returns-in-Err-clause-blocks : goal.live-returns-in-Err-clause-blocks
-live-returns-in-Err-clause-blocks t c = grind (arith, common_steps)

@@ -1,4 +1,3 @@
-use Rattle.std.proofs.lemmas.Grind.{common_steps}
 use Rattle.std.proofs.Common.{rules, ◌+◌, List, [], ◌∷◌, Option, sym, ap, arith, subst}
 use Rattle.buf_block.specs.declared.hold.BufView.{BufView}
 use Rattle.raw_array.specs.Members.{holds_of}
@@ -32,54 +31,3 @@ loop-preserved c =
       blocks = omega (arith, cost, sum, c.loop.invariant.blocks, c.in-Ok.ensures.blocks, c.in_ok-made-in-Ok.ensures.blocks);
       nodes = search rules;
     }
-
-pub loop-init : goal.loop-init
-loop-init c = grind (arith, common_steps)
-
-pub buffer-requires-clause-cursor : goal.buffer-requires-clause-cursor
-buffer-requires-clause-cursor c = grind (arith, common_steps)
-
-pub added-requires : goal.added-requires
-added-requires c = grind (arith, common_steps)
-
-pub returns-in_err-made-in-Ok-clause-read : goal.returns-in_err-made-in-Ok-clause-read
-returns-in_err-made-in-Ok-clause-read c = grind (arith, common_steps)
-
-pub returns-in_err-made-in-Ok-clause-fault : goal.returns-in_err-made-in-Ok-clause-fault
-returns-in_err-made-in-Ok-clause-fault c = grind (arith, common_steps)
-
-pub returns-in_err-made-in-Ok-clause-units : goal.returns-in_err-made-in-Ok-clause-units
-returns-in_err-made-in-Ok-clause-units c = grind (arith, common_steps)
-
-pub returns-in_err-made-in-Ok-clause-blocks : goal.returns-in_err-made-in-Ok-clause-blocks
-returns-in_err-made-in-Ok-clause-blocks c = grind (arith, common_steps)
-
-pub returns-in_err-made-in-Ok-clause-nodes : goal.returns-in_err-made-in-Ok-clause-nodes
-returns-in_err-made-in-Ok-clause-nodes c = grind (arith, common_steps)
-
-pub returns-in-Err-clause-read : goal.returns-in-Err-clause-read
-returns-in-Err-clause-read c = grind (arith, common_steps)
-
-pub returns-in-Err-clause-blocks : goal.returns-in-Err-clause-blocks
-returns-in-Err-clause-blocks c = grind (arith, common_steps)
-
-pub returns-in-Err-clause-nodes : goal.returns-in-Err-clause-nodes
-returns-in-Err-clause-nodes c = grind (arith, common_steps)
-
-pub loop-smaller : goal.loop-smaller
-loop-smaller c = grind (arith, common_steps)
-
-pub returns-clause-read : goal.returns-clause-read
-returns-clause-read c = grind (arith, common_steps)
-
-pub returns-clause-fault : goal.returns-clause-fault
-returns-clause-fault c = grind (arith, common_steps)
-
-pub returns-clause-units : goal.returns-clause-units
-returns-clause-units c = grind (arith, common_steps)
-
-pub returns-clause-blocks : goal.returns-clause-blocks
-returns-clause-blocks c = grind (arith, common_steps)
-
-pub returns-clause-nodes : goal.returns-clause-nodes
-returns-clause-nodes c = grind (arith, common_steps)

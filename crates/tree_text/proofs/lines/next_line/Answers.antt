@@ -1,4 +1,3 @@
-use Rattle.std.proofs.lemmas.Grind.{common_steps}
 use Rattle.std.proofs.Common.{ℕ, ◌≡◌, ◌+◌, ◌∷◌, length, drop, sym, ap, ◌∙◌, arith}
 use Rattle.std.specs.Str.Lines.{lines}
 use Rattle.std.proofs.lemmas.List.{drop-drop}
@@ -18,9 +17,3 @@ returns-in-Some-clause-taken c =
     c.in-Some.ensures.behind ∙ ap (drop (length line + 1)) back ∙ drop-drop (length line + 1) at bytes ∙ ap (λ (n : ℕ). drop n bytes) place in
     let first = sym c.without_return.ensures in
     ap lines (sym back) ∙ lines_cut line rest behind c.in-Some.ensures.parts ∙ (λ i. first i ∷ lines (here i))
-
-pub returns-then-at-bytes-clause-none : goal.returns-then-at-bytes-clause-none
-returns-then-at-bytes-clause-none c = grind (arith, common_steps)
-
-pub returns-in-None-clause-taken : goal.returns-in-None-clause-taken
-returns-in-None-clause-taken c = grind (arith, common_steps)

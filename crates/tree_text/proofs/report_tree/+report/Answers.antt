@@ -1,4 +1,3 @@
-use Rattle.std.proofs.lemmas.Grind.{common_steps}
 use Rattle.std.proofs.Common.{rules, ◌≡◌, ◌+◌, ◌*◌, ◌<◌, ◌≤◌, ℕ, List, length, map, get_or, sym, ap, ◌∙◌, arith, subst}
 use Rattle.std.proofs.lemmas.List.{length-map}
 use Rattle.tree_model.specs.Tree.{Released, trees, children_of, child_at, Depth, depth_of_all}
@@ -58,69 +57,6 @@ push_tree-push_children-requires t c =
     let children : length (children_of array) ≡ length kids =
     c.lawful_root.ensures.children ∙ length-map (out-Typed typed).kids.items typed_of ∙ ap (λ (ks : List Typed). length ks) (sym same) in
     (omega (arith, falls, c.decreases), (lawful, (levels, (types, (c.lawful_root.ensures.live, children)))))
-
-pub push_children-n_children-count-requires : goal.push_children-n_children-count-requires
-push_children-n_children-count-requires t c = grind (arith, common_steps)
-
-pub push_children-overflow_cast-count : goal.push_children-overflow_cast-count
-push_children-overflow_cast-count t c = grind (arith, common_steps)
-
-pub push_children-loop-i-init : goal.push_children-loop-i-init
-push_children-loop-i-init t c = grind (arith, common_steps)
-
-pub push_children-overflow_cast-k : goal.push_children-overflow_cast-k
-push_children-overflow_cast-k t c = grind (arith, common_steps)
-
-pub push_children-offset_bounds-kids-k : goal.push_children-offset_bounds-kids-k
-push_children-offset_bounds-kids-k t c = grind (arith, common_steps)
-
-pub push_children-bounds-kids-k : goal.push_children-bounds-kids-k
-push_children-bounds-kids-k t c = grind (arith, common_steps)
-
-pub push_children-child-requires : goal.push_children-child-requires
-push_children-child-requires t c = grind (arith, common_steps)
-
-pub push_children-down-requires : goal.push_children-down-requires
-push_children-down-requires t c = grind (arith, common_steps)
-
-pub push_children-returns-in_err-push_tree : goal.push_children-returns-in_err-push_tree
-push_children-returns-in_err-push_tree t c = grind (arith, common_steps)
-
-pub push_children-loop-i-smaller : goal.push_children-loop-i-smaller
-push_children-loop-i-smaller t c = grind (arith, common_steps)
-
-pub push_dictionary-dictionary-requires : goal.push_dictionary-dictionary-requires
-push_dictionary-dictionary-requires t c = grind (arith, common_steps)
-
-pub push_dictionary-down-requires : goal.push_dictionary-down-requires
-push_dictionary-down-requires t c = grind (arith, common_steps)
-
-pub push_dictionary-push_tree-requires : goal.push_dictionary-push_tree-requires
-push_dictionary-push_tree-requires t c = grind (arith, common_steps)
-
-pub push_dictionary-returns-in-Some-Some : goal.push_dictionary-returns-in-Some-Some
-push_dictionary-returns-in-Some-Some t c = grind (arith, common_steps)
-
-pub push_dictionary-returns-in_default : goal.push_dictionary-returns-in_default
-push_dictionary-returns-in_default t c = grind (arith, common_steps)
-
-pub push_dictionary-returns-in_default-2 : goal.push_dictionary-returns-in_default-2
-push_dictionary-returns-in_default-2 t c = grind (arith, common_steps)
-
-pub push_tree-lawful_root-requires : goal.push_tree-lawful_root-requires
-push_tree-lawful_root-requires t c = grind (arith, common_steps)
-
-pub push_tree-lawful_parts-requires : goal.push_tree-lawful_parts-requires
-push_tree-lawful_parts-requires t c = grind (arith, common_steps)
-
-pub push_tree-push_node-requires-clause-lawful : goal.push_tree-push_node-requires-clause-lawful
-push_tree-push_node-requires-clause-lawful t c = grind (arith, common_steps)
-
-pub push_tree-returns-in_err-push_node : goal.push_tree-returns-in_err-push_node
-push_tree-returns-in_err-push_node t c = grind (arith, common_steps)
-
-pub push_tree-returns-in_err-push_children : goal.push_tree-returns-in_err-push_children
-push_tree-returns-in_err-push_children t c = grind (arith, common_steps)
 
 pub push_tree-returns : goal.push_tree-returns
 push_tree-returns t c = grind (arith, tree_steps)

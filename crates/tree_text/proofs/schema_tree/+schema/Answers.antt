@@ -1,4 +1,3 @@
-use Rattle.std.proofs.lemmas.Grind.{common_steps}
 use Rattle.std.proofs.Common.{rules, ◌+◌, ◌≤◌, List, [], ◌∷◌, length, refl, sym, ap, ◌∙◌, arith, subst, Some}
 use Rattle.tree_model.specs.Tree.{trees}
 use Rattle.raw_schema.specs.Members.{SchemaTree, Nodes, nodes_of_all, no_holds}
@@ -119,9 +118,6 @@ schema-returns-in-Live-clause-fault t c =
     schema_read read.line (LiveLine (schema_own own) own.children own.dictionaries) (read.is ∙ ap (λ (x : SchemaLine). Some (schema_told x)) c.in-Live.is) in
     live_fault c.args.bytes.now c.args.cursor c.in_ok-told.next c.args.level own.children own.dictionaries read.line (schema_own own) c.live.result
     c.requires.cursor read.low read.here read.cursor line c.live.ensures.fault
-
-pub live-built-requires-clause-few_children : goal.live-built-requires-clause-few_children
-live-built-requires-clause-few_children t c = grind (arith, common_steps)
 
 pub live-with_dictionary-children-requires-clause-one : goal.live-with_dictionary-children-requires-clause-one
 live-with_dictionary-children-requires-clause-one t c = c.requires.one

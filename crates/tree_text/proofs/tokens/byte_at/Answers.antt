@@ -1,4 +1,3 @@
-use Rattle.std.proofs.lemmas.Grind.{common_steps}
 use Rattle.std.proofs.Common.{◌≡◌, ◌+◌, false, get_or, drop, sym, ap, ◌∙◌, arith, length-drop}
 use Rattle.tree_text.specs.TreeText.{is_plain}
 use Rattle.tree_text.specs.Standing.{read_bytes}
@@ -12,12 +11,3 @@ returns-then-text-at-lt3-clause-none c =
     let rest = drop (at + 1) text in
     let other : is_plain (get_or text at 0) ≡ false = sym c.is_plain.ensures ∙ c.if-is_plain.false in
     ap read_bytes (front text at c.requires) ∙ read_short (get_or text at 0) rest other (omega (arith, length-drop (at + 1) text))
-
-pub returns-then-is_plain-clause-read : goal.returns-then-is_plain-clause-read
-returns-then-is_plain-clause-read c = grind (arith, common_steps)
-
-pub returns-in-Some-clause-read : goal.returns-in-Some-clause-read
-returns-in-Some-clause-read c = grind (arith, common_steps)
-
-pub returns-in-None-clause-none : goal.returns-in-None-clause-none
-returns-in-None-clause-none c = grind (arith, common_steps)

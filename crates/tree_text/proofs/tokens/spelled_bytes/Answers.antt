@@ -1,5 +1,4 @@
-use Rattle.std.proofs.lemmas.Grind.{common_steps}
-use Rattle.std.proofs.Common.{List, ℕ, drop, sym, ap, ◌∙◌, arith}
+use Rattle.std.proofs.Common.{List, ℕ, drop, sym, ap, ◌∙◌}
 use Rattle.tree_text.specs.Standing.{read_bytes}
 use Rattle.tree_text.proofs.TokenBytes.{before, before_more}
 use Rattle.tree_text.proofs.tokens.spelled_bytes.Goals as goal
@@ -13,6 +12,3 @@ loop-at-preserved c =
       read = c.loop-at.invariant.read ∙ ap (before done) c.in-Some.ensures.read ∙ before_more done c.in-Some.byte rest
           ∙ ap (λ (xs : List ℕ). before xs rest) (sym c.in_ok-push-in-Some.ensures.items);
     }
-
-pub returns : goal.returns
-returns c = grind (arith, common_steps)

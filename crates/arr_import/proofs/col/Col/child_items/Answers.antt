@@ -1,4 +1,3 @@
-use Rattle.std.proofs.lemmas.Grind.{common_steps}
 use Rattle.std.proofs.Common.{◌<◌, length, sym, subst, arith}
 use Rattle.std.proofs.lemmas.List.{length-map}
 use Rattle.tree_model.specs.Tree.{child_at}
@@ -25,9 +24,3 @@ window-requires-clause-valid c =
     let kids = (out-Typed t).kids.items in
     let inside : c.args.k < length kids = omega (arith, c.requires.inside, length-map kids typed_of) in
     kid-ok t c.kinds_of_typed.ensures c.args.k c.index-kid.result.now inside c.index-kid.ensures c.args.self.now.valid
-
-pub index-kid-requires : goal.index-kid-requires
-index-kid-requires c = grind (arith, common_steps)
-
-pub returns : goal.returns
-returns c = grind (arith, common_steps)

@@ -1,6 +1,5 @@
 use Rattle.std.proofs.Common.{arith}
 use Rattle.col_build.proofs.OneMore.{whole_adds}
-use Rattle.std.proofs.lemmas.Grind.{common_steps}
 use Rattle.col_build.proofs.builder.Builder.add_whole.Goals as goal
 
 pub has_place-requires-clause-few : goal.has_place-requires-clause-few
@@ -8,9 +7,6 @@ has_place-requires-clause-few c = grind (arith, whole_adds)
 
 pub has_place-requires-clause-width : goal.has_place-requires-clause-width
 has_place-requires-clause-width c = grind (arith, whole_adds)
-
-pub add_whole_rarely-requires-clause-takes : goal.add_whole_rarely-requires-clause-takes
-add_whole_rarely-requires-clause-takes c = grind (arith, common_steps)
 
 pub add_whole_rarely-requires-clause-shape : goal.add_whole_rarely-requires-clause-shape
 add_whole_rarely-requires-clause-shape c = grind (arith, whole_adds)

@@ -1,10 +1,6 @@
 use Rattle.std.proofs.Common.{arith}
 use Rattle.col_build.proofs.OneMore.{whole_adds}
-use Rattle.std.proofs.lemmas.Grind.{common_steps}
 use Rattle.col_build.proofs.builder.Builder.add_whole_rarely.Goals as goal
-
-pub add-requires : goal.add-requires
-add-requires c = grind (arith, common_steps)
 
 pub returns-then-width-lt4-clause-kept : goal.returns-then-width-lt4-clause-kept
 returns-then-width-lt4-clause-kept c = grind (arith, whole_adds)

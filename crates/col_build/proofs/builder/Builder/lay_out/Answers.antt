@@ -1,5 +1,4 @@
-use Rattle.std.proofs.lemmas.Grind.{common_steps}
-use Rattle.std.proofs.Common.{◌≡◌, ◌∙◌, ◌+◌, ◌++◌, ℕ, Bool, List, [], ◌∷◌, refl, sym, ap, subst, inl, arith}
+use Rattle.std.proofs.Common.{◌≡◌, ◌∙◌, ◌+◌, ◌++◌, ℕ, Bool, List, [], ◌∷◌, refl, sym, ap, subst, inl}
 use Rattle.std.specs.Prelude.{if◌then◌else◌, map, Option}
 use Rattle.buf_block.specs.declared.hold.BufView.{BufView}
 use Rattle.data_types.specs.Value.{bytes_of}
@@ -146,45 +145,3 @@ returns-in_default c =
       blocks = λ laid kind values holds. subst Risen (blocks-in-place self kind values holds other) (c.lay_two.ensures.blocks laid);
       nodes = c.lay_two.ensures.nodes;
     }
-
-pub begin_offsets-requires : goal.begin_offsets-requires
-begin_offsets-requires c = grind (arith, common_steps)
-
-pub lay_three-requires-clause-none : goal.lay_three-requires-clause-none
-lay_three-requires-clause-none c = grind (arith, common_steps)
-
-pub lay_three-requires-clause-room : goal.lay_three-requires-clause-room
-lay_three-requires-clause-room c = grind (arith, common_steps)
-
-pub lay_three-requires-clause-units : goal.lay_three-requires-clause-units
-lay_three-requires-clause-units c = grind (arith, common_steps)
-
-pub lay_two-requires : goal.lay_two-requires
-lay_two-requires c = grind (arith, common_steps)
-
-pub returns-in-Ok-clause-emptied : goal.returns-in-Ok-clause-emptied
-returns-in-Ok-clause-emptied c = grind (arith, common_steps)
-
-pub returns-in-Ok-clause-refused : goal.returns-in-Ok-clause-refused
-returns-in-Ok-clause-refused c = grind (arith, common_steps)
-
-pub returns-in-Ok-clause-nodes : goal.returns-in-Ok-clause-nodes
-returns-in-Ok-clause-nodes c = grind (arith, common_steps)
-
-pub returns-in-Err-clause-laid : goal.returns-in-Err-clause-laid
-returns-in-Err-clause-laid c = grind (arith, common_steps)
-
-pub returns-in-Err-clause-emptied : goal.returns-in-Err-clause-emptied
-returns-in-Err-clause-emptied c = grind (arith, common_steps)
-
-pub returns-in-Err-clause-refused : goal.returns-in-Err-clause-refused
-returns-in-Err-clause-refused c = grind (arith, common_steps)
-
-pub returns-in-Err-clause-units : goal.returns-in-Err-clause-units
-returns-in-Err-clause-units c = grind (arith, common_steps)
-
-pub returns-in-Err-clause-blocks : goal.returns-in-Err-clause-blocks
-returns-in-Err-clause-blocks c = grind (arith, common_steps)
-
-pub returns-in-Err-clause-nodes : goal.returns-in-Err-clause-nodes
-returns-in-Err-clause-nodes c = grind (arith, common_steps)

@@ -1,4 +1,3 @@
-use Rattle.std.proofs.lemmas.Grind.{common_steps}
 use Rattle.std.proofs.Common.{◌≡◌, ◌∙◌, ◌∷◌, [], ◌++◌, ◌<◌, ◌^◌, ◌⊎◌, ℕ, List, length, ap, subst, sym, arith, length-append}
 use Rattle.std.proofs.lemmas.Result.{err_from_is_err_and}
 use Rattle.std.specs.Prelude.{Option, None, Some}
@@ -87,45 +86,6 @@ returns-clause-added c kind values holds =
       bytes = bytes;
       fits = fits-more kind values value holds.fits taken few bounded;
     })
-
-pub is_null-null-requires : goal.is_null-null-requires
-is_null-null-requires c = grind (arith, common_steps)
-
-pub make_room-requires : goal.make_room-requires
-make_room-requires c = grind (arith, common_steps)
-
-pub returns-in_err-make_room-clause-added : goal.returns-in_err-make_room-clause-added
-returns-in_err-make_room-clause-added c = grind (arith, common_steps)
-
-pub returns-in_err-make_room-clause-answer : goal.returns-in_err-make_room-clause-answer
-returns-in_err-make_room-clause-answer c = grind (arith, common_steps)
-
-pub store-requires-clause-ok : goal.store-requires-clause-ok
-store-requires-clause-ok c = grind (arith, common_steps)
-
-pub store-requires-clause-has : goal.store-requires-clause-has
-store-requires-clause-has c = grind (arith, common_steps)
-
-pub returns-in_err-store-clause-added : goal.returns-in_err-store-clause-added
-returns-in_err-store-clause-added c = grind (arith, common_steps)
-
-pub push_validity-requires-clause-has : goal.push_validity-requires-clause-has
-push_validity-requires-clause-has c = grind (arith, common_steps)
-
-pub push_validity-requires-clause-first : goal.push_validity-requires-clause-first
-push_validity-requires-clause-first c = grind (arith, common_steps)
-
-pub push_validity-requires-clause-next : goal.push_validity-requires-clause-next
-push_validity-requires-clause-next c = grind (arith, common_steps)
-
-pub overflow_add-self : goal.overflow_add-self
-overflow_add-self c = grind (arith, common_steps)
-
-pub from-requires : goal.from-requires
-from-requires c = grind (arith, common_steps)
-
-pub returns-clause-kept : goal.returns-clause-kept
-returns-clause-kept c = grind (arith, common_steps)
 
 pub returns-in_err-make_room-clause-kept : goal.returns-in_err-make_room-clause-kept
 returns-in_err-make_room-clause-kept c = grind (arith, whole_holds)

@@ -1,5 +1,4 @@
-use Rattle.std.proofs.lemmas.Grind.{common_steps}
-use Rattle.std.proofs.Common.{map, arith}
+use Rattle.std.proofs.Common.{map}
 use Rattle.data_types.specs.ColumnView.{column_of}
 use Rattle.csv_read.proofs.EmptiedBuilders.{ready-spent, spent-by}
 use Rattle.csv_read.proofs.batches.BatchReader.export.Goals as goal
@@ -15,15 +14,3 @@ invariant_of-self c =
       c.self.invariant.3,
       ready-spent old new (map column_of inside.columns.items) c.self.invariant.4 (spent-by c.export.result old new c.export.ensures.emptied c.export.ensures.spent),
     )
-
-pub export-requires-clause-few : goal.export-requires-clause-few
-export-requires-clause-few c = grind (arith, common_steps)
-
-pub export-requires-clause-units : goal.export-requires-clause-units
-export-requires-clause-units c = grind (arith, common_steps)
-
-pub returns-clause-cost : goal.returns-clause-cost
-returns-clause-cost c = grind (arith, common_steps)
-
-pub returns-clause-nodes : goal.returns-clause-nodes
-returns-clause-nodes c = grind (arith, common_steps)

@@ -1,5 +1,4 @@
-use Rattle.std.proofs.lemmas.Grind.{common_steps}
-use Rattle.std.proofs.Common.{map, subst, sym, arith}
+use Rattle.std.proofs.Common.{map, subst, sym}
 use Rattle.data_types.specs.ColumnView.{column_of}
 use Rattle.field_codec.specs.TextColumns.{AreAllowed, AreProper}
 use Rattle.csv_read.proofs.batches.BatchReader.start.Goals as goal
@@ -9,12 +8,3 @@ empty-requires-clause-proper c = subst (λ cs. AreProper (map column_of cs)) (sy
 
 pub empty-requires-clause-allowed : goal.empty-requires-clause-allowed
 empty-requires-clause-allowed c = subst (λ cs. AreAllowed (map column_of cs)) (sym c.as_slice.ensures.value) c.requires.allowed
-
-pub returns-in_err-body : goal.returns-in_err-body
-returns-in_err-body c = grind (arith, common_steps)
-
-pub invariant_of-result : goal.invariant_of-result
-invariant_of-result c = grind (arith, common_steps)
-
-pub returns : goal.returns
-returns c = grind (arith, common_steps)

@@ -1,4 +1,3 @@
-use Rattle.std.proofs.lemmas.Grind.{common_steps}
 use Rattle.std.proofs.Common.{◌≡◌, ◌≤◌, ◌<◌, ◌∙◌, ℕ, List, arith, get_or, length, map, refl, subst, sym}
 use Rattle.std.proofs.lemmas.Bool.Decides.{nat_tests}
 use Rattle.std.specs.Vec.{with_items}
@@ -31,6 +30,3 @@ returns-clause-rows c =
     let whole : (with_items made.builders new).items ≡ new = with_items_is made.builders new (emptied.count ∙ sym made.builders.ok.0) in
     no-rows _ columns c.requires.forms
     (subst (λ (bs : List Builder). AreBegun bs columns) (sym whole) (ready-begun made.builders.items new columns c.requires.builders some emptied)) refl
-
-pub builders_of-requires-clause-used : goal.builders_of-requires-clause-used
-builders_of-requires-clause-used c = grind (arith, common_steps)

@@ -1,4 +1,3 @@
-use Rattle.std.proofs.lemmas.Grind.{common_steps}
 use Rattle.std.proofs.Common.{◌∷◌, [], length, ap, arith, length-append}
 use Rattle.data_types.specs.Kinds.{KindOk}
 use Rattle.csv_read.specs.ColumnForms.{IsFormOf}
@@ -30,6 +29,3 @@ loop-column-preserved c =
           }));
       used = omega (arith, ap length used, length-append c.loop-column.used.items ((11, 64) ∷ []), c.loop-column.invariant.used);
     }
-
-pub returns-clause-forms : goal.returns-clause-forms
-returns-clause-forms c = grind (arith, common_steps)

@@ -1,4 +1,3 @@
-use Rattle.std.proofs.lemmas.Grind.{common_steps}
 use Rattle.std.proofs.Common.{◌≡◌, ◌+◌, arith, ◌∙◌, ℕ, List, length, ap, refl, rules, subst, sym}
 use Rattle.std.proofs.lemmas.Bool.Decides.{nat_tests}
 use Rattle.std.specs.Vec.{with_items}
@@ -55,63 +54,3 @@ returns-clause-added c =
     })
     fields c.args.number width refl (ap length whole ∙ count) refl refl
     (subst (AddsFields made.mark made.forms.items fields c.args.number (length made.forms.items) made.builders.items) (sym whole) added)
-
-pub len-requires : goal.len-requires
-len-requires c = grind (arith, common_steps)
-
-pub invariant_of-self : goal.invariant_of-self
-invariant_of-self c = grind (arith, common_steps)
-
-pub len-requires-then-len : goal.len-requires-then-len
-len-requires-then-len c = grind (arith, common_steps)
-
-pub returns-then-len-clause-added : goal.returns-then-len-clause-added
-returns-then-len-clause-added c = grind (arith, common_steps)
-
-pub returns-then-len-clause-fault : goal.returns-then-len-clause-fault
-returns-then-len-clause-fault c = grind (arith, common_steps)
-
-pub returns-then-len-clause-forms : goal.returns-then-len-clause-forms
-returns-then-len-clause-forms c = grind (arith, common_steps)
-
-pub returns-then-len-clause-mark : goal.returns-then-len-clause-mark
-returns-then-len-clause-mark c = grind (arith, common_steps)
-
-pub as_slice-requires-2 : goal.as_slice-requires-2
-as_slice-requires-2 c = grind (arith, common_steps)
-
-pub push_row-requires-clause-count : goal.push_row-requires-clause-count
-push_row-requires-clause-count c = grind (arith, common_steps)
-
-pub push_row-requires-clause-fits : goal.push_row-requires-clause-fits
-push_row-requires-clause-fits c = grind (arith, common_steps)
-
-pub push_row-requires-clause-texts : goal.push_row-requires-clause-texts
-push_row-requires-clause-texts c = grind (arith, common_steps)
-
-pub push_row-requires-clause-only : goal.push_row-requires-clause-only
-push_row-requires-clause-only c = grind (arith, common_steps)
-
-pub returns-in_err-push_row-clause-added : goal.returns-in_err-push_row-clause-added
-returns-in_err-push_row-clause-added c = grind (arith, common_steps)
-
-pub returns-in_err-push_row-clause-forms : goal.returns-in_err-push_row-clause-forms
-returns-in_err-push_row-clause-forms c = grind (arith, common_steps)
-
-pub returns-in_err-push_row-clause-mark : goal.returns-in_err-push_row-clause-mark
-returns-in_err-push_row-clause-mark c = grind (arith, common_steps)
-
-pub overflow_add-self : goal.overflow_add-self
-overflow_add-self c = grind (arith, common_steps)
-
-pub invariant_of-self-2 : goal.invariant_of-self-2
-invariant_of-self-2 c = grind (arith, common_steps)
-
-pub returns-clause-fault : goal.returns-clause-fault
-returns-clause-fault c = grind (arith, common_steps)
-
-pub returns-clause-forms : goal.returns-clause-forms
-returns-clause-forms c = grind (arith, common_steps)
-
-pub returns-clause-mark : goal.returns-clause-mark
-returns-clause-mark c = grind (arith, common_steps)

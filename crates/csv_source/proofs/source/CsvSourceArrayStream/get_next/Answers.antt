@@ -80,9 +80,6 @@ returns-in-Err g c =
       shows = λ _. shows-nothing _ _ _ _ (λ _ _ _. refl);
     }
 
-pub invariant_of-self : goal.invariant_of-self
-invariant_of-self g c = grind (arith, common_steps)
-
 pub returns-in-Some : goal.returns-in-Some
 returns-in-Some g c =
     record {
@@ -99,9 +96,3 @@ returns-in-Some g c =
       counts = grind (arith, common_steps);
       shows = λ _. shows-nothing _ _ _ _ (λ _ _ _. refl);
     }
-
-pub invariant_of-self-in-Ok : goal.invariant_of-self-in-Ok
-invariant_of-self-in-Ok g c = grind (arith, common_steps)
-
-pub invariant_of-self-in-Err : goal.invariant_of-self-in-Err
-invariant_of-self-in-Err g c = grind (arith, common_steps)

@@ -1,5 +1,4 @@
-use Rattle.std.proofs.lemmas.Grind.{common_steps}
-use Rattle.std.proofs.Common.{◌∙◌, length, ap, sym, subst, arith}
+use Rattle.std.proofs.Common.{◌∙◌, length, ap, sym, subst}
 use Rattle.std.specs.Prelude.{All}
 use Rattle.std.specs.List.{AllZip}
 use Rattle.tree_model.specs.Tree.{children_of}
@@ -28,15 +27,3 @@ add_read-requires c =
     let children = subst (λ fs. AreChildren ts fs (window_of c.args.chunk.now)) c.deref.ensures.value c.in_ok-columns.ensures.children in
     let read = subst (λ cs. AllZip Reads c.in_ok-readings.readings.items cs) c.deref-2.ensures.value c.in_ok-readings.ensures in
     (mark, columns, written, h, (ts, children, subst (λ rs. AllZip Reads rs ts) (sym c.deref-3.ensures.value) read))
-
-pub chunk_columns-requires-clause-kind : goal.chunk_columns-requires-clause-kind
-chunk_columns-requires-clause-kind c = grind (arith, common_steps)
-
-pub returns-in_err-columns : goal.returns-in_err-columns
-returns-in_err-columns c = grind (arith, common_steps)
-
-pub returns-in_err-readings : goal.returns-in_err-readings
-returns-in_err-readings c = grind (arith, common_steps)
-
-pub returns : goal.returns
-returns c = grind (arith, common_steps)

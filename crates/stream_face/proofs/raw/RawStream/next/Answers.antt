@@ -278,9 +278,3 @@ returns-in-Some g c =
       counts = grind (arith, common_steps);
       shows = grind (arith, common_steps);
     }
-
-pub invariant_of-self-then-is_released : goal.invariant_of-self-then-is_released
-invariant_of-self-then-is_released g c = grind (arith, common_steps)
-
-pub invariant_of-self-2 : goal.invariant_of-self-2
-invariant_of-self-2 g c = grind (arith, common_steps)
