@@ -1,13 +1,14 @@
 #!/usr/bin/env python3
 """Tests arrow_tree.py over the exports of producer.c and over spoilt memory. Prints how many tests ran, and fails where one does.
 
-    test_arrow_tree.py [PROGRAM]     PROGRAM: the arrowpipe whose verdicts are compared too
+    test_arrow_tree.py [--quiet] [--no-program] [PROGRAM]     PROGRAM: the arrowpipe whose verdicts are compared too
 
-Without PROGRAM it is out/arrowpipe or crates/arrowpipe/out/arrowpipe, where one of these is there."""
+Without PROGRAM it is out/arrowpipe or crates/arrowpipe/out/arrowpipe, where one of these is there. With --quiet only what fails is
+printed; with --no-program no verdict is compared."""
 import argparse
 import ast
+import contextlib
 import ctypes
-import gc
 import io
 import json
 import os
@@ -18,7 +19,6 @@ import subprocess
 import sys
 import tempfile
 import unittest
-from concurrent.futures import ThreadPoolExecutor
 from pathlib import Path
 from typing import Any, Dict, List, NamedTuple, Optional, Tuple
 
@@ -205,6 +205,20 @@ def text_of(schema: Any, array: Any, most: int = 1 << 26, direct: bool = False) 
 def tool(*words: Any, **how: Any) -> "subprocess.CompletedProcess[str]":
     return subprocess.run([sys.executable, str(HERE / "arrow_tree.py"), *map(str, words)], stdout=how.pop("stdout", -1),
                           stderr=-1, universal_newlines=True, timeout=300, cwd=FOLDER, **how)
+
+
+def main_here(*words: Any) -> Tuple[str, int]:
+    """What the tool prints within this process, and its status."""
+    handlers = [(each, signal.getsignal(each)) for each in (signal.SIGINT, signal.SIGTERM)]
+    before, sys.argv = sys.argv, ["arrow_tree.py", *map(str, words)]
+    try:
+        with contextlib.redirect_stdout(io.StringIO()) as printed:
+            status = at.main()
+    finally:
+        sys.argv = before
+        for each, handler in handlers:
+            signal.signal(each, handler)
+    return printed.getvalue(), status
 
 
 def released_by(*words: Any, **how: Any) -> Tuple[Any, str]:
@@ -560,18 +574,17 @@ class Verdicts(unittest.TestCase):
             self.skipTest("there is no built program")
 
     def test_each_export_has_its_verdict(self) -> None:
-        with ThreadPoolExecutor(4) as pool:
-            runs = list(pool.map(lambda row: tool(f"./libproducer.so:{row.name}", "--check", PROGRAM), ROWS))
-        for row, ran in zip(ROWS, runs):
+        for row in ROWS:
             with self.subTest(row.name):
-                self.assertRegex(ran.stdout, f"^{as_pattern(f'array: {row.verdict}')}\n$")
-                self.assertEqual(ran.returncode, row.status)
+                printed, status = main_here(f"{FOLDER}/libproducer.so:{row.name}", "--check", PROGRAM)
+                self.assertRegex(printed, f"^{as_pattern(f'array: {row.verdict}')}\n$")
+                self.assertEqual(status, row.status)
 
     def test_what_cannot_be_written_has_a_status_of_its_own(self) -> None:
         for name, why in UNWRITTEN:
-            ran = tool(f"./libproducer.so:{name}", "--check", PROGRAM)
-            self.assertRegex(ran.stdout, f"^array: {why}\n$")
-            self.assertEqual(ran.returncode, 3)
+            printed, status = main_here(f"{FOLDER}/libproducer.so:{name}", "--check", PROGRAM)
+            self.assertRegex(printed, f"^array: {why}\n$")
+            self.assertEqual(status, 3)
 
     def test_each_stream_has_its_lines_and_is_released_once(self) -> None:
         for name, lines, status, wanted in STREAMS:
@@ -585,6 +598,29 @@ class Verdicts(unittest.TestCase):
         self.assertEqual(os.listdir(FOLDER / "again"), ["chunk-1.tree"])
         ran = subprocess.run([PROGRAM, "--check"], input=(FOLDER / "again/chunk-1.tree").read_bytes(), stderr=-1)
         self.assertEqual((ran.returncode, ran.stderr), (8, b"arrowpipe: tree /0: NullCount at 0: 0, 1\n"))
+
+
+    def test_the_examples_of_the_page_are_true(self) -> None:
+        room = FOLDER / "page"
+        room.mkdir()
+        for name in ("tools", "examples"):
+            (room / name).symlink_to(HERE.parent / name)
+        (room / "arrowpipe").symlink_to(str(PROGRAM))
+        page = (HERE.parent / "docs/CHECK.md").read_text()
+        runs = re.findall(r"^    \$ (.*)\n((?:    (?!\$ ).*\n)*)", page, re.MULTILINE)
+        for command, printed in runs:
+            with self.subTest(command):
+                ran = subprocess.run(command, shell=True, cwd=room, stdout=-1, stderr=subprocess.STDOUT, universal_newlines=True)
+                self.assertEqual(ran.stdout, re.sub("^    ", "", printed, flags=re.MULTILINE))
+        self.assertGreater(len(runs), 8)
+
+    def test_each_example_of_a_rule_is_a_verdict(self) -> None:
+        page = (HERE.parent / "docs/CHECK.md").read_text()
+        verdicts = [row.verdict for row in ROWS] + [line for _, lines, *_ in STREAMS for line in lines.split("|")]
+        examples = re.findall(r"^\| [A-Z]\w+ \|.*? \| `(.*?)` \|", page, re.MULTILINE)
+        self.assertEqual(len(examples), 17)
+        for example in examples:
+            self.assertIn(example, verdicts)
 
 
 def compiled() -> ctypes.CDLL:
@@ -604,8 +640,10 @@ def main() -> int:
     parser = argparse.ArgumentParser(description=__doc__)
     parser.add_argument("program", nargs="?")
     parser.add_argument("--quiet", action="store_true", help="print only what fails")
+    parser.add_argument("--no-program", action="store_true", help="compare no verdicts, whatever is built")
     words = parser.parse_args()
     built = [words.program] if words.program else ["out/arrowpipe", "crates/arrowpipe/out/arrowpipe"]
+    built = [] if words.no_program else built
     PROGRAM = next((str((HERE.parent / it).resolve()) for it in built if os.access(HERE.parent / it, os.X_OK)), None)
     if words.program and not PROGRAM:
         print(f"validator: there is no program {words.program}")
@@ -618,7 +656,7 @@ def main() -> int:
     passed = result.testsRun - skipped - len({str(test).split(" [")[0] for test, _ in result.failures + result.errors})
     if failed or not words.quiet:
         print(f"validator: {passed} tests passed, {failed} failures, {skipped} skipped"
-              f"{'' if PROGRAM else ' (no program is built, so its verdicts are not compared)'}; {len(ROWS)} exports, "
+              f"{'' if PROGRAM else ' (without a program no verdict is compared)'}; {len(ROWS)} exports, "
               f"{len(UNWRITTEN)} that can't be written, {len(STREAMS)} streams, {SPOILT_MEMORIES} spoilt memories")
     return 1 if failed or passed < 1 else 0
 
