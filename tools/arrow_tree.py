@@ -30,7 +30,7 @@ ArrowArray = namedtuple(
 ArrowArrayStream = namedtuple("ArrowArrayStream", "get_schema get_next get_last_error release data")
 CAPSULES = {"__arrow_c_array__": "schema array", "__arrow_c_stream__": "array_stream", "__arrow_c_schema__": "schema"}
 # What each buffer of a type holds ("Data type description", "Buffer Listing for Each Layout"): a number is bits an item
-# (`*`: so many times the number in the format), `+` means one item more, `@` the bytes up to the last offset.
+# (`*`: times the number in the format), `+` means one item more, `@` the bytes up to the last offset.
 LAYOUTS = {"n": "", "b": "1 1", "[cC]": "1 8", "[sSe]": "1 16", "[iIf]|tdD|tt[sm]|tiM": "1 32",
            "[lLg]|tdm|tt[un]|ts[smun]:.*|tD[smun]|tiD": "1 64", r"tin|d:\d+,-?\d+": "1 128", "[uz]": "1 +32 @32",
            "[UZ]": "1 +64 @64", r"w:(\d{1,10})": "1 *8", r"d:\d+,-?\d+,(\d{1,4})": "1 *1", r"\+[lm]": "1 +32",
@@ -61,7 +61,7 @@ class Writer:
     direct: bool
 
     def tree(self, schema: int, array: int, out: BinaryIO) -> None:
-        """A schema and its array, each in preorder. What stands for no array is a released one."""
+        """A schema and its array, each in preorder; a released array in place of none."""
         self.out, self.is_deep, self.kinds = out, False, defaultdict(lambda: ("", "", 0, False))
         self.line("tree 1")
         self.schema(schema, "")
@@ -137,7 +137,7 @@ class Writer:
                 self.schema(node.dictionary, f"{path}/d")
 
     def array(self, address: int, path: str) -> None:
-        """What stands behind a wrong count isn't read: that count's rule comes before those of what is written."""
+        """What a wrong count counts isn't read: that count's rule comes before those of what is written instead."""
         node, where = self.node(ArrowArray, address, path), path or "/"
         if node:
             format, _, wanted, wants_dictionary = self.kinds[path]
@@ -259,7 +259,7 @@ class Run(ExitStack):
         said = re.findall("^arrowpipe: (.*)$", ran.stderr.decode(errors="replace"), re.MULTILINE)
         fault = (said or [f"{self.words.check} ends with status {ran.returncode}"])[-1] if ran.returncode else "ok"
         nulls = re.match(rb"ok\n/ =\+s \d+ ([1-9]\d*)\n", ran.stdout)
-        if part == "schema" and fault.startswith("tree /: Released"):  # the array that stands for none
+        if part == "schema" and fault.startswith("tree /: Released"):  # the array in place of none
             fault = "ok"
         elif part.startswith("chunk") and nulls:  # no row of a table is null
             fault = f"tree /: TopNulls at 0: {int(nulls[1])}, 0"
@@ -271,24 +271,24 @@ class Run(ExitStack):
         return {"result": "left out" if left_out else "unlawful", "fault": fault, "column": column,
                 "format": ", ".join([format, *left_out]), **found.groupdict()}
 
-    def told(self, part: str, schema: int, array: int) -> Dict[str, Any]:
+    def judge(self, part: str, schema: int, array: int) -> Dict[str, Any]:
         """What is to be said of a part, whose text stays where it is of use."""
         text = self.words.out / f"{part.replace(' ', '-')}.tree"
         try:
             with open(text, "wb") as out:
                 self.writer.tree(schema, array, out)
-            told = self.check(part, text) if self.words.check else {"result": "written", "fault": str(text)}
+            verdict = self.check(part, text) if self.words.check else {"result": "written", "fault": str(text)}
         except Refused as why:
             text.unlink()
             return dict(zip(("result", "fault"), why.args))
-        if told["result"] == "lawful":
+        if verdict["result"] == "lawful":
             text.unlink()
-        return told
+        return verdict
 
-    def say(self, part: str, told: Dict[str, Any]) -> int:
-        node = f" ({told['column']}: {told['format']})" if "column" in told else ""
-        print(json.dumps({"part": part, **told}) if self.words.json else f"{part}: {told['fault']}{node}", flush=True)
-        return STATUS[told["result"]]
+    def say(self, part: str, said: Dict[str, Any]) -> int:
+        node = f" ({said['column']}: {said['format']})" if "column" in said else ""
+        print(json.dumps({"part": part, **said}) if self.words.json else f"{part}: {said['fault']}{node}", flush=True)
+        return STATUS[said["result"]]
 
 
 def main() -> int:
@@ -311,7 +311,7 @@ def main() -> int:
             words.out = words.out or Path(run.enter_context(tempfile.TemporaryDirectory()))
             words.out.mkdir(parents=True, exist_ok=True)
             for part, schema, array in run.parts():
-                statuses.append(run.say(part, run.told(part, schema, array)))
+                statuses.append(run.say(part, run.judge(part, schema, array)))
                 if part == "schema" and statuses[-1]:
                     break
     except Refused as why:

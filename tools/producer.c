@@ -46,7 +46,7 @@ struct ArrowArrayStream {
 /* How often a release acted: a test asks that each structure's did, once. */
 int released_schemas, released_arrays, released_streams;
 
-__attribute__((destructor)) static void tell_released(void) {
+__attribute__((destructor)) static void write_released(void) {
   FILE *file = getenv("RELEASED") ? fopen(getenv("RELEASED"), "w") : NULL;
   if (file == NULL) return;
   fprintf(file, "%d %d %d", released_schemas, released_arrays, released_streams);
@@ -445,7 +445,7 @@ static void frees_twice(struct ArrowArray *array) {
   release_malloced_array(array);
   release_malloced_array(array);
 }
-/* The last so many bytes that are mapped, with no mapped byte behind them. */
+/* `size` bytes, behind which no byte is mapped. */
 static void *last_bytes(size_t size) {
   size_t page = sysconf(_SC_PAGESIZE);
   uint8_t *two = mmap(NULL, 2 * page, PROT_READ | PROT_WRITE, MAP_PRIVATE | MAP_ANONYMOUS, -1, 0);
