@@ -6,6 +6,7 @@
 #     tools/check_gdal.sh PROGRAM      PROGRAM: the built arrowpipe
 program=$(realpath "${1:?the built arrowpipe}") || exit 2
 cd "$(dirname "$0")" || exit 2
+export PYTHONDONTWRITEBYTECODE=1
 python=/usr/bin/python3
 if ! $python -c 'from osgeo import gdal' 2> /dev/null; then
     apt-get update > /dev/null && apt-get install -y --no-install-recommends python3-gdal > /dev/null || exit 2

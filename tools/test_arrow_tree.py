@@ -552,6 +552,8 @@ class Runs(unittest.TestCase):
         self.assertEqual(ran.stderr, "arrow_tree: BrokenPipeError: [Errno 32] Broken pipe\n")
         ran, released = released_by("./libproducer.so:bad_null_child", "--check", fake_check("", 0))
         self.assertEqual((ran.returncode, released[:2]), (3, "0 "), "what can't be written")
+        ran, released = released_by("./libproducer.so:bad_released", "--check", fake_check("arrowpipe: tree /: Released at 0: 0, 0", 8))
+        self.assertEqual((ran.returncode, released), (8, "1 1 0"), "what its producer has released")
 
     def test_a_producer_without_end_stops_at_the_bound(self) -> None:
         ran, released = released_by("./libproducer.so:stream_endless", "--stream", "--out", "endless", "--most", 1 << 20)
@@ -610,7 +612,8 @@ class Verdicts(unittest.TestCase):
         runs = re.findall(r"^    \$ (.*)\n((?:    (?!\$ ).*\n)*)", page, re.MULTILINE)
         for command, printed in runs:
             with self.subTest(command):
-                ran = subprocess.run(command, shell=True, cwd=room, stdout=-1, stderr=subprocess.STDOUT, universal_newlines=True)
+                ran = subprocess.run(command, shell=True, cwd=room, stdout=-1, stderr=subprocess.STDOUT, universal_newlines=True,
+                                     env={**os.environ, "PYTHONDONTWRITEBYTECODE": "1"})
                 self.assertEqual(ran.stdout, re.sub("^    ", "", printed, flags=re.MULTILINE))
         self.assertGreater(len(runs), 8)
 
