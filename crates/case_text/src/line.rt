@@ -3,16 +3,18 @@
 /// A line of a transcript, without its line end.
 #[derive(Clone, Copy, Debug, PartialEq)]
 pub enum Line<'l> {
-    /// `$ ..` begins a case: what stands behind the sign.
+    /// `$ ..` begins a case: what stands behind the sign and a blank.
     Case(&'l str),
     /// `< ..` or `@ ..` belongs to the case: the whole line.
     Part(&'l str),
-    /// `? ROW -> ANSWER`: the row, which is run once more.
+    /// `? ROW -> ANSWER`: the row, with which the case is run.
     Row(&'l str),
     /// `> ..`, `! ..`, `| ..` or `= ..`: an answer, which is written anew.
     Answer,
-    /// Any other line: it ends a case, and is copied.
+    /// `# ..` or an empty line: it ends a case, and is copied.
     Note,
+    /// Any other line, which no transcript has.
+    Other,
 }
 
 /// What stands behind a sign and one blank.
@@ -26,6 +28,7 @@ fn behind(text: &str) -> &str {
 /// Says what a line is, by its first byte. A row ends at the first ` -> `.
 pub fn line_of(text: &str) -> Line<'_> {
     match text.as_bytes().first() {
+        None | Some(b'#') => Line::Note,
         Some(b'$') => Line::Case(behind(text)),
         Some(b'<' | b'@') => Line::Part(text),
         Some(b'>' | b'!' | b'|' | b'=') => Line::Answer,
@@ -36,6 +39,6 @@ pub fn line_of(text: &str) -> Line<'_> {
                 None => Line::Row(text),
             }
         }
-        _ => Line::Note,
+        _ => Line::Other,
     }
 }

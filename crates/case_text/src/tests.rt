@@ -1,5 +1,6 @@
 //! Each escape, each byte and each kind of line once.
-use crate::{Line, line_of, push_line, read_bytes, spelled_lines, spelling_of};
+use crate::{Case, Line, line_of, push_input, push_line, read_bytes, spelled_lines, spelling_of};
+use std::alloc::Global;
 use std::process::Abort;
 use std::test::Fail;
 
@@ -80,9 +81,51 @@ fn lines_are_known_by_their_first_byte(rt: HostRuntime) -> Result<(), Fail> {
         ("= 0", Line::Answer),
         ("# a", Line::Note),
         ("", Line::Note),
+        ("a,b", Line::Other),
     ];
     for (text, line) in rows {
         assert_eq!(rt; line_of(text), line, "what {text:?} is");
     }
+    Ok(())
+}
+
+/// The input of a case with a row in its places.
+fn input_of(alloc: Global, case: &Case, row: &str) -> Result<Vec<u8>, Fail> {
+    let mut bytes = Vec::new(alloc);
+    for line in &case.filled(alloc, row)?.lines {
+        if !push_input(&mut bytes, alloc, line.as_str())? {
+            return Err(Fail::from("no line of input"));
+        }
+    }
+    Ok(bytes)
+}
+
+#[test]
+fn a_row_stands_in_the_places_of_its_case(rt: HostRuntime) -> Result<(), Fail> {
+    let alloc = rt.alloc();
+    let mut case = Case::new(alloc, "--schema a:{1} \\e {}")?;
+    case.push(alloc, "< {2},x")?;
+    case.push(alloc, "<* 2 {i}{d}{odd}{2}\\x09")?;
+    let bytes = input_of(alloc, &case, "c -1")?;
+    assert_eq!(rt;
+        bytes.as_slice(),
+        b"-1,x\n11true-1\t\n22false-1\t\n".as_slice()
+    );
+    let words = case.filled(alloc, "c -1")?;
+    let Some(words) = words.words(alloc)? else {
+        return Err(Fail::from("no words"));
+    };
+    let mut words = words.iter().map(|word| word.as_slice());
+    let came = [words.next(), words.next(), words.next(), words.next()];
+    let wanted: [&[u8]; 4] = [b"--schema", b"a:c", b"", b"c"];
+    assert_eq!(rt; came, wanted.map(|word| Some(word)));
+    assert_eq!(rt; words.next(), Some(b"-1".as_slice()));
+    assert!(rt; words.next().is_none());
+    let none = Case::new(alloc, "")?.words(alloc)?;
+    assert!(rt; none.is_some_and(|none| none.is_empty()));
+    assert!(rt; Case::new(alloc, "a \\q")?.words(alloc)?.is_none());
+    let mut bytes = Vec::new(alloc);
+    assert!(rt; !push_input(&mut bytes, alloc, "<* x a")?);
+    assert!(rt; !push_input(&mut bytes, alloc, "<a")?);
     Ok(())
 }
