@@ -4,8 +4,7 @@ ghost use Rattle.arr_import.specs.Window.{IsStruct};
 ghost use Rattle.arr_import.specs.Cols.{window_of};
 ghost use Rattle.arr_import.specs.Indexing.{shown_by};
 
-use crate::imports::closed;
-use crate::trees::{Span, encoded, ended, flat, holding, indexing, leaf, over};
+use crate::trees::{Span, closed, encoded, ended, flat, holding, indexing, leaf, over};
 use arr_import::{Col, Indexed, ValueRef};
 use std::alloc::Global;
 use std::process::Abort;

@@ -7,7 +7,7 @@ use raw_array::{ArrayParts, RawArray, ReleaseKind};
 use raw_schema::{RawSchema, SchemaParts};
 use std::alloc::Global;
 use std::process::Abort;
-use unit_pass::{Pass, SUPPLY};
+use unit_pass::{Desk, Pass, SUPPLY};
 
 pub fn listed<T>(rt: &impl Abort, items: &mut Vec<T>, item: T) {
     match items.push(item) {
@@ -96,20 +96,6 @@ pub fn encoded(
     pass: &mut Pass,
 ) -> RawSchema {
     schema(rt, alloc, format, Vec::new(alloc), Some(dictionary), pass)
-}
-
-/// A struct of two.
-pub fn pair(
-    rt: &impl Abort,
-    alloc: Global,
-    first: RawSchema,
-    second: RawSchema,
-    pass: &mut Pass,
-) -> RawSchema {
-    let mut children = Vec::new(alloc);
-    listed(rt, &mut children, first);
-    listed(rt, &mut children, second);
-    schema(rt, alloc, b"+s", children, None, pass)
 }
 
 // ---- arrays
@@ -216,21 +202,6 @@ pub fn holding(
     array(rt, alloc, span, bytes, children, None, pass)
 }
 
-/// An array with two children.
-pub fn holding_two(
-    rt: &impl Abort,
-    alloc: Global,
-    span: Span,
-    bytes: &[Option<&[u8]>],
-    children: (RawArray, RawArray),
-    pass: &mut Pass,
-) -> RawArray {
-    let mut both = Vec::new(alloc);
-    listed(rt, &mut both, children.0);
-    listed(rt, &mut both, children.1);
-    array(rt, alloc, span, bytes, both, None, pass)
-}
-
 /// An array with a dictionary.
 pub fn indexing(
     rt: &impl Abort,
@@ -263,4 +234,9 @@ pub fn ended(rt: &impl Abort, schema: RawSchema, array: RawArray, pass: &mut Pas
     assert!(rt; schema.cost() <= SUPPLY - before);
     schema.release(pass);
     schema.discard();
+}
+
+pub fn closed(rt: &impl Abort, desk: Desk, pass: Pass) {
+    assert_eq!(rt; pass.units(), SUPPLY);
+    desk.close(pass);
 }

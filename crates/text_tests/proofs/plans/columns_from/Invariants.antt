@@ -1,7 +1,0 @@
-use Rattle.std.specs.Prelude.{All}
-use Rattle.data_types.specs.ColumnForms.{KindsOk}
-use Rattle.data_types.specs.ColumnView.{kind_of}
-use Rattle.text_tests.proofs.plans.columns_from.Given as goal
-
-abbrev pub invariant-loop-entry : goal.invariant-loop-entry
-invariant-loop-entry l = All (λ c. KindsOk (kind_of c.kind)) l.columns.items
