@@ -48,5 +48,3 @@ pub use text::{is_text, is_text_beyond};
 mod add_tests;
 #[cfg(test)]
 mod tests;
-#[cfg(test)]
-mod text_tests;

@@ -22,17 +22,11 @@ mod chunk;
 mod counts;
 mod failing;
 mod indices;
-#[cfg(test)]
-mod layout_tests;
 mod node;
 mod nulls;
 mod runs;
 mod scans;
-#[cfg(test)]
-mod tests;
 mod texts;
-#[cfg(test)]
-mod view_tests;
 mod view_texts;
 mod views;
 mod walk;

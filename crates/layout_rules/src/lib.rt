@@ -12,8 +12,6 @@
 //! (`layout_check`), the kinds of a schema (`kind_tree`), and reading the values (`arr_import`).
 #![tactic(auto)]
 
-#[cfg(test)]
-mod fault_tests;
 mod fault_text;
 mod laws;
 mod layout;

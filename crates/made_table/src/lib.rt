@@ -15,9 +15,6 @@ use itoa::Buffer;
 use std::alloc::Global;
 use unit_pass::NoMemory;
 
-#[cfg(test)]
-mod tests;
-
 /// The line of the names.
 const HEADER: [u8; 20] = *b"id,name,amount,paid\n";
 

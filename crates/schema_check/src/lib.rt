@@ -11,13 +11,9 @@
 //! or shared in the right order.
 #![tactic(auto)]
 
-#[cfg(test)]
-mod fault_tests;
 mod fault_text;
 mod rule;
 mod schema;
-#[cfg(test)]
-mod schema_tests;
 
 pub use rule::SchemaRule;
 pub use schema::{SchemaFault, check_schema, kinds_are_valid, one_schema_answer};
