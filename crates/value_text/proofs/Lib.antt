@@ -1,0 +1,3 @@
+pub mod PlainBytes
+pub mod Parts
+pub mod Sizes

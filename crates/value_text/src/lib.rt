@@ -1,0 +1,20 @@
+//! The texts of values, and of the items of an array a line each.
+//!
+//! - [`BoundedText`] is a text of at most 2^31 bytes. What would make it longer is refused as want of memory is: an array of a
+//!   few bytes can have 2^40 items, and a dictionary can stand for each of its values any number of times.
+//! - [`push_value`] appends the text of an item of a column, which it reads in place.
+//! - [`items_text`] is the text `ok` and a line for each item of a lawful array.
+//!
+//! What a value's text is stands in `specs/ValueTexts.antt`. The calls go down one level of the checked kinds at a time and take
+//! no memory but that of the text. Left to others: whether an array is lawful (`layout_check`), and what an item of it is
+//! (`arr_import`).
+#![tactic(auto)]
+
+mod bounded;
+mod escapes;
+mod lines;
+mod value;
+
+pub use bounded::BoundedText;
+pub use lines::items_text;
+pub use value::push_value;

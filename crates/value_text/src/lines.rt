@@ -1,0 +1,46 @@
+//! The items of an array, a line each.
+ghost use Rattle.std.specs.Prelude.{◌≡◌, ◌≤◌, ◌++◌, IfOk, OnOk, vec_len};
+ghost use Rattle.std.specs.List.{flat_map};
+ghost use Rattle.kind_tree.specs.Kinds.{TypedOk};
+ghost use Rattle.kind_tree.specs.TypedView.{typed_of};
+ghost use Rattle.layout_rules.specs.Values.{values_of};
+ghost use Rattle.layout_rules.specs.Walk.{LayoutOk};
+ghost use Rattle.arr_import.specs.Cols.{window_of};
+ghost use Rattle.arr_import.specs.Window.{items_of};
+ghost use Rattle.value_text.specs.ValueTexts.{lines_text, text_limit, value_line};
+
+use crate::bounded::BoundedText;
+use crate::value::{count_items, push_value};
+use arr_import::Col;
+use kind_tree::Typed;
+use raw_array::RawArray;
+use std::alloc::Global;
+use unit_pass::NoMemory;
+
+/// The text of an array that `layout_check::check_array` accepted: `ok`, and a line with the text of each item of its window.
+/// `NoMemory` comes for want of memory, and where the text would have more than 2^31 bytes: at once where the number of items
+/// shows it, since a line has at least two.
+pub fn items_text(alloc: Global, typed: &Typed, array: &RawArray) -> Result<Vec<u8>, NoMemory>
+    requires types { TypedOk (typed_of typed.now) }
+    requires lawful { LayoutOk (typed_of typed.now) array.now }
+    ensures text { IfOk result (λ text. text.items ≡ lines_text (values_of (typed_of typed.now) array.now)) }
+    ensures within { IfOk result (λ text. vec_len text ≤ text_limit) }
+{
+    let mut text = BoundedText::new(alloc);
+    text.push_bytes(b"ok\n")?;
+    push_lines(&mut text, &Col::of(typed, array))?;
+    Ok(text.into_bytes())
+}
+
+/// Appends a line for each item of a column.
+fn push_lines(text: &mut BoundedText, col: &Col<'_>) -> Result<(), NoMemory>
+    ensures { OnOk result (text.new ≡ text.old ++ flat_map value_line (items_of (window_of col.now))) }
+{
+    let count = count_items(col);
+    text.has_room(count * 2)?;
+    for i in 0..count {
+        push_value(text, col, i)?;
+        text.push(b'\n')?;
+    }
+    Ok(())
+}
