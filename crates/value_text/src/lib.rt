@@ -13,6 +13,7 @@
 mod bounded;
 mod escapes;
 mod lines;
+mod table;
 mod value;
 
 pub use bounded::BoundedText;

@@ -10,6 +10,7 @@ ghost use Rattle.arr_import.specs.Window.{items_of};
 ghost use Rattle.value_text.specs.ValueTexts.{lines_text, text_limit, value_line};
 
 use crate::bounded::BoundedText;
+use crate::table::{columns_of, is_table, push_rows};
 use crate::value::{count_items, push_value};
 use arr_import::Col;
 use kind_tree::Typed;
@@ -28,17 +29,35 @@ pub fn items_text(alloc: Global, typed: &Typed, array: &RawArray) -> Result<Vec<
 {
     let mut text = BoundedText::new(alloc);
     text.push_bytes(b"ok\n")?;
-    push_lines(&mut text, &Col::of(typed, array))?;
+    push_items(alloc, &mut text, typed, &Col::of(typed, array))?;
     Ok(text.into_bytes())
+}
+
+/// Appends a line for each item of a column of these kinds. The columns of a struct's fields are looked up once, unless they are
+/// more than its items.
+fn push_items(
+    alloc: Global,
+    text: &mut BoundedText,
+    typed: &Typed,
+    col: &Col<'_>,
+) -> Result<(), NoMemory>
+    requires { (window_of col.now).typed ≡ typed_of typed.now }
+    ensures { OnOk result (text.new ≡ text.old ++ flat_map value_line (items_of (window_of col.now))) }
+{
+    let count = count_items(col);
+    text.has_room(count * 2)?;
+    if is_table(typed) && col.n_children() as u64 <= count {
+        let columns = columns_of(alloc, col)?;
+        return push_rows(text, col, &columns);
+    }
+    push_lines(text, col)
 }
 
 /// Appends a line for each item of a column.
 fn push_lines(text: &mut BoundedText, col: &Col<'_>) -> Result<(), NoMemory>
     ensures { OnOk result (text.new ≡ text.old ++ flat_map value_line (items_of (window_of col.now))) }
 {
-    let count = count_items(col);
-    text.has_room(count * 2)?;
-    for i in 0..count {
+    for i in 0..count_items(col) {
         push_value(text, col, i)?;
         text.push(b'\n')?;
     }

@@ -22,7 +22,7 @@ pub(crate) fn count_items(col: &Col<'_>) -> u64
 }
 
 /// The number of an item as a column's calls take it.
-fn number(i: u64) -> i64
+pub(crate) fn number(i: u64) -> i64
     requires { i < 2 ^ 63 }
     ensures { result ≡ pos i }
 {
@@ -80,7 +80,12 @@ pub fn push_value(text: &mut BoundedText, col: &Col<'_>, i: u64) -> Result<(), N
 
 /// Appends the text of the part of a list or a struct that has this number: behind a comma, unless it is the first.
 #[cycle(texts)]
-fn push_part(text: &mut BoundedText, number: u64, col: &Col<'_>, i: u64) -> Result<(), NoMemory>
+pub(crate) fn push_part(
+    text: &mut BoundedText,
+    number: u64,
+    col: &Col<'_>,
+    i: u64,
+) -> Result<(), NoMemory>
     requires inside { i < (window_of col.now).count }
     requires small { i < 2 ^ 63 }
     ensures { OnOk result (text.new ≡ text.old ++ item_text number (item_at (window_of col.now) i)) }

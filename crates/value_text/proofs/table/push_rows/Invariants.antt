@@ -1,0 +1,12 @@
+use Rattle.std.proofs.Common.{◌≡◌, ◌++◌}
+use Rattle.std.specs.List.{flat_map}
+use Rattle.layout_rules.specs.Values.{each, value_at}
+use Rattle.arr_import.specs.Cols.{window_of}
+use Rattle.value_text.specs.ValueTexts.{value_line}
+use Rattle.value_text.proofs.table.push_rows.Given as goal
+
+-- the lines so far
+abbrev pub invariant-loop-i : goal.invariant-loop-i
+invariant-loop-i l =
+    l.text
+    ≡ l.initial.text ++ flat_map value_line (each (value_at (window_of l.table).typed (window_of l.table).array) (window_of l.table).start l.i)
