@@ -1,0 +1,5 @@
+pub mod OneAnswer
+pub mod MemoryFaults
+pub mod Coming
+pub mod Carried
+pub mod Lines

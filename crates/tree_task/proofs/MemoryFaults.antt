@@ -1,0 +1,108 @@
+-- No answer is a fault with a want of memory inside it.
+use Rattle.std.proofs.Common.{◌≡◌, ◌∙◌, ◌+◌, ℕ, Bool, true, false, List, [], ◌∷◌, suc, Option, None, Some, Result, Ok, Err, ap, inl, inr, refl}
+use Rattle.fmt_string.specs.declared.fault.FormatFault.TheVariants as format
+use Rattle.kind_tree.specs.Kinds.{KindTree}
+use Rattle.kind_tree.specs.Ways.{Steps}
+use Rattle.layout_rules.specs.Walk.{Fault as ArrayFault, first_fault}
+use Rattle.raw_array.specs.Members.{ArrayTree}
+use Rattle.raw_schema.specs.Members.{SchemaMembers, SchemaTree}
+use Rattle.schema_check.specs.SchemaAnswers.{FirstFault, SchemaReads}
+use Rattle.schema_check.specs.Schemas.{DictFault, FailsHere, FaultFrom, KidFault}
+use Rattle.schema_check.specs.declared.rule.SchemaRule.{SchemaRule}
+use Rattle.schema_check.specs.declared.rule.SchemaRule.TheVariants as rules
+use Rattle.schema_meta.specs.declared.fault.MetaFault.TheVariants as meta
+use Rattle.tree_model.specs.Tree.{Released, Live, Trees, no_trees, more_trees, MaybeTree, absent, present}
+use Rattle.tree_text.specs.Answers.{Reads}
+use Rattle.tree_text.specs.declared.fault.TextFault.{TextFault}
+use Rattle.tree_text.specs.declared.fault.TextFault.TheVariants as texts
+use Rattle.tree_task.specs.Answer.{Answer, AnswerWithin, Fault, IsAnswerTo, ReadAnswer, Text, TreesAnswer, is_too_long, rows_of_kinds, rows_unless}
+use Rattle.tree_task.specs.Faults.{has_memory_inside, is_decided, is_text_memory, rule_has_memory}
+use Rattle.tree_task.specs.declared.command.Command.{Command}
+use Rattle.tree_task.specs.declared.command.Command.TheVariants as commands
+use Rattle.tree_task.specs.declared.fault.TreeRunFault.{TreeRunFault}
+use Rattle.tree_task.specs.declared.fault.TreeRunFault.TheVariants as run
+
+abbrev within : Answer → Bool
+within (Text text) = false
+within (Fault fault) = has_memory_inside fault
+
+-- ---- schemas
+
+fails-here : (level : ℕ) (tree : SchemaTree) (rule : SchemaRule) → FailsHere level tree rule → rule_has_memory rule ≡ false
+fails-here level tree rules.Deep fails = refl
+fails-here level tree rules.Released fails = refl
+fails-here level tree (rules.Format (format.At rule place)) fails = refl
+fails-here level Released (rules.Format format.NoMemory) fails = absurd fails
+fails-here level (Live s kids dict) (rules.Format format.NoMemory) fails = absurd fails
+fails-here level Released (rules.Meta meta.NoMemory) fails = absurd fails
+fails-here level (Live s kids dict) (rules.Meta meta.NoMemory) fails = absurd fails
+fails-here level tree (rules.Meta (meta.Short place)) fails = refl
+fails-here level tree (rules.Meta (meta.Negative place)) fails = refl
+fails-here level tree (rules.Meta (meta.Trailing place)) fails = refl
+fails-here level tree rules.ChildCount fails = refl
+fails-here level tree rules.DictIndexType fails = refl
+fails-here level tree rules.MapShape fails = refl
+
+mutual
+  fault-from : (level : ℕ) (tree : SchemaTree) (path : Steps) (rule : SchemaRule) → FaultFrom level tree path rule → rule_has_memory rule ≡ false
+  fault-from level tree [] rule fault = fails-here level tree rule fault
+  fault-from level Released (step ∷ path) rule fault = absurd fault
+  fault-from level (Live s kids dict) (step ∷ path) rule fault = elim fault.1 [
+    | inl kid ↦ kid-fault (level + 1) kids 0 step path rule kid
+    | inr below ↦ dict-fault (level + 1) dict path rule below.2
+  ]
+
+  kid-fault : (level : ℕ) (kids : Trees SchemaMembers) (k step : ℕ) (path : Steps) (rule : SchemaRule) → KidFault level kids k step path rule
+      → rule_has_memory rule ≡ false
+  kid-fault level no_trees k step path rule fault = absurd fault
+  kid-fault level (more_trees kid kids) k step path rule fault = elim fault [
+    | inl here ↦ fault-from level kid path rule here.1
+    | inr later ↦ kid-fault level kids (suc k) step path rule later.1
+  ]
+
+  dict-fault : (level : ℕ) (dict : MaybeTree SchemaMembers) (path : Steps) (rule : SchemaRule) → DictFault level dict path rule
+      → rule_has_memory rule ≡ false
+  dict-fault level absent path rule fault = absurd fault
+  dict-fault level (present dict) path rule fault = fault-from level dict path rule fault
+
+-- ---- rows
+
+of-array : (typed : KindTree) (array : ArrayTree) (fault : Option ArrayFault) → within (rows_unless typed array fault) ≡ false
+of-array typed array None = refl
+of-array typed array (Some fault) = refl
+
+of-kinds : (schema : SchemaTree) (array : ArrayTree) (read : Result KindTree FirstFault) → SchemaReads schema read → within (rows_of_kinds read array) ≡ false
+of-kinds schema array (Ok typed) reads = of-array typed array (first_fault typed array)
+of-kinds schema array (Err first) reads = fault-from 1 schema first.path first.rule reads
+
+-- ---- answers
+
+of-text : (bytes : List ℕ) (fault : TextFault) → Reads bytes (Err fault) → is_text_memory fault ≡ false
+of-text bytes (texts.Line line) reads = refl
+of-text bytes texts.TooManyLines reads = refl
+of-text bytes texts.NoMemory reads = absurd reads
+
+of-trees : (command : Command) (schema : SchemaTree) (array : ArrayTree) (answer : Answer) → TreesAnswer command schema array answer
+    → within answer ≡ false
+of-trees commands.Rows schema array answer is = ap within is.2 ∙ of-kinds schema array is.0 is.1
+
+of-read : (command : Command) (bytes : List ℕ) (read : Result (SchemaTree × ArrayTree) TextFault) (answer : Answer) → Reads bytes read
+    → ReadAnswer command read answer → within answer ≡ false
+of-read command bytes (Ok read) answer reads is = of-trees command read.0 read.1 answer is
+of-read command bytes (Err fault) answer reads is = ap within is ∙ of-text bytes fault reads
+
+of-within : (long : Bool) (command : Command) (bytes : List ℕ) (answer : Answer) → AnswerWithin long command bytes answer → within answer ≡ false
+of-within true command bytes answer is = ap within is
+of-within false command bytes answer is = of-read command bytes is.read answer is.reads is.is
+
+of-answer : (command : Option Command) (bytes : List ℕ) (answer : Answer) → IsAnswerTo command bytes answer → within answer ≡ false
+of-answer (Some command) bytes answer is = of-within (is_too_long bytes) command bytes answer is
+of-answer None bytes answer is = ap within is
+
+-- ---- faults of a run
+
+pub of-fault : (command : Option Command) (bytes : List ℕ) (fault : TreeRunFault) → (is_decided fault ≡ true → IsAnswerTo command bytes (Fault fault))
+    → has_memory_inside fault ≡ false
+of-fault command bytes (run.Text fault) answer = of-answer command bytes (Fault (run.Text fault)) (answer refl)
+of-fault command bytes (run.Schema path rule) answer = of-answer command bytes (Fault (run.Schema path rule)) (answer refl)
+of-fault command bytes _ answer = refl

@@ -1,0 +1,8 @@
+use Rattle.tree_task.proofs.OneAnswer.{one-answer, some-answer}
+use Rattle.tree_task.proofs.laws.one_answer.Goals as goal
+
+pub returns-clause-some : goal.returns-clause-some
+returns-clause-some c = some-answer c.one_check.ensures.some
+
+pub returns-clause-alone : goal.returns-clause-alone
+returns-clause-alone c = one-answer c.one_reading.ensures.alone c.one_schema_answer.ensures

@@ -1,0 +1,5 @@
+pub mod Answer
+pub mod Faults
+pub mod Over
+pub mod Told
+pub mod Refusals

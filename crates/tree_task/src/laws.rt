@@ -1,0 +1,23 @@
+//! What holds of the answers of runs. The calls do nothing.
+ghost use Rattle.std.specs.Prelude.{◌≡◌, ℕ, List, Option, true, false};
+ghost use Rattle.tree_task.specs.Answer.{Answer, Fault, IsAnswerTo};
+ghost use Rattle.tree_task.specs.Faults.{has_memory_inside, is_decided};
+ghost use Rattle.tree_task.specs.declared.command.Command.{Command as ACommand};
+ghost use Rattle.tree_task.specs.declared.fault.TreeRunFault.{TreeRunFault as AFault};
+
+/// A law: whatever the command and the bytes of the input are, there is an answer, and one alone.
+pub fn one_answer()
+    ensures some { (command : Option ACommand) (bytes : List ℕ) → (answer : Answer) × IsAnswerTo command bytes answer }
+    ensures alone { (command : Option ACommand) (bytes : List ℕ) (one other : Answer) → IsAnswerTo command bytes one → IsAnswerTo command bytes other
+        → one ≡ other }
+{
+    tree_text::one_reading();
+    tree_check::one_check();
+    schema_check::one_schema_answer();
+}
+
+/// A law: no fault that is an answer has a want of memory inside it, nor has any that words and bytes don't decide.
+pub fn memory_stands_alone()
+    ensures { (command : Option ACommand) (bytes : List ℕ) (fault : AFault)
+        → (is_decided fault ≡ true → IsAnswerTo command bytes (Fault fault)) → has_memory_inside fault ≡ false }
+{}

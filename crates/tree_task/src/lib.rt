@@ -1,0 +1,29 @@
+//! What the program for trees does between its words and its lines.
+//!
+//! - [`read_command`] reads the command that the words are.
+//! - [`carry_out`] reads the source to its end, reads the two trees that its text tells of, checks them as a stranger's would be,
+//!   and writes the text of the command to the sink, or gives the first fault: of the words, of reading, of the text, of the
+//!   schema, of the array, of writing.
+//! - [`TreeOutcome`] is what a run came to, and [`tell`] writes the line of its fault.
+//! - Laws say that words and bytes have one answer ([`one_answer`]), and that no fault has a want of memory inside it
+//!   ([`memory_stands_alone`]).
+//!
+//! The answer to words and bytes stands in `specs/Answer.antt`, what a run comes to in `specs/Over.antt`, causes and statuses in
+//! `specs/Faults.antt`. Left to others: the lines of trees (`tree_text`), the rules of schemas and arrays (`schema_check`,
+//! `layout_check`), the texts of values (`value_text`).
+#![tactic(auto)]
+
+mod answer;
+mod carry;
+mod command;
+mod fault;
+mod laws;
+mod outcome;
+mod told;
+
+pub use carry::carry_out;
+pub use command::{Command, read_command};
+pub use fault::TreeRunFault;
+pub use laws::{memory_stands_alone, one_answer};
+pub use outcome::{TreeOutcome, outcome_of};
+pub use told::tell;

@@ -1,0 +1,53 @@
+//! What a run came to.
+ghost use Rattle.std.specs.Prelude.{◌≡◌, Some};
+ghost use Rattle.tree_task.specs.Faults.{fault_in, status_of};
+
+use crate::fault::TreeRunFault;
+use unit_pass::Audit;
+
+/// What a run came to.
+#[derive(Clone, Copy, PartialEq, Eq, Debug)]
+pub struct TreeOutcome {
+    /// A function of the fault: 0 without one; 2 for the words, 5 for an input that is too long, 6 and 7 for reading and writing,
+    /// 8 for the text, the schema and the array, 9 for want of memory.
+    pub status: u8,
+    pub fault: Option<TreeRunFault>,
+    /// The blocks and nodes that were made, and that none is left.
+    pub audit: Audit,
+}
+
+/// What a run came to that was carried out or failed so, with this audit.
+pub fn outcome_of(carried: Result<(), TreeRunFault>, audit: Audit) -> TreeOutcome
+    ensures status { result.status ≡ status_of result.fault }
+    ensures fault { result.fault ≡ fault_in carried }
+    ensures audit { result.audit ≡ audit }
+{
+    match carried {
+        Ok(()) => TreeOutcome {
+            status: 0,
+            fault: None,
+            audit,
+        },
+        Err(fault) => TreeOutcome {
+            status: status(fault),
+            fault: Some(fault),
+            audit,
+        },
+    }
+}
+
+/// The status of a fault.
+fn status(fault: TreeRunFault) -> u8
+    ensures { result ≡ status_of (Some fault) }
+{
+    match fault {
+        TreeRunFault::Words => 2,
+        TreeRunFault::InputTooLong => 5,
+        TreeRunFault::ReadFault => 6,
+        TreeRunFault::WriteFault { taken: _ } => 7,
+        TreeRunFault::Text(_) => 8,
+        TreeRunFault::Schema { path: _, rule: _ } => 8,
+        TreeRunFault::Layout(_) => 8,
+        TreeRunFault::NoMemory => 9,
+    }
+}
