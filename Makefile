@@ -3,7 +3,7 @@
 #   make             the programs and what they stand on, as many crates at a time as there are processors (or -jN)
 #   make NAME        one crate or program, and what it stands on
 #   make edits-NAME  the must-fail edits of a crate, those in bench/edits/NAME too: the prover must refuse each
-#   make try         a first look at arrowpipe, without any proof: make try WORDS='select=name' < FILE
+#   make try         a first look at arrowpipe, without any proof: make try WORDS='select=name' < FILE; another: PROGRAM=arrowtree
 #   make dist        out/rekuyomi.tar.gz: the programs, their manuals, README and the SHA-256 sums of these
 #   make check       the gate
 #   make clean       removes what the others made
@@ -15,6 +15,7 @@ SHELL := /bin/bash
 export LC_ALL := C
 POOL := crates/arrowpipe/out/rlib
 LANES := $(shell nproc)
+PROGRAM := arrowpipe
 .DELETE_ON_ERROR:
 
 ifndef LOCKED
@@ -33,7 +34,7 @@ clean:
 	@flock crates rm -rf out $(POOL)
 try:
 	@echo 'a first look: nothing is proved, and it runs some hundred times slower than the program' >&2
-	@cd crates/arrowpipe && rt try -- $(WORDS)
+	@cd crates/$(PROGRAM) && rt try -- $(WORDS)
 else
 
 # Its time is that before the sources are looked at.
