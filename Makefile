@@ -50,6 +50,8 @@ comma := ,
 LINES := $(shell sed -n 's/^\([a-z0-9_]*\)[^:\#]*: */\1:/p' crates.txt | tr ' ' ,)
 CRATES := $(foreach it,$(LINES),$(firstword $(subst :, ,$(it))))
 PROGRAMS := $(foreach it,$(CRATES),$(if $(wildcard crates/$(it)/src/main.rt),$(it)))
+# Those with a manual are for users; the others run cases, or are examples.
+FOR_USERS := $(foreach it,$(PROGRAMS),$(if $(wildcard docs/$(it).1),$(it)))
 define read_line
 DEPS_$(1) := $(subst $(comma), ,$(2))
 OURS_$(1) := $(filter $(CRATES),$(subst $(comma), ,$(2)))
@@ -65,7 +67,7 @@ $(foreach it,$(CRATES),$(eval SUM_$(it) := $(shell $(call sum,$(it)))))
 $(foreach it,$(CRATES),$(eval STAMP_$(it) := $(if $(filter $(it),$(PROGRAMS)),out,$(POOL))/$(it)-$(SUM_$(it)).proved))
 
 # What the goals need. A program that its sources no longer give goes first.
-NEEDED := $(sort $(foreach it,$(MAKECMDGOALS:edits-%=%) $(if $(filter all dist,$(MAKECMDGOALS)),$(PROGRAMS)),$(BELOW_$(it))))
+NEEDED := $(sort $(foreach it,$(MAKECMDGOALS:edits-%=%) $(if $(filter all dist,$(MAKECMDGOALS)),$(FOR_USERS)),$(BELOW_$(it))))
 $(foreach it,$(filter $(NEEDED),$(PROGRAMS)),$(if $(and $(wildcard out/$(it)),$(wildcard $(STAMP_$(it)))),, \
   $(shell rm -f out/$(it) out/$(it).built $(STAMP_$(it)))))
 LEFT := $(strip $(foreach it,$(NEEDED),$(if $(wildcard $(STAMP_$(it))),,$(it))))
@@ -101,7 +103,7 @@ endef
 
 .SECONDEXPANSION:
 .PHONY: all dist $(CRATES) $(CRATES:%=edits-%)
-all: $(PROGRAMS)
+all: $(FOR_USERS)
 $(CRATES): $$(foreach it,$$(filter $$(BELOW_$$@),$(CRATES)),$$(STAMP_$$(it)))
 	@$(if $(filter $@,$(PROGRAMS)),touch -r out/begun out/$@.built && echo 'built: out/$@',echo 'proved: $@')
 $(foreach it,$(filter-out $(PROGRAMS),$(CRATES)),$(STAMP_$(it))): | $$(foreach it,$$(OURS_$$(name)),$$(STAMP_$$(it)))
@@ -117,8 +119,8 @@ $(CRATES:%=edits-%): edits-%: $$(foreach it,$(EDITS),$$(if $$(filter $$*,$$(call
 	@echo 'refused: $(words $^) edits'
 $(EDITS:%=try/%): try/%: | $$(STAMP_$$(call owner,$$*))
 	@.ci/try-edit crates/$(call owner,$*) $* $(call $(if $(filter $(call owner,$*),$(PROGRAMS)),object,library),$(call owner,$*),made)
-dist: $(PROGRAMS)
-	@rm -rf out/rekuyomi && mkdir out/rekuyomi && cp README.md $(PROGRAMS:%=out/%) $(wildcard $(PROGRAMS:%=docs/%.1)) out/rekuyomi
+dist: $(FOR_USERS)
+	@rm -rf out/rekuyomi && mkdir out/rekuyomi && cp README.md $(FOR_USERS:%=out/%) $(FOR_USERS:%=docs/%.1) out/rekuyomi
 	@cd out/rekuyomi && sha256sum * > ../SHA256SUMS && mv ../SHA256SUMS . && tar -C .. -czf ../rekuyomi.tar.gz rekuyomi
 	@rm -r out/rekuyomi && echo 'made: out/rekuyomi.tar.gz'
 endif
