@@ -166,7 +166,7 @@ fn are_plain(rt: &impl Abort, alloc: Global, cases: &[Case<'_>]) {
         match import(alloc, schema, array) {
             Ok(imported) => {
                 is_plain(rt, &imported.col(), case.want);
-                let (schema, array) = imported.into_raw();
+                let (schema, array, _typed) = imported.into_raw();
                 ended(rt, schema, array, &mut pass);
             }
             Err(_refused) => panic!(rt; "refused"),
@@ -301,7 +301,7 @@ fn windowed(rt: &impl Abort, alloc: Global, case: Case<'_>) {
                 }
                 _ => panic!(rt; "no struct"),
             }
-            let (schema, array) = imported.into_raw();
+            let (schema, array, _typed) = imported.into_raw();
             ended(rt, schema, array, &mut pass);
         }
         Err(_refused) => panic!(rt; "refused"),
@@ -376,7 +376,7 @@ fn are_indices(
     match import(alloc, schema, array) {
         Ok(imported) => {
             shows_indexed(rt, &imported.col(), 3, want);
-            let (schema, array) = imported.into_raw();
+            let (schema, array, _typed) = imported.into_raw();
             ended(rt, schema, array, &mut pass);
         }
         Err(_refused) => panic!(rt; "refused"),

@@ -46,7 +46,7 @@ impl fmt::Display for ImportFault {
 
 impl std::error::Error for ImportFault {}
 
-/// A schema and an array that meets it. It can't be dropped: [`Imported::into_raw`] gives both back.
+/// A schema, an array that meets it, and the schema's kinds. It can't be dropped: [`Imported::into_raw`] gives all three back.
 pub struct Imported {
     schema: RawSchema,
     array: RawArray,
@@ -124,16 +124,21 @@ impl Imported {
         &self.array
     }
 
-    /// The two structures as they came.
-    pub fn into_raw(self) -> (RawSchema, RawArray)
+    /// The two structures as they came, and the kinds that the array was checked with. A window or a share of the array meets
+    /// the same kinds (laws of `array_laws`), so it is read by them ([`Col::of`]) without a second check.
+    pub fn into_raw(self) -> (RawSchema, RawArray, Typed)
         ensures schema { result.0 ≡ self.schema }
         ensures array { result.1 ≡ self.array }
+        ensures typed { result.2 ≡ self.typed }
+        ensures kinds { TypedOf result.0 (typed_of result.2) }
+        ensures types { TypedOk (typed_of result.2) }
+        ensures lawful { LayoutOk (typed_of result.2) result.1 }
     {
         let Imported {
             schema,
             array,
-            typed: _,
+            typed,
         } = self;
-        (schema, array)
+        (schema, array, typed)
     }
 }

@@ -5,7 +5,7 @@
 //! - An [`Imported`] lends its array, the schema's kinds, and the array's items as a column.
 //!
 //! What it leaves to others: the values of the column ([`Col`](arr_import::Col)); the units of the structures, which
-//! [`Imported::into_raw`] gives back; and whether the root is a table (`layout_check::check_chunk`).
+//! [`Imported::into_raw`] gives back with the kinds; and whether the root is a table (`layout_check::check_chunk`).
 #![tactic(auto)]
 
 mod imported;
