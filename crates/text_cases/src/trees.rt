@@ -171,7 +171,7 @@ fn tell_imported(
     let (schema, array, came) = match import(alloc, schema, array) {
         Ok(imported) => {
             let came = tell_column(alloc, &imported.col(), told);
-            let (schema, array) = imported.into_raw();
+            let (schema, array, _typed) = imported.into_raw();
             (schema, array, came)
         }
         Err((schema, array, fault)) => (schema, array, tell_import_fault(alloc, &fault, told)),

@@ -1,0 +1,52 @@
+use Rattle.std.proofs.Common.{List, Option, ap, map, arith}
+use Rattle.std.specs.Prelude.{count_by, is_some}
+use Rattle.buf_block.specs.declared.hold.BufView.{BufView}
+use Rattle.raw_array.specs.Members.{Cost}
+use Rattle.col_build.specs.Items.{value_of}
+use Rattle.first_exchange.proofs.Columns.{column-cost, finished-holds}
+use Rattle.first_exchange.proofs.produce.column.Goals as goal
+
+pub export_column-requires-clause-units : goal.export_column-requires-clause-units
+export_column-requires-clause-units c =
+    let values = map value_of c.args.items.now in
+    omega (arith, c.in-Ok.ensures.units c.args.kind values c.in_ok-builder.ensures, column-cost c.args.kind values, c.requires.units)
+
+pub give_up-requires-clause-room : goal.give_up-requires-clause-room
+give_up-requires-clause-room c =
+    let values = map value_of c.args.items.now in
+    let made = c.in-Ok.ensures.encoded c.args.kind values c.in_ok-builder.ensures in
+    let same = ap (λ (views : List (Option BufView)). count_by is_some views) c.in-Err-export_column.ensures.buffers_back in
+    omega (
+      arith,
+      same,
+      finished-holds _ _ made.buffers,
+      c.in-Ok.ensures.units c.args.kind values c.in_ok-builder.ensures,
+      c.in-Err-export_column.ensures.units,
+    )
+
+pub returns-in-Ok-export_column-clause-units : goal.returns-in-Ok-export_column-clause-units
+returns-in-Ok-export_column-clause-units c =
+    let values = map value_of c.args.items.now in
+    let made = c.in-Ok.ensures.encoded c.args.kind values c.in_ok-builder.ensures in
+    let cost = ap Cost (c.in-Ok-export_column.ensures.tree c.args.kind values made) in
+    omega (
+      arith,
+      cost,
+      column-cost c.args.kind values,
+      c.in-Ok.ensures.units c.args.kind values c.in_ok-builder.ensures,
+      c.in-Ok-export_column.ensures.units,
+    )
+
+pub returns-in-Err-export_column-clause-units_back : goal.returns-in-Err-export_column-clause-units_back
+returns-in-Err-export_column-clause-units_back c =
+    let values = map value_of c.args.items.now in
+    let made = c.in-Ok.ensures.encoded c.args.kind values c.in_ok-builder.ensures in
+    let same = ap (λ (views : List (Option BufView)). count_by is_some views) c.in-Err-export_column.ensures.buffers_back in
+    omega (
+      arith,
+      same,
+      finished-holds _ _ made.buffers,
+      c.in-Ok.ensures.units c.args.kind values c.in_ok-builder.ensures,
+      c.in-Err-export_column.ensures.units,
+      c.give_up.ensures,
+    )
