@@ -1,24 +1,14 @@
-//! Tests of the top call: runs over sources and sinks in memory, with answers from outside.
+//! Tests of the top call that need more than texts: gates and threads, an input that is too long to be held, and faults as values.
 //!
-//! They stand apart from the crate that they test, so that its check needn't prove it once more, and the program needn't
-//! prove the tap that they look through.
+//! Runs whose inputs and answers are texts are cases of `run_cases`. The tests stand apart from the crate that they test, so that its
+//! check needn't prove it once more.
 #![tactic(auto)]
 
 #[cfg(test)]
-mod checks;
-#[cfg(test)]
-mod failures;
-#[cfg(test)]
-mod fields;
+mod faults;
 #[cfg(test)]
 mod lines;
 #[cfg(test)]
-mod made;
-#[cfg(test)]
-mod payments;
-#[cfg(test)]
 mod runs;
-#[cfg(test)]
-mod staged;
 #[cfg(test)]
 mod workers;

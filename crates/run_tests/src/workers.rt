@@ -1,14 +1,12 @@
-//! Runs with several workers: texts, blocks and nodes are those of one worker, and two workers are seen side by side.
-use crate::payments::{CHAIN, TOTALS, payments};
-use crate::runs::{Ends, Ran, came_to, has_made, run_over, words_of};
-use edge_io::{Gate, OpenGate};
+//! Runs with several workers: each passes the gate, and two are seen side by side.
+use crate::runs::{Ran, run_from};
+use edge_io::{Gate, MemSource};
 use std::alloc::Global;
 use std::process::Abort;
 use std::sync::atomic::{AtomicU64, Ordering};
 use std::test::Fail;
 use std::thread;
 use std::thread::Threads;
-use stream_face::NoTap;
 
 /// Worker 1 raises its flag, and worker 0 looks for it, so many times at most, and notes whether it saw it. Workers that run
 /// one after another never show it, since worker 0 has then gone on before worker 1 comes.
@@ -76,25 +74,21 @@ fn run_by<R: Threads + Sync>(
     bytes: &[u8],
     gate: &(dyn Gate + Sync),
 ) -> Result<Ran, Fail> {
-    let all = format!(in alloc; "--workers {workers} {line}")?;
-    let words = words_of(alloc, all.as_str())?;
-    let ends = Ends {
-        read_step: 4096,
-        room: 20_000,
-        write_step: 4096,
-        line_room: 100,
-        line_step: 5,
-    };
-    run_over(
-        rt,
-        alloc,
-        &words,
-        bytes,
-        ends,
-        (&[], &[], &[]),
-        &mut NoTap,
-        gate,
-    )
+    let line = format!(in alloc; "--workers {workers} {line}")?;
+    let mut source = MemSource::new(bytes.to_vec(alloc)?, 4096, Vec::new(alloc));
+    run_from(rt, alloc, line.as_str(), &mut source, gate)
+}
+
+/// Expects that a run came to this text, made with so many blocks and nodes.
+fn has_made(rt: &impl Abort, row: &str, ran: &Ran, text: &[u8], traffic: (u64, u64)) {
+    let audit = &ran.outcome.audit;
+    let came = (ran.outcome.status, ran.sink.taken(), audit.left);
+    assert_eq!(rt; came, (0, text, 0), "what {row} comes to");
+    assert_eq!(rt;
+        (audit.blocks, audit.nodes),
+        traffic,
+        "the blocks and nodes of {row}"
+    );
 }
 
 /// Runs with so many workers and the words of a line over a text, and expects this text, made with so many blocks and nodes.
@@ -108,8 +102,7 @@ fn expect_by<R: Threads + Sync + Abort>(
     let (line, bytes, text, traffic) = row;
     let ran = run_by(rt, alloc, workers, *line, *bytes, gate)?;
     let by = format!(in alloc; "{line} by {workers}")?;
-    came_to(rt, by.as_str(), *bytes, &ran, (None, 0), *text);
-    has_made(rt, by.as_str(), &ran, *traffic);
+    has_made(rt, by.as_str(), &ran, *text, *traffic);
     Ok(())
 }
 
@@ -161,28 +154,34 @@ fn as_many_workers_pass_as_are_asked_for(rt: HostRuntime) -> Result<(), Fail> {
     Ok(())
 }
 
-#[test]
-fn any_number_of_workers_gives_the_same(rt: HostRuntime) -> Result<(), Fail> {
-    for row in &ROWS {
-        for workers in [1u32, 2, 3, 64] {
-            expect_by(&rt, rt.alloc(), workers, row, &OpenGate)?;
-        }
+/// So many payments, every second of which is paid: the lines `i,itemD,i.25,P`, where D is the last digit of i.
+fn payments(alloc: Global, rows: u32) -> Result<Vec<u8>, Fail> {
+    let mut bytes = b"id,name,amount,paid\n".to_vec(alloc)?;
+    for row in 0..rows {
+        let i = row + 1;
+        let digit = i % 10;
+        let paid = i % 2 == 1;
+        let line = format!(in alloc; "{i},item{digit},{i}.25,{paid}\n")?;
+        bytes.extend_from_slice(line.as_bytes())?;
     }
-    Ok(())
+    Ok(bytes)
 }
+
+/// Stages of each kind over payments, in chunks of seven.
+const CHAIN: &str =
+    "--batch 7 --schema id:l;amount:d:10,2;paid:b pack=p,id,amount unpack=p dict=name filter=paid,eq,true plain=name totals=id,amount";
+
+/// Their totals.
+const TOTALS: &[u8] =
+    b"id_count,id_sum,id_min,id_max,amount_count,amount_sum,amount_min,amount_max\n500,250000,1,999,500,250125.00,1.25,999.25\n";
 
 #[test]
 fn four_workers_total_a_thousand_payments_in_chunks_of_seven(rt: HostRuntime) -> Result<(), Fail> {
     let alloc = rt.alloc();
-    let line = format!(in alloc; "--batch 7 {CHAIN}")?;
     let bytes = payments(alloc, 1000)?;
-    let mut text = TOTALS.to_vec(alloc)?;
-    text.extend_from_slice(b"500,250000,1,999,500,250125.00,1.25,999.25\n")?;
     let gate = Counted::new();
-    let ran = run_by(&rt, alloc, 4, line.as_str(), &bytes, &gate)?;
-    let came = (ran.outcome.status, ran.outcome.audit.left);
-    assert_eq!(rt; came, (0, 0));
-    assert_eq!(rt; ran.sink.taken(), text.as_slice());
+    let ran = run_by(&rt, alloc, 4, CHAIN, &bytes, &gate)?;
+    has_made(&rt, "the payments", &ran, TOTALS, (2010, 2625));
     // A filter and totals of 143 chunks.
     assert_eq!(rt; gate.counts(), [286, 286, 286, 286, 0]);
     Ok(())
