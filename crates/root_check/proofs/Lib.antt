@@ -1,0 +1,2 @@
+pub mod RootAnswers
+pub mod ChildFaults

@@ -1,0 +1,11 @@
+use Rattle.std.proofs.Common.{map, take, All}
+use Rattle.std.specs.List.{AllZip}
+use Rattle.tree_model.specs.Tree.{children_of}
+use Rattle.kind_tree.specs.Kinds.{TypedOk}
+use Rattle.kind_tree.specs.TypedView.{typed_of}
+use Rattle.schema_check.specs.Schemas.{TypedOf}
+use Rattle.root_check.proofs.kids.types_of_children.Given as goal
+
+-- the children so far have these kinds
+abbrev pub invariant-loop-i : goal.invariant-loop-i
+invariant-loop-i l = AllZip TypedOf (take l.i (children_of l.schema)) (map typed_of l.kids.items) × All TypedOk (map typed_of l.kids.items)

@@ -1,0 +1,26 @@
+//! What an array and a schema must meet whose root no format string of `fmt_string` spells, such as a union or a run-end
+//! encoded array ("The Arrow C Data Interface", "Structure definitions").
+//!
+//! - [`check_own`] tries the rules on the root's own numbers, and on how many parts it has.
+//! - [`check_children`] finds the first child, by number, at which `layout_check` finds a fault.
+//! - [`check_own_schema`] tries what every such root's schema must meet besides its format: metadata that spells pairs, and no
+//!   dictionary.
+//! - [`child_types`] answers the kinds of each child, or the first child at fault.
+//! - A law says that a schema has one answer of each ([`one_root_answer`]).
+//!
+//! What the rules say stands in `specs`: `OwnRules`, `Children`, `Schemas`. The checks of arrays take no memory. Left to others:
+//! the format, the buffers and the items of such a root.
+#![tactic(auto)]
+
+mod children;
+mod fault_text;
+mod kids;
+mod laws;
+mod own;
+mod own_schema;
+
+pub use children::{FaultyChild, check_children};
+pub use kids::{KidsFault, child_types};
+pub use laws::one_root_answer;
+pub use own::{OwnFault, OwnRule, check_own};
+pub use own_schema::{OwnSchemaFault, check_own_schema};
