@@ -1,2 +1,3 @@
 pub mod RootAnswers
 pub mod ChildFaults
+pub mod Faultless

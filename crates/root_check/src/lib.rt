@@ -6,7 +6,8 @@
 //! - [`check_own_schema`] tries what every such root's schema must meet besides its format: metadata that spells pairs, and no
 //!   dictionary.
 //! - [`child_types`] answers the kinds of each child, or the first child at fault.
-//! - A law says that a schema has one answer of each ([`one_root_answer`]).
+//! - Laws say that a schema has one answer of each ([`one_root_answer`]), and what holds of arrays at which no rule fails
+//!   ([`faultless_roots`]).
 //!
 //! What the rules say stands in `specs`: `OwnRules`, `Children`, `Schemas`. The checks of arrays take no memory. Left to others:
 //! the format, the buffers and the items of such a root.
@@ -21,6 +22,6 @@ mod own_schema;
 
 pub use children::{FaultyChild, check_children};
 pub use kids::{KidsFault, child_types};
-pub use laws::one_root_answer;
+pub use laws::{faultless_roots, one_root_answer};
 pub use own::{OwnFault, OwnRule, check_own};
 pub use own_schema::{OwnSchemaFault, check_own_schema};
