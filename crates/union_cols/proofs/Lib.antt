@@ -1,0 +1,5 @@
+pub mod Formats
+pub mod FormatSteps
+pub mod OneUnion
+pub mod Holding
+pub mod Tables

@@ -1,0 +1,13 @@
+pub mod UnionFormats
+pub mod Unions
+pub mod UnionRules
+pub mod UnionSchemas
+pub mod UnionHolds
+pub mod SchemaParts
+pub mod FormatAnswers
+pub mod UnionAnswers
+pub mod IdTables
+pub mod TypedProps
+pub mod UnionCols
+pub mod FaultTexts
+pub mod WorkedUnions

@@ -1,0 +1,55 @@
+-- Small unions with their kinds.
+use Rattle.std.specs.Prelude.{ℕ, ℤ, pos, Bool, false, List, [], ◌∷◌, Option, Some, None}
+use Rattle.data_types.specs.declared.kind.DataType.TheVariants as kinds
+use Rattle.data_types.specs.Value.{Value}
+use Rattle.tree_model.specs.Tree.{Live, trees, absent}
+use Rattle.raw_array.specs.Members.{ArrayTree, Buffer, members_of}
+use Rattle.layout_rules.specs.Layout.{items}
+use Rattle.layout_rules.specs.Values.{each}
+use Rattle.layout_rules.specs.WorkedArrays.{flat, int32, buffer, members, leaf}
+use Rattle.union_cols.specs.Unions.{UnionTree, union_value}
+use Rattle.union_cols.specs.UnionRules.{Rule, UnionFound}
+
+-- numbers with the id 5, and bytes with the id 7
+abbrev pub numbers_and_bytes : Bool → UnionTree
+numbers_and_bytes dense = record { dense = dense; ids = 5 ∷ 7 ∷ []; kids = flat int32 ∷ flat (kinds.Binary false) ∷ [] }
+
+-- a union with these buffers over two children
+abbrev pub over_two : ℤ → ℤ → List (Option Buffer) → ArrayTree → ArrayTree → ArrayTree
+over_two length offset buffers one two = Live (members length (pos 0) offset buffers) (trees (one ∷ two ∷ [])) absent
+
+-- the numbers 10 and 11
+abbrev pub two_numbers : ArrayTree
+two_numbers = leaf (pos 2) (pos 0) (pos 0) (None ∷ buffer (10 ∷ 0 ∷ 0 ∷ 0 ∷ 11 ∷ 0 ∷ 0 ∷ 0 ∷ []) ∷ [])
+
+-- the bytes `hi`
+abbrev pub one_binary : ArrayTree
+one_binary = leaf (pos 1) (pos 0) (pos 0) (None ∷ buffer (0 ∷ 0 ∷ 0 ∷ 0 ∷ 2 ∷ 0 ∷ 0 ∷ 0 ∷ []) ∷ buffer (104 ∷ 105 ∷ []) ∷ [])
+
+-- no bytes, and `hi`
+abbrev pub some_binaries : ArrayTree
+some_binaries =
+    leaf (pos 2) (pos 0) (pos 0)
+    (None ∷ buffer (0 ∷ 0 ∷ 0 ∷ 0 ∷ 0 ∷ 0 ∷ 0 ∷ 0 ∷ 2 ∷ 0 ∷ 0 ∷ 0 ∷ []) ∷ buffer (104 ∷ 105 ∷ []) ∷ [])
+
+-- the offsets 0, 0 and 1
+abbrev pub starts : Option Buffer
+starts = buffer (0 ∷ 0 ∷ 0 ∷ 0 ∷ 0 ∷ 0 ∷ 0 ∷ 0 ∷ 1 ∷ 0 ∷ 0 ∷ 0 ∷ [])
+
+-- three items with these ids, in two children
+abbrev pub dense_union : List ℕ → ArrayTree
+dense_union ids = over_two (pos 3) (pos 0) (buffer ids ∷ starts ∷ []) two_numbers one_binary
+
+-- its last two items
+abbrev pub dense_window : ArrayTree
+dense_window = over_two (pos 2) (pos 1) (buffer (0xff ∷ 7 ∷ 5 ∷ []) ∷ starts ∷ []) two_numbers one_binary
+
+-- one item, behind one with an id that no child has
+abbrev pub sparse_window : ArrayTree
+sparse_window = over_two (pos 1) (pos 1) (buffer (0xff ∷ 7 ∷ []) ∷ []) two_numbers some_binaries
+
+abbrev pub values_of_union : UnionTree → ArrayTree → List Value
+values_of_union u array = each (union_value u array) 0 (items (members_of array))
+
+abbrev pub found : Rule → ℕ → ℤ → ℤ → Option UnionFound
+found rule place left right = Some (record { rule = rule; numbers = record { place = place; left = left; right = right } })

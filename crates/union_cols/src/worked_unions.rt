@@ -1,0 +1,31 @@
+//! Small unions, computed from the definitions.
+ghost use Rattle.std.specs.Prelude.{◌≡◌, true, false, None, [], ◌∷◌, pos, negsuc, codes};
+ghost use Rattle.data_types.specs.Value.Value.{Whole, Bytes};
+ghost use Rattle.root_check.specs.declared.own.OwnRule.TheVariants as own;
+ghost use Rattle.layout_rules.specs.WorkedArrays.{buffer};
+ghost use Rattle.union_cols.specs.UnionRules.{union_fault, Own, BufferShort, BadTypeId, ChildShort, OffsetRange};
+ghost use Rattle.union_cols.specs.WorkedUnions.{numbers_and_bytes, over_two, two_numbers, one_binary, some_binaries, starts, dense_union, dense_window};
+ghost use Rattle.union_cols.specs.WorkedUnions.{sparse_window, values_of_union, found};
+
+/// What the definitions say of small unions: their values, and the first fault ("Arrow Columnar Format", "Union Layout").
+pub fn small_unions()
+    // A dense union, and a window over it: the id before the window isn't looked at.
+    ensures dense { values_of_union (numbers_and_bytes true) (dense_union (5 ∷ 7 ∷ 5 ∷ []))
+        ≡ Whole (pos 10) ∷ Bytes (codes "hi") ∷ Whole (pos 11) ∷ [] }
+    ensures dense_is_lawful { union_fault (numbers_and_bytes true) (dense_union (5 ∷ 7 ∷ 5 ∷ [])) ≡ None }
+    ensures window { values_of_union (numbers_and_bytes true) dense_window ≡ Bytes (codes "hi") ∷ Whole (pos 11) ∷ [] }
+    ensures window_is_lawful { union_fault (numbers_and_bytes true) dense_window ≡ None }
+    // A sparse union's item stands in its child at the item's own place.
+    ensures sparse { values_of_union (numbers_and_bytes false) sparse_window ≡ Bytes (codes "hi") ∷ [] }
+    ensures sparse_is_lawful { union_fault (numbers_and_bytes false) sparse_window ≡ None }
+    // An id that no child has; one above 127 is below 0.
+    ensures bad_id { union_fault (numbers_and_bytes true) (dense_union (5 ∷ 7 ∷ 6 ∷ [])) ≡ found BadTypeId 2 (pos 6) (pos 0) }
+    ensures signed_id { union_fault (numbers_and_bytes true) (dense_union (5 ∷ 0xff ∷ 5 ∷ [])) ≡ found BadTypeId 1 (negsuc 0) (pos 0) }
+    // Too few bytes of ids, an offset behind its child, a child of a sparse union that is too short, and a buffer too many.
+    ensures short { union_fault (numbers_and_bytes true) (dense_union (5 ∷ 7 ∷ [])) ≡ found BufferShort 0 (pos 2) (pos 3) }
+    ensures outside { union_fault (numbers_and_bytes true) (dense_union (5 ∷ 7 ∷ 7 ∷ [])) ≡ found OffsetRange 2 (pos 1) (pos 1) }
+    ensures short_child { union_fault (numbers_and_bytes false) (over_two (pos 2) (pos 0) (buffer (5 ∷ 5 ∷ []) ∷ []) two_numbers one_binary)
+        ≡ found ChildShort 1 (pos 1) (pos 2) }
+    ensures buffers { union_fault (numbers_and_bytes false) (over_two (pos 2) (pos 0) (buffer (5 ∷ 5 ∷ []) ∷ starts ∷ []) two_numbers some_binaries)
+        ≡ found (Own own.BufferCount) 0 (pos 2) (pos 1) }
+{}
