@@ -39,6 +39,7 @@ impl Model for Known {
 
 impl Known {
     /// Checks a schema and keeps it.
+    #[inline(never)]
     pub(crate) fn of(alloc: Global, schema: RawSchema) -> Result<Known, (RawSchema, SchemaFault)>
         ensures schema { IfOk result (λ known. known.schema ≡ schema) }
         ensures live { IfOk result (λ known. IsLive schema) }
