@@ -1,0 +1,3 @@
+pub mod OneRuns
+pub mod Holding
+pub mod Searching

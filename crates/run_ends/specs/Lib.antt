@@ -1,0 +1,10 @@
+pub mod Runs
+pub mod RunRules
+pub mod RunSchemas
+pub mod RunHolds
+pub mod SchemaParts
+pub mod RunAnswers
+pub mod RunCols
+pub mod WindowProps
+pub mod FaultTexts
+pub mod WorkedRuns

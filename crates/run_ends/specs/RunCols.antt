@@ -1,0 +1,13 @@
+-- What contracts see of a run-end encoded array that is read in place.
+use Rattle.raw_array.specs.Members.{ArrayTree}
+use Rattle.run_ends.specs.declared.column.RunCol.{RunCol}
+use Rattle.run_ends.specs.Runs.{RunTree}
+use Rattle.run_ends.specs.RunAnswers.{runs_of}
+
+-- its kinds
+abbrev pub kinds_in : RunCol → RunTree
+kinds_in col = runs_of col.typed.now
+
+-- the array
+abbrev pub array_in : RunCol → ArrayTree
+array_in col = col.array.now
