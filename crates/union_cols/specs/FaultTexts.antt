@@ -9,6 +9,8 @@ use Rattle.union_cols.specs.declared.rule.UnionRule.TheVariants as rules
 use Rattle.union_cols.specs.declared.rule.UnionFault.{UnionFault}
 use Rattle.union_cols.specs.declared.schema_fault.UnionSchemaFault.{UnionSchemaFault}
 use Rattle.union_cols.specs.declared.schema_fault.UnionSchemaFault.TheVariants as schemas
+use Rattle.union_cols.specs.declared.tag_fault.TagFault.{TagFault}
+use Rattle.union_cols.specs.declared.tag_fault.TagFault.TheVariants as tags
 
 abbrev pub union_rule_text : UnionRule → List ℕ
 union_rule_text rules.Released = codes "Released"
@@ -46,3 +48,8 @@ union_schema_text schemas.Dictionary = codes "Dictionary"
 union_schema_text (schemas.ChildCount found needed) = codes "ChildCount: " ++ decimal found ++ codes ", " ++ decimal needed
 union_schema_text (schemas.Child child fault) = codes "child " ++ decimal child ++ codes ": " ++ schema_fault_text fault
 union_schema_text schemas.NoMemory = codes "out of memory"
+
+abbrev pub tag_fault_text : TagFault → List ℕ
+tag_fault_text (tags.Columns count) = codes "Columns: " ++ decimal count
+tag_fault_text tags.TooLong = codes "TooLong"
+tag_fault_text tags.NoMemory = codes "out of memory"

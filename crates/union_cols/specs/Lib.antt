@@ -9,5 +9,8 @@ pub mod UnionAnswers
 pub mod IdTables
 pub mod TypedProps
 pub mod UnionCols
+pub mod Tags
+pub mod TagAnswers
+pub mod TagViews
 pub mod FaultTexts
 pub mod WorkedUnions

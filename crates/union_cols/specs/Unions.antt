@@ -5,8 +5,8 @@ use Rattle.bit_pack.specs.Packed.{meant, number_at}
 use Rattle.tree_model.specs.Tree.{Released, child_at}
 use Rattle.raw_array.specs.Members.{ArrayMembers, ArrayTree, members_of}
 use Rattle.kind_tree.specs.Kinds.{KindTree, TypedOk}
-use Rattle.layout_rules.specs.Layout.{first, bytes, natural, offset}
-use Rattle.layout_rules.specs.Values.{value_at}
+use Rattle.layout_rules.specs.Layout.{first, items, bytes, natural, offset}
+use Rattle.layout_rules.specs.Values.{each, value_at}
 use Rattle.union_cols.specs.UnionFormats.{AreIds}
 
 -- the kinds of a union: whether it is dense, and of each child its type id and its kinds
@@ -59,3 +59,15 @@ union_value u array i =
     let own = members_of array in
     let k = child_number u.ids own i in
     value_at (kid_at u k) (child_at array k) (item_number u.dense own i)
+
+-- an item as it is shown: its type id, and its value
+pub record UnionItem : Type 0 where
+  pub id : ℤ
+  pub value : Value
+
+abbrev pub union_item : UnionTree → ArrayTree → ℕ → UnionItem
+union_item u array i = record { id = id_at (members_of array) i; value = union_value u array i }
+
+-- the items of the window, in order
+abbrev pub union_items : UnionTree → ArrayTree → List UnionItem
+union_items u array = each (union_item u array) 0 (items (members_of array))

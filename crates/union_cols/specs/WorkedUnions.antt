@@ -7,7 +7,9 @@ use Rattle.raw_array.specs.Members.{ArrayTree, Buffer, members_of}
 use Rattle.layout_rules.specs.Layout.{items}
 use Rattle.layout_rules.specs.Values.{each}
 use Rattle.layout_rules.specs.WorkedArrays.{flat, int32, buffer, members, leaf}
-use Rattle.union_cols.specs.Unions.{UnionTree, union_value}
+use Rattle.kind_tree.specs.ColumnKinds.{table_type}
+use Rattle.kind_tree.specs.Kinds.{KindTree}
+use Rattle.union_cols.specs.Unions.{UnionItem, UnionTree, union_value}
 use Rattle.union_cols.specs.UnionRules.{Rule, UnionFound}
 
 -- numbers with the id 5, and bytes with the id 7
@@ -53,3 +55,23 @@ values_of_union u array = each (union_value u array) 0 (items (members_of array)
 
 abbrev pub found : Rule → ℕ → ℤ → ℤ → Option UnionFound
 found rule place left right = Some (record { rule = rule; numbers = record { place = place; left = left; right = right } })
+
+-- ---- columns that are tagged
+
+-- numbers beside bytes
+abbrev pub number_and_bytes : KindTree
+number_and_bytes = table_type (flat int32 ∷ flat (kinds.Binary false) ∷ [])
+
+-- the numbers 1, null, null and 4, and the bytes `a`, `b`, null and `d`, of which the last three rows are the window
+abbrev pub numbers_beside_bytes : ArrayTree
+numbers_beside_bytes =
+    Live (members (pos 3) (pos 0) (pos 1) (None ∷ [])) (trees (
+    leaf (pos 4) (pos 2) (pos 0)
+    (buffer (9 ∷ []) ∷ buffer (1 ∷ 0 ∷ 0 ∷ 0 ∷ 0 ∷ 0 ∷ 0 ∷ 0 ∷ 0 ∷ 0 ∷ 0 ∷ 0 ∷ 4 ∷ 0 ∷ 0 ∷ 0 ∷ []) ∷ [])
+    ∷ leaf (pos 4) (pos 1) (pos 0)
+    (buffer (11 ∷ []) ∷ buffer (0 ∷ 0 ∷ 0 ∷ 0 ∷ 1 ∷ 0 ∷ 0 ∷ 0 ∷ 2 ∷ 0 ∷ 0 ∷ 0 ∷ 2 ∷ 0 ∷ 0 ∷ 0 ∷ 3 ∷ 0 ∷ 0 ∷ 0 ∷ []) ∷ buffer (97 ∷ 98 ∷ 100 ∷ []) ∷ [])
+    ∷ []
+    )) absent
+
+abbrev pub shown : ℕ → Value → UnionItem
+shown id value = record { id = pos id; value = value }

@@ -1,9 +1,10 @@
 //! The texts of faults.
 ghost use Rattle.std.specs.Prelude.{Some};
-ghost use Rattle.union_cols.specs.FaultTexts.{union_rule_text, union_fault_text, union_schema_text};
+ghost use Rattle.union_cols.specs.FaultTexts.{union_rule_text, union_fault_text, union_schema_text, tag_fault_text};
 
 use crate::rule::{UnionFault, UnionRule};
 use crate::schema_fault::UnionSchemaFault;
+use crate::tag_fault::TagFault;
 use std::fmt;
 
 impl fmt::Display for UnionRule {
@@ -67,3 +68,17 @@ impl fmt::Display for UnionSchemaFault {
 }
 
 impl std::error::Error for UnionSchemaFault {}
+
+impl fmt::Display for TagFault {
+    ghost output = { λ fault. Some (tag_fault_text fault) };
+
+    fn fmt<W: fmt::Write>(&self, f: &mut fmt::Formatter<W>) -> fmt::Result {
+        match self {
+            TagFault::Columns { count } => write!(f, "Columns: {count}"),
+            TagFault::TooLong => f.write_str("TooLong"),
+            TagFault::NoMemory => f.write_str("out of memory"),
+        }
+    }
+}
+
+impl std::error::Error for TagFault {}

@@ -1,13 +1,20 @@
 //! Laws of the answers on schemas, and of arrays at which no rule fails. The calls do nothing.
-ghost use Rattle.std.specs.Prelude.{◌≡◌, ℕ, List, Result, IsTrue, is_none, length};
+ghost use Rattle.std.specs.Prelude.{◌≡◌, ℕ, Bool, None, List, Result, IsTrue, is_none, length};
+ghost use Rattle.tree_model.specs.Tree.{children_of};
 ghost use Rattle.raw_schema.specs.Members.{SchemaTree};
 ghost use Rattle.raw_array.specs.Members.{ArrayTree};
-ghost use Rattle.union_cols.specs.Unions.{UnionTree};
+ghost use Rattle.kind_tree.specs.Kinds.{KindTree, TypedOk};
+ghost use Rattle.schema_check.specs.Schemas.{TypedOf};
+ghost use Rattle.layout_rules.specs.Values.{rows_of, tree_items};
+ghost use Rattle.layout_rules.specs.Walk.{ChunkOk};
+ghost use Rattle.union_cols.specs.Unions.{UnionTree, union_items};
 ghost use Rattle.union_cols.specs.UnionRules.{union_fault};
 ghost use Rattle.union_cols.specs.UnionHolds.{UnionHolds};
 ghost use Rattle.union_cols.specs.UnionAnswers.{union_of};
 ghost use Rattle.union_cols.specs.UnionFormats.{UnionFormat, FormatReads};
 ghost use Rattle.union_cols.specs.UnionSchemas.{SchemaFound, UnionReads};
+ghost use Rattle.union_cols.specs.TagAnswers.{ChecksAsUnion};
+ghost use Rattle.union_cols.specs.Tags.{tag_fault, tagged_array, tagged_items, tagged_kinds, tagged_schema};
 
 use crate::kinds::UnionTyped;
 use raw_array::RawArray;
@@ -30,3 +37,14 @@ pub(crate) fn union_holds(typed: &UnionTyped, array: &RawArray)
     root_check::faultless_roots();
     layout_rules::lawful_trees();
 }
+
+/// A law: the columns of a chunk, as [`crate::tag`] puts them under a union, read as one and meet all its rules; and its items are,
+/// of each row, the first column that isn't null, with its number.
+pub fn tagged_chunks_are_unions()
+    ensures checks { (dense : Bool) (typed : KindTree) (schema : SchemaTree) (array : ArrayTree) → TypedOf schema typed → TypedOk typed
+        → ChunkOk typed array → tag_fault dense (length (children_of array)) (tree_items array) ≡ None
+        → ChecksAsUnion (tagged_kinds dense typed) (tagged_schema dense schema) (tagged_array dense typed array) }
+    ensures items { (dense : Bool) (typed : KindTree) (schema : SchemaTree) (array : ArrayTree) → TypedOf schema typed → TypedOk typed
+        → ChunkOk typed array → tag_fault dense (length (children_of array)) (tree_items array) ≡ None
+        → union_items (tagged_kinds dense typed) (tagged_array dense typed array) ≡ tagged_items (rows_of typed array) }
+{}

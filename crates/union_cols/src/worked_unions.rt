@@ -1,11 +1,16 @@
 //! Small unions, computed from the definitions.
-ghost use Rattle.std.specs.Prelude.{◌≡◌, true, false, None, [], ◌∷◌, pos, negsuc, codes};
-ghost use Rattle.data_types.specs.Value.Value.{Whole, Bytes};
+ghost use Rattle.std.specs.Prelude.{◌≡◌, true, false, None, Some, [], ◌∷◌, pos, negsuc, codes};
+ghost use Rattle.data_types.specs.Value.Value.{Null, Whole, Bytes};
 ghost use Rattle.root_check.specs.declared.own.OwnRule.TheVariants as own;
 ghost use Rattle.layout_rules.specs.WorkedArrays.{buffer};
 ghost use Rattle.union_cols.specs.UnionRules.{union_fault, Own, BufferShort, BadTypeId, ChildShort, OffsetRange};
 ghost use Rattle.union_cols.specs.WorkedUnions.{numbers_and_bytes, over_two, two_numbers, one_binary, some_binaries, starts, dense_union, dense_window};
-ghost use Rattle.union_cols.specs.WorkedUnions.{sparse_window, values_of_union, found};
+ghost use Rattle.union_cols.specs.WorkedUnions.{sparse_window, values_of_union, found, number_and_bytes, numbers_beside_bytes, shown};
+ghost use Rattle.layout_rules.specs.Values.{rows_of};
+ghost use Rattle.layout_rules.specs.Walk.{first_chunk_fault};
+ghost use Rattle.union_cols.specs.Unions.{union_items};
+ghost use Rattle.union_cols.specs.declared.tag_fault.TagFault.TheVariants as tags;
+ghost use Rattle.union_cols.specs.Tags.{start_bytes, tag_fault, tag_format, tagged_array, tagged_items, tagged_kinds};
 
 /// What the definitions say of small unions: their values, and the first fault ("Arrow Columnar Format", "Union Layout").
 pub fn small_unions()
@@ -28,4 +33,28 @@ pub fn small_unions()
         ≡ found ChildShort 1 (pos 1) (pos 2) }
     ensures buffers { union_fault (numbers_and_bytes false) (over_two (pos 2) (pos 0) (buffer (5 ∷ 5 ∷ []) ∷ starts ∷ []) two_numbers some_binaries)
         ≡ found (Own own.BufferCount) 0 (pos 2) (pos 1) }
+{}
+
+/// What the definitions say of columns that are tagged.
+pub fn small_tags()
+    ensures chunk { first_chunk_fault number_and_bytes numbers_beside_bytes ≡ None }
+    // Each row by its first column that isn't null, and the first one where all are null.
+    ensures items { tagged_items (rows_of number_and_bytes numbers_beside_bytes)
+        ≡ shown 1 (Bytes (codes "b")) ∷ shown 0 Null ∷ shown 0 (Whole (pos 4)) ∷ [] }
+    // They are the items of what is made of the chunk, at which no rule fails.
+    ensures sparse { union_items (tagged_kinds false number_and_bytes) (tagged_array false number_and_bytes numbers_beside_bytes)
+        ≡ tagged_items (rows_of number_and_bytes numbers_beside_bytes) }
+    ensures dense { union_items (tagged_kinds true number_and_bytes) (tagged_array true number_and_bytes numbers_beside_bytes)
+        ≡ tagged_items (rows_of number_and_bytes numbers_beside_bytes) }
+    ensures sparse_is_lawful { union_fault (tagged_kinds false number_and_bytes) (tagged_array false number_and_bytes numbers_beside_bytes) ≡ None }
+    ensures dense_is_lawful { union_fault (tagged_kinds true number_and_bytes) (tagged_array true number_and_bytes numbers_beside_bytes) ≡ None }
+    // The format, and the offsets.
+    ensures format { tag_format true 3 ≡ codes "+ud:0,1,2" }
+    ensures starts { start_bytes 3 ≡ 0 ∷ 0 ∷ 0 ∷ 0 ∷ 1 ∷ 0 ∷ 0 ∷ 0 ∷ 2 ∷ 0 ∷ 0 ∷ 0 ∷ [] }
+    // What is refused, in its order.
+    ensures no_columns { tag_fault true 0 5000000000 ≡ Some (tags.Columns 0) }
+    ensures columns { tag_fault true 129 5000000000 ≡ Some (tags.Columns 129) }
+    ensures too_long { tag_fault true 128 2147483648 ≡ Some tags.TooLong }
+    ensures dense_fits { tag_fault true 128 2147483647 ≡ None }
+    ensures sparse_fits { tag_fault false 1 2147483648 ≡ None }
 {}
