@@ -1,0 +1,28 @@
+//! What gives items one by one.
+ghost use Rattle.std.specs.Prelude.{List};
+ghost use Rattle.ahead_ring.specs.Coming.{Makes};
+
+/// The answer of a call for an item.
+#[derive(Drop)]
+pub enum Given<I> {
+    /// The next item.
+    Item(I),
+    /// No item is left.
+    Done,
+    /// Memory was wanting.
+    NoMemory,
+}
+
+/// What gives the items of a finite list, in order and each once.
+pub trait Maker {
+    /// What is given. It may be dropped; to go from thread to thread it must be one that may.
+    type Item: Drop;
+
+    /// The items that are still to come.
+    ghost coming: { Self → List Self.Item };
+
+    /// Gives the first of the items that are to come, which leaves them, or `Done` exactly where none is. `NoMemory` comes for want
+    /// of memory alone, and says nothing of what is to come then: no item of a call behind it counts.
+    fn make(&mut self) -> Given<Self::Item>
+        ensures { Makes result (coming self.old) (coming self.new) };
+}
