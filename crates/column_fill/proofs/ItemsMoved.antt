@@ -54,7 +54,7 @@ takes-next kind f kept k builder storage is are few small holds stored =
       holds = holds;
       few = omega (arith, fewer, shorter, few);
       stored = stored;
-      of = of;
+      is = subst (λ (s : Storage). IsStored s (f (get_or kept k 0))) (sym stored) (value-stored kind (f (get_or kept k 0)) of);
       taken = value-taken kind (map f (take k kept)) (f (get_or kept k 0)) is of (omega (arith, before-small items k Null within, total, own, are.1));
     }
 
@@ -69,9 +69,6 @@ pub holds-wholes : (builder : Builder) (kind : DataType) (values : List Value) (
 holds-wholes builder kind values width signed holds is = λ type vs own. (signed, ap storage_of (sym own.is_kind ∙ holds.is_kind) ∙ is)
 
 -- ---- what isn't a value of its storage is null
-
-is-stored : (builder : Builder) (storage : Storage) (value : Value) → Takes builder storage value → IsStored storage value
-is-stored builder storage value takes = subst (λ (s : Storage). IsStored s value) (sym takes.stored) (value-stored takes.kind value takes.of)
 
 null-or-truth : (v : Value) → IsStored stored.Truths v → ((truth : Bool) → v ≢ Truth truth) → v ≡ Null
 null-or-truth Null is none = refl
@@ -89,12 +86,12 @@ null-or-bytes wide text (Bytes bytes) is none = absurd (none bytes refl)
 null-or-bytes wide text _ is none = absurd is
 
 pub no-truth : (builder : Builder) (v : Value) → Takes builder stored.Truths v → ((truth : Bool) → v ≢ Truth truth) → v ≡ Null
-no-truth builder v takes none = null-or-truth v (is-stored builder stored.Truths v takes) none
+no-truth builder v takes none = null-or-truth v takes.is none
 
 pub no-bytes : (builder : Builder) (wide text : Bool) (v : Value) → Takes builder (stored.Between wide text) v
     → ((bytes : List ℕ) → v ≢ Bytes bytes) → v ≡ Null
-no-bytes builder wide text v takes none = null-or-bytes wide text v (is-stored builder (stored.Between wide text) v takes) none
+no-bytes builder wide text v takes none = null-or-bytes wide text v takes.is none
 
 pub no-whole : (builder : Builder) (bits : ℕ) (signed : Bool) (v : Value) → Takes builder (stored.Wholes bits signed) v
     → ((number : ℤ) → v ≢ Whole number) → v ≡ Null
-no-whole builder bits signed v takes none = null-or-whole bits signed v (is-stored builder (stored.Wholes bits signed) v takes) none
+no-whole builder bits signed v takes none = null-or-whole bits signed v takes.is none

@@ -1,9 +1,10 @@
 -- A value of a type is one that a column of the type takes, and is null or stored as the type's values are.
-use Rattle.std.proofs.Common.{◌≡◌, ◌≤◌, ◌<◌, ◌+◌, ◌^◌, ℕ, zero, suc, Bool, true, false, List, [], ◌∷◌, length, map, take, get_or, refl, arith}
+use Rattle.std.proofs.Common.{◌≡◌, ◌≤◌, ◌<◌, ◌+◌, ◌^◌, ℕ, zero, suc, Bool, true, false, List, [], ◌∷◌, length, map, take, get_or, inl, inr, refl, sym, subst, arith}
 use Rattle.std.proofs.Math.Nat.{pow-le-pow_right}
-use Rattle.std.proofs.lemmas.Bool.{lt-ltb}
+use Rattle.std.proofs.lemmas.Bool.{false≢true, lt-ltb}
+use Rattle.std.proofs.lemmas.Option.{none-some}
 use Rattle.std.proofs.lemmas.Bool.Decides.{nat_tests}
-use Rattle.std.specs.Prelude.{Option, None, Some, ℤ, pos, negsuc, nat_abs, nat_lt, not, ◌==◌, ◌&&◌, if◌then◌else◌}
+use Rattle.std.specs.Prelude.{Option, None, Some, ◌⊎◌, ℤ, pos, negsuc, nat_abs, nat_lt, not, ◌==◌, ◌&&◌, if◌then◌else◌}
 use Rattle.std.specs.List.{concat}
 use Rattle.std.proofs.lemmas.List.{length-append}
 use Rattle.data_types.specs.ColumnForms.{IsColumnKind}
@@ -16,7 +17,8 @@ use Rattle.data_types.specs.declared.kind.DataType.{DataType}
 use Rattle.data_types.specs.declared.kind.DataType.TheVariants as kinds
 use Rattle.data_types.specs.declared.storage.Storage.{Storage}
 use Rattle.data_types.specs.declared.storage.Storage.TheVariants as stored
-use Rattle.col_build.specs.Encoding.{Fits, are_bounded, are_within, fault_if, is_by_offsets, is_wide, is_within, push_fault}
+use Rattle.col_build.specs.Encoding.{Fits, are_bounded, are_within, fault_if, form_fault, is_by_offsets, is_form, is_storable, is_text, is_wide, is_within}
+use Rattle.col_build.specs.Encoding.{push_fault}
 use Rattle.col_build.specs.declared.item.PushFault.TheVariants.{WrongKind, OutOfRange, NotText}
 use Rattle.stream_face.specs.Lawful.{AreValues}
 use Rattle.column_fill.specs.Takes.{IsStored}
@@ -157,3 +159,88 @@ value-stored kind (Bits n) of = some-stored kind (Bits n) of
 value-stored kind (Bytes b) of = some-stored kind (Bytes b) of
 value-stored kind (Items vs) of = some-stored kind (Items vs) of
 value-stored kind (Fields vs) of = some-stored kind (Fields vs) of
+
+-- ---- what a column takes alone it takes behind others, where the offsets reach its bytes
+
+form-ok : (is storable near text : Bool)
+    → (if not is then Some WrongKind else if not (storable && near) then Some OutOfRange else if not text then Some NotText else None) ≡ None
+    → (is ≡ true) × (storable ≡ true) × (text ≡ true)
+form-ok true true true true e = (refl, refl, refl)
+form-ok true true true false e = absurd (none-some NotText (sym e))
+form-ok true true false text e = absurd (none-some OutOfRange (sym e))
+form-ok true false near text e = absurd (none-some OutOfRange (sym e))
+form-ok false storable near text e = absurd (none-some WrongKind (sym e))
+
+form-behind : (wide : Bool) (form : Form) (before : List Value) (v : Value) → form_fault wide form [] v ≡ None
+    → is_within wide form (byte_total before + length (bytes_of v)) ≡ true → form_fault wide form before v ≡ None
+form-behind wide form before v e near =
+    let ok = form-ok (is_form form v) (is_storable form v) (is_within wide form (byte_total [] + length (bytes_of v))) (is_text form v) e in
+    no-fault (is_form form v) (is_storable form v) (is_within wide form (byte_total before + length (bytes_of v))) (is_text form v) ok.0 ok.1 near ok.2
+
+some-behind : (wide : Bool) (form : Option Form) (before : List Value) (v : Value) → fault_if wide form [] v ≡ None
+    → are_within wide form (byte_total before + length (bytes_of v)) ≡ true → fault_if wide form before v ≡ None
+some-behind wide form before Null e near = refl
+some-behind wide None before (Truth t) e near = e
+some-behind wide None before (Whole n) e near = e
+some-behind wide None before (Bits n) e near = e
+some-behind wide None before (Bytes b) e near = e
+some-behind wide None before (Items vs) e near = e
+some-behind wide None before (Fields vs) e near = e
+some-behind wide (Some form) before (Truth t) e near = form-behind wide form before (Truth t) e near
+some-behind wide (Some form) before (Whole n) e near = form-behind wide form before (Whole n) e near
+some-behind wide (Some form) before (Bits n) e near = form-behind wide form before (Bits n) e near
+some-behind wide (Some form) before (Bytes b) e near = form-behind wide form before (Bytes b) e near
+some-behind wide (Some form) before (Items vs) e near = form-behind wide form before (Items vs) e near
+some-behind wide (Some form) before (Fields vs) e near = form-behind wide form before (Fields vs) e near
+
+pub taken-behind : (kind : DataType) (before : List Value) (v : Value) → push_fault kind [] v ≡ None
+    → are_within (is_wide kind) (form_of kind) (byte_total before + length (bytes_of v)) ≡ true → push_fault kind before v ≡ None
+taken-behind kind before v e near = some-behind (is_wide kind) (form_of kind) before v e near
+
+-- ---- and it is stored as the column's values are
+
+abbrev is_some_form : Option Form → Value → Bool
+is_some_form None v = false
+is_some_form (Some form) v = is_form form v
+
+form-is : (wide : Bool) (form : Form) (v : Value) → form_fault wide form [] v ≡ None → is_form form v ≡ true
+form-is wide form v e =
+    (form-ok (is_form form v) (is_storable form v) (is_within wide form (byte_total [] + length (bytes_of v))) (is_text form v) e).0
+
+storage-of-form : (storage : Storage) (v : Value) → is_some_form (stored_form storage) v ≡ true → IsStored storage v
+storage-of-form stored.Truths (Truth t) of = tt
+storage-of-form (stored.Wholes bits signed) (Whole n) of = tt
+storage-of-form (stored.Floats bits) (Bits n) of = tt
+storage-of-form (stored.Sized size) (Bytes b) of = tt
+storage-of-form (stored.Between wide false) (Bytes b) of = tt
+storage-of-form (stored.Between wide true) (Bytes b) of = tt
+storage-of-form _ _ of = absurd (false≢true of)
+
+kind-of-form : (kind : DataType) (v : Value) → is_some_form (form_of kind) v ≡ true → IsStored (storage_of kind) v
+kind-of-form (kinds.Decimal precision scale false) (Whole n) of = tt
+kind-of-form (kinds.Decimal precision scale false) _ of = absurd (false≢true of)
+kind-of-form (kinds.Decimal precision scale true) v of = absurd (false≢true of)
+kind-of-form kinds.IntervalDayTime v of = absurd (false≢true of)
+kind-of-form kinds.IntervalMonthDayNano v of = absurd (false≢true of)
+kind-of-form kind v of = storage-of-form (storage_of kind) v of
+
+form-taken : (wide : Bool) (form : Option Form) (v : Value) → fault_if wide form [] v ≡ None → (v ≡ Null) ⊎ (is_some_form form v ≡ true)
+form-taken wide form Null e = inl refl
+form-taken wide None (Truth t) e = absurd (none-some WrongKind (sym e))
+form-taken wide None (Whole n) e = absurd (none-some WrongKind (sym e))
+form-taken wide None (Bits n) e = absurd (none-some WrongKind (sym e))
+form-taken wide None (Bytes b) e = absurd (none-some WrongKind (sym e))
+form-taken wide None (Items vs) e = absurd (none-some WrongKind (sym e))
+form-taken wide None (Fields vs) e = absurd (none-some WrongKind (sym e))
+form-taken wide (Some form) (Truth t) e = inr (form-is wide form (Truth t) e)
+form-taken wide (Some form) (Whole n) e = inr (form-is wide form (Whole n) e)
+form-taken wide (Some form) (Bits n) e = inr (form-is wide form (Bits n) e)
+form-taken wide (Some form) (Bytes b) e = inr (form-is wide form (Bytes b) e)
+form-taken wide (Some form) (Items vs) e = inr (form-is wide form (Items vs) e)
+form-taken wide (Some form) (Fields vs) e = inr (form-is wide form (Fields vs) e)
+
+pub taken-stored : (kind : DataType) (v : Value) → push_fault kind [] v ≡ None → IsStored (storage_of kind) v
+taken-stored kind v e = elim (form-taken (is_wide kind) (form_of kind) v e) [
+  | inl null ↦ subst (IsStored (storage_of kind)) (sym null) (null-stored (storage_of kind))
+  | inr of ↦ kind-of-form kind v of
+]

@@ -1,6 +1,5 @@
 -- What a builder takes of a column's items.
 use Rattle.std.specs.Prelude.{◌≡◌, ◌^◌, ◌<◌, List, length, None}
-use Rattle.data_types.specs.FieldText.{IsValueOf}
 use Rattle.data_types.specs.Storage.{storage_of}
 use Rattle.data_types.specs.Value.{Value, Null, Truth, Whole, Bits, Bytes}
 use Rattle.data_types.specs.declared.kind.DataType.{DataType}
@@ -27,5 +26,5 @@ pub record Takes (builder : Builder) (storage : Storage) (value : Value) : Type 
   pub holds : Holds builder kind values
   pub few : length values < 2 ^ 40
   pub stored : storage ≡ storage_of kind
-  pub of : IsValueOf kind value
+  pub is : IsStored storage value
   pub taken : push_fault kind values value ≡ None

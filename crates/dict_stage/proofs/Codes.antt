@@ -21,8 +21,8 @@ use Rattle.arr_import.specs.Window.{Window, item_at, items_of}
 use Rattle.stage_model.specs.Dictionary.{has_bytes}
 use Rattle.stream_face.specs.Lawful.{HasBytes}
 use Rattle.column_fill.proofs.Counts.{length-each}
-use Rattle.column_fill.specs.Takes.{Takes}
-use Rattle.column_fill.proofs.ValuesTaken.{before-small, value-taken}
+use Rattle.column_fill.specs.Takes.{IsStored, Takes}
+use Rattle.column_fill.proofs.ValuesTaken.{before-small, value-stored, value-taken}
 use Rattle.dict_stage.specs.Indices.{index_type}
 use Rattle.dict_stage.specs.Texts.{Codes, HasTexts, IsText, index_by, number_of, texts_after, texts_in, texts_with}
 use Rattle.dict_stage.specs.declared.coder.Coder.{Coder}
@@ -151,7 +151,7 @@ takes-item type w i builder storage has small holds stored =
       holds = holds;
       few = omega (arith, few-first type w i has small, has.few, small);
       stored = stored;
-      of = of;
+      is = subst (λ (s : Storage). IsStored s (item_at w i)) (sym stored) (value-stored type (item_at w i) of);
       taken = value-taken type (take i items) (item_at w i) has.is of (omega (arith, before-small items i Null within, own, has.items.1));
     }
 

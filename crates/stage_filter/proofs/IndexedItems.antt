@@ -25,7 +25,8 @@ use Rattle.layout_rules.specs.Within.{IndexWithin}
 use Rattle.arr_export.specs.ArrayTrees.{AreIndices, IsPlaceOf, flat_type, looked_up}
 use Rattle.stage_model.specs.Traffic.{flat_blocks, index_blocks, row_blocks}
 use Rattle.stream_face.specs.Lawful.{AreValues}
-use Rattle.stage_filter.specs.Kept.{index_in, values_at}
+use Rattle.column_gather.specs.Gathered.{values_at}
+use Rattle.stage_filter.specs.Kept.{index_in}
 use Rattle.stage_filter.specs.KeptTrees.{index_type, indices_at}
 use Rattle.stage_filter.specs.Moving.{CanMove}
 use Rattle.column_fill.proofs.ColumnBlocks.{blocks-are}

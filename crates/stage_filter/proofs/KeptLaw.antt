@@ -17,7 +17,8 @@ use Rattle.layout_rules.specs.Values.{field_items, readers, row_items, rows_of, 
 use Rattle.layout_rules.specs.Walk.{ChunkOk, LayoutOk}
 use Rattle.arr_export.specs.ArrayTrees.{AreLawful, HaveValues, flat_type, rows_of_values, table_tree}
 use Rattle.stream_face.specs.Lawful.{DictsAreFull, MemberDictsAreFull}
-use Rattle.stage_filter.specs.Kept.{rows_at, values_at}
+use Rattle.column_gather.specs.Gathered.{values_at}
+use Rattle.stage_filter.specs.Kept.{rows_at}
 use Rattle.stage_filter.specs.KeptTrees.{index_type, indices_at, kept_chunk, kept_columns, kept_members, kept_struct, kept_tree}
 use Rattle.stage_filter.specs.Moving.{CanMove, CanMoveRows}
 use Rattle.stage_filter.proofs.ChunkLaw.{fields-back, struct-values}

@@ -1,5 +1,6 @@
 -- The array of a finished column is made of what its traffic says.
 use Rattle.std.proofs.Common.{◌≡◌, ◌∙◌, ◌≤◌, ◌+◌, ℕ, List, Option, None, Some, ap, arith}
+use Rattle.std.proofs.lemmas.List.{length-map}
 use Rattle.data_types.specs.Table.{Flat, Dict}
 use Rattle.data_types.specs.declared.kind.DataType.{DataType}
 use Rattle.tree_model.specs.Tree.{dictionary_at}
@@ -7,14 +8,27 @@ use Rattle.unit_pass.specs.Tally.{Tally, risen}
 use Rattle.raw_array.specs.Members.{ArrayTree, Cost}
 use Rattle.col_build.specs.Finished.{blocks_of}
 use Rattle.kind_tree.specs.ColumnKinds.{type_of_kind}
+use Rattle.layout_rules.specs.Values.{value_at}
 use Rattle.arr_export.specs.ArrayTrees.{column_tree}
 use Rattle.stage_model.specs.Traffic.{Moved, kind_blocks}
 use Rattle.column_fill.proofs.ColumnBlocks.{blocks-are}
 use Rattle.column_fill.proofs.ColumnCosts.{column-cost, few-blocks}
-use Rattle.stage_filter.specs.Kept.{values_at}
+use Rattle.column_fill.proofs.ValuesTaken.{values-fit}
+use Rattle.column_gather.specs.Gathered.{CanGather, values_at}
 use Rattle.stage_filter.specs.KeptTrees.{index_type, indices_at}
 use Rattle.stage_filter.specs.Moving.{CanMove, IsMoved}
 use Rattle.stage_filter.proofs.IndexedItems.{HasDictionary, blocks-of-indices}
+
+pub can-gather : (kind : DataType) (array : ArrayTree) (start : ℕ) (kept : List ℕ) → CanMove (Flat kind) array start kept
+    → CanGather kind array start kept
+can-gather kind array start kept can =
+    let values = values_at (type_of_kind (Flat kind)) array start kept in
+    let many = length-map kept (λ i. value_at (type_of_kind (Flat kind)) array (start + i)) in
+    record {
+      ok = can.ok;
+      inside = can.inside;
+      items = values-fit kind values can.kinds can.items (omega (arith, many, can.few));
+    }
 
 pub moved-flat : (kind : DataType) (array : ArrayTree) (start : ℕ) (kept : List ℕ) (made : ArrayTree) (before middle after : Tally)
     → CanMove (Flat kind) array start kept → made ≡ column_tree kind (values_at (type_of_kind (Flat kind)) array start kept) None

@@ -10,7 +10,7 @@ use Rattle.raw_array.specs.Members.{ArrayTree, members_of}
 use Rattle.kind_tree.specs.ColumnKinds.{type_of_kind}
 use Rattle.layout_rules.specs.Layout.{first}
 use Rattle.stage_model.specs.Traffic.{Moved, blocks_from, kind_blocks, kind_nodes}
-use Rattle.stage_filter.specs.Kept.{values_at}
+use Rattle.column_gather.specs.Gathered.{values_at}
 use Rattle.stage_filter.specs.KeptTrees.{kept_columns, kept_tree}
 use Rattle.stage_filter.specs.Moving.{AreMoved, IsMoved}
 use Rattle.stage_filter.specs.Plain.{most_cost, most_of_columns}

@@ -24,7 +24,8 @@ use Rattle.layout_rules.specs.Walk.{LayoutOk}
 use Rattle.stage_model.specs.Traffic.{Moved, table_blocks}
 use Rattle.stream_face.specs.Lawful.{AreItems, DictsAreFull, HasFields, MemberDictsAreFull}
 use Rattle.column_fill.proofs.Counts.{kids-long}
-use Rattle.stage_filter.specs.Kept.{rows_at, values_at}
+use Rattle.column_gather.specs.Gathered.{values_at}
+use Rattle.stage_filter.specs.Kept.{rows_at}
 use Rattle.stage_filter.specs.KeptTrees.{kept_columns, kept_members, kept_tree}
 use Rattle.stage_filter.specs.Moving.{CanMove, CanMoveRows, IsMoved, IsMovedStruct}
 use Rattle.stage_filter.specs.Plain.{most_cost, most_of_columns}

@@ -9,7 +9,7 @@ use Rattle.bit_pack.specs.Packed.{meant, number_at}
 use Rattle.raw_array.specs.Members.{ArrayTree}
 use Rattle.kind_tree.specs.Kinds.{KindTree}
 use Rattle.layout_rules.specs.Layout.{is_valid_by}
-use Rattle.layout_rules.specs.Values.{each, row_items, value_at}
+use Rattle.layout_rules.specs.Values.{each, row_items}
 use Rattle.arr_import.specs.Window.{Window, item_at}
 use Rattle.stage_model.specs.Stages.{passes}
 use Rattle.stage_model.specs.declared.stage.Const.{Const}
@@ -35,12 +35,8 @@ numbers from count = each (λ i. i) from count
 abbrev pub kept_numbers : Test → Const → Window → ℕ → ℕ → List ℕ
 kept_numbers test constant w from count = filter (λ i. passes test constant (item_at w i)) (numbers from count)
 
--- ---- the items of numbers that are counted from an item of an array's window on
+-- ---- the rows of a struct, by numbers that are counted from a row of its window on
 
-abbrev pub values_at : KindTree → ArrayTree → ℕ → List ℕ → List Value
-values_at typed array start kept = map (λ i. value_at typed array (start + i)) kept
-
--- and the rows of a struct
 abbrev pub rows_at : KindTree → ArrayTree → ℕ → List ℕ → List Row
 rows_at typed array start kept = map (λ i. row_items typed array (start + i)) kept
 

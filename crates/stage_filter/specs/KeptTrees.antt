@@ -10,7 +10,7 @@ use Rattle.raw_array.specs.Members.{ArrayTree, members_of}
 use Rattle.kind_tree.specs.ColumnKinds.{type_of_kind}
 use Rattle.layout_rules.specs.Layout.{first}
 use Rattle.arr_export.specs.ArrayTrees.{column_tree, flat_type, table_tree}
-use Rattle.stage_filter.specs.Kept.{values_at}
+use Rattle.column_gather.specs.Gathered.{values_at}
 
 -- indices are signed numbers of 32 bits
 abbrev pub index_type : DataType

@@ -14,7 +14,8 @@ use Rattle.layout_rules.specs.Values.{tree_items}
 use Rattle.layout_rules.specs.Walk.{LayoutOk}
 use Rattle.stage_model.specs.Traffic.{Moved, blocks_from, kind_blocks, kind_nodes, table_blocks, table_nodes}
 use Rattle.stream_face.specs.Lawful.{AreItems, DictsAreFull}
-use Rattle.stage_filter.specs.Kept.{rows_at, values_at}
+use Rattle.column_gather.specs.Gathered.{values_at}
+use Rattle.stage_filter.specs.Kept.{rows_at}
 use Rattle.stage_filter.specs.KeptTrees.{kept_columns, kept_struct, kept_tree}
 use Rattle.stage_filter.specs.Plain.{most_cost, most_of_columns}
 

@@ -3,46 +3,18 @@ ghost use Rattle.std.specs.Prelude.{◌≡◌, ◌+◌, ◌≤◌, IfOk, OnErr};
 ghost use Rattle.data_types.specs.Table.{Flat};
 ghost use Rattle.unit_pass.specs.declared.pass.TheConstants.{SUPPLY};
 ghost use Rattle.raw_array.specs.Members.{Cost};
-ghost use Rattle.col_build.specs.Holding.{Holds};
 ghost use Rattle.kind_tree.specs.ColumnKinds.{type_of_kind};
 ghost use Rattle.kind_tree.specs.Kinds.{TypedOk};
 ghost use Rattle.kind_tree.specs.TypedView.{typed_of};
-ghost use Rattle.stage_filter.specs.Kept.{values_at};
 ghost use Rattle.stage_filter.specs.Moving.{CanMove, IsMoved};
 
-use arr_import::Col;
-use col_build::Builder;
-use column_fill::{built_column, push_item};
-use data_types::{DataType, clone_kind, storage_of};
+use column_fill::built_column;
+use column_gather::gathered;
+use data_types::DataType;
 use kind_tree::Typed;
-use layout_rules::lawful_trees;
 use raw_array::RawArray;
 use std::alloc::Global;
 use unit_pass::{NoMemory, Pass, SUPPLY};
-
-/// A builder that holds the items of these numbers, in their order.
-fn moved_items(
-    alloc: Global,
-    kind: &DataType,
-    typed: &Typed,
-    array: &RawArray,
-    start: u64,
-    kept: &[u32],
-) -> Result<Builder, NoMemory>
-    requires typed { typed_of typed.now ≡ type_of_kind (Flat kind.now) }
-    requires types { TypedOk (typed_of typed.now) }
-    requires items { CanMove (Flat kind.now) array.now start kept.now }
-    ensures { IfOk result (λ builder. Holds builder kind.now (values_at (type_of_kind (Flat kind.now)) array.now start kept.now)) }
-{
-    lawful_trees();
-    let items = Col::of(typed, array);
-    let mut builder = Builder::new(alloc, clone_kind(alloc, kind)?);
-    let storage = storage_of(kind);
-    for i in kept {
-        push_item(&mut builder, storage, &items, start + u64::from(*i))?;
-    }
-    Ok(builder)
-}
 
 /// The array of the items of these numbers, in their order, in the place of the array, which is released. On want of memory all
 /// units are back.
@@ -63,7 +35,7 @@ pub(crate) fn moved_values(
     ensures moved { IfOk result (λ made. IsMoved (Flat kind.now) array start kept.now made pass.old pass.new) }
     ensures units_back { OnErr result (pass.new.units ≡ pass.old.units + Cost array) }
 {
-    let items = moved_items(alloc, kind, typed, &array, start, kept);
+    let items = gathered(alloc, kind, typed, &array, start, kept);
     array.end(pass);
     match items {
         Ok(builder) => match built_column(alloc, builder, None, pass) {

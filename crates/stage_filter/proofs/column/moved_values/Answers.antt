@@ -1,8 +1,11 @@
 use Rattle.data_types.specs.Table.{Flat}
 use Rattle.kind_tree.specs.ColumnKinds.{type_of_kind}
-use Rattle.stage_filter.specs.Kept.{values_at}
-use Rattle.stage_filter.proofs.MovedColumns.{moved-flat}
+use Rattle.column_gather.specs.Gathered.{values_at}
+use Rattle.stage_filter.proofs.MovedColumns.{can-gather, moved-flat}
 use Rattle.stage_filter.proofs.column.moved_values.Goals as goal
+
+pub gathered-items-requires-clause-items : goal.gathered-items-requires-clause-items
+gathered-items-requires-clause-items c = can-gather c.args.kind.now c.args.array c.args.start c.args.kept.now c.requires.items
 
 pub built_column-requires-clause-holds : goal.built_column-requires-clause-holds
 built_column-requires-clause-holds c =

@@ -1,4 +1,4 @@
-use Rattle.std.proofs.Common.{◌≡◌, ◌∙◌, ◌+◌, ◌++◌, ℕ, [], ◌∷◌, List, sym, ap, subst, take, length, get_or, arith}
+use Rattle.std.proofs.Common.{◌≡◌, ◌∙◌, ◌+◌, ◌++◌, ℕ, suc, [], ◌∷◌, List, sym, ap, subst, take, drop, map, length, get_or, arith}
 use Rattle.std.proofs.Math.Seq.{take-length}
 use Rattle.arr_import.specs.Cols.{window_of}
 use Rattle.col_build.specs.Holding.{Holds}
@@ -8,10 +8,11 @@ use Rattle.data_types.specs.declared.kind.DataType.{DataType}
 use Rattle.kind_tree.specs.ColumnKinds.{type_of_kind}
 use Rattle.kind_tree.specs.TypedView.{typed_of}
 use Rattle.layout_rules.specs.Values.{value_at}
-use Rattle.stage_filter.specs.Kept.{values_at}
 use Rattle.column_fill.specs.Takes.{Takes}
-use Rattle.column_fill.proofs.ItemsMoved.{item-of, one-more, takes-next}
-use Rattle.stage_filter.proofs.column.moved_items.Goals as goal
+use Rattle.column_fill.proofs.ItemsMoved.{item-of, one-more}
+use Rattle.column_gather.specs.Gathered.{values_at}
+use Rattle.column_gather.proofs.Taken.{next-of, takes-one}
+use Rattle.column_gather.proofs.numbers.gathered.Goals as goal
 
 pub loop-i-init : goal.loop-i-init
 loop-i-init c = subst (λ (k : DataType). Holds c.new-builder.result k []) c.in_ok-clone_kind.ensures.same c.new-builder.ensures
@@ -33,8 +34,8 @@ push_item-requires-clause-takes c =
     subst (Takes c.loop-i.builder c.storage_of-storage.result)
     (sym (item-of (Flat kind) (typed_of c.args.typed.now) c.args.array.now (window_of c.of-items.result) (c.args.start + c.from.result)
     c.of-items.ensures.window c.requires.typed ∙ ap f from))
-    (takes-next kind f kept k c.loop-i.builder c.storage_of-storage.result can.kinds can.items can.few c.loop-i-test.true c.loop-i.invariant
-    c.storage_of-storage.ensures)
+    (takes-one kind (map f (take k kept)) (map f (drop (suc k) kept)) (map f kept) (f (get_or kept k 0)) c.loop-i.builder c.storage_of-storage.result
+    (next-of f kept k c.loop-i-test.true) can.items c.loop-i.invariant c.storage_of-storage.ensures)
 
 pub loop-i-preserved : goal.loop-i-preserved
 loop-i-preserved c =

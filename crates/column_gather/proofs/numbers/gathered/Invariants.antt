@@ -2,8 +2,8 @@ use Rattle.std.proofs.Common.{take}
 use Rattle.col_build.specs.Holding.{Holds}
 use Rattle.data_types.specs.Table.{Flat}
 use Rattle.kind_tree.specs.ColumnKinds.{type_of_kind}
-use Rattle.stage_filter.specs.Kept.{values_at}
-use Rattle.stage_filter.proofs.column.moved_items.Given as goal
+use Rattle.column_gather.specs.Gathered.{values_at}
+use Rattle.column_gather.proofs.numbers.gathered.Given as goal
 
 -- the builder holds the items of the numbers so far
 abbrev pub invariant-loop-i : goal.invariant-loop-i

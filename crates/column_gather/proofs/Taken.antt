@@ -1,0 +1,98 @@
+-- A column takes each of the values that can be a column's, behind those before it.
+use Rattle.std.proofs.Common.{◌≡◌, ◌∙◌, ◌≤◌, ◌<◌, ◌+◌, ◌-◌, ◌^◌, ◌++◌, ℕ, suc, Bool, true, false, List, [], ◌∷◌, length, map, take, drop, get_or}
+use Rattle.std.proofs.Common.{replicate, refl, sym, ap, subst, arith}
+use Rattle.std.proofs.Math.Seq.{get_or-append_seam, split_at}
+use Rattle.std.proofs.lemmas.Bool.Decides.{nat_tests}
+use Rattle.std.proofs.lemmas.List.{append_assoc, length-append, map-append, replicate-append-replicate}
+use Rattle.std.proofs.lemmas.Grind.{flat_map-append}
+use Rattle.std.specs.Prelude.{Option, None, Some, if◌then◌else◌, nat_lt}
+use Rattle.std.specs.List.{concat, flat_map}
+use Rattle.data_types.specs.FieldText.{Form, form_of}
+use Rattle.data_types.specs.Storage.{storage_of}
+use Rattle.data_types.specs.Value.{Value, Null, byte_total, bytes_of}
+use Rattle.data_types.specs.declared.kind.DataType.{DataType}
+use Rattle.data_types.specs.declared.storage.Storage.{Storage}
+use Rattle.col_build.specs.Encoding.{Fits, are_within, is_by_offsets, is_wide, is_within, push_fault}
+use Rattle.col_build.specs.Holding.{Holds}
+use Rattle.col_build.specs.declared.builder.Builder.{Builder}
+use Rattle.column_fill.specs.Takes.{IsStored, Takes}
+use Rattle.column_fill.proofs.ValuesTaken.{taken-behind, taken-stored}
+
+-- ---- fewer bytes are reached where more are
+
+form-fewer : (wide : Bool) (form : Form) (few many : ℕ) → few ≤ many → is_within wide form many ≡ true → is_within wide form few ≡ true
+form-fewer true form few many le near = refl
+form-fewer false form few many le near =
+    elim (is_by_offsets form) as (λ b. (if b then nat_lt many (2 ^ 31) else true) ≡ true → (if b then nat_lt few (2 ^ 31) else true) ≡ true) [
+      | true ↦ λ e. grind (arith, nat_tests, le, e)
+      | false ↦ λ e. refl
+    ] near
+
+fewer : (wide : Bool) (form : Option Form) (few many : ℕ) → few ≤ many → are_within wide form many ≡ true → are_within wide form few ≡ true
+fewer wide None few many le near = refl
+fewer wide (Some form) few many le near = form-fewer wide form few many le near
+
+total-append : (xs ys : List Value) → byte_total (xs ++ ys) ≡ byte_total xs + byte_total ys
+total-append [] ys = omega arith
+total-append (x ∷ xs) ys =
+    omega (
+      arith,
+      total-append xs ys,
+      length-append (bytes_of x) (concat (map bytes_of (xs ++ ys))),
+      length-append (bytes_of x) (concat (map bytes_of xs)),
+    )
+
+total-cons : (v : Value) (vs : List Value) → byte_total (v ∷ vs) ≡ length (bytes_of v) + byte_total vs
+total-cons v vs = length-append (bytes_of v) (concat (map bytes_of vs))
+
+-- ---- one value
+
+pub takes-one : (kind : DataType) (before after all : List Value) (v : Value) (builder : Builder) (storage : Storage) → all ≡ before ++ v ∷ after
+    → Fits kind all → Holds builder kind before → storage ≡ storage_of kind → Takes builder storage v
+takes-one kind before after all v builder storage split are holds stored =
+    let items = subst (Fits kind) split are in
+    let total = total-append before (v ∷ after) in
+    let own = total-cons v after in
+    let many = length-append before (v ∷ after) in
+    let alone : push_fault kind [] v ≡ None =
+    subst (λ (w : Value). push_fault kind [] w ≡ None) (get_or-append_seam before v after Null) (items.each (length before) Null (omega (arith, many))) in
+    record {
+      kind = kind;
+      values = before;
+      holds = holds;
+      few = omega (arith, items.few, many);
+      stored = stored;
+      is = subst (λ (s : Storage). IsStored s v) (sym stored) (taken-stored kind v alone);
+      taken = taken-behind kind before v alone
+          (fewer (is_wide kind) (form_of kind) (byte_total before + length (bytes_of v)) (byte_total (before ++ v ∷ after)) (omega (arith, total, own))
+          items.small);
+    }
+
+-- ---- the items of numbers
+
+pub next-of : (f : ℕ → Value) (kept : List ℕ) (k : ℕ) → k < length kept
+    → map f kept ≡ map f (take k kept) ++ f (get_or kept k 0) ∷ map f (drop (suc k) kept)
+next-of f kept k small =
+    ap (map f) (split_at kept k 0 small) ∙ map-append f (take k kept) (get_or kept k 0 ∷ drop (suc k) kept)
+
+-- ---- an item that stands so often
+
+repeat-split : (v : Value) (times j : ℕ) → j < times → replicate times v ≡ replicate j v ++ v ∷ replicate (times - suc j) v
+repeat-split v times j small =
+    let whole : times ≡ j + suc (times - suc j) = omega (arith, small) in
+    ap (λ n. replicate n v) whole ∙ sym (replicate-append-replicate j (suc (times - suc j)) v)
+
+pub inside-repeat : (before after : List Value) (v : Value) (times j : ℕ) → j < times
+    → before ++ (replicate times v ++ after) ≡ (before ++ replicate j v) ++ v ∷ (replicate (times - suc j) v ++ after)
+inside-repeat before after v times j small =
+    let more = replicate (times - suc j) v in
+    ap (λ (vs : List Value). before ++ (vs ++ after)) (repeat-split v times j small)
+    ∙ ap (λ (vs : List Value). before ++ vs) (append_assoc (replicate j v) (v ∷ more) after)
+    ∙ sym (append_assoc before (replicate j v) (v ∷ (more ++ after)))
+
+-- ---- the items of runs
+
+pub run-split : {X : Type 0} (f : X → List Value) (runs : List X) (k : ℕ) (none : X) → k < length runs
+    → flat_map f runs ≡ flat_map f (take k runs) ++ (f (get_or runs k none) ++ flat_map f (drop (suc k) runs))
+run-split f runs k none small =
+    ap (flat_map f) (split_at runs k none small) ∙ flat_map-append f (take k runs) (get_or runs k none ∷ drop (suc k) runs)
