@@ -34,7 +34,7 @@ module _ (some-text : (bytes : List ℕ) → (read : Texts) × Reads bytes read)
     (some-format : (text : List ℕ) → (read : Result DataType FormatFault) × FormatReads text read) where
   come : (bytes : List ℕ) (read : Texts) → Reads bytes read → (checked : Checked) × ReadComes read checked
   come bytes (Ok read) reads =
-      let kinds = some-schema some-format read.0 reads.1.schema_fits in
+      let kinds = some-schema some-format 1 read.0 reads.1.schema_fits in
       (kinds_checked kinds.0 read.1, (kinds.0, kinds.1, refl))
   come bytes (Err fault) reads = (Err (trees.Text fault), refl)
 

@@ -1,5 +1,5 @@
 -- A schema whose metadata are bytes has kinds or a first fault.
-use Rattle.std.proofs.Common.{◌≡◌, ◌⊎◌, inl, inr, ◌∙◌, ℕ, suc, ◌+◌, ◌<◌, ◌≤◌, true, false, List, [], ◌∷◌, codes, Option, None, Some, Result, Ok, Err, refl, sym}
+use Rattle.std.proofs.Common.{◌≡◌, ◌⊎◌, inl, inr, ◌∙◌, ℕ, suc, ◌+◌, ◌<◌, ◌≤◌, true, false, List, [], ◌∷◌, codes, Option, None, Some, Result, Ok, Err, refl, sym, subst}
 use Rattle.std.proofs.lemmas.Bool.{cases_Bool, cases_eq, cases_lt, false≢true}
 use Rattle.std.proofs.lemmas.Slice.Eq.{bytes_eq-Decides}
 use Rattle.std.specs.Str.{bytes_eq}
@@ -14,9 +14,9 @@ use Rattle.schema_meta.specs.declared.fault.MetaFault.{MetaFault}
 use Rattle.schema_meta.specs.declared.fault.MetaFault.TheVariants as meta
 use Rattle.schema_meta.specs.declared.pair.Pair.{Pair}
 use Rattle.tree_model.specs.Tree.{Released, Live, Trees, no_trees, more_trees, MaybeTree, absent, present}
-use Rattle.raw_schema.specs.Members.{SchemaMembers, SchemaTree}
+use Rattle.raw_schema.specs.Members.{SchemaMembers, SchemaTree, members_of}
 use Rattle.kind_tree.specs.Kinds.{KindTree, tree_count}
-use Rattle.schema_check.specs.SchemaAnswers.{FirstFault, SchemaReads}
+use Rattle.schema_check.specs.SchemaAnswers.{FirstFault, MetaRefused, SchemaReads}
 use Rattle.schema_check.specs.Schemas.{ChildrenFit, DictFault, DictTyped, FailsHere, FaultFrom, IndexFits, IsPairNode, IsPairSchema}
 use Rattle.schema_check.specs.Schemas.{KidFault, KidsTyped, MapFits, MetaFits}
 use Rattle.schema_check.specs.Schemas.{NodeIs, TypedFrom}
@@ -233,5 +233,16 @@ module _ (some-format : (text : List ℕ) → (read : Result DataType FormatFaul
   read-of t (inl typed) = (Ok typed.0, typed.1)
   read-of t (inr fault) = (Err (record { path = fault.0; rule = fault.1 }), fault.2)
 
-  pub some-schema : (t : SchemaTree) → TreeFits SchemaNodeFits 1 t → (read : Result KindTree FirstFault) × SchemaReads t read
-  some-schema t fits = read-of t (tree 1 1 t fits)
+  pub some-schema : (at : ℕ) (t : SchemaTree) → TreeFits SchemaNodeFits at t → (read : Result KindTree FirstFault) × SchemaReads t read
+  some-schema at t fits = read-of t (tree 1 at t fits)
+
+-- ---- a root's metadata
+
+refused-if : (metadata : Option (List ℕ)) → MetaFits metadata ⊎ MetaIsNot metadata → MetaFits metadata ⊎ ((fault : MetaFault) × MetaRefused metadata fault)
+refused-if metadata (inl fits) = inl fits
+refused-if metadata (inr not) = inr (not.0, subst (λ m. MetaRefused m not.0) (sym not.2) not.3)
+
+pub some-metadata : (at : ℕ) (t : SchemaTree) → TreeFits SchemaNodeFits at t
+    → MetaFits (members_of t).metadata ⊎ ((fault : MetaFault) × MetaRefused (members_of t).metadata fault)
+some-metadata at Released fits = inl tt
+some-metadata at (Live s kids dict) fits = refused-if s.metadata (meta-fits s.metadata fits.1.metadata)

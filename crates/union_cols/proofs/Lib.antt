@@ -8,3 +8,4 @@ pub mod TagRules
 pub mod TagItems
 pub mod TagLaw
 pub mod TagSteps
+mod SomeFormat

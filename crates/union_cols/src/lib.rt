@@ -32,6 +32,7 @@ mod tag_ids;
 mod tag_moves;
 mod tag_tops;
 mod tagged;
+mod some_format;
 mod worked_unions;
 
 pub use check::check_union;
@@ -44,3 +45,4 @@ pub use schema_fault::UnionSchemaFault;
 pub use tag_fault::TagFault;
 pub use tagged::tag;
 pub use worked_unions::{small_tags, small_unions};
+pub use some_format::some_union_format;
