@@ -1,3 +1,4 @@
 pub mod PlainBytes
 pub mod Parts
 pub mod Sizes
+mod NumberedLines

@@ -1,2 +1,3 @@
 pub mod ValueTexts
 pub mod Behind
+pub mod NumberedTexts

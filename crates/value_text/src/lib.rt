@@ -13,9 +13,11 @@
 mod bounded;
 mod escapes;
 mod lines;
+mod numbered;
 mod table;
 mod value;
 
 pub use bounded::BoundedText;
 pub use lines::items_text;
+pub use numbered::push_numbered;
 pub use value::push_value;
