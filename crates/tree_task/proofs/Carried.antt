@@ -6,7 +6,7 @@ use Rattle.std.proofs.lemmas.List.{length-append}
 use Rattle.std.specs.Io.KnownBytes.{Appends, Keeps}
 use Rattle.edge_face.specs.Edge.{LosesCount, LosesPrefix}
 use Rattle.kind_tree.specs.Kinds.{KindTree}
-use Rattle.layout_rules.specs.Walk.{Fault as ArrayFault, first_fault}
+use Rattle.layout_rules.specs.Walk.{Fault as ArrayFault, first_chunk_fault, first_fault}
 use Rattle.raw_array.specs.Members.{ArrayTree}
 use Rattle.raw_schema.specs.Members.{SchemaTree}
 use Rattle.schema_check.specs.SchemaAnswers.{FirstFault}
@@ -15,10 +15,17 @@ use Rattle.tree_check.specs.declared.fault.TreeFault.{TreeFault}
 use Rattle.tree_check.specs.declared.fault.TreeFault.TheVariants as trees
 use Rattle.tree_text.specs.declared.fault.TextFault.{TextFault}
 use Rattle.tree_task.specs.Answer.{Answer, AnswerWithin, AreBytes, CountsCommand, Fault, IsAnswerTo, IsTooLong, ReadAnswer, Text, TextAnswer}
-use Rattle.tree_task.specs.Answer.{TreesAnswer, fault_of_tree, input_limit, rows_of_kinds, rows_unless}
+use Rattle.tree_task.specs.Answer.{TreesAnswer, input_limit}
 use Rattle.tree_task.specs.Faults.{AtWriteFault, AtWriting, Cause, Memory, OfLength, OfTrees, OfWords, Reading, Writing}
 use Rattle.tree_task.specs.Faults.{cause_of, fault_in, is_decided, is_write_fault, is_writing}
+use Rattle.tree_task.specs.ForeignAnswer.{chunk_of_kinds, chunk_unless}
 use Rattle.tree_task.specs.Over.{RanOver}
+use Rattle.tree_task.specs.Refusals.{fault_of_tree}
+use Rattle.tree_task.specs.RowsAnswer.{rows_of_kinds, rows_unless}
+use Rattle.tree_task.specs.UnionAnswer.{union_of_schema, union_unless}
+use Rattle.union_cols.specs.UnionRules.{UnionFound, union_fault}
+use Rattle.union_cols.specs.UnionSchemas.{SchemaFound}
+use Rattle.union_cols.specs.Unions.{UnionTree}
 use Rattle.tree_task.specs.declared.command.Command.{Command}
 use Rattle.tree_task.specs.declared.command.Command.TheVariants as commands
 use Rattle.tree_task.specs.declared.fault.TreeRunFault.{TreeRunFault}
@@ -90,6 +97,8 @@ fault-cases (run.WriteFault taken) = inr (inr (inl (taken, refl)))
 fault-cases (run.Text fault) = inl refl
 fault-cases (run.Schema path rule) = inl refl
 fault-cases (run.Layout fault) = inl refl
+fault-cases (run.UnionSchema fault) = inl refl
+fault-cases (run.Union fault) = inl refl
 fault-cases run.NoMemory = inr (inr (inr refl))
 
 pub not-writing : (P : ℕ → Type 0) (cause : Cause) → is_writing cause ≡ false → AtWriting cause P
@@ -129,8 +138,26 @@ in-kinds : (read : Result KindTree FirstFault) (array : ArrayTree) → TextFault
 in-kinds (Ok typed) array = in-rows typed array (first_fault typed array)
 in-kinds (Err first) array = in-tree (schema_fault first)
 
+in-chunk : (typed : KindTree) (array : ArrayTree) (fault : Option ArrayFault) → TextFaultIn (chunk_unless typed array fault)
+in-chunk typed array None = tt
+in-chunk typed array (Some fault) = in-tree (array_fault fault)
+
+in-chunk_kinds : (read : Result KindTree FirstFault) (array : ArrayTree) → TextFaultIn (chunk_of_kinds read array)
+in-chunk_kinds (Ok typed) array = in-chunk typed array (first_chunk_fault typed array)
+in-chunk_kinds (Err first) array = in-tree (schema_fault first)
+
+in-union : (u : UnionTree) (array : ArrayTree) (fault : Option UnionFound) → TextFaultIn (union_unless u array fault)
+in-union u array None = tt
+in-union u array (Some fault) = tt
+
+in-union_schema : (read : Result UnionTree SchemaFound) (array : ArrayTree) → TextFaultIn (union_of_schema read array)
+in-union_schema (Ok u) array = in-union u array (union_fault u array)
+in-union_schema (Err fault) array = tt
+
 in-trees : (command : Command) (schema : SchemaTree) (array : ArrayTree) (answer : Answer) → TreesAnswer command schema array answer → TextFaultIn answer
 in-trees commands.Rows schema array answer is = subst TextFaultIn (sym is.2) (in-kinds is.0 array)
+in-trees commands.Union schema array answer is = subst TextFaultIn (sym is.2) (in-union_schema is.0 array)
+in-trees commands.Foreign schema array answer is = subst TextFaultIn (sym is.2) (in-chunk_kinds is.0 array)
 
 in-read : (command : Command) (read : Result (SchemaTree × ArrayTree) TextFault) (answer : Answer) → ReadAnswer command read answer → TextFaultIn answer
 in-read command (Ok read) answer is = in-trees command read.0 read.1 answer is

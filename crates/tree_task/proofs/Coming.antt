@@ -1,5 +1,5 @@
 -- What a command answers, from what its parts come to.
-use Rattle.std.proofs.Common.{◌≡◌, ◌≢◌, ◌⊎◌, ◌∙◌, ℕ, List, None, Some, Ok, Err, inl, inr, ap, sym, refl, subst}
+use Rattle.std.proofs.Common.{◌≡◌, ◌≢◌, ◌⊎◌, ◌∙◌, ℕ, List, None, Some, Result, Ok, Err, IfOk, IfErr, inl, inr, ap, sym, refl, subst}
 use Rattle.kind_tree.specs.Kinds.{KindTree}
 use Rattle.kind_tree.specs.Ways.{steps_of}
 use Rattle.layout_rules.specs.Found.{fault_of}
@@ -8,18 +8,29 @@ use Rattle.layout_rules.specs.Walk.{first_fault}
 use Rattle.layout_rules.specs.declared.rule.LayoutFault.{LayoutFault}
 use Rattle.raw_array.specs.Members.{ArrayTree}
 use Rattle.raw_schema.specs.Members.{SchemaTree}
-use Rattle.schema_check.specs.SchemaAnswers.{IsFirstFault}
+use Rattle.schema_check.specs.SchemaAnswers.{FirstFault, IsFirstFault, SchemaReads}
 use Rattle.schema_check.specs.Schemas.{TypedOf}
 use Rattle.schema_check.specs.declared.schema.SchemaFault.{SchemaFault}
 use Rattle.schema_check.specs.declared.schema.SchemaFault.TheVariants as schemas
-use Rattle.tree_check.specs.Checks.{array_refused, schema_refused, text_refused}
+use Rattle.tree_check.specs.Checks.{array_refused, schema_fault, schema_refused, text_refused}
 use Rattle.tree_check.specs.declared.fault.CheckFault.{CheckFault}
 use Rattle.tree_text.specs.Answers.{Reads}
 use Rattle.tree_text.specs.declared.fault.TextFault.{TextFault}
 use Rattle.tree_text.specs.declared.fault.TextFault.TheVariants as texts
 use Rattle.value_text.specs.ValueTexts.{lines_text}
-use Rattle.tree_task.specs.Answer.{Answer, Fault, RowsAnswer, Text, TextAnswer, TreesAnswer, rows_unless}
-use Rattle.tree_task.specs.Refusals.{fault_of_check}
+use Rattle.union_cols.specs.UnionAnswers.{FailsIf, IsUnionFault, found_of, named}
+use Rattle.union_cols.specs.UnionRules.{union_fault}
+use Rattle.union_cols.specs.UnionSchemas as found
+use Rattle.union_cols.specs.UnionSchemas.{UnionOf}
+use Rattle.union_cols.specs.Unions.{UnionTree}
+use Rattle.union_cols.specs.declared.rule.UnionFault.{UnionFault}
+use Rattle.union_cols.specs.declared.schema_fault.UnionSchemaFault.{UnionSchemaFault}
+use Rattle.union_cols.specs.declared.schema_fault.UnionSchemaFault.TheVariants as unions
+use Rattle.root_check.specs.declared.own_schema.OwnSchemaFault.TheVariants as parts
+use Rattle.tree_task.specs.Answer.{Answer, Fault, Text, TextAnswer, TreesAnswer}
+use Rattle.tree_task.specs.RowsAnswer.{RowsAnswer, rows_unless}
+use Rattle.tree_task.specs.UnionAnswer.{UnionAnswer, items_text, union_items, union_unless}
+use Rattle.tree_task.specs.Refusals.{fault_of_check, fault_of_tree, fault_of_union_schema, union_fault_told}
 use Rattle.tree_task.specs.declared.command.Command.{Command}
 use Rattle.tree_task.specs.declared.fault.TreeRunFault.{TreeRunFault}
 use Rattle.tree_task.specs.declared.fault.TreeRunFault.TheVariants as run
@@ -33,16 +44,37 @@ told-by : (IsAnswer : Answer → Type 0) (told : TreeRunFault) (checked refused 
     → IsRefused IsAnswer (fault_of_check refused) → IsRefused IsAnswer told
 told-by IsAnswer told checked refused gives same is = subst (IsRefused IsAnswer) (sym (gives ∙ ap fault_of_check same)) is
 
-module _ (schema : SchemaTree) (array : ArrayTree) where
-  schema-comes : (fault : SchemaFault) → IsFirstFault schema fault → IsRefused (RowsAnswer schema array) (fault_of_check (schema_refused fault))
-  schema-comes (schemas.At path rule) is = inr (Err (record { path = steps_of path; rule = rule }), is, refl)
+-- the answer that the kinds of a schema, or its first fault, give
+abbrev pub KindsAnswer : (Result KindTree FirstFault → Answer) → SchemaTree → Answer → Type 0
+KindsAnswer given schema answer = (read : Result KindTree FirstFault) × SchemaReads schema read × (answer ≡ given read)
+
+module _ (given : Result KindTree FirstFault → Answer) (refuses : (first : FirstFault) → given (Err first) ≡ Fault (fault_of_tree (schema_fault first)))
+    (schema : SchemaTree) where
+  schema-comes : (fault : SchemaFault) → IsFirstFault schema fault → IsRefused (KindsAnswer given schema) (fault_of_check (schema_refused fault))
+  schema-comes (schemas.At path rule) is =
+      let first : FirstFault = record { path = steps_of path; rule = rule } in
+      inr (Err first, is, sym (refuses first))
   schema-comes schemas.NoMemory is = inl refl
 
   -- the fault of a schema
   pub schema-refused : (fault : SchemaFault) (checked : CheckFault) (told : TreeRunFault) → checked ≡ schema_refused fault → told ≡ fault_of_check checked
-      → IsFirstFault schema fault → IsRefused (RowsAnswer schema array) told
-  schema-refused fault checked told same gives is = told-by (RowsAnswer schema array) told checked (schema_refused fault) gives same (schema-comes fault is)
+      → IsFirstFault schema fault → IsRefused (KindsAnswer given schema) told
+  schema-refused fault checked told same gives is = told-by (KindsAnswer given schema) told checked (schema_refused fault) gives same (schema-comes fault is)
 
+  -- what comes of kinds
+  module _ (typed : KindTree) (kinds : TypedOf schema typed) where
+    pub kinds-answer : {T E : Type 0} (text : T → List ℕ) (r : Result T E) → IfOk r (λ t. Text (text t) ≡ given (Ok typed))
+        → IfOk r (λ t. KindsAnswer given schema (Text (text t)))
+    kinds-answer text (Ok t) is = (Ok typed, kinds, is)
+    kinds-answer text (Err e) is = tt
+
+    pub kinds-refused : {T : Type 0} (r : Result T TreeRunFault) → IfErr r (λ fault. (fault ≡ run.NoMemory) ⊎ (Fault fault ≡ given (Ok typed)))
+        → IfErr r (λ fault. (fault ≡ run.NoMemory) ⊎ KindsAnswer given schema (Fault fault))
+    kinds-refused (Ok t) is = tt
+    kinds-refused (Err fault) (inl none) = inl none
+    kinds-refused (Err fault) (inr is) = inr (Ok typed, kinds, is)
+
+module _ (schema : SchemaTree) (array : ArrayTree) where
   module _ (typed : KindTree) (kinds : TypedOf schema typed) where
     -- the rows of a lawful array
     pub rows-come : (text : List ℕ) → first_fault typed array ≡ None → text ≡ lines_text (values_of typed array) → RowsAnswer schema array (Text text)
@@ -54,6 +86,36 @@ module _ (schema : SchemaTree) (array : ArrayTree) where
     array-refused fault checked told same gives is =
         told-by (RowsAnswer schema array) told checked (array_refused fault) gives same
         (inr (Ok typed, kinds, ap (rows_unless typed array) (sym is)))
+
+-- ---- unions
+
+module _ (schema : SchemaTree) (array : ArrayTree) where
+  union_schema-comes : (fault : UnionSchemaFault) → FailsIf schema (named fault) → IsRefused (UnionAnswer schema array) (fault_of_union_schema fault)
+  union_schema-comes unions.Released is = inr (Err found.IsReleased, is, refl)
+  union_schema-comes (unions.Format place) is = inr (Err (found.Format place), is, refl)
+  union_schema-comes (unions.Meta fault) is = inr (Err (found.OwnPart (parts.Meta fault)), is, refl)
+  union_schema-comes unions.Dictionary is = inr (Err (found.OwnPart parts.Dictionary), is, refl)
+  union_schema-comes (unions.ChildCount count needed) is = inr (Err (found.ChildCount count needed), is, refl)
+  union_schema-comes (unions.Child child (schemas.At path rule)) is =
+      inr (Err (found.Child (record { child = child; first = record { path = steps_of path; rule = rule } })), is, refl)
+  union_schema-comes (unions.Child child schemas.NoMemory) is = inl refl
+  union_schema-comes unions.NoMemory is = inl refl
+
+  -- the fault of a union's schema
+  pub union_schema-refused : (fault : UnionSchemaFault) (told : TreeRunFault) → told ≡ fault_of_union_schema fault → IsUnionFault schema fault
+      → IsRefused (UnionAnswer schema array) told
+  union_schema-refused fault told gives is = subst (IsRefused (UnionAnswer schema array)) (sym gives) (union_schema-comes fault is.1)
+
+  module _ (u : UnionTree) (kinds : UnionOf schema u) where
+    -- the items of a lawful union
+    pub union-come : (text : List ℕ) → union_fault u array ≡ None → text ≡ items_text (union_items u array) → UnionAnswer schema array (Text text)
+    union-come text none is = (Ok u, kinds, ap (λ (t : List ℕ). Text t) is ∙ ap (union_unless u array) (sym none))
+
+    -- the fault of a union's array
+    pub union-refused : (fault : UnionFault) (told : TreeRunFault) → told ≡ run.Union (union_fault_told (found_of fault))
+        → union_fault u array ≡ Some (found_of fault) → IsRefused (UnionAnswer schema array) told
+    union-refused fault told gives is =
+        subst (IsRefused (UnionAnswer schema array)) (sym gives) (inr (Ok u, kinds, ap (union_unless u array) (sym is)))
 
 module _ (command : Command) (bytes : List ℕ) where
   text-comes : (fault : TextFault) → (fault ≢ texts.NoMemory → Reads bytes (Err fault)) → IsRefused (TextAnswer command bytes) (fault_of_check (text_refused fault))

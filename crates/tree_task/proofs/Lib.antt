@@ -1,5 +1,9 @@
+pub mod SomeUnion
 pub mod OneAnswer
 pub mod MemoryFaults
 pub mod Coming
 pub mod Carried
 pub mod Lines
+pub mod FewUnits
+pub mod ForeignRows
+pub mod UnionLines

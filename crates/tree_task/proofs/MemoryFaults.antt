@@ -3,20 +3,32 @@ use Rattle.std.proofs.Common.{◌≡◌, ◌∙◌, ◌+◌, ℕ, Bool, true, fa
 use Rattle.fmt_string.specs.declared.fault.FormatFault.TheVariants as format
 use Rattle.kind_tree.specs.Kinds.{KindTree}
 use Rattle.kind_tree.specs.Ways.{Steps}
-use Rattle.layout_rules.specs.Walk.{Fault as ArrayFault, first_fault}
+use Rattle.layout_rules.specs.Walk.{Fault as ArrayFault, first_chunk_fault, first_fault}
 use Rattle.raw_array.specs.Members.{ArrayTree}
-use Rattle.raw_schema.specs.Members.{SchemaMembers, SchemaTree}
-use Rattle.schema_check.specs.SchemaAnswers.{FirstFault, SchemaReads}
+use Rattle.raw_schema.specs.Members.{SchemaMembers, SchemaTree, members_of}
+use Rattle.schema_check.specs.SchemaAnswers.{FirstFault, MetaRefused, SchemaReads}
 use Rattle.schema_check.specs.Schemas.{DictFault, FailsHere, FaultFrom, KidFault}
 use Rattle.schema_check.specs.declared.rule.SchemaRule.{SchemaRule}
 use Rattle.schema_check.specs.declared.rule.SchemaRule.TheVariants as rules
+use Rattle.schema_meta.specs.declared.fault.MetaFault.{MetaFault}
 use Rattle.schema_meta.specs.declared.fault.MetaFault.TheVariants as meta
 use Rattle.tree_model.specs.Tree.{Released, Live, Trees, no_trees, more_trees, MaybeTree, absent, present}
 use Rattle.tree_text.specs.Answers.{Reads}
 use Rattle.tree_text.specs.declared.fault.TextFault.{TextFault}
 use Rattle.tree_text.specs.declared.fault.TextFault.TheVariants as texts
-use Rattle.tree_task.specs.Answer.{Answer, AnswerWithin, Fault, IsAnswerTo, ReadAnswer, Text, TreesAnswer, is_too_long, rows_of_kinds, rows_unless}
-use Rattle.tree_task.specs.Faults.{has_memory_inside, is_decided, is_text_memory, rule_has_memory}
+use Rattle.root_check.specs.Schemas.{OwnSchemaReads}
+use Rattle.root_check.specs.declared.own_schema.OwnSchemaFault.{OwnSchemaFault}
+use Rattle.root_check.specs.declared.own_schema.OwnSchemaFault.TheVariants as parts
+use Rattle.union_cols.specs.UnionRules.{UnionFound, union_fault}
+use Rattle.union_cols.specs.UnionSchemas as found
+use Rattle.union_cols.specs.UnionSchemas.{SchemaFound, UnionReads, UnionSchemaFails}
+use Rattle.union_cols.specs.Unions.{UnionTree}
+use Rattle.tree_task.specs.Answer.{Answer, AnswerWithin, Fault, IsAnswerTo, ReadAnswer, Text, TreesAnswer, is_too_long}
+use Rattle.tree_task.specs.ForeignAnswer.{chunk_of_kinds, chunk_unless}
+use Rattle.tree_task.specs.Refusals.{own_part_fault, union_schema_fault}
+use Rattle.tree_task.specs.RowsAnswer.{rows_of_kinds, rows_unless}
+use Rattle.tree_task.specs.UnionAnswer.{union_of_schema, union_unless}
+use Rattle.tree_task.specs.Faults.{has_memory_inside, is_decided, is_meta_memory, is_text_memory, rule_has_memory, union_has_memory}
 use Rattle.tree_task.specs.declared.command.Command.{Command}
 use Rattle.tree_task.specs.declared.command.Command.TheVariants as commands
 use Rattle.tree_task.specs.declared.fault.TreeRunFault.{TreeRunFault}
@@ -75,6 +87,46 @@ of-kinds : (schema : SchemaTree) (array : ArrayTree) (read : Result KindTree Fir
 of-kinds schema array (Ok typed) reads = of-array typed array (first_fault typed array)
 of-kinds schema array (Err first) reads = fault-from 1 schema first.path first.rule reads
 
+-- ---- chunks
+
+of-chunk : (typed : KindTree) (array : ArrayTree) (fault : Option ArrayFault) → within (chunk_unless typed array fault) ≡ false
+of-chunk typed array None = refl
+of-chunk typed array (Some fault) = refl
+
+of-chunk_kinds : (schema : SchemaTree) (array : ArrayTree) (read : Result KindTree FirstFault) → SchemaReads schema read
+    → within (chunk_of_kinds read array) ≡ false
+of-chunk_kinds schema array (Ok typed) reads = of-chunk typed array (first_chunk_fault typed array)
+of-chunk_kinds schema array (Err first) reads = fault-from 1 schema first.path first.rule reads
+
+-- ---- unions
+
+of-meta : (metadata : Option (List ℕ)) (fault : MetaFault) → MetaRefused metadata fault → is_meta_memory fault ≡ false
+of-meta None fault refused = absurd refused
+of-meta (Some bytes) meta.NoMemory refused = absurd refused
+of-meta (Some bytes) (meta.Short place) refused = refl
+of-meta (Some bytes) (meta.Negative place) refused = refl
+of-meta (Some bytes) (meta.Trailing place) refused = refl
+
+of-part : (schema : SchemaTree) (fault : OwnSchemaFault) → OwnSchemaReads schema (Err fault) → union_has_memory (own_part_fault fault) ≡ false
+of-part schema (parts.Meta fault) reads = of-meta (members_of schema).metadata fault reads
+of-part schema parts.Dictionary reads = refl
+
+of-union_schema : (schema : SchemaTree) (fault : SchemaFound) → UnionSchemaFails schema fault → union_has_memory (union_schema_fault fault) ≡ false
+of-union_schema schema found.IsReleased fails = refl
+of-union_schema schema (found.Format place) fails = refl
+of-union_schema schema (found.OwnPart fault) fails = of-part schema fault fails.2
+of-union_schema schema (found.ChildCount count needed) fails = refl
+of-union_schema schema (found.Child fault) fails = fault-from 1 _ fault.first.path fault.first.rule fails.3.fails
+
+of-union_array : (u : UnionTree) (array : ArrayTree) (fault : Option UnionFound) → within (union_unless u array fault) ≡ false
+of-union_array u array None = refl
+of-union_array u array (Some fault) = refl
+
+of-union : (schema : SchemaTree) (array : ArrayTree) (read : Result UnionTree SchemaFound) → UnionReads schema read
+    → within (union_of_schema read array) ≡ false
+of-union schema array (Ok u) reads = of-union_array u array (union_fault u array)
+of-union schema array (Err fault) reads = of-union_schema schema fault reads
+
 -- ---- answers
 
 of-text : (bytes : List ℕ) (fault : TextFault) → Reads bytes (Err fault) → is_text_memory fault ≡ false
@@ -85,6 +137,8 @@ of-text bytes texts.NoMemory reads = absurd reads
 of-trees : (command : Command) (schema : SchemaTree) (array : ArrayTree) (answer : Answer) → TreesAnswer command schema array answer
     → within answer ≡ false
 of-trees commands.Rows schema array answer is = ap within is.2 ∙ of-kinds schema array is.0 is.1
+of-trees commands.Union schema array answer is = ap within is.2 ∙ of-union schema array is.0 is.1
+of-trees commands.Foreign schema array answer is = ap within is.2 ∙ of-chunk_kinds schema array is.0 is.1
 
 of-read : (command : Command) (bytes : List ℕ) (read : Result (SchemaTree × ArrayTree) TextFault) (answer : Answer) → Reads bytes read
     → ReadAnswer command read answer → within answer ≡ false
@@ -105,4 +159,5 @@ pub of-fault : (command : Option Command) (bytes : List ℕ) (fault : TreeRunFau
     → has_memory_inside fault ≡ false
 of-fault command bytes (run.Text fault) answer = of-answer command bytes (Fault (run.Text fault)) (answer refl)
 of-fault command bytes (run.Schema path rule) answer = of-answer command bytes (Fault (run.Schema path rule)) (answer refl)
+of-fault command bytes (run.UnionSchema fault) answer = of-answer command bytes (Fault (run.UnionSchema fault)) (answer refl)
 of-fault command bytes _ answer = refl

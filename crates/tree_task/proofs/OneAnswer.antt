@@ -4,10 +4,16 @@ use Rattle.kind_tree.specs.Kinds.{KindTree}
 use Rattle.raw_array.specs.Members.{ArrayTree}
 use Rattle.raw_schema.specs.Members.{SchemaTree}
 use Rattle.schema_check.specs.SchemaAnswers.{FirstFault, SchemaReads}
-use Rattle.tree_check.specs.Checks.{Checked, ChecksTo, ReadComes, TreesCome}
 use Rattle.tree_text.specs.Answers.{Reads}
 use Rattle.tree_text.specs.declared.fault.TextFault.{TextFault}
-use Rattle.tree_task.specs.Answer.{Answer, AnswerWithin, Fault, IsAnswerTo, ReadAnswer, RowsAnswer, TextAnswer, TreesAnswer, is_too_long, rows_of_kinds}
+use Rattle.tree_text.specs.TreeText.{SchemaFits}
+use Rattle.union_cols.specs.UnionSchemas.{SchemaFound, UnionReads}
+use Rattle.union_cols.specs.Unions.{UnionTree}
+use Rattle.tree_task.specs.Answer.{Answer, AnswerWithin, Fault, IsAnswerTo, ReadAnswer, TextAnswer, TreesAnswer, is_too_long}
+use Rattle.tree_task.specs.ForeignAnswer.{ForeignAnswer, chunk_of_kinds}
+use Rattle.tree_task.specs.RowsAnswer.{RowsAnswer, rows_of_kinds}
+use Rattle.tree_task.specs.UnionAnswer.{UnionAnswer, union_of_schema}
+use Rattle.tree_task.proofs.SomeUnion.{SomeFormat, SomeKinds, SomeMetadata, some-union}
 use Rattle.tree_task.specs.declared.command.Command.{Command}
 use Rattle.tree_task.specs.declared.command.Command.TheVariants as commands
 use Rattle.tree_task.specs.declared.fault.TreeRunFault.TheVariants as run
@@ -17,20 +23,28 @@ Texts = Result (SchemaTree × ArrayTree) TextFault
 
 -- ---- there is one
 
-some-trees : (command : Command) (schema : SchemaTree) (array : ArrayTree) (checked : Checked) → TreesCome schema array checked
-    → (answer : Answer) × TreesAnswer command schema array answer
-some-trees commands.Rows schema array checked comes = (rows_of_kinds comes.0 array, (comes.0, comes.1, refl))
+module _ (some-reading : (bytes : List ℕ) → (read : Texts) × Reads bytes read) (some-format : SomeFormat) (some-kinds : SomeKinds)
+    (some-metadata : SomeMetadata) where
+  some-trees : (command : Command) (schema : SchemaTree) (array : ArrayTree) → SchemaFits 1 schema → (answer : Answer) × TreesAnswer command schema array answer
+  some-trees commands.Rows schema array fits =
+      let read = some-kinds 1 schema fits in
+      (rows_of_kinds read.0 array, (read.0, read.1, refl))
+  some-trees commands.Union schema array fits =
+      let read = some-union some-format some-kinds some-metadata 1 schema fits in
+      (union_of_schema read.0 array, (read.0, read.1, refl))
+  some-trees commands.Foreign schema array fits =
+      let read = some-kinds 1 schema fits in
+      (chunk_of_kinds read.0 array, (read.0, read.1, refl))
 
-some-read : (command : Command) (read : Texts) (checked : Checked) → ReadComes read checked → (answer : Answer) × ReadAnswer command read answer
-some-read command (Ok read) checked comes = some-trees command read.0 read.1 checked comes
-some-read command (Err fault) checked comes = (Fault (run.Text fault), refl)
+  some-read : (command : Command) (bytes : List ℕ) (read : Texts) → Reads bytes read → (answer : Answer) × ReadAnswer command read answer
+  some-read command bytes (Ok read) reads = some-trees command read.0 read.1 reads.1.schema_fits
+  some-read command bytes (Err fault) reads = (Fault (run.Text fault), refl)
 
-module _ (some-check : (bytes : List ℕ) → (checked : Checked) × ChecksTo bytes checked) where
   some-text : (command : Command) (bytes : List ℕ) → (answer : Answer) × TextAnswer command bytes answer
   some-text command bytes =
-      let check = some-check bytes in
-      let answer = some-read command check.1.read check.0 check.1.comes in
-      (answer.0, record { read = check.1.read; reads = check.1.reads; is = answer.1 })
+      let read = some-reading bytes in
+      let answer = some-read command bytes read.0 read.1 in
+      (answer.0, record { read = read.0; reads = read.1; is = answer.1 })
 
   some-within : (long : Bool) (command : Command) (bytes : List ℕ) → (answer : Answer) × AnswerWithin long command bytes answer
   some-within true command bytes = (Fault run.InputTooLong, refl)
@@ -44,13 +58,23 @@ module _ (some-check : (bytes : List ℕ) → (checked : Checked) × ChecksTo by
 
 module _ (one-text : (bytes : List ℕ) (first second : Texts) → Reads bytes first → Reads bytes second → first ≡ second)
     (one-schema : (schema : SchemaTree) (first second : Result KindTree FirstFault) → SchemaReads schema first → SchemaReads schema second
-    → first ≡ second) where
+    → first ≡ second)
+    (one-union : (schema : SchemaTree) (first second : Result UnionTree SchemaFound) → UnionReads schema first → UnionReads schema second → first ≡ second) where
   one-rows : (schema : SchemaTree) (array : ArrayTree) (one other : Answer) → RowsAnswer schema array one → RowsAnswer schema array other → one ≡ other
   one-rows schema array one other is also = is.2 ∙ ap (λ r. rows_of_kinds r array) (one-schema schema is.0 also.0 is.1 also.1) ∙ sym also.2
+
+  one-union-answer : (schema : SchemaTree) (array : ArrayTree) (one other : Answer) → UnionAnswer schema array one → UnionAnswer schema array other → one ≡ other
+  one-union-answer schema array one other is also =
+      is.2 ∙ ap (λ r. union_of_schema r array) (one-union schema is.0 also.0 is.1 also.1) ∙ sym also.2
+
+  one-foreign : (schema : SchemaTree) (array : ArrayTree) (one other : Answer) → ForeignAnswer schema array one → ForeignAnswer schema array other → one ≡ other
+  one-foreign schema array one other is also = is.2 ∙ ap (λ r. chunk_of_kinds r array) (one-schema schema is.0 also.0 is.1 also.1) ∙ sym also.2
 
   one-trees : (command : Command) (schema : SchemaTree) (array : ArrayTree) (one other : Answer) → TreesAnswer command schema array one
       → TreesAnswer command schema array other → one ≡ other
   one-trees commands.Rows schema array one other is also = one-rows schema array one other is also
+  one-trees commands.Union schema array one other is also = one-union-answer schema array one other is also
+  one-trees commands.Foreign schema array one other is also = one-foreign schema array one other is also
 
   one-read : (command : Command) (read : Texts) (one other : Answer) → ReadAnswer command read one → ReadAnswer command read other → one ≡ other
   one-read command (Ok read) one other is also = one-trees command read.0 read.1 one other is also

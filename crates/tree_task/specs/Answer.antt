@@ -1,63 +1,47 @@
 -- What the program for trees answers: the text of a command, or the first fault of the words, the input, its text, the schema and
 -- the array.
-use Rattle.std.specs.Prelude.{◌≡◌, ◌<◌, ℕ, nat_lt, Bool, true, false, List, [], ◌∷◌, length, map, string_bytes, Option, None, Some, IfSome, Result, Ok, Err, String}
+use Rattle.std.specs.Prelude.{◌≡◌, ◌<◌, ◌+◌, ℕ, nat_lt, Bool, true, false, List, [], ◌∷◌, length, map, string_bytes, if◌then◌else◌, codes, Option, None, Some, IfSome, Result, Ok, Err, String}
 use Rattle.std.specs.Global.{Global}
-use Rattle.kind_tree.specs.Kinds.{KindTree}
-use Rattle.layout_rules.specs.Values.{values_of}
-use Rattle.layout_rules.specs.Walk.{Fault as ArrayFault, first_fault}
-use Rattle.raw_array.specs.Members.{ArrayTree}
+use Rattle.std.specs.Str.{bytes_eq}
+use Rattle.unit_pass.specs.Tally.{risen}
+use Rattle.tree_model.specs.TreeCost.{Holds, Nodes}
+use Rattle.raw_array.specs.Members.{ArrayTree, holds}
 use Rattle.raw_schema.specs.Members.{SchemaTree}
-use Rattle.schema_check.specs.SchemaAnswers.{FirstFault, SchemaReads}
-use Rattle.tree_check.specs.Checks.{CountsTrees, array_fault, schema_fault}
-use Rattle.tree_check.specs.declared.fault.TreeFault.{TreeFault}
-use Rattle.tree_check.specs.declared.fault.TreeFault.TheVariants as trees
 use Rattle.tree_text.specs.Answers.{Reads}
+use Rattle.tree_text.specs.TreeText.{TreeIs}
 use Rattle.tree_text.specs.declared.fault.TextFault.{TextFault}
-use Rattle.value_text.specs.ValueTexts.{lines_text}
+use Rattle.tree_task.specs.ForeignAnswer.{ForeignAnswer}
+use Rattle.tree_task.specs.RowsAnswer.{RowsAnswer}
+use Rattle.tree_task.specs.UnionAnswer.{UnionAnswer}
 use Rattle.tree_task.specs.declared.command.Command.{Command}
 use Rattle.tree_task.specs.declared.command.Command.TheVariants as commands
-use Rattle.tree_task.specs.declared.fault.TreeRunFault.{TreeRunFault}
 use Rattle.tree_task.specs.declared.fault.TreeRunFault.TheVariants as run
+pub use Rattle.tree_task.specs.TextOrFault.{Answer, Fault, Text}
 
 -- ---- commands
+
+abbrev pub command_named : List ℕ → Option Command
+command_named word =
+    if bytes_eq word (codes "union") then Some commands.Union
+    else if bytes_eq word (codes "foreign") then Some commands.Foreign
+    else None
 
 -- the command that the words are, if they are one: no words are that of the rows
 abbrev pub command_of : List (List ℕ) → Option Command
 command_of [] = Some commands.Rows
-command_of (word ∷ more) = None
+command_of (word ∷ []) = command_named word
+command_of (word ∷ next ∷ more) = None
 
 abbrev pub texts_of : List (String Global) → List (List ℕ)
 texts_of words = map (λ s. string_bytes s) words
 
 -- ---- the text of a command, or its fault
 
--- the text that is to be written, or the fault that is to be told
-pub data Answer : Type 0 where
-  Text : List ℕ → Answer
-  Fault : TreeRunFault → Answer
-
--- the fault of a check
-abbrev pub fault_of_tree : TreeFault → TreeRunFault
-fault_of_tree (trees.Text fault) = run.Text fault
-fault_of_tree (trees.Schema path rule) = run.Schema path rule
-fault_of_tree (trees.Layout fault) = run.Layout fault
-
--- a line for each item of an array, where no rule fails at any node. It may be of any kind
-abbrev pub rows_unless : KindTree → ArrayTree → Option ArrayFault → Answer
-rows_unless typed array None = Text (lines_text (values_of typed array))
-rows_unless typed array (Some fault) = Fault (fault_of_tree (array_fault fault))
-
--- the schema comes first
-abbrev pub rows_of_kinds : Result KindTree FirstFault → ArrayTree → Answer
-rows_of_kinds (Ok typed) array = rows_unless typed array (first_fault typed array)
-rows_of_kinds (Err first) array = Fault (fault_of_tree (schema_fault first))
-
-abbrev pub RowsAnswer : SchemaTree → ArrayTree → Answer → Type 0
-RowsAnswer schema array answer = (read : Result KindTree FirstFault) × SchemaReads schema read × (answer ≡ rows_of_kinds read array)
-
 -- the answer of a command to the two trees of a text
 abbrev pub TreesAnswer : Command → SchemaTree → ArrayTree → Answer → Type 0
 TreesAnswer commands.Rows schema array answer = RowsAnswer schema array answer
+TreesAnswer commands.Union schema array answer = UnionAnswer schema array answer
+TreesAnswer commands.Foreign schema array answer = ForeignAnswer schema array answer
 
 -- to what was read of a text
 abbrev pub ReadAnswer : Command → Result (SchemaTree × ArrayTree) TextFault → Answer → Type 0
@@ -105,6 +89,17 @@ IsTooLong told = (bytes : List ℕ) × AreBytes told bytes × (input_limit < len
 
 -- ---- what is made
 
--- the counts of blocks and nodes rise by what a command makes over a text: its trees
-abbrev pub CountsCommand : Command → List ℕ → ℕ → ℕ → ℕ → ℕ → Type 0
-CountsCommand commands.Rows bytes old_blocks old_nodes blocks nodes = CountsTrees bytes old_blocks old_nodes blocks nodes
+-- the counts of blocks and nodes rise by what a command makes of its trees, behind those of the trees
+abbrev pub Makes : Command → ArrayTree → ℕ → ℕ → ℕ → ℕ → Type 0
+Makes commands.Rows array old_blocks old_nodes blocks nodes = (blocks ≡ old_blocks) × (nodes ≡ old_nodes)
+Makes commands.Union array old_blocks old_nodes blocks nodes = (blocks ≡ old_blocks) × (nodes ≡ old_nodes)
+-- the producer's own block
+Makes commands.Foreign array old_blocks old_nodes blocks nodes = (blocks ≡ risen old_blocks 1) × (nodes ≡ old_nodes)
+
+-- The counts rise by the trees of a text, a block for each buffer that is there and a node for each live node of the schema and of
+-- the array, and then by what the command makes.
+pub record CountsCommand (command : Command) (bytes : List ℕ) (old_blocks old_nodes blocks nodes : ℕ) : Type 0 where
+  pub schema : SchemaTree
+  pub array : ArrayTree
+  pub text : TreeIs bytes schema array
+  pub made : Makes command array (risen old_blocks (Holds holds array)) (risen old_nodes (Nodes schema + Nodes array)) blocks nodes

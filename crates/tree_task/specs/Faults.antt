@@ -2,12 +2,16 @@
 use Rattle.std.specs.Prelude.{ℕ, Bool, true, false, Option, None, Some, Result, Ok, Err, ⊤}
 use Rattle.fmt_string.specs.declared.fault.FormatFault.{FormatFault}
 use Rattle.fmt_string.specs.declared.fault.FormatFault.TheVariants as format
+use Rattle.schema_check.specs.declared.schema.SchemaFault.{SchemaFault}
+use Rattle.schema_check.specs.declared.schema.SchemaFault.TheVariants as schemas
 use Rattle.schema_check.specs.declared.rule.SchemaRule.{SchemaRule}
 use Rattle.schema_check.specs.declared.rule.SchemaRule.TheVariants as rules
 use Rattle.schema_meta.specs.declared.fault.MetaFault.{MetaFault}
 use Rattle.schema_meta.specs.declared.fault.MetaFault.TheVariants as meta
 use Rattle.tree_text.specs.declared.fault.TextFault.{TextFault}
 use Rattle.tree_text.specs.declared.fault.TextFault.TheVariants as texts
+use Rattle.union_cols.specs.declared.schema_fault.UnionSchemaFault.{UnionSchemaFault}
+use Rattle.union_cols.specs.declared.schema_fault.UnionSchemaFault.TheVariants as unions
 use Rattle.tree_task.specs.declared.fault.TreeRunFault.{TreeRunFault}
 use Rattle.tree_task.specs.declared.fault.TreeRunFault.TheVariants as run
 
@@ -32,6 +36,8 @@ cause_of (run.WriteFault taken) = Writing taken
 cause_of (run.Text fault) = OfTrees
 cause_of (run.Schema path rule) = OfTrees
 cause_of (run.Layout fault) = OfTrees
+cause_of (run.UnionSchema fault) = OfTrees
+cause_of (run.Union fault) = OfTrees
 cause_of run.NoMemory = Memory
 
 abbrev pub status_by : Cause → ℕ
@@ -98,8 +104,19 @@ rule_has_memory (rules.Format fault) = is_format_memory fault
 rule_has_memory (rules.Meta fault) = is_meta_memory fault
 rule_has_memory _ = false
 
+abbrev pub schema_has_memory : SchemaFault → Bool
+schema_has_memory (schemas.At path rule) = rule_has_memory rule
+schema_has_memory schemas.NoMemory = true
+
+abbrev pub union_has_memory : UnionSchemaFault → Bool
+union_has_memory (unions.Meta fault) = is_meta_memory fault
+union_has_memory (unions.Child child fault) = schema_has_memory fault
+union_has_memory unions.NoMemory = true
+union_has_memory _ = false
+
 -- the types of all other faults have no such value
 abbrev pub has_memory_inside : TreeRunFault → Bool
 has_memory_inside (run.Text fault) = is_text_memory fault
 has_memory_inside (run.Schema path rule) = rule_has_memory rule
+has_memory_inside (run.UnionSchema fault) = union_has_memory fault
 has_memory_inside _ = false

@@ -1,5 +1,10 @@
 pub mod Answer
+pub mod TextOrFault
+pub mod RowsAnswer
+pub mod UnionAnswer
+pub mod ForeignAnswer
 pub mod Faults
 pub mod Over
 pub mod Told
 pub mod Refusals
+pub mod Gathered

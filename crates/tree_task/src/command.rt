@@ -1,12 +1,17 @@
 //! Commands.
-ghost use Rattle.std.specs.Prelude.{◌≡◌};
-ghost use Rattle.tree_task.specs.Answer.{command_of, texts_of};
+ghost use Rattle.std.specs.Prelude.{◌≡◌, string_bytes};
+ghost use Rattle.std.specs.Str.{bytes_eq};
+ghost use Rattle.tree_task.specs.Answer.{command_named, command_of, texts_of};
 
 /// What is asked for.
 #[derive(Clone, Copy, Debug, PartialEq, Eq)]
 pub enum Command {
     /// A line for each item of a tree of any kind.
     Rows,
+    /// A line for each item of a union: its type id and its value.
+    Union,
+    /// A line for each row of a chunk that a foreign producer owns.
+    Foreign,
 }
 
 /// The command that the words after the program's name are, if they are one.
@@ -15,6 +20,27 @@ pub fn read_command(words: &[String]) -> Option<Command>
 {
     match words {
         [] => Some(Command::Rows),
+        [word] => named(word),
         _ => None,
     }
+}
+
+/// The command of this name.
+fn named(word: &String) -> Option<Command>
+    ensures { result ≡ command_named (string_bytes word.now) }
+{
+    let word = word.as_bytes();
+    if is_word(word, b"union") {
+        return Some(Command::Union);
+    }
+    if is_word(word, b"foreign") {
+        return Some(Command::Foreign);
+    }
+    None
+}
+
+fn is_word(word: &[u8], name: &[u8]) -> bool
+    ensures { result ≡ bytes_eq word.now name.now }
+{
+    word == name
 }

@@ -1,10 +1,16 @@
 //! Why a run wrote no text, or not all of it.
+ghost use Rattle.std.specs.Prelude.{◌≡◌};
+ghost use Rattle.tree_task.specs.Refusals.{fault_of_union_schema, rule_told};
+ghost use Rattle.union_cols.specs.UnionAnswers.{rule_of};
+ghost use Rattle.union_cols.specs.declared.schema_fault.UnionSchemaFault.TheVariants as unions;
+
 use edge_face::WriteFault;
 use kind_tree::Path;
 use layout_rules::LayoutFault;
-use schema_check::SchemaRule;
+use schema_check::{SchemaFault, SchemaRule};
 use tree_check::{CheckFault, TreeFault};
 use tree_text::TextFault;
+use union_cols::{UnionFault, UnionRule, UnionSchemaFault};
 use unit_pass::NoMemory;
 
 /// Why a run wrote no text, or not all of it.
@@ -26,6 +32,11 @@ pub enum TreeRunFault {
     /// A rule of arrays fails at a node: the first one in preorder, and its first rule. The places of its path behind its
     /// depth are 0.
     Layout(LayoutFault),
+    /// The schema is no union's: its first fault. The places of a path inside it behind its depth are 0, and it is never want of
+    /// memory.
+    UnionSchema(UnionSchemaFault),
+    /// A rule of unions fails: the first one. The places of a path inside it behind its depth are 0.
+    Union(UnionFault),
     /// Memory ran out, or the text would have more than 2^31 bytes.
     NoMemory,
 }
@@ -70,5 +81,80 @@ impl From<CheckFault> for TreeRunFault {
             CheckFault::Tree(TreeFault::Layout(fault)) => TreeRunFault::Layout(fault),
             CheckFault::NoMemory => TreeRunFault::NoMemory,
         }
+    }
+}
+
+impl From<UnionSchemaFault> for TreeRunFault {
+    ghost use Rattle.std.specs.Prelude.{◌≡◌};
+    ghost use Rattle.tree_task.specs.Refusals.{fault_of_union_schema};
+
+    ghost from_gives = { λ fault given. given ≡ fault_of_union_schema fault };
+
+    fn from(fault: UnionSchemaFault) -> TreeRunFault {
+        match fault {
+            UnionSchemaFault::Released => TreeRunFault::UnionSchema(UnionSchemaFault::Released),
+            UnionSchemaFault::Format { place } => {
+                TreeRunFault::UnionSchema(UnionSchemaFault::Format { place })
+            }
+            UnionSchemaFault::Meta(fault) => {
+                TreeRunFault::UnionSchema(UnionSchemaFault::Meta(fault))
+            }
+            UnionSchemaFault::Dictionary => TreeRunFault::UnionSchema(UnionSchemaFault::Dictionary),
+            UnionSchemaFault::ChildCount { found, needed } => {
+                TreeRunFault::UnionSchema(UnionSchemaFault::ChildCount { found, needed })
+            }
+            UnionSchemaFault::Child { child, fault } => child_fault(child, fault),
+            UnionSchemaFault::NoMemory => TreeRunFault::NoMemory,
+        }
+    }
+}
+
+/// The fault of a union's schema by that of one of its children.
+fn child_fault(child: u32, fault: SchemaFault) -> TreeRunFault
+    ensures { result ≡ fault_of_union_schema (unions.Child child fault) }
+{
+    match fault {
+        SchemaFault::At { path, rule } => TreeRunFault::UnionSchema(UnionSchemaFault::Child {
+            child,
+            fault: SchemaFault::At {
+                path: path.cleared(),
+                rule,
+            },
+        }),
+        SchemaFault::NoMemory => TreeRunFault::NoMemory,
+    }
+}
+
+/// A rule of unions, with 0 in the places of a path inside it behind its depth.
+fn cleared(rule: UnionRule) -> UnionRule
+    ensures { result ≡ rule_told (rule_of rule) }
+{
+    match rule {
+        UnionRule::Child(fault) => UnionRule::Child(LayoutFault {
+            path: fault.path.cleared(),
+            rule: fault.rule,
+            place: fault.place,
+            left: fault.left,
+            right: fault.right,
+        }),
+        plain => plain,
+    }
+}
+
+impl From<UnionFault> for TreeRunFault {
+    ghost use Rattle.std.specs.Prelude.{◌≡◌};
+    ghost use Rattle.tree_task.specs.Refusals.{union_fault_told};
+    ghost use Rattle.tree_task.specs.declared.fault.TreeRunFault.TheVariants as run;
+    ghost use Rattle.union_cols.specs.UnionAnswers.{found_of};
+
+    ghost from_gives = { λ fault given. given ≡ run.Union (union_fault_told (found_of fault)) };
+
+    fn from(fault: UnionFault) -> TreeRunFault {
+        TreeRunFault::Union(UnionFault {
+            rule: cleared(fault.rule),
+            place: fault.place,
+            left: fault.left,
+            right: fault.right,
+        })
     }
 }

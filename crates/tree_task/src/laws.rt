@@ -12,8 +12,10 @@ pub fn one_answer()
         → one ≡ other }
 {
     tree_text::one_reading();
-    tree_check::one_check();
     schema_check::one_schema_answer();
+    tree_check::some_schema_answer();
+    union_cols::one_union_answer();
+    union_cols::some_union_format();
 }
 
 /// A law: no fault that is an answer has a want of memory inside it, nor has any that words and bytes don't decide.

@@ -17,9 +17,14 @@ mod answer;
 mod carry;
 mod command;
 mod fault;
+mod foreign;
+mod gathered;
 mod laws;
 mod outcome;
+mod rows;
+mod shown;
 mod told;
+mod union;
 
 pub use carry::carry_out;
 pub use command::{Command, read_command};

@@ -48,6 +48,8 @@ fn status(fault: TreeRunFault) -> u8
         TreeRunFault::Text(_) => 8,
         TreeRunFault::Schema { path: _, rule: _ } => 8,
         TreeRunFault::Layout(_) => 8,
+        TreeRunFault::UnionSchema(_) => 8,
+        TreeRunFault::Union(_) => 8,
         TreeRunFault::NoMemory => 9,
     }
 }

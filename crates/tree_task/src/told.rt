@@ -27,6 +27,8 @@ fn line_of(fault: TreeRunFault) -> &'static [u8]
         TreeRunFault::Text(_) => b"arrowtree: status 8\n",
         TreeRunFault::Schema { path: _, rule: _ } => b"arrowtree: status 8\n",
         TreeRunFault::Layout(_) => b"arrowtree: status 8\n",
+        TreeRunFault::UnionSchema(_) => b"arrowtree: status 8\n",
+        TreeRunFault::Union(_) => b"arrowtree: status 8\n",
         TreeRunFault::NoMemory => b"arrowtree: status 9\n",
     }
 }

@@ -1,11 +1,12 @@
-use Rattle.std.proofs.Common.{sym}
+use Rattle.std.proofs.Common.{refl, sym}
 use Rattle.kind_tree.specs.TypedView.{typed_of}
+use Rattle.tree_task.specs.RowsAnswer.{rows_of_kinds}
 use Rattle.tree_task.proofs.Coming.{array-refused, rows-come, schema-refused}
-use Rattle.tree_task.proofs.answer.rows_text.Goals as goal
+use Rattle.tree_task.proofs.rows.rows_text.Goals as goal
 
 pub returns-in-Err-clause-fault : goal.returns-in-Err-clause-fault
 returns-in-Err-clause-fault c =
-    schema-refused c.args.schema.now c.args.array.now c.in-Err.fault c.from.result c.from-in-Err.result c.from.ensures c.from-in-Err.ensures
+    schema-refused (λ read. rows_of_kinds read c.args.array.now) (λ first. refl) c.args.schema.now c.in-Err.fault c.from.result c.from-in-Err.result c.from.ensures c.from-in-Err.ensures
     c.in-Err.ensures.fault
 
 pub returns-in-Ok-check_array-clause-text : goal.returns-in-Ok-check_array-clause-text
