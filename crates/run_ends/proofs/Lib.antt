@@ -1,3 +1,5 @@
 pub mod OneRuns
 pub mod Holding
 pub mod Searching
+pub mod ValueRuns
+pub mod CodedTree

@@ -7,4 +7,5 @@ pub mod RunAnswers
 pub mod RunCols
 pub mod WindowProps
 pub mod FaultTexts
+pub mod RunCoding
 pub mod WorkedRuns

@@ -15,6 +15,7 @@
 #![tactic(auto)]
 
 mod check;
+mod coding;
 mod column;
 mod ends;
 mod fault_text;
@@ -26,6 +27,7 @@ mod schema_fault;
 mod worked_runs;
 
 pub use check::check_runs;
+pub use coding::coded_values_are_the_values;
 pub use column::RunCol;
 pub use kinds::RunTyped;
 pub use laws::one_runs_answer;

@@ -1,0 +1,12 @@
+use Rattle.run_ends.proofs.ValueRuns.{apart}
+use Rattle.run_ends.proofs.CodedTree.{coded_lawful, coded_values}
+use Rattle.run_ends.proofs.coding.coded_values_are_the_values.Goals as goal
+
+pub returns : goal.returns
+returns c =
+    let law = c.encoded_columns_are_lawful.ensures in
+    record {
+      lawful = λ kind values fits small. coded_lawful law.values law.lawful kind values fits small;
+      values = λ kind values fits small. coded_values law.values law.lawful kind values fits small;
+      apart = apart 0;
+    }

@@ -1,0 +1,73 @@
+-- Values as runs ("Arrow Columnar Format", "Run-End Encoded Layout"), and the schema and the array of such runs.
+use Rattle.std.specs.Prelude.{◌≡◌, ℕ, suc, ◌+◌, ◌<◌, ◌==◌, pos, Bool, true, false, not, if◌then◌else◌, codes, List, [], ◌∷◌, length, map, get_or, Option, Some, None}
+use Rattle.std.specs.Ordering.{int_eq}
+use Rattle.std.specs.Str.{bytes_eq}
+use Rattle.data_types.specs.declared.kind.DataType.{DataType}
+use Rattle.data_types.specs.declared.kind.DataType.TheVariants as kinds
+use Rattle.data_types.specs.Value.{Value}
+use Rattle.data_types.specs.Value.Value.{Null, Truth, Whole, Bits, Bytes}
+use Rattle.tree_model.specs.Tree.{Live, no_trees, trees, absent}
+use Rattle.raw_schema.specs.Members.{SchemaTree}
+use Rattle.raw_array.specs.Members.{ArrayTree}
+use Rattle.raw_array.specs.declared.array.ReleaseKind.TheVariants.{Assembled}
+use Rattle.schema_check.specs.ColumnSchema.{node, values_schema}
+use Rattle.arr_export.specs.ArrayTrees.{column_tree, flat_type}
+use Rattle.run_ends.specs.Runs.{RunTree}
+
+-- whether two values of flat types are the same: a null is the same as any null, and floats are by their bits
+abbrev pub is_same : Value → Value → Bool
+is_same Null Null = true
+is_same (Truth a) (Truth b) = if a then b else not b
+is_same (Whole a) (Whole b) = int_eq a b
+is_same (Bits a) (Bits b) = a == b
+is_same (Bytes a) (Bytes b) = bytes_eq a b
+is_same _ _ = false
+
+-- a run: its value, and the place behind its last item
+pub record Run : Type 0 where
+  pub value : Value
+  pub stop : ℕ
+
+-- The runs of values that stand from a place on: a value ends a run where the next one isn't the same, or none is there.
+abbrev pub runs_from : ℕ → List Value → List Run
+runs_from at [] = []
+runs_from at (value ∷ []) = record { value = value; stop = suc at } ∷ []
+runs_from at (value ∷ next ∷ rest) =
+    if is_same value next then runs_from (suc at) (next ∷ rest) else record { value = value; stop = suc at } ∷ runs_from (suc at) (next ∷ rest)
+
+-- no two runs that stand side by side have the same value
+abbrev pub AreApart : List Run → Type 0
+AreApart [] = Unit {0}
+AreApart (run ∷ []) = Unit {0}
+AreApart (run ∷ next ∷ rest) = (is_same run.value next.value ≡ false) × AreApart (next ∷ rest)
+
+-- ---- as a schema and an array
+
+abbrev pub end_kind : DataType
+end_kind = kinds.Int 32 true
+
+abbrev pub end_of : Run → Value
+end_of run = Whole (pos run.stop)
+
+abbrev pub value_of : Run → Value
+value_of run = run.value
+
+-- the kinds: ends of 32 bits, and values of a flat type
+abbrev pub runs_type : DataType → RunTree
+runs_type kind = record { ends = flat_type end_kind None; values = flat_type kind None }
+
+-- a root without a name, over ends without nulls and values that may have some
+abbrev pub runs_schema : DataType → SchemaTree
+runs_schema kind =
+    node (codes "+r") None (pos 0)
+    (trees (node (codes "i") (Some (codes "run_ends")) (pos 0) no_trees absent ∷ values_schema (Some (codes "values")) kind ∷ []))
+    absent
+
+abbrev pub tree_of_runs : DataType → ℕ → List Run → ArrayTree
+tree_of_runs kind count runs =
+    Live (record { length = pos count; null_count = pos 0; offset = pos 0; buffers = []; kind = Assembled })
+    (trees (column_tree end_kind (map end_of runs) None ∷ column_tree kind (map value_of runs) None ∷ [])) absent
+
+-- the array of values as runs
+abbrev pub runs_tree : DataType → List Value → ArrayTree
+runs_tree kind values = tree_of_runs kind (length values) (runs_from 0 values)
