@@ -3,3 +3,4 @@ pub mod Holding
 pub mod Searching
 pub mod ValueRuns
 pub mod CodedTree
+pub mod CodedSchema

@@ -1,15 +1,26 @@
 -- The runs of values: they rise, stand apart, and show the values again.
-use Rattle.std.proofs.Common.{◌≡◌, ◌≢◌, ℕ, zero, suc, ◌+◌, ◌<◌, ◌≤◌, Bool, true, false, not, ℤ, pos, List, [], ◌∷◌, length, map, get_or, refl, ap, sym, ◌∙◌, subst, arith}
+use Rattle.std.proofs.Common.{◌≡◌, ◌≢◌, ℕ, zero, suc, ◌+◌, ◌<◌, ◌≤◌, Bool, true, false, not, ℤ, pos, List, [], ◌∷◌, length, map, get_or, drop, ◌-◌, Option, None, Some, refl, ap, sym, ◌∙◌, subst, arith}
 use Rattle.std.specs.Prelude.{if◌then◌else◌, nat_lt, ◌==◌}
 use Rattle.std.specs.Bool.{Decides}
 use Rattle.std.specs.Ordering.{int_eq}
 use Rattle.std.specs.Str.{bytes_eq}
-use Rattle.std.proofs.lemmas.Bool.{eqb-true}
+use Rattle.std.proofs.lemmas.Bool.{eqb-true, eq-eqb}
+use Rattle.std.proofs.lemmas.List.{drop_more, drop_all}
 use Rattle.std.proofs.lemmas.Bool.Decides.{Decides-int_eq, nat_tests}
 use Rattle.std.proofs.lemmas.Slice.Eq.{bytes_eq-Decides}
 use Rattle.data_types.specs.Value.{Value}
-use Rattle.data_types.specs.Value.Value.{Null, Truth, Whole, Bits, Bytes}
-use Rattle.run_ends.specs.RunCoding.{is_same, Run, runs_from, AreApart}
+use Rattle.data_types.specs.Value.Value.{Null, Truth, Whole, Bits, Bytes, Items, Fields}
+use Rattle.data_types.specs.declared.kind.DataType.{DataType}
+use Rattle.data_types.specs.declared.kind.DataType.TheVariants as kinds
+use Rattle.tree_model.specs.Tree.{Released, Live, Trees, absent, IsLive}
+use Rattle.raw_array.specs.Members.{ArrayTree, members_of}
+use Rattle.kind_tree.specs.Kinds.{KindTree}
+use Rattle.layout_rules.specs.Layout.{buffer, first, is_valid_by, stored_bytes}
+use Rattle.layout_rules.specs.Values.{tree_items, value_at, values_of}
+use Rattle.arr_import.specs.Window.{Window, whole, item_at}
+use Rattle.arr_export.proofs.Each.{value-there, length-each}
+use Rattle.run_ends.proofs.Holding.{items-shown}
+use Rattle.run_ends.specs.RunCoding.{is_same, Run, runs_from, AreApart, IsRun}
 
 -- ---- the same value
 
@@ -151,3 +162,136 @@ apart at (v ∷ n ∷ r) = pick (is_same v n) refl (apart (suc at) (n ∷ r))
     pick false e more =
         apart-more (record { value = v; stop = suc at }) (runs_from (suc at) (n ∷ r)) (some (suc at) n r)
         (ap (is_same v) (first-is (suc at) n r) ∙ e) more
+
+-- ---- a flat value is the same as itself
+
+abbrev pub IsFlatValue : Value → Type 0
+IsFlatValue (Items values) = ⊥
+IsFlatValue (Fields values) = ⊥
+IsFlatValue _ = Unit {0}
+
+yes : {P : Type 0} → (b : Bool) → Decides b P → P → b ≡ true
+yes b d p = grind (arith, d, p)
+
+truth-same : (a : Bool) → (if a then a else not a) ≡ true
+truth-same true = refl
+truth-same false = refl
+
+pub is-same : (v : Value) → IsFlatValue v → is_same v v ≡ true
+is-same Null flat = refl
+is-same (Truth a) flat = truth-same a
+is-same (Whole a) flat = yes (int_eq a a) (Decides-int_eq a a) refl
+is-same (Bits a) flat = eq-eqb a a refl
+is-same (Bytes a) flat = yes (bytes_eq a a) (bytes_eq-Decides a a) refl
+is-same (Items a) flat = absurd flat
+is-same (Fields a) flat = absurd flat
+
+pub same-flat : (r : Bool) (v w : Value) → IsFlatValue v → (r ≡ true → w ≡ v) × (w ≡ v → r ≡ true)
+    → (r ≡ true → is_same v w ≡ true) × (is_same v w ≡ true → r ≡ true)
+same-flat r v w flat is = (λ e. ap (is_same v) (is.0 e) ∙ is-same v flat, λ e. is.1 (sym (same-is v w e)))
+
+pub never-same : (v w : Value) → (IsFlatValue v → ⊥) → (false ≡ true → is_same v w ≡ true) × (is_same v w ≡ true → false ≡ true)
+never-same (Items a) w none = (λ e. absurd (cc), λ e. e)
+never-same (Fields a) w none = (λ e. absurd (cc), λ e. e)
+never-same Null w none = absurd (none tt)
+never-same (Truth a) w none = absurd (none tt)
+never-same (Whole a) w none = absurd (none tt)
+never-same (Bits a) w none = absurd (none tt)
+never-same (Bytes a) w none = absurd (none tt)
+
+-- ---- the runs of the values from one on
+
+runs-step : (at : ℕ) (v n : Value) (r : List Value) → is_same v n ≡ true → runs_from at (v ∷ n ∷ r) ≡ runs_from (suc at) (n ∷ r)
+runs-step at v n r e =
+    ap (λ (b : Bool). if b then runs_from (suc at) (n ∷ r) else record { value = v; stop = suc at } ∷ runs_from (suc at) (n ∷ r)) e
+
+runs-stop : (at : ℕ) (v n : Value) (r : List Value) → is_same v n ≡ false
+    → runs_from at (v ∷ n ∷ r) ≡ record { value = v; stop = suc at } ∷ runs_from (suc at) (n ∷ r)
+runs-stop at v n r e =
+    ap (λ (b : Bool). if b then runs_from (suc at) (n ∷ r) else record { value = v; stop = suc at } ∷ runs_from (suc at) (n ∷ r)) e
+
+abbrev value_in : List Value → ℕ → Value
+value_in xs k = get_or xs k Null
+
+more-of : (xs : List Value) (k : ℕ) → k < length xs → drop k xs ≡ value_in xs k ∷ drop (k + 1) xs
+more-of xs k h = drop_more xs k Null h
+
+-- the runs from item i on are those from item j on, whose value is item i's: those between are the same
+pub record Alike (xs : List Value) (i j : ℕ) : Type 0 where
+  pub runs : runs_from i (drop i xs) ≡ runs_from j (drop j xs)
+  pub value : value_in xs j ≡ value_in xs i
+
+pub alike-first : (xs : List Value) (i : ℕ) → Alike xs i i
+alike-first xs i = record { runs = refl; value = refl }
+
+pub alike-more : (xs : List Value) (i j : ℕ) → j + 1 < length xs → is_same (value_in xs j) (value_in xs (j + 1)) ≡ true → Alike xs i j → Alike xs i (j + 1)
+alike-more xs i j h e is =
+    let two : drop j xs ≡ value_in xs j ∷ value_in xs (j + 1) ∷ drop (j + 1 + 1) xs =
+    more-of xs j (omega (arith, h)) ∙ ap (λ (ys : List Value). value_in xs j ∷ ys) (more-of xs (j + 1) h) in
+    let next : suc j ≡ j + 1 = omega arith in
+    record {
+      runs = is.runs ∙ ap (runs_from j) two ∙ runs-step j (value_in xs j) (value_in xs (j + 1)) (drop (j + 1 + 1) xs) e
+          ∙ ap (runs_from (suc j)) (sym (more-of xs (j + 1) h)) ∙ ap (λ (n : ℕ). runs_from n (drop (j + 1) xs)) next;
+      value = sym (same-is (value_in xs j) (value_in xs (j + 1)) e) ∙ is.value;
+    }
+
+pub stops-here : (xs : List Value) (i j : ℕ) → j + 1 < length xs → is_same (value_in xs j) (value_in xs (j + 1)) ≡ false → Alike xs i j → IsRun xs i (j + 1)
+stops-here xs i j h e is =
+    let two : drop j xs ≡ value_in xs j ∷ value_in xs (j + 1) ∷ drop (j + 1 + 1) xs =
+    more-of xs j (omega (arith, h)) ∙ ap (λ (ys : List Value). value_in xs j ∷ ys) (more-of xs (j + 1) h) in
+    let next : suc j ≡ j + 1 = omega arith in
+    is.runs ∙ ap (runs_from j) two ∙ runs-stop j (value_in xs j) (value_in xs (j + 1)) (drop (j + 1 + 1) xs) e
+    ∙ ap (λ (ys : List Value). record { value = value_in xs j; stop = suc j } ∷ runs_from (suc j) ys) (sym (more-of xs (j + 1) h))
+    ∙ (λ t. record { value = is.value t; stop = next t } ∷ runs_from (next t) (drop (j + 1) xs))
+
+pub stops-last : (xs : List Value) (i j : ℕ) → j + 1 ≡ length xs → Alike xs i j → IsRun xs i (j + 1)
+stops-last xs i j h is =
+    let none : drop (j + 1) xs ≡ [] = drop_all (j + 1) xs (omega (arith, h)) in
+    let one : drop j xs ≡ value_in xs j ∷ [] = more-of xs j (omega (arith, h)) ∙ ap (λ (ys : List Value). value_in xs j ∷ ys) none in
+    let next : suc j ≡ j + 1 = omega arith in
+    is.runs ∙ ap (runs_from j) one
+    ∙ (λ t. record { value = is.value t; stop = next t } ∷ [])
+    ∙ ap (λ (ys : List Value). record { value = value_in xs i; stop = j + 1 } ∷ runs_from (j + 1) ys) (sym none)
+
+alike-to : (xs : List Value) (i d : ℕ) → ((k : ℕ) → k + 1 < length xs → is_same (value_in xs k) (value_in xs (k + 1)) ≡ true) → i + d < length xs
+    → Alike xs i (i + d)
+alike-to xs i zero all h = let same : i ≡ i + 0 = omega arith in subst (Alike xs i) same (alike-first xs i)
+alike-to xs i (suc d) all h =
+    let same : i + d + 1 ≡ i + suc d = omega arith in
+    subst (Alike xs i) same (alike-more xs i (i + d) (omega (arith, h)) (all (i + d) (omega (arith, h))) (alike-to xs i d all (omega (arith, h))))
+
+-- where all are the same there is one run
+pub stops-all : (xs : List Value) (i : ℕ) → ((k : ℕ) → k + 1 < length xs → is_same (value_in xs k) (value_in xs (k + 1)) ≡ true) → i < length xs
+    → IsRun xs i (length xs)
+stops-all xs i all h =
+    let d = length xs - 1 - i in
+    let last : i + d + 1 ≡ length xs = omega (arith, h) in
+    subst (IsRun xs i) last (stops-last xs i (i + d) last (alike-to xs i d all (omega (arith, h))))
+
+-- ---- the values of an array
+
+pub value-is : (t : KindTree) (a : ArrayTree) (w : Window) (k : ℕ) → w ≡ whole t a → k < tree_items a → item_at w k ≡ value_in (values_of t a) k
+value-is t a w k e h =
+    let zero : 0 + k ≡ k = omega arith in
+    ap (λ (f : ℕ → Value). f k) (items-shown w t a e) ∙ ap (value_at t a) (sym zero) ∙ sym (value-there (value_at t a) 0 (tree_items a) k Null h)
+
+pub count-is : (t : KindTree) (a : ArrayTree) → length (values_of t a) ≡ tree_items a
+count-is t a = length-each (value_at t a) 0 (tree_items a)
+
+-- ---- items without bytes and without validity
+
+empty-at : (kids : Trees DataType) (a : ArrayTree) (k : ℕ) → IsLive a → buffer (members_of a) 0 ≡ None
+    → value_at (Live (kinds.FixedBinary 0) kids absent) a k ≡ Bytes []
+empty-at kids Released k live none = absurd live
+empty-at kids (Live own children dictionary) k live none =
+    ap (λ (b : Option (List ℕ)). if is_valid_by b (first own + k) then Bytes (stored_bytes 0 own k) else Null) none
+
+pub all-empty : (t : KindTree) (kids : Trees DataType) (a : ArrayTree) → t ≡ Live (kinds.FixedBinary 0) kids absent → IsLive a → buffer (members_of a) 0 ≡ None
+    → (k : ℕ) → k + 1 < length (values_of t a) → is_same (value_in (values_of t a) k) (value_in (values_of t a) (k + 1)) ≡ true
+all-empty t kids a e live none k h =
+    let items = count-is t a in
+    let at : (n : ℕ) → n < tree_items a → value_in (values_of t a) n ≡ Bytes [] =
+    λ n inside.
+    let zero : 0 + n ≡ n = omega arith in
+    value-there (value_at t a) 0 (tree_items a) n Null inside ∙ ap (value_at t a) zero ∙ ap (λ (s : KindTree). value_at s a n) e ∙ empty-at kids a n live none in
+    (λ j. is_same (at k (omega (arith, h, items)) j) (at (k + 1) (omega (arith, h, items)) j))

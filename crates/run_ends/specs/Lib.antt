@@ -8,4 +8,5 @@ pub mod RunCols
 pub mod WindowProps
 pub mod FaultTexts
 pub mod RunCoding
+pub mod ColumnRuns
 pub mod WorkedRuns

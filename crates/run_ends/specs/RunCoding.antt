@@ -1,5 +1,5 @@
 -- Values as runs ("Arrow Columnar Format", "Run-End Encoded Layout"), and the schema and the array of such runs.
-use Rattle.std.specs.Prelude.{◌≡◌, ℕ, suc, ◌+◌, ◌<◌, ◌==◌, pos, Bool, true, false, not, if◌then◌else◌, codes, List, [], ◌∷◌, length, map, get_or, Option, Some, None}
+use Rattle.std.specs.Prelude.{◌≡◌, ℕ, suc, ◌+◌, ◌<◌, ◌==◌, pos, Bool, true, false, not, if◌then◌else◌, codes, List, [], ◌∷◌, length, map, get_or, drop, Option, Some, None}
 use Rattle.std.specs.Ordering.{int_eq}
 use Rattle.std.specs.Str.{bytes_eq}
 use Rattle.data_types.specs.declared.kind.DataType.{DataType}
@@ -34,6 +34,10 @@ runs_from at [] = []
 runs_from at (value ∷ []) = record { value = value; stop = suc at } ∷ []
 runs_from at (value ∷ next ∷ rest) =
     if is_same value next then runs_from (suc at) (next ∷ rest) else record { value = value; stop = suc at } ∷ runs_from (suc at) (next ∷ rest)
+
+-- a run begins at an item and ends before another, where the next runs begin
+abbrev pub IsRun : List Value → ℕ → ℕ → Type 0
+IsRun values i stop = runs_from i (drop i values) ≡ record { value = get_or values i Null; stop = stop } ∷ runs_from stop (drop stop values)
 
 -- no two runs that stand side by side have the same value
 abbrev pub AreApart : List Run → Type 0

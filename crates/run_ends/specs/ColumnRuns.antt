@@ -1,0 +1,10 @@
+-- What contracts see of a column whose runs are looked for.
+use Rattle.std.specs.Prelude.{List}
+use Rattle.data_types.specs.Value.{Value}
+use Rattle.kind_tree.specs.TypedView.{typed_of}
+use Rattle.layout_rules.specs.Values.{values_of}
+use Rattle.run_ends.specs.declared.column_runs.ColumnRuns.{ColumnRuns}
+
+-- the values of its items
+abbrev pub values_in : ColumnRuns → List Value
+values_in runs = values_of (typed_of runs.typed.now) runs.array.now
