@@ -1,4 +1,5 @@
 pub mod PlainBytes
 pub mod Parts
+pub mod KidLengths
 pub mod Sizes
 mod NumberedLines

@@ -1,3 +1,4 @@
 pub mod ValueTexts
 pub mod Behind
 pub mod NumberedTexts
+pub mod Lengths

@@ -9,7 +9,7 @@ use unit_pass::NoMemory;
 
 /// Whether a byte stands for itself.
 #[inline(always)]
-fn is_plain(byte: u8) -> bool
+pub(crate) fn is_plain(byte: u8) -> bool
     ensures { result ≡ is_plain byte }
 {
     (33..=126).contains(&byte) && byte != b'%' && byte != b',' && byte != b']' && byte != b'}'

@@ -10,6 +10,7 @@ ghost use Rattle.arr_import.specs.Window.{items_of};
 ghost use Rattle.value_text.specs.ValueTexts.{lines_text, text_limit, value_line};
 
 use crate::bounded::BoundedText;
+use crate::measure::{is_too_long, tells_often};
 use crate::table::{columns_of, is_table, push_rows};
 use crate::value::{count_items, push_value};
 use arr_import::Col;
@@ -20,13 +21,17 @@ use unit_pass::NoMemory;
 
 /// The text of an array that `layout_check::check_array` accepted: `ok`, and a line with the text of each item of its window.
 /// `NoMemory` comes for want of memory, and where the text would have more than 2^31 bytes: at once where the number of items
-/// shows it, since a line has at least two.
+/// shows it, since a line has at least two, and before any text is made where lists have indices into dictionaries and there aren't
+/// too many items to measure.
 pub fn items_text(alloc: Global, typed: &Typed, array: &RawArray) -> Result<Vec<u8>, NoMemory>
     requires types { TypedOk (typed_of typed.now) }
     requires lawful { LayoutOk (typed_of typed.now) array.now }
     ensures text { IfOk result (λ text. text.items ≡ lines_text (values_of (typed_of typed.now) array.now)) }
     ensures within { IfOk result (λ text. vec_len text ≤ text_limit) }
 {
+    if tells_often(typed) && is_too_long(alloc, typed, array).unwrap_or(false) {
+        return Err(NoMemory);
+    }
     let mut text = BoundedText::new(alloc);
     text.push_bytes(b"ok\n")?;
     push_items(alloc, &mut text, typed, &Col::of(typed, array))?;

@@ -1,0 +1,240 @@
+//! The lengths of the texts of an array's items, found before any text is made. Each item of the array, of its children and of
+//! its dictionaries is measured once, however often it is told.
+ghost use Rattle.std.specs.Prelude.{◌≡◌, ◌+◌, ◌<◌, ◌≤◌, ◌^◌, ℕ, None, Some, IfOk, length, map, get_or, nat_lt};
+ghost use Rattle.data_types.specs.Value.{Value};
+ghost use Rattle.tree_model.specs.Tree.{Released, IsLive, Depth, depth_of_all, trees, child_at, children_of, dictionary_of};
+ghost use Rattle.kind_tree.specs.declared.typed.Typed.{out-Typed};
+ghost use Rattle.kind_tree.specs.Kinds.{NodesOk, AllNodesOk, TypedOk};
+ghost use Rattle.kind_tree.specs.TypedView.{typed_of, kids_of, dict_in};
+ghost use Rattle.layout_rules.specs.Values.{each, tree_items, value_at, values_of};
+ghost use Rattle.layout_rules.specs.Walk.{LayoutOk};
+ghost use Rattle.arr_import.specs.Cols.{window_of};
+ghost use Rattle.arr_import.specs.Window.{whole};
+ghost use Rattle.value_text.specs.Lengths.{AreKidLengths, AreLengths, IsNested, text_length};
+ghost use Rattle.value_text.specs.ValueTexts.{lines_text, text_limit};
+
+use crate::lengths::{bits_length, bytes_length, plus, truth_length, whole_length};
+use crate::placed::{fixed_list_at, index_at, list_at, nested_is, row_at};
+use crate::value::{count_items, number};
+use arr_import::{Col, ValueRef};
+use data_types::{DataType, Storage, storage_of};
+use kind_tree::Typed;
+use layout_rules::{lawful_parts, lawful_root};
+use raw_array::RawArray;
+use std::alloc::Global;
+use unit_pass::NoMemory;
+
+/// How many items are measured at most, so that measuring takes a second or so and 256 megabytes.
+const MOST: u64 = 1 << 25;
+
+/// Whether lists of these kinds have indices into dictionaries, so that a short array may tell of very many values.
+pub(crate) fn tells_often(typed: &Typed) -> bool {
+    lists_indices(typed, false)
+}
+
+/// The same of kinds that stand below a list, or don't.
+#[cycle(kinds)]
+fn lists_indices(typed: &Typed, is_listed: bool) -> bool {
+    match &typed.dict {
+        Some(dict) => is_listed || lists_indices(dict, is_listed),
+        None => {
+            let is_listed = is_listed
+                || matches!(
+                    typed.kind,
+                    DataType::List { .. } | DataType::FixedList { .. } | DataType::Map
+                );
+            any_lists_indices(&typed.kids, is_listed)
+        }
+    }
+}
+
+#[cycle(kinds)]
+fn any_lists_indices(kids: &[Typed], is_listed: bool) -> bool {
+    for kid in kids {
+        if lists_indices(kid, is_listed) {
+            return true;
+        }
+    }
+    false
+}
+
+/// Whether the text of an array, as [`crate::items_text`] makes it, would have more than 2^31 bytes. `NoMemory` comes also
+/// where there are too many items to measure.
+pub(crate) fn is_too_long(alloc: Global, typed: &Typed, array: &RawArray) -> Result<bool, NoMemory>
+    requires types { TypedOk (typed_of typed.now) }
+    requires lawful { LayoutOk (typed_of typed.now) array.now }
+    ensures { IfOk result (λ long. long ≡ nat_lt text_limit (length (lines_text (values_of (typed_of typed.now) array.now)))) }
+{
+    let mut left = MOST;
+    let lengths = lengths_of(alloc, &mut left, typed, array)?;
+    Ok(are_too_long(&lengths))
+}
+
+/// Whether lines of texts of these lengths, behind `ok`, have more than 2^31 bytes.
+fn are_too_long(lengths: &[u64]) -> bool
+    ensures { (item : ℕ → Value) → AreLengths lengths.now item (length lengths.now)
+        → result ≡ nat_lt text_limit (length (lines_text (each item 0 (length lengths.now)))) }
+{
+    let mut sum = 3;
+    for i in 0..lengths.len() {
+        sum = plus(sum, plus(lengths[i], 1));
+    }
+    sum > 1 << 31
+}
+
+/// Takes a number of items from those that are left to measure.
+fn spend(left: &mut u64, count: u64) -> Result<(), NoMemory> {
+    if count > *left {
+        return Err(NoMemory);
+    }
+    *left -= count;
+    Ok(())
+}
+
+/// The lengths of the texts of all items of an array.
+#[cycle(lengths)]
+fn lengths_of(
+    alloc: Global,
+    left: &mut u64,
+    typed: &Typed,
+    array: &RawArray,
+) -> Result<Vec<u64>, NoMemory>
+    requires lawful { LayoutOk (typed_of typed.now) array.now }
+    requires levels { Depth (typed_of typed.now) ≤ 64 }
+    requires types { NodesOk (typed_of typed.now) }
+    ensures { IfOk result (λ lengths. AreLengths lengths.items (value_at (typed_of typed.now) array.now) (tree_items array.now)) }
+{
+    lawful_root(typed, array);
+    lawful_parts(typed, array);
+    spend(left, array.length() as u64)?;
+    match (&typed.dict, array.dictionary()) {
+        (Some(dict), Some(dictionary)) => {
+            let entries = lengths_of(alloc, left, dict, dictionary)?;
+            index_lengths(alloc, typed, array, dict, dictionary, &entries)
+        }
+        _ => {
+            let kids = kid_lengths(alloc, left, &typed.kids, array)?;
+            own_lengths(alloc, typed, array, &kids)
+        }
+    }
+}
+
+/// The same of each child.
+#[cycle(lengths)]
+fn kid_lengths(
+    alloc: Global,
+    left: &mut u64,
+    kids: &[Typed],
+    array: &RawArray,
+) -> Result<Vec<Vec<u64>>, NoMemory>
+    requires lawful { (k : ℕ) → k < length (map typed_of kids.now) → LayoutOk (get_or (map typed_of kids.now) k Released) (child_at array.now k) }
+    requires levels { 1 + depth_of_all (trees (map typed_of kids.now)) ≤ 64 }
+    requires types { AllNodesOk (trees (map typed_of kids.now)) }
+    requires live { IsLive array.now }
+    requires children { length (children_of array.now) ≡ length kids.now }
+    ensures { IfOk result (λ lengths. AreKidLengths lengths.items (map typed_of kids.now) array.now (length (map typed_of kids.now))) }
+{
+    let mut lengths = Vec::new(alloc);
+    for k in 0..kids.len() {
+        lengths.push(lengths_of(alloc, left, &kids[k], array.child(k))?)?;
+    }
+    Ok(lengths)
+}
+
+/// The lengths of the texts of the items of an array of indices, by those of its dictionary's.
+fn index_lengths(
+    alloc: Global,
+    typed: &Typed,
+    array: &RawArray,
+    dict: &Typed,
+    dictionary: &RawArray,
+    entries: &[u64],
+) -> Result<Vec<u64>, NoMemory>
+    requires lawful { LayoutOk (typed_of typed.now) array.now }
+    requires types { TypedOk (typed_of typed.now) }
+    requires kinds { dict_in (out-Typed typed.now).dict ≡ Some (typed_of dict.now) }
+    requires behind { dictionary_of array.now ≡ Some dictionary.now }
+    requires entries { AreLengths entries.now (value_at (typed_of dict.now) dictionary.now) (tree_items dictionary.now) }
+    ensures { IfOk result (λ lengths. AreLengths lengths.items (value_at (typed_of typed.now) array.now) (tree_items array.now)) }
+{
+    let col = Col::of(typed, array);
+    let count = count_items(&col);
+    let mut lengths = Vec::with_capacity(alloc, count as usize)?;
+    for i in 0..count {
+        lengths.push(match col.value(number(i)) {
+            ValueRef::Null => 1,
+            _ => entries[index_at(typed, array, dict, dictionary, i)],
+        })?;
+    }
+    Ok(lengths)
+}
+
+/// The lengths of the texts of an array's items, by those of its children's.
+fn own_lengths(
+    alloc: Global,
+    typed: &Typed,
+    array: &RawArray,
+    kids: &[Vec<u64>],
+) -> Result<Vec<u64>, NoMemory>
+    requires lawful { LayoutOk (typed_of typed.now) array.now }
+    requires types { TypedOk (typed_of typed.now) }
+    requires own { dict_in (out-Typed typed.now).dict ≡ None }
+    requires kids { AreKidLengths kids.now (kids_of typed.now) array.now (length (kids_of typed.now)) }
+    ensures { IfOk result (λ lengths. AreLengths lengths.items (value_at (typed_of typed.now) array.now) (tree_items array.now)) }
+{
+    let col = Col::of(typed, array);
+    let count = count_items(&col);
+    let mut room = Vec::new(alloc);
+    let mut lengths = Vec::with_capacity(alloc, count as usize)?;
+    for i in 0..count {
+        lengths.push(item_length(&col, typed, array, kids, i, &mut room)?)?;
+    }
+    Ok(lengths)
+}
+
+/// The length of the text of an item.
+fn item_length(
+    col: &Col<'_>,
+    typed: &Typed,
+    array: &RawArray,
+    kids: &[Vec<u64>],
+    i: u64,
+    room: &mut Vec<u8>,
+) -> Result<u64, NoMemory>
+    requires lawful { LayoutOk (typed_of typed.now) array.now }
+    requires types { NodesOk (typed_of typed.now) }
+    requires own { dict_in (out-Typed typed.now).dict ≡ None }
+    requires kids { AreKidLengths kids.now (kids_of typed.now) array.now (length (kids_of typed.now)) }
+    requires window { window_of col.now ≡ whole (typed_of typed.now) array.now }
+    requires inside { i < tree_items array.now }
+    requires small { i < 2 ^ 63 }
+    ensures { IfOk result (λ count. count ≡ text_length (value_at (typed_of typed.now) array.now i)) }
+{
+    match col.value(number(i)) {
+        ValueRef::Null => Ok(1),
+        ValueRef::Truth(truth) => Ok(truth_length(truth)),
+        ValueRef::Whole(whole) => whole_length(whole, room),
+        ValueRef::Bits(bits) => bits_length(bits, room),
+        ValueRef::Bytes(bytes) => Ok(bytes_length(bytes)),
+        ValueRef::Items(_) | ValueRef::Struct => Ok(nested_length(typed, array, kids, i)),
+    }
+}
+
+/// The length of the text of a list or a struct.
+fn nested_length(typed: &Typed, array: &RawArray, kids: &[Vec<u64>], i: u64) -> u64
+    requires lawful { LayoutOk (typed_of typed.now) array.now }
+    requires types { NodesOk (typed_of typed.now) }
+    requires own { dict_in (out-Typed typed.now).dict ≡ None }
+    requires kids { AreKidLengths kids.now (kids_of typed.now) array.now (length (kids_of typed.now)) }
+    requires inside { i < tree_items array.now }
+    requires nested { IsNested (value_at (typed_of typed.now) array.now i) }
+    ensures { result ≡ text_length (value_at (typed_of typed.now) array.now i) }
+{
+    nested_is(typed, array, i);
+    match storage_of(&typed.kind) {
+        Storage::Lists { wide } => list_at(wide, typed, array, kids, i),
+        Storage::FixedLists { size } => fixed_list_at(size, typed, array, kids, i),
+        Storage::Children => row_at(typed, array, kids, i),
+        _ => 0,
+    }
+}

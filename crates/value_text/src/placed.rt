@@ -1,0 +1,257 @@
+//! Where the parts of an item stand: its index, the items of a list, the fields of a struct, and how long the text is that they make.
+ghost use Rattle.std.specs.Prelude.{◌≡◌, ◌≢◌, ◌+◌, ◌-◌, ◌*◌, ◌/◌, ◌^◌, ◌<◌, ◌≤◌, ◌≤ℤ◌, ℕ, pos, IsTrue, None, Some, length, get_or};
+ghost use Rattle.bit_pack.specs.Packed.{IsWidth, meant, number_at, offset_width};
+ghost use Rattle.data_types.specs.Storage.{storage_of as storage_is};
+ghost use Rattle.data_types.specs.Value.{values};
+ghost use Rattle.data_types.specs.Value.Value.{Fields, Items, Null};
+ghost use Rattle.data_types.specs.declared.storage.Storage.TheVariants as storages;
+ghost use Rattle.tree_model.specs.Tree.{Released, IsLive, child_at, children_of, dictionary_of, trees};
+ghost use Rattle.raw_array.specs.Members.{members_of};
+ghost use Rattle.kind_tree.specs.declared.typed.Typed.{out-Typed};
+ghost use Rattle.kind_tree.specs.Kinds.{NodesOk};
+ghost use Rattle.kind_tree.specs.TypedView.{typed_of, kind_of, kids_of, dict_in};
+ghost use Rattle.layout_rules.specs.Layout.{bytes, first, natural, offset_in, stored_number};
+ghost use Rattle.layout_rules.specs.Values.{child_item, each, listed, readers, row_items, tree_items, value_at};
+ghost use Rattle.layout_rules.specs.Walk.{LayoutOk};
+ghost use Rattle.arr_import.specs.StoredItems.{AreItemsThere, IsIndexThere, IsListStorage, IsThere};
+ghost use Rattle.arr_import.specs.Window.{index_at as index_in};
+ghost use Rattle.value_text.specs.Lengths.{AreKidLengths, IsNested, IsNestedAt, text_length};
+
+use crate::lengths::{list_length, row_length};
+use bit_pack::{int_at, offset_at};
+use data_types::{Storage, storage_of};
+use kind_tree::{Typed, kinds_of_typed};
+use layout_rules::{lawful_items_lie_within, lawful_parts, lawful_root};
+use raw_array::RawArray;
+
+/// The bytes of the buffer behind validity.
+fn stored_in(array: &RawArray) -> &[u8]
+    requires { IsLive array.now }
+    ensures { result.now ≡ bytes (members_of array.now) 1 }
+{
+    if array.n_buffers() > 1 {
+        match array.buffer(1) {
+            Some(bytes) => bytes,
+            None => &[],
+        }
+    } else {
+        &[]
+    }
+}
+
+/// The offset at a place.
+fn start_at(wide: bool, offsets: &[u8], place: u64) -> u64
+    requires there { (place + 1) * offset_width wide ≤ length offsets.now }
+    requires from { pos 0 ≤ℤ offset_in wide offsets.now place }
+    ensures { result ≡ natural (offset_in wide offsets.now place) }
+{
+    offset_at(offsets, place as usize, wide) as u64
+}
+
+/// The whole number at a place.
+fn whole_at(stored: &[u8], place: u64, width: u8, signed: bool) -> i128
+    requires width { IsWidth width }
+    requires widest { width ≡ 16 → IsTrue signed }
+    requires within { (place + 1) * width ≤ length stored.now }
+    ensures { result ≡ meant width signed (number_at stored.now (place * width) width) }
+{
+    let width = usize::from(width);
+    int_at(stored, place as usize * width, width, signed)
+}
+
+/// The place of an item in the buffers.
+fn place_of(typed: &Typed, array: &RawArray, i: u64) -> u64
+    requires lawful { LayoutOk (typed_of typed.now) array.now }
+    requires inside { i < tree_items array.now }
+    ensures place { result ≡ first (members_of array.now) + i }
+    ensures near { result < 2 ^ 40 }
+{
+    lawful_root(typed, array);
+    array.offset() as u64 + i
+}
+
+/// What the buffers have of an item.
+fn item_is_there(typed: &Typed, array: &RawArray, i: u64)
+    requires lawful { LayoutOk (typed_of typed.now) array.now }
+    requires types { NodesOk (typed_of typed.now) }
+    requires inside { i < tree_items array.now }
+    ensures { IsThere (storage_is (kind_of typed.now)) (bytes (members_of array.now) 1) (bytes (members_of array.now) 2) (first (members_of array.now) + i) }
+{
+    kinds_of_typed(typed);
+    lawful_items_lie_within(typed, array);
+}
+
+/// What the one child has of a list's items.
+fn items_are_there(typed: &Typed, array: &RawArray, i: u64)
+    requires lawful { LayoutOk (typed_of typed.now) array.now }
+    requires types { NodesOk (typed_of typed.now) }
+    requires inside { i < tree_items array.now }
+    requires list { IsListStorage (storage_is (kind_of typed.now)) }
+    ensures one { length (kids_of typed.now) ≡ 1 }
+    ensures live { length (children_of array.now) ≡ 1 }
+    ensures few { tree_items (child_at array.now 0) ≤ 2 ^ 40 }
+    ensures items { AreItemsThere (storage_is (kind_of typed.now)) (bytes (members_of array.now) 1) (first (members_of array.now) + i)
+        (tree_items (child_at array.now 0)) }
+{
+    kinds_of_typed(typed);
+    lawful_root(typed, array);
+    lawful_parts(typed, array);
+    lawful_items_lie_within(typed, array);
+}
+
+/// The length of the text of a list between two offsets.
+pub(crate) fn list_at(wide: bool, typed: &Typed, array: &RawArray, kids: &[Vec<u64>], i: u64) -> u64
+    requires lawful { LayoutOk (typed_of typed.now) array.now }
+    requires types { NodesOk (typed_of typed.now) }
+    requires kids { AreKidLengths kids.now (kids_of typed.now) array.now (length (kids_of typed.now)) }
+    requires inside { i < tree_items array.now }
+    requires storage { storage_is (kind_of typed.now) ≡ storages.Lists wide }
+    ensures { result ≡ text_length (listed wide (readers (trees (kids_of typed.now))) (members_of array.now) (children_of array.now) i) }
+{
+    item_is_there(typed, array, i);
+    items_are_there(typed, array, i);
+    let place = place_of(typed, array, i);
+    let offsets = stored_in(array);
+    let here = start_at(wide, offsets, place) as usize;
+    let next = start_at(wide, offsets, place + 1) as usize;
+    list_length(&kids[0], here, next - here)
+}
+
+/// The length of the text of a list of so many items.
+pub(crate) fn fixed_list_at(
+    size: u32,
+    typed: &Typed,
+    array: &RawArray,
+    kids: &[Vec<u64>],
+    i: u64,
+) -> u64
+    requires lawful { LayoutOk (typed_of typed.now) array.now }
+    requires types { NodesOk (typed_of typed.now) }
+    requires kids { AreKidLengths kids.now (kids_of typed.now) array.now (length (kids_of typed.now)) }
+    requires inside { i < tree_items array.now }
+    requires storage { storage_is (kind_of typed.now) ≡ storages.FixedLists size }
+    ensures { result ≡ text_length (Items (values (each (child_item (readers (trees (kids_of typed.now))) (children_of array.now))
+        ((first (members_of array.now) + i) * size) size))) }
+{
+    items_are_there(typed, array, i);
+    let place = place_of(typed, array, i);
+    list_length(&kids[0], times(place, size) as usize, size as usize)
+}
+
+fn times(place: u64, size: u32) -> u64
+    requires { (place + 1) * size ≤ 2 ^ 40 }
+    ensures { result ≡ place * size }
+{
+    place * u64::from(size)
+}
+
+/// What the children have of a struct's item.
+fn fields_are_there(typed: &Typed, array: &RawArray, i: u64)
+    requires lawful { LayoutOk (typed_of typed.now) array.now }
+    requires inside { i < tree_items array.now }
+    requires storage { storage_is (kind_of typed.now) ≡ storages.Children }
+    ensures many { length (row_items (typed_of typed.now) array.now i) ≡ length (kids_of typed.now) }
+    ensures within { (k : ℕ) → k < length (kids_of typed.now) → first (members_of array.now) + i < tree_items (child_at array.now k) }
+    ensures fields { (k : ℕ) → k < length (kids_of typed.now) → get_or (row_items (typed_of typed.now) array.now i) k Null
+        ≡ value_at (get_or (kids_of typed.now) k Released) (child_at array.now k) (first (members_of array.now) + i) }
+{
+    kinds_of_typed(typed);
+    lawful_root(typed, array);
+    lawful_items_lie_within(typed, array);
+}
+
+/// The length of the text of a struct.
+pub(crate) fn row_at(typed: &Typed, array: &RawArray, kids: &[Vec<u64>], i: u64) -> u64
+    requires lawful { LayoutOk (typed_of typed.now) array.now }
+    requires kids { AreKidLengths kids.now (kids_of typed.now) array.now (length (kids_of typed.now)) }
+    requires inside { i < tree_items array.now }
+    requires storage { storage_is (kind_of typed.now) ≡ storages.Children }
+    ensures { result ≡ text_length (Fields (values (row_items (typed_of typed.now) array.now i))) }
+{
+    fields_are_there(typed, array, i);
+    row_length(kids, place_of(typed, array, i) as usize)
+}
+
+/// What a list or a struct is, by how its type is stored.
+pub(crate) fn nested_is(typed: &Typed, array: &RawArray, i: u64)
+    requires lawful { LayoutOk (typed_of typed.now) array.now }
+    requires own { dict_in (out-Typed typed.now).dict ≡ None }
+    requires nested { IsNested (value_at (typed_of typed.now) array.now i) }
+    ensures { IsNestedAt (storage_is (kind_of typed.now)) typed.now array.now i (value_at (typed_of typed.now) array.now i) }
+{
+    kinds_of_typed(typed);
+    lawful_root(typed, array);
+}
+
+/// What holds of the index that stands for an item which isn't null.
+fn index_is_there(typed: &Typed, array: &RawArray, dict: &Typed, dictionary: &RawArray, i: u64)
+    requires lawful { LayoutOk (typed_of typed.now) array.now }
+    requires types { NodesOk (typed_of typed.now) }
+    requires kinds { dict_in (out-Typed typed.now).dict ≡ Some (typed_of dict.now) }
+    requires behind { dictionary_of array.now ≡ Some dictionary.now }
+    requires inside { i < tree_items array.now }
+    requires valid { value_at (typed_of typed.now) array.now i ≢ Null }
+    ensures there { IsIndexThere (storage_is (kind_of typed.now)) (members_of array.now) i (index_in (kind_of typed.now) (members_of array.now) i)
+        (tree_items dictionary.now) }
+    ensures value { value_at (typed_of dict.now) dictionary.now (index_in (kind_of typed.now) (members_of array.now) i)
+        ≡ value_at (typed_of typed.now) array.now i }
+    ensures few { tree_items dictionary.now ≤ 2 ^ 40 }
+{
+    kinds_of_typed(typed);
+    lawful_root(typed, array);
+    lawful_parts(typed, array);
+    lawful_items_lie_within(typed, array);
+    lawful_root(dict, dictionary);
+}
+
+/// The index that stands for an item which isn't null.
+pub(crate) fn index_at(
+    typed: &Typed,
+    array: &RawArray,
+    dict: &Typed,
+    dictionary: &RawArray,
+    i: u64,
+) -> usize
+    requires lawful { LayoutOk (typed_of typed.now) array.now }
+    requires types { NodesOk (typed_of typed.now) }
+    requires kinds { dict_in (out-Typed typed.now).dict ≡ Some (typed_of dict.now) }
+    requires behind { dictionary_of array.now ≡ Some dictionary.now }
+    requires inside { i < tree_items array.now }
+    requires valid { value_at (typed_of typed.now) array.now i ≢ Null }
+    ensures inside { result < tree_items dictionary.now }
+    ensures value { value_at (typed_of dict.now) dictionary.now result ≡ value_at (typed_of typed.now) array.now i }
+{
+    index_is_there(typed, array, dict, dictionary, i);
+    match storage_of(&typed.kind) {
+        Storage::Wholes { bits, signed } => index_of(bits, signed, typed, array, i) as usize,
+        _ => 0,
+    }
+}
+
+/// The number that is stored for an item, in so many bits.
+fn index_of(bits: u8, signed: bool, typed: &Typed, array: &RawArray, i: u64) -> u64
+    requires lawful { LayoutOk (typed_of typed.now) array.now }
+    requires types { NodesOk (typed_of typed.now) }
+    requires inside { i < tree_items array.now }
+    requires storage { storage_is (kind_of typed.now) ≡ storages.Wholes bits signed }
+    requires from { pos 0 ≤ℤ stored_number (bits / 8) signed (members_of array.now) i }
+    requires near { natural (stored_number (bits / 8) signed (members_of array.now) i) < 2 ^ 63 }
+    ensures { result ≡ natural (stored_number (bits / 8) signed (members_of array.now) i) }
+{
+    item_is_there(typed, array, i);
+    let index = whole_at(
+        stored_in(array),
+        place_of(typed, array, i),
+        bits / 8,
+        signed,
+    );
+    number_of(index)
+}
+
+fn number_of(index: i128) -> u64
+    requires from { pos 0 ≤ℤ index }
+    requires bound { natural index < 2 ^ 63 }
+    ensures { result ≡ natural index }
+{
+    index as u64
+}
