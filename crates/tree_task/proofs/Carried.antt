@@ -1,5 +1,5 @@
 -- What a run comes to, by how it ends.
-use Rattle.std.proofs.Common.{◌≡◌, ◌∙◌, ◌≤◌, ◌<◌, ◌+◌, ◌⊎◌, inl, inr, ℕ, true, false, nat_lt, List, [], length, take, Option, Some, None, IfSome, Result, Ok, Err}
+use Rattle.std.proofs.Common.{Bool, ◌≡◌, ◌∙◌, ◌≤◌, ◌<◌, ◌+◌, ◌⊎◌, inl, inr, ℕ, true, false, nat_lt, List, [], length, take, Option, Some, None, IfSome, Result, Ok, Err}
 use Rattle.std.proofs.Common.{IfErr, IsErrAnd, OnOk, ap, arith, refl, subst, sym}
 use Rattle.std.proofs.lemmas.Bool.Decides.{nat_tests}
 use Rattle.std.proofs.lemmas.List.{length-append}
@@ -22,7 +22,9 @@ use Rattle.tree_task.specs.ForeignAnswer.{chunk_of_kinds, chunk_unless}
 use Rattle.tree_task.specs.Over.{RanOver}
 use Rattle.tree_task.specs.Refusals.{fault_of_tree}
 use Rattle.tree_task.specs.RowsAnswer.{rows_of_kinds, rows_unless}
+use Rattle.tree_task.specs.TagAnswer.{tags_of_chunk, tags_of_kinds, tags_unless}
 use Rattle.tree_task.specs.UnionAnswer.{union_of_schema, union_unless}
+use Rattle.union_cols.specs.declared.tag_fault.TagFault.{TagFault}
 use Rattle.union_cols.specs.UnionRules.{UnionFound, union_fault}
 use Rattle.union_cols.specs.UnionSchemas.{SchemaFound}
 use Rattle.union_cols.specs.Unions.{UnionTree}
@@ -99,6 +101,7 @@ fault-cases (run.Schema path rule) = inl refl
 fault-cases (run.Layout fault) = inl refl
 fault-cases (run.UnionSchema fault) = inl refl
 fault-cases (run.Union fault) = inl refl
+fault-cases (run.Tag fault) = inl refl
 fault-cases run.NoMemory = inr (inr (inr refl))
 
 pub not-writing : (P : ℕ → Type 0) (cause : Cause) → is_writing cause ≡ false → AtWriting cause P
@@ -146,6 +149,18 @@ in-chunk_kinds : (read : Result KindTree FirstFault) (array : ArrayTree) → Tex
 in-chunk_kinds (Ok typed) array = in-chunk typed array (first_chunk_fault typed array)
 in-chunk_kinds (Err first) array = in-tree (schema_fault first)
 
+in-columns : (typed : KindTree) (array : ArrayTree) (fault : Option TagFault) → TextFaultIn (tags_unless typed array fault)
+in-columns typed array None = tt
+in-columns typed array (Some fault) = tt
+
+in-tagged : (dense : Bool) (typed : KindTree) (array : ArrayTree) (fault : Option ArrayFault) → TextFaultIn (tags_of_chunk dense typed array fault)
+in-tagged dense typed array None = in-columns typed array _
+in-tagged dense typed array (Some fault) = in-tree (array_fault fault)
+
+in-tags : (dense : Bool) (read : Result KindTree FirstFault) (array : ArrayTree) → TextFaultIn (tags_of_kinds dense read array)
+in-tags dense (Ok typed) array = in-tagged dense typed array (first_chunk_fault typed array)
+in-tags dense (Err first) array = in-tree (schema_fault first)
+
 in-union : (u : UnionTree) (array : ArrayTree) (fault : Option UnionFound) → TextFaultIn (union_unless u array fault)
 in-union u array None = tt
 in-union u array (Some fault) = tt
@@ -157,6 +172,7 @@ in-union_schema (Err fault) array = tt
 in-trees : (command : Command) (schema : SchemaTree) (array : ArrayTree) (answer : Answer) → TreesAnswer command schema array answer → TextFaultIn answer
 in-trees commands.Rows schema array answer is = subst TextFaultIn (sym is.2) (in-kinds is.0 array)
 in-trees commands.Union schema array answer is = subst TextFaultIn (sym is.2) (in-union_schema is.0 array)
+in-trees (commands.Tag dense) schema array answer is = subst TextFaultIn (sym is.2) (in-tags dense is.0 array)
 in-trees commands.Foreign schema array answer is = subst TextFaultIn (sym is.2) (in-chunk_kinds is.0 array)
 
 in-read : (command : Command) (read : Result (SchemaTree × ArrayTree) TextFault) (answer : Answer) → ReadAnswer command read answer → TextFaultIn answer

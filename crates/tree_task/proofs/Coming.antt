@@ -22,14 +22,14 @@ use Rattle.union_cols.specs.UnionAnswers.{FailsIf, IsUnionFault, found_of, named
 use Rattle.union_cols.specs.UnionRules.{union_fault}
 use Rattle.union_cols.specs.UnionSchemas as found
 use Rattle.union_cols.specs.UnionSchemas.{UnionOf}
-use Rattle.union_cols.specs.Unions.{UnionTree}
+use Rattle.union_cols.specs.Unions.{UnionTree, union_items}
 use Rattle.union_cols.specs.declared.rule.UnionFault.{UnionFault}
 use Rattle.union_cols.specs.declared.schema_fault.UnionSchemaFault.{UnionSchemaFault}
 use Rattle.union_cols.specs.declared.schema_fault.UnionSchemaFault.TheVariants as unions
 use Rattle.root_check.specs.declared.own_schema.OwnSchemaFault.TheVariants as parts
 use Rattle.tree_task.specs.Answer.{Answer, Fault, Text, TextAnswer, TreesAnswer}
 use Rattle.tree_task.specs.RowsAnswer.{RowsAnswer, rows_unless}
-use Rattle.tree_task.specs.UnionAnswer.{UnionAnswer, items_text, union_items, union_unless}
+use Rattle.tree_task.specs.UnionAnswer.{UnionAnswer, items_text, union_unless}
 use Rattle.tree_task.specs.Refusals.{fault_of_check, fault_of_tree, fault_of_union_schema, union_fault_told}
 use Rattle.tree_task.specs.declared.command.Command.{Command}
 use Rattle.tree_task.specs.declared.fault.TreeRunFault.{TreeRunFault}

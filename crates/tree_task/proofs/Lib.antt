@@ -7,3 +7,4 @@ pub mod Lines
 pub mod FewUnits
 pub mod ForeignRows
 pub mod UnionLines
+pub mod Tagging

@@ -1,5 +1,5 @@
 -- No answer is a fault with a want of memory inside it.
-use Rattle.std.proofs.Common.{◌≡◌, ◌∙◌, ◌+◌, ℕ, Bool, true, false, List, [], ◌∷◌, suc, Option, None, Some, Result, Ok, Err, ap, inl, inr, refl}
+use Rattle.std.proofs.Common.{if◌then◌else◌, length, ◌≡◌, ◌∙◌, ◌+◌, ℕ, Bool, true, false, List, [], ◌∷◌, suc, Option, None, Some, Result, Ok, Err, ap, inl, inr, refl}
 use Rattle.fmt_string.specs.declared.fault.FormatFault.TheVariants as format
 use Rattle.kind_tree.specs.Kinds.{KindTree}
 use Rattle.kind_tree.specs.Ways.{Steps}
@@ -12,13 +12,14 @@ use Rattle.schema_check.specs.declared.rule.SchemaRule.{SchemaRule}
 use Rattle.schema_check.specs.declared.rule.SchemaRule.TheVariants as rules
 use Rattle.schema_meta.specs.declared.fault.MetaFault.{MetaFault}
 use Rattle.schema_meta.specs.declared.fault.MetaFault.TheVariants as meta
-use Rattle.tree_model.specs.Tree.{Released, Live, Trees, no_trees, more_trees, MaybeTree, absent, present}
+use Rattle.tree_model.specs.Tree.{Released, Live, Trees, no_trees, more_trees, MaybeTree, absent, present, children_of}
 use Rattle.tree_text.specs.Answers.{Reads}
 use Rattle.tree_text.specs.declared.fault.TextFault.{TextFault}
 use Rattle.tree_text.specs.declared.fault.TextFault.TheVariants as texts
 use Rattle.root_check.specs.Schemas.{OwnSchemaReads}
 use Rattle.root_check.specs.declared.own_schema.OwnSchemaFault.{OwnSchemaFault}
 use Rattle.root_check.specs.declared.own_schema.OwnSchemaFault.TheVariants as parts
+use Rattle.union_cols.specs.declared.tag_fault.TagFault.TheVariants as tags
 use Rattle.union_cols.specs.UnionRules.{UnionFound, union_fault}
 use Rattle.union_cols.specs.UnionSchemas as found
 use Rattle.union_cols.specs.UnionSchemas.{SchemaFound, UnionReads, UnionSchemaFails}
@@ -27,6 +28,7 @@ use Rattle.tree_task.specs.Answer.{Answer, AnswerWithin, Fault, IsAnswerTo, Read
 use Rattle.tree_task.specs.ForeignAnswer.{chunk_of_kinds, chunk_unless}
 use Rattle.tree_task.specs.Refusals.{own_part_fault, union_schema_fault}
 use Rattle.tree_task.specs.RowsAnswer.{rows_of_kinds, rows_unless}
+use Rattle.tree_task.specs.TagAnswer.{tags_of_chunk, tags_of_kinds, tags_unless}
 use Rattle.tree_task.specs.UnionAnswer.{union_of_schema, union_unless}
 use Rattle.tree_task.specs.Faults.{has_memory_inside, is_decided, is_meta_memory, is_text_memory, rule_has_memory, union_has_memory}
 use Rattle.tree_task.specs.declared.command.Command.{Command}
@@ -98,6 +100,23 @@ of-chunk_kinds : (schema : SchemaTree) (array : ArrayTree) (read : Result KindTr
 of-chunk_kinds schema array (Ok typed) reads = of-chunk typed array (first_chunk_fault typed array)
 of-chunk_kinds schema array (Err first) reads = fault-from 1 schema first.path first.rule reads
 
+-- ---- tagged columns
+
+of-columns : (typed : KindTree) (array : ArrayTree) (wrong long : Bool) (count : ℕ)
+    → within (tags_unless typed array (if wrong then Some (tags.Columns count) else if long then Some tags.TooLong else None)) ≡ false
+of-columns typed array true long count = refl
+of-columns typed array false true count = refl
+of-columns typed array false false count = refl
+
+of-tagged : (dense : Bool) (typed : KindTree) (array : ArrayTree) (fault : Option ArrayFault) → within (tags_of_chunk dense typed array fault) ≡ false
+of-tagged dense typed array None = of-columns typed array _ _ (length (children_of array))
+of-tagged dense typed array (Some fault) = refl
+
+of-tags : (dense : Bool) (schema : SchemaTree) (array : ArrayTree) (read : Result KindTree FirstFault) → SchemaReads schema read
+    → within (tags_of_kinds dense read array) ≡ false
+of-tags dense schema array (Ok typed) reads = of-tagged dense typed array (first_chunk_fault typed array)
+of-tags dense schema array (Err first) reads = fault-from 1 schema first.path first.rule reads
+
 -- ---- unions
 
 of-meta : (metadata : Option (List ℕ)) (fault : MetaFault) → MetaRefused metadata fault → is_meta_memory fault ≡ false
@@ -138,6 +157,7 @@ of-trees : (command : Command) (schema : SchemaTree) (array : ArrayTree) (answer
     → within answer ≡ false
 of-trees commands.Rows schema array answer is = ap within is.2 ∙ of-kinds schema array is.0 is.1
 of-trees commands.Union schema array answer is = ap within is.2 ∙ of-union schema array is.0 is.1
+of-trees (commands.Tag dense) schema array answer is = ap within is.2 ∙ of-tags dense schema array is.0 is.1
 of-trees commands.Foreign schema array answer is = ap within is.2 ∙ of-chunk_kinds schema array is.0 is.1
 
 of-read : (command : Command) (bytes : List ℕ) (read : Result (SchemaTree × ArrayTree) TextFault) (answer : Answer) → Reads bytes read
@@ -160,4 +180,5 @@ pub of-fault : (command : Option Command) (bytes : List ℕ) (fault : TreeRunFau
 of-fault command bytes (run.Text fault) answer = of-answer command bytes (Fault (run.Text fault)) (answer refl)
 of-fault command bytes (run.Schema path rule) answer = of-answer command bytes (Fault (run.Schema path rule)) (answer refl)
 of-fault command bytes (run.UnionSchema fault) answer = of-answer command bytes (Fault (run.UnionSchema fault)) (answer refl)
+of-fault command bytes (run.Tag fault) answer = of-answer command bytes (Fault (run.Tag fault)) (answer refl)
 of-fault command bytes _ answer = refl

@@ -12,6 +12,7 @@ use Rattle.union_cols.specs.Unions.{UnionTree}
 use Rattle.tree_task.specs.Answer.{Answer, AnswerWithin, Fault, IsAnswerTo, ReadAnswer, TextAnswer, TreesAnswer, is_too_long}
 use Rattle.tree_task.specs.ForeignAnswer.{ForeignAnswer, chunk_of_kinds}
 use Rattle.tree_task.specs.RowsAnswer.{RowsAnswer, rows_of_kinds}
+use Rattle.tree_task.specs.TagAnswer.{TagAnswer, tags_of_kinds}
 use Rattle.tree_task.specs.UnionAnswer.{UnionAnswer, union_of_schema}
 use Rattle.tree_task.proofs.SomeUnion.{SomeFormat, SomeKinds, SomeMetadata, some-union}
 use Rattle.tree_task.specs.declared.command.Command.{Command}
@@ -32,6 +33,9 @@ module _ (some-reading : (bytes : List ℕ) → (read : Texts) × Reads bytes re
   some-trees commands.Union schema array fits =
       let read = some-union some-format some-kinds some-metadata 1 schema fits in
       (union_of_schema read.0 array, (read.0, read.1, refl))
+  some-trees (commands.Tag dense) schema array fits =
+      let read = some-kinds 1 schema fits in
+      (tags_of_kinds dense read.0 array, (read.0, read.1, refl))
   some-trees commands.Foreign schema array fits =
       let read = some-kinds 1 schema fits in
       (chunk_of_kinds read.0 array, (read.0, read.1, refl))
@@ -70,10 +74,16 @@ module _ (one-text : (bytes : List ℕ) (first second : Texts) → Reads bytes f
   one-foreign : (schema : SchemaTree) (array : ArrayTree) (one other : Answer) → ForeignAnswer schema array one → ForeignAnswer schema array other → one ≡ other
   one-foreign schema array one other is also = is.2 ∙ ap (λ r. chunk_of_kinds r array) (one-schema schema is.0 also.0 is.1 also.1) ∙ sym also.2
 
+  one-tags : (dense : Bool) (schema : SchemaTree) (array : ArrayTree) (one other : Answer) → TagAnswer dense schema array one
+      → TagAnswer dense schema array other → one ≡ other
+  one-tags dense schema array one other is also =
+      is.2 ∙ ap (λ r. tags_of_kinds dense r array) (one-schema schema is.0 also.0 is.1 also.1) ∙ sym also.2
+
   one-trees : (command : Command) (schema : SchemaTree) (array : ArrayTree) (one other : Answer) → TreesAnswer command schema array one
       → TreesAnswer command schema array other → one ≡ other
   one-trees commands.Rows schema array one other is also = one-rows schema array one other is also
   one-trees commands.Union schema array one other is also = one-union-answer schema array one other is also
+  one-trees (commands.Tag dense) schema array one other is also = one-tags dense schema array one other is also
   one-trees commands.Foreign schema array one other is also = one-foreign schema array one other is also
 
   one-read : (command : Command) (read : Texts) (one other : Answer) → ReadAnswer command read one → ReadAnswer command read other → one ≡ other

@@ -6,7 +6,8 @@ use Rattle.std.specs.List.{flat_map}
 use Rattle.layout_rules.specs.Values.{each}
 use Rattle.value_text.specs.NumberedTexts.{numbered_line}
 use Rattle.value_text.proofs.Parts.{each-more}
-use Rattle.tree_task.specs.UnionAnswer.{UnionItem, numbered_item}
+use Rattle.union_cols.specs.Unions.{UnionItem}
+use Rattle.tree_task.specs.UnionAnswer.{numbered_item}
 
 -- the lines of some items
 abbrev pub item_lines : List UnionItem → List ℕ

@@ -10,8 +10,10 @@ use Rattle.raw_schema.specs.Members.{SchemaTree}
 use Rattle.tree_text.specs.Answers.{Reads}
 use Rattle.tree_text.specs.TreeText.{TreeIs}
 use Rattle.tree_text.specs.declared.fault.TextFault.{TextFault}
+use Rattle.union_cols.specs.Tags.{tag_blocks}
 use Rattle.tree_task.specs.ForeignAnswer.{ForeignAnswer}
 use Rattle.tree_task.specs.RowsAnswer.{RowsAnswer}
+use Rattle.tree_task.specs.TagAnswer.{TagAnswer}
 use Rattle.tree_task.specs.UnionAnswer.{UnionAnswer}
 use Rattle.tree_task.specs.declared.command.Command.{Command}
 use Rattle.tree_task.specs.declared.command.Command.TheVariants as commands
@@ -23,6 +25,8 @@ pub use Rattle.tree_task.specs.TextOrFault.{Answer, Fault, Text}
 abbrev pub command_named : List ℕ → Option Command
 command_named word =
     if bytes_eq word (codes "union") then Some commands.Union
+    else if bytes_eq word (codes "tag") then Some (commands.Tag false)
+    else if bytes_eq word (codes "tagdense") then Some (commands.Tag true)
     else if bytes_eq word (codes "foreign") then Some commands.Foreign
     else None
 
@@ -41,6 +45,7 @@ texts_of words = map (λ s. string_bytes s) words
 abbrev pub TreesAnswer : Command → SchemaTree → ArrayTree → Answer → Type 0
 TreesAnswer commands.Rows schema array answer = RowsAnswer schema array answer
 TreesAnswer commands.Union schema array answer = UnionAnswer schema array answer
+TreesAnswer (commands.Tag dense) schema array answer = TagAnswer dense schema array answer
 TreesAnswer commands.Foreign schema array answer = ForeignAnswer schema array answer
 
 -- to what was read of a text
@@ -93,6 +98,8 @@ IsTooLong told = (bytes : List ℕ) × AreBytes told bytes × (input_limit < len
 abbrev pub Makes : Command → ArrayTree → ℕ → ℕ → ℕ → ℕ → Type 0
 Makes commands.Rows array old_blocks old_nodes blocks nodes = (blocks ≡ old_blocks) × (nodes ≡ old_nodes)
 Makes commands.Union array old_blocks old_nodes blocks nodes = (blocks ≡ old_blocks) × (nodes ≡ old_nodes)
+-- a union over the columns: its schema's node and its own, and its buffers
+Makes (commands.Tag dense) array old_blocks old_nodes blocks nodes = (blocks ≡ risen old_blocks (tag_blocks dense array)) × (nodes ≡ risen old_nodes 2)
 -- the producer's own block
 Makes commands.Foreign array old_blocks old_nodes blocks nodes = (blocks ≡ risen old_blocks 1) × (nodes ≡ old_nodes)
 

@@ -10,6 +10,8 @@ use Rattle.schema_meta.specs.declared.fault.MetaFault.{MetaFault}
 use Rattle.schema_meta.specs.declared.fault.MetaFault.TheVariants as meta
 use Rattle.tree_text.specs.declared.fault.TextFault.{TextFault}
 use Rattle.tree_text.specs.declared.fault.TextFault.TheVariants as texts
+use Rattle.union_cols.specs.declared.tag_fault.TagFault.{TagFault}
+use Rattle.union_cols.specs.declared.tag_fault.TagFault.TheVariants as tags
 use Rattle.union_cols.specs.declared.schema_fault.UnionSchemaFault.{UnionSchemaFault}
 use Rattle.union_cols.specs.declared.schema_fault.UnionSchemaFault.TheVariants as unions
 use Rattle.tree_task.specs.declared.fault.TreeRunFault.{TreeRunFault}
@@ -21,7 +23,7 @@ pub data Cause : Type 0 where
   OfWords : Cause
   -- the length of the input
   OfLength : Cause
-  -- the text, the schema or the array
+  -- the text, the schema, the array, or the columns of one that is tagged
   OfTrees : Cause
   Reading : Cause
   -- a write, when so many bytes of the text were taken
@@ -38,6 +40,7 @@ cause_of (run.Schema path rule) = OfTrees
 cause_of (run.Layout fault) = OfTrees
 cause_of (run.UnionSchema fault) = OfTrees
 cause_of (run.Union fault) = OfTrees
+cause_of (run.Tag fault) = OfTrees
 cause_of run.NoMemory = Memory
 
 abbrev pub status_by : Cause → ℕ
@@ -114,9 +117,14 @@ union_has_memory (unions.Child child fault) = schema_has_memory fault
 union_has_memory unions.NoMemory = true
 union_has_memory _ = false
 
+abbrev pub is_tag_memory : TagFault → Bool
+is_tag_memory tags.NoMemory = true
+is_tag_memory _ = false
+
 -- the types of all other faults have no such value
 abbrev pub has_memory_inside : TreeRunFault → Bool
 has_memory_inside (run.Text fault) = is_text_memory fault
 has_memory_inside (run.Schema path rule) = rule_has_memory rule
 has_memory_inside (run.UnionSchema fault) = union_has_memory fault
+has_memory_inside (run.Tag fault) = is_tag_memory fault
 has_memory_inside _ = false

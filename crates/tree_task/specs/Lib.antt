@@ -2,6 +2,7 @@ pub mod Answer
 pub mod TextOrFault
 pub mod RowsAnswer
 pub mod UnionAnswer
+pub mod TagAnswer
 pub mod ForeignAnswer
 pub mod Faults
 pub mod Over

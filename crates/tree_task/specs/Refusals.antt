@@ -21,6 +21,8 @@ use Rattle.union_cols.specs.declared.rule.UnionRule.{UnionRule}
 use Rattle.union_cols.specs.declared.rule.UnionRule.TheVariants as rules
 use Rattle.union_cols.specs.declared.schema_fault.UnionSchemaFault.{UnionSchemaFault}
 use Rattle.union_cols.specs.declared.schema_fault.UnionSchemaFault.TheVariants as faults
+use Rattle.union_cols.specs.declared.tag_fault.TagFault.{TagFault}
+use Rattle.union_cols.specs.declared.tag_fault.TagFault.TheVariants as tags
 use Rattle.tree_task.specs.declared.fault.TreeRunFault.{TreeRunFault}
 use Rattle.tree_task.specs.declared.fault.TreeRunFault.TheVariants as run
 
@@ -60,6 +62,13 @@ fault_of_union_schema (faults.ChildCount count needed) = run.UnionSchema (faults
 fault_of_union_schema (faults.Child child (schema.At path rule)) = run.UnionSchema (faults.Child child (schema.At (path_of (steps_of path)) rule))
 fault_of_union_schema (faults.Child child schema.NoMemory) = run.NoMemory
 fault_of_union_schema faults.NoMemory = run.NoMemory
+
+-- ---- columns that make no union
+
+abbrev pub fault_of_tag : TagFault → TreeRunFault
+fault_of_tag (tags.Columns count) = run.Tag (tags.Columns count)
+fault_of_tag tags.TooLong = run.Tag tags.TooLong
+fault_of_tag tags.NoMemory = run.NoMemory
 
 -- ---- a union's array
 

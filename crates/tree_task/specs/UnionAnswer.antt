@@ -1,30 +1,17 @@
 -- A line for each item of a union: its type id, and its value; or the first fault of the union's schema and of its array ("Arrow
 -- Columnar Format", "Union Layout").
-use Rattle.std.specs.Prelude.{◌≡◌, ℕ, ℤ, List, map, Option, None, Some, Result, Ok, Err}
+use Rattle.std.specs.Prelude.{◌≡◌, ℕ, List, map, Option, None, Some, Result, Ok, Err}
 use Rattle.data_types.specs.Value.{Value}
-use Rattle.layout_rules.specs.Layout.{items, natural}
-use Rattle.layout_rules.specs.Values.{each}
-use Rattle.raw_array.specs.Members.{ArrayTree, members_of}
+use Rattle.layout_rules.specs.Layout.{natural}
+use Rattle.raw_array.specs.Members.{ArrayTree}
 use Rattle.raw_schema.specs.Members.{SchemaTree}
 use Rattle.union_cols.specs.UnionRules.{UnionFound, union_fault}
 use Rattle.union_cols.specs.UnionSchemas.{SchemaFound, UnionReads}
-use Rattle.union_cols.specs.Unions.{UnionTree, id_at, union_value}
+use Rattle.union_cols.specs.Unions.{UnionItem, UnionTree, union_items}
 use Rattle.value_text.specs.NumberedTexts.{numbered_text}
 use Rattle.tree_task.specs.Refusals.{union_fault_told, union_schema_fault}
 use Rattle.tree_task.specs.TextOrFault.{Answer, Fault, Text}
 use Rattle.tree_task.specs.declared.fault.TreeRunFault.TheVariants as run
-
--- an item as it is shown: its type id, and its value
-pub record UnionItem : Type 0 where
-  pub id : ℤ
-  pub value : Value
-
-abbrev pub union_item : UnionTree → ArrayTree → ℕ → UnionItem
-union_item u array i = record { id = id_at (members_of array) i; value = union_value u array i }
-
--- the items of the window, in order
-abbrev pub union_items : UnionTree → ArrayTree → List UnionItem
-union_items u array = each (union_item u array) 0 (items (members_of array))
 
 -- an item with its type id, which is at least 0 where no rule fails
 abbrev pub numbered_item : UnionItem → ℕ × Value

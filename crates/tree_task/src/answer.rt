@@ -9,6 +9,7 @@ use crate::command::Command;
 use crate::fault::TreeRunFault;
 use crate::foreign::foreign_text;
 use crate::rows::rows_text;
+use crate::tags::tag_text;
 use crate::union::union_text;
 use raw_array::RawArray;
 use raw_schema::RawSchema;
@@ -36,6 +37,7 @@ fn trees_text(
     let answer = match command {
         Command::Rows => rows_text(alloc, &schema, &array),
         Command::Union => union_text(alloc, &schema, &array),
+        Command::Tag { dense } => return tag_text(alloc, schema, array, dense, pass),
         Command::Foreign => return foreign_text(alloc, schema, array, pass),
     };
     schema.end(pass);

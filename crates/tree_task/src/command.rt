@@ -10,6 +10,9 @@ pub enum Command {
     Rows,
     /// A line for each item of a union: its type id and its value.
     Union,
+    /// A line for each row of a chunk: the number of its first column that isn't null, and the value there. The columns are made the
+    /// children of a union for it, sparse or dense.
+    Tag { dense: bool },
     /// A line for each row of a chunk that a foreign producer owns.
     Foreign,
 }
@@ -32,6 +35,12 @@ fn named(word: &String) -> Option<Command>
     let word = word.as_bytes();
     if is_word(word, b"union") {
         return Some(Command::Union);
+    }
+    if is_word(word, b"tag") {
+        return Some(Command::Tag { dense: false });
+    }
+    if is_word(word, b"tagdense") {
+        return Some(Command::Tag { dense: true });
     }
     if is_word(word, b"foreign") {
         return Some(Command::Foreign);

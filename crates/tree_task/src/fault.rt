@@ -10,7 +10,7 @@ use layout_rules::LayoutFault;
 use schema_check::{SchemaFault, SchemaRule};
 use tree_check::{CheckFault, TreeFault};
 use tree_text::TextFault;
-use union_cols::{UnionFault, UnionRule, UnionSchemaFault};
+use union_cols::{TagFault, UnionFault, UnionRule, UnionSchemaFault};
 use unit_pass::NoMemory;
 
 /// Why a run wrote no text, or not all of it.
@@ -37,6 +37,8 @@ pub enum TreeRunFault {
     UnionSchema(UnionSchemaFault),
     /// A rule of unions fails: the first one. The places of a path inside it behind its depth are 0.
     Union(UnionFault),
+    /// The columns of a chunk make no union: there are none, or too many, or too many rows. It is never want of memory.
+    Tag(TagFault),
     /// Memory ran out, or the text would have more than 2^31 bytes.
     NoMemory,
 }
@@ -156,5 +158,20 @@ impl From<UnionFault> for TreeRunFault {
             left: fault.left,
             right: fault.right,
         })
+    }
+}
+
+impl From<TagFault> for TreeRunFault {
+    ghost use Rattle.std.specs.Prelude.{◌≡◌};
+    ghost use Rattle.tree_task.specs.Refusals.{fault_of_tag};
+
+    ghost from_gives = { λ fault given. given ≡ fault_of_tag fault };
+
+    fn from(fault: TagFault) -> TreeRunFault {
+        match fault {
+            TagFault::Columns { count } => TreeRunFault::Tag(TagFault::Columns { count }),
+            TagFault::TooLong => TreeRunFault::Tag(TagFault::TooLong),
+            TagFault::NoMemory => TreeRunFault::NoMemory,
+        }
     }
 }

@@ -1,16 +1,17 @@
 //! What the program for trees does between its words and its lines.
 //!
 //! - [`read_command`] reads the command that the words are.
-//! - [`carry_out`] reads the source to its end, reads the two trees that its text tells of, checks them as a stranger's would be,
-//!   and writes the text of the command to the sink, or gives the first fault: of the words, of reading, of the text, of the
-//!   schema, of the array, of writing.
+//! - [`carry_out`] reads the source to its end, reads the two trees that its text tells of, checks them as the command asks, and
+//!   writes the text of the command to the sink, or gives the first fault: of the words, of reading, of the text, of the schema,
+//!   of the array, of the command, of writing.
 //! - [`TreeOutcome`] is what a run came to, and [`tell`] writes the line of its fault.
 //! - Laws say that words and bytes have one answer ([`one_answer`]), and that no fault has a want of memory inside it
 //!   ([`memory_stands_alone`]).
 //!
-//! The answer to words and bytes stands in `specs/Answer.antt`, what a run comes to in `specs/Over.antt`, causes and statuses in
+//! The answer to words and bytes stands in `specs/Answer.antt`, that of each command to two trees in a file of its own
+//! (`RowsAnswer`, `UnionAnswer`, `TagAnswer`, `ForeignAnswer`), what a run comes to in `specs/Over.antt`, causes and statuses in
 //! `specs/Faults.antt`. Left to others: the lines of trees (`tree_text`), the rules of schemas and arrays (`schema_check`,
-//! `layout_check`), the texts of values (`value_text`).
+//! `layout_check`), unions (`union_cols`), the chunks of foreign producers (`foreign_array`), the texts of values (`value_text`).
 #![tactic(auto)]
 
 mod answer;
@@ -23,6 +24,7 @@ mod laws;
 mod outcome;
 mod rows;
 mod shown;
+mod tags;
 mod told;
 mod union;
 

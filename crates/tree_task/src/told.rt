@@ -29,6 +29,7 @@ fn line_of(fault: TreeRunFault) -> &'static [u8]
         TreeRunFault::Layout(_) => b"arrowtree: status 8\n",
         TreeRunFault::UnionSchema(_) => b"arrowtree: status 8\n",
         TreeRunFault::Union(_) => b"arrowtree: status 8\n",
+        TreeRunFault::Tag(_) => b"arrowtree: status 8\n",
         TreeRunFault::NoMemory => b"arrowtree: status 9\n",
     }
 }

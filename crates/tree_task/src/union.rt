@@ -4,9 +4,10 @@ ghost use Rattle.std.specs.List.{flat_map};
 ghost use Rattle.layout_rules.specs.Layout.{items};
 ghost use Rattle.raw_array.specs.Members.{members_of};
 ghost use Rattle.union_cols.specs.UnionCols.{array_in, kinds_in};
+ghost use Rattle.union_cols.specs.Unions.{union_item, union_items};
 ghost use Rattle.value_text.specs.NumberedTexts.{numbered_line};
 ghost use Rattle.tree_task.specs.TextOrFault.{Fault, Text};
-ghost use Rattle.tree_task.specs.UnionAnswer.{UnionAnswer, items_text, numbered_item, union_item, union_items};
+ghost use Rattle.tree_task.specs.UnionAnswer.{UnionAnswer, items_text, numbered_item};
 
 use crate::fault::TreeRunFault;
 use raw_array::RawArray;

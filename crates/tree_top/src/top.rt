@@ -16,11 +16,14 @@ use unit_pass::open_desk;
 
 /// Reads the source to its end and writes the text that a command makes of the trees that it tells of.
 ///
-/// `words` are those after the program's name. Without words the text is `ok` and a line for each item of the array: the text of
-/// its value. A text of more than 2^31 bytes is refused as want of memory.
+/// `words` are those after the program's name, and the text is `ok` and a line for each item of the array. Without words the array
+/// may be of any kind, and a line is the text of an item's value. Under `union` it is read as a union ("Arrow Columnar Format", "Union
+/// Layout"), and a line begins with the item's type id. Under `tag` and `tagdense` the columns of a chunk are made the children of a
+/// sparse or dense union, and a line is the number of the first column that isn't null in a row, with its value. Under `foreign` a
+/// chunk is given to an owner with a release of its own, and drained. A text of more than 2^31 bytes is refused as want of memory.
 ///
-/// The first of these faults is told: of the words, of reading, of the text, of the schema, of the array, of writing. To `errs`
-/// goes the line `arrowtree: status N` of a fault.
+/// The first of these faults is told: of the words, of reading, of the text, of the schema, of the array, of the command, of writing.
+/// To `errs` goes the line `arrowtree: status N` of a fault.
 pub fn run_tree<S: Source, K: Sink, E: Sink>(
     alloc: Global,
     words: &[String],

@@ -3,7 +3,8 @@ use Rattle.layout_rules.specs.Values.{each}
 use Rattle.union_cols.specs.UnionCols.{array_in, kinds_in}
 use Rattle.value_text.specs.NumberedTexts.{numbered_line}
 use Rattle.value_text.proofs.Parts.{appended}
-use Rattle.tree_task.specs.UnionAnswer.{numbered_item, union_item}
+use Rattle.union_cols.specs.Unions.{union_item}
+use Rattle.tree_task.specs.UnionAnswer.{numbered_item}
 use Rattle.tree_task.proofs.UnionLines.{item_lines, lines-more}
 use Rattle.tree_task.proofs.union.push_items.Goals as goal
 

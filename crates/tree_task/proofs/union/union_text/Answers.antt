@@ -1,7 +1,8 @@
 use Rattle.std.proofs.Common.{◌∙◌, ap, sym}
 use Rattle.union_cols.specs.UnionAnswers.{union_of}
 use Rattle.union_cols.specs.UnionCols.{array_in}
-use Rattle.tree_task.specs.UnionAnswer.{items_text, union_items}
+use Rattle.union_cols.specs.Unions.{union_items}
+use Rattle.tree_task.specs.UnionAnswer.{items_text}
 use Rattle.tree_task.proofs.Coming.{union-come, union-refused, union_schema-refused}
 use Rattle.tree_task.proofs.union.union_text.Goals as goal
 

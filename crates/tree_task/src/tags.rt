@@ -1,0 +1,107 @@
+//! The columns of a chunk, tagged: the children of a union.
+ghost use Rattle.std.specs.Prelude.{◌≡◌, ◌+◌, ◌⊎◌, ◌≤◌, Bool, None, IfOk, IfErr, OnOk};
+ghost use Rattle.kind_tree.specs.Kinds.{TypedOk};
+ghost use Rattle.kind_tree.specs.TypedView.{typed_of};
+ghost use Rattle.layout_rules.specs.Walk.{ChunkOk, first_chunk_fault};
+ghost use Rattle.raw_array.specs.Members.{Cost};
+ghost use Rattle.raw_schema.specs.Members.{Nodes};
+ghost use Rattle.schema_check.specs.Schemas.{TypedOf};
+ghost use Rattle.union_cols.specs.Tags.{tag_blocks};
+ghost use Rattle.unit_pass.specs.Tally.{risen};
+ghost use Rattle.unit_pass.specs.declared.pass.TheConstants.{SUPPLY};
+ghost use Rattle.tree_task.specs.TagAnswer.{TagAnswer, tags_of_columns};
+ghost use Rattle.tree_task.specs.TextOrFault.{Fault, Text};
+
+use crate::fault::TreeRunFault;
+use crate::union::union_text;
+use kind_tree::Typed;
+use layout_check::check_chunk;
+use raw_array::RawArray;
+use raw_schema::RawSchema;
+use schema_check::check_schema;
+use std::alloc::Global;
+use tree_check::CheckFault;
+use union_cols::{one_union_answer, tag};
+use unit_pass::{Pass, SUPPLY};
+
+/// A line for each row of a chunk, whose columns are made the children of a union ("Arrow Columnar Format", "Union Layout"): the number
+/// of the first column that isn't null, and its value; or the first fault: of the schema, of the chunk, of the number of columns and
+/// rows. What was handed in is released, and so is what is made.
+pub(crate) fn tag_text(
+    alloc: Global,
+    schema: RawSchema,
+    array: RawArray,
+    dense: bool,
+    pass: &mut Pass,
+) -> Result<Vec<u8>, TreeRunFault>
+    requires some { 4 ≤ pass.old.units }
+    requires room { pass.old.units + (Nodes schema + Cost array) ≤ SUPPLY }
+    ensures text { IfOk result (λ text. TagAnswer dense schema array (Text text.items)) }
+    ensures fault { IfErr result (λ fault. (fault ≡ TreeRunFault.NoMemory) ⊎ TagAnswer dense schema array (Fault fault)) }
+    ensures units { pass.new.units ≡ pass.old.units + (Nodes schema + Cost array) }
+    ensures blocks { OnOk result (pass.new.blocks ≡ risen pass.old.blocks (tag_blocks dense array)) }
+    ensures nodes { OnOk result (pass.new.nodes ≡ risen pass.old.nodes 2) }
+{
+    match chunk_kinds(alloc, &schema, &array) {
+        Ok(typed) => columns_text(alloc, &typed, schema, array, dense, pass),
+        Err(fault) => {
+            schema.end(pass);
+            array.end(pass);
+            Err(fault)
+        }
+    }
+}
+
+/// The kinds of a chunk, or the first fault: of its schema, and then of the chunk.
+fn chunk_kinds(alloc: Global, schema: &RawSchema, array: &RawArray) -> Result<Typed, TreeRunFault>
+    ensures found { IfOk result (λ typed. TypedOf schema.now (typed_of typed)) }
+    ensures valid { IfOk result (λ typed. TypedOk (typed_of typed)) }
+    ensures chunk { IfOk result (λ typed. ChunkOk (typed_of typed) array.now) }
+    ensures passed { IfOk result (λ typed. first_chunk_fault (typed_of typed) array.now ≡ None) }
+    ensures fault { IfErr result (λ fault. (fault ≡ TreeRunFault.NoMemory) ⊎ ((dense : Bool) → TagAnswer dense schema.now array.now (Fault fault))) }
+{
+    let typed = match check_schema(alloc, schema) {
+        Ok(typed) => typed,
+        Err(fault) => return Err(TreeRunFault::from(CheckFault::from(fault))),
+    };
+    match check_chunk(&typed, array) {
+        Ok(()) => Ok(typed),
+        Err(fault) => Err(TreeRunFault::from(CheckFault::from(fault))),
+    }
+}
+
+/// The text of a chunk's tagged columns, or why they make no union.
+fn columns_text(
+    alloc: Global,
+    typed: &Typed,
+    schema: RawSchema,
+    array: RawArray,
+    dense: bool,
+    pass: &mut Pass,
+) -> Result<Vec<u8>, TreeRunFault>
+    requires kinds { TypedOf schema (typed_of typed.now) }
+    requires valid { TypedOk (typed_of typed.now) }
+    requires chunk { ChunkOk (typed_of typed.now) array }
+    requires some { 4 ≤ pass.old.units }
+    requires room { pass.old.units + (Nodes schema + Cost array) ≤ SUPPLY }
+    ensures text { IfOk result (λ text. Text text.items ≡ tags_of_columns dense (typed_of typed.now) array) }
+    ensures fault { IfErr result (λ fault. (fault ≡ TreeRunFault.NoMemory) ⊎ (Fault fault ≡ tags_of_columns dense (typed_of typed.now) array)) }
+    ensures units { pass.new.units ≡ pass.old.units + (Nodes schema + Cost array) }
+    ensures blocks { OnOk result (pass.new.blocks ≡ risen pass.old.blocks (tag_blocks dense array)) }
+    ensures nodes { OnOk result (pass.new.nodes ≡ risen pass.old.nodes 2) }
+{
+    one_union_answer();
+    match tag(alloc, typed, schema, array, dense, pass) {
+        Ok((schema, array)) => {
+            let answer = union_text(alloc, &schema, &array);
+            schema.end(pass);
+            array.end(pass);
+            answer
+        }
+        Err((schema, array, fault)) => {
+            schema.end(pass);
+            array.end(pass);
+            Err(TreeRunFault::from(fault))
+        }
+    }
+}
