@@ -1,5 +1,5 @@
 -- The schema of values as runs is in order, and has their kinds.
-use Rattle.std.proofs.Common.{◌≡◌, ℕ, pos, ℤ, List, [], ◌∷◌, Option, None, Some, refl, subst, sym, inl, inr, arith}
+use Rattle.std.proofs.Common.{ℕ, pos, ℤ, List, Option, None, Some, refl, inl, inr, arith}
 use Rattle.std.specs.Prelude.{codes}
 use Rattle.data_types.specs.ColumnForms.{HasForm, IsColumnKind}
 use Rattle.data_types.specs.FieldText.{form_of}

@@ -1,33 +1,30 @@
 -- The array of values as runs is lawful, and shows the values.
-use Rattle.std.proofs.Common.{◌≡◌, ℕ, zero, suc, ◌+◌, ◌^◌, ◌<◌, ◌≤◌, Bool, true, false, ℤ, pos, not, List, [], ◌∷◌, ◌++◌, length, map, get_or, Option, None, Some, refl, ap, sym, ◌∙◌, subst, inl, inr, arith}
-use Rattle.std.specs.Prelude.{if◌then◌else◌, nat_lt, int_lt, ◌&&◌, All}
-use Rattle.std.specs.List.{concat, AllZip}
+use Rattle.std.proofs.Common.{◌≡◌, ℕ, zero, suc, ◌+◌, ◌^◌, ◌<◌, ◌≤◌, Bool, true, false, ℤ, pos, not, List, [], ◌∷◌, length, map, get_or, Option, None, Some, refl, ap, sym, ◌∙◌, subst, inl, inr, arith}
+use Rattle.std.specs.Prelude.{if◌then◌else◌, nat_lt, int_lt, ◌&&◌}
+use Rattle.std.specs.List.{concat}
 use Rattle.std.specs.Option.{option_or}
 use Rattle.std.proofs.lemmas.Bool.Decides.{nat_tests}
 use Rattle.std.proofs.lemmas.List.{length-map, length-append, get_or_default}
-use Rattle.std.proofs.Math.ListN.{get_or-map}
-use Rattle.data_types.specs.ColumnForms.{HasForm}
-use Rattle.data_types.specs.FieldText.{Form, form_of, in_range}
+use Rattle.data_types.specs.FieldText.{Form, form_of}
 use Rattle.data_types.specs.declared.kind.DataType.{DataType}
 use Rattle.data_types.specs.Value.{Value, is_null, bytes_of, byte_total}
 use Rattle.data_types.specs.Value.Value.{Null, Whole}
-use Rattle.tree_model.specs.Tree.{child_at, children_of}
+use Rattle.tree_model.specs.Tree.{children_of}
 use Rattle.raw_array.specs.Members.{ArrayTree, members_of}
-use Rattle.kind_tree.specs.Kinds.{KindTree}
 use Rattle.layout_rules.specs.declared.rule.Numbers.{Numbers}
 use Rattle.layout_rules.specs.Layout.{natural, end}
 use Rattle.layout_rules.specs.Rules.{fault_if, first_below, window_limit}
-use Rattle.layout_rules.specs.Values.{each, value_at, values_of, tree_items}
+use Rattle.layout_rules.specs.Values.{value_at, values_of}
 use Rattle.layout_rules.specs.Walk.{LayoutOk}
 use Rattle.root_check.proofs.ChildFaults.{lawful-none}
 use Rattle.col_build.specs.declared.item.PushFault.TheVariants.{OutOfRange}
-use Rattle.col_build.specs.Encoding.{Fits, push_fault, is_by_offsets, is_within, are_within, are_bounded, is_wide}
+use Rattle.col_build.specs.Encoding.{Fits, push_fault, is_by_offsets, are_within, are_bounded, is_wide}
 use Rattle.arr_export.specs.ArrayTrees.{column_tree, flat_type}
 use Rattle.arr_export.proofs.Each.{value-there, each-is}
-use Rattle.run_ends.specs.Runs.{RunTree, Ends, ends_in, whole_of, run_count, value_count, run_end, end_before, run_at, run_value, run_values}
-use Rattle.run_ends.specs.RunRules.{EndsNull, EndsFall, ValuesShort, EndsShort, WindowTooLong, RunsFound, null_end, end_falls, by, end_answers, first_answer, RunsOk, kids_fault, child_rule}
+use Rattle.run_ends.specs.Runs.{Ends, ends_in, whole_of, run_count, value_count, run_end, end_before, run_at, run_value, run_values}
+use Rattle.run_ends.specs.RunRules.{EndsNull, EndsFall, ValuesShort, EndsShort, WindowTooLong, null_end, end_falls, by, end_answers, first_answer, RunsOk, kids_fault, child_rule}
 use Rattle.run_ends.specs.RunHolds.{EndHolds}
-use Rattle.run_ends.specs.RunCoding.{is_same, Run, runs_from, end_kind, end_of, value_of, runs_type, tree_of_runs, runs_tree}
+use Rattle.run_ends.specs.RunCoding.{is_same, Run, runs_from, end_kind, end_of, value_of, runs_type, runs_tree}
 use Rattle.run_ends.proofs.ValueRuns.{IsRising, last_stop, rising, last-is, shown, shows}
 use Rattle.run_ends.proofs.Searching.{run_is}
 

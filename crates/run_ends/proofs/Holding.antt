@@ -1,27 +1,23 @@
--- What holds of a run-end encoded array at which no rule fails, and the first faults of its children.
-use Rattle.std.proofs.Common.{◌≡◌, ℕ, zero, suc, ◌+◌, ◌^◌, ◌<◌, ◌≤◌, Bool, true, false, ℤ, pos, negsuc, not, List, [], ◌∷◌, length, get_or, Option, None, Some, refl, ap, ◌∙◌, inl, inr, arith}
-use Rattle.std.specs.Prelude.{if◌then◌else◌, nat_lt, int_lt, is_none, IsTrue, ◌⊎◌, ◌≢◌}
+-- What holds of a run-end encoded array at which no rule fails.
+use Rattle.std.proofs.Common.{◌≡◌, ℕ, zero, suc, ◌+◌, ◌^◌, ◌<◌, ◌≤◌, Bool, true, false, ℤ, pos, negsuc, not, List, [], ◌∷◌, length, get_or, Option, None, Some, refl, ap, ◌∙◌, arith}
+use Rattle.std.specs.Prelude.{nat_lt, int_lt, is_none, IsTrue}
 use Rattle.std.specs.List.{AllZip}
-use Rattle.std.specs.Option.{option_or}
 use Rattle.std.proofs.lemmas.Bool.Decides.{nat_tests}
-use Rattle.data_types.specs.declared.kind.DataType.TheVariants as kinds
-use Rattle.data_types.specs.Value.{is_null}
-use Rattle.data_types.specs.Value.Value.{Null, Whole}
-use Rattle.tree_model.specs.Tree.{Released, Live, absent, child_at, children_of}
+use Rattle.tree_model.specs.Tree.{Released, children_of}
 use Rattle.raw_array.specs.Members.{ArrayTree, members_of}
 use Rattle.kind_tree.specs.Kinds.{KindTree}
 use Rattle.layout_rules.specs.declared.rule.Numbers.{Numbers}
-use Rattle.layout_rules.specs.Layout.{end, natural, is_valid}
+use Rattle.layout_rules.specs.Layout.{end, natural}
 use Rattle.layout_rules.specs.Rules.{fault_if, first_below, window_limit}
 use Rattle.layout_rules.specs.Values.{value_at}
-use Rattle.layout_rules.specs.Walk.{Fault, first_fault, LayoutOk}
+use Rattle.layout_rules.specs.Walk.{LayoutOk}
 use Rattle.layout_rules.proofs.Firsts.{first_below-none_at}
 use Rattle.layout_rules.proofs.Lawful.{left-none, right-none}
 use Rattle.arr_import.specs.Window.{Window, whole, item_at}
 use Rattle.root_check.specs.declared.own.OwnFault.{OwnFault}
 use Rattle.root_check.specs.OwnRules.{own_fault, OwnHolds}
-use Rattle.root_check.specs.Children.{ChildFault, at_child, children_fault}
-use Rattle.run_ends.specs.Runs.{RunTree, IsEnds, Ends, ends_in, run_count, value_count, run_end, end_before}
+use Rattle.root_check.specs.Children.{ChildFault, children_fault}
+use Rattle.run_ends.specs.Runs.{RunTree, Ends, ends_in, run_count, value_count, run_end, end_before}
 use Rattle.run_ends.specs.RunRules.{Rule, EndsNull, EndsFall, ValuesShort, EndsShort, WindowTooLong, null_end, end_falls, own_rule, child_rule, by, kids_fault}
 use Rattle.run_ends.specs.RunRules.{runs_fault}
 use Rattle.run_ends.specs.RunHolds.{EndHolds, RunsHold}
@@ -54,30 +50,6 @@ items-shown w t a e = ap item_at e ∙ (λ j k. value_at t a (plus_zero k j))
 
 -- ---- the two children
 
-pub two_children : (ends values : KindTree) (children : List ArrayTree) → length children ≡ 2 → children_fault (ends ∷ values ∷ []) 0 children
-    ≡ option_or (at_child 0 (first_fault ends (get_or children 0 Released))) (option_or (at_child 1 (first_fault values (get_or children 1 Released))) None)
-two_children ends values [] e = absurd (omega (arith, e))
-two_children ends values (a ∷ []) e = absurd (omega (arith, e))
-two_children ends values (a ∷ b ∷ []) e = refl
-two_children ends values (a ∷ b ∷ c ∷ more) e = absurd (omega (arith, e))
-
-or-none : {X : Type 0} → (o : Option X) → option_or o None ≡ o
-or-none None = refl
-or-none (Some x) = refl
-
-pub first_child : (ends values : KindTree) (array : ArrayTree) (fault : Fault) → length (children_of array) ≡ 2
-    → first_fault ends (child_at array 0) ≡ Some fault → children_fault (ends ∷ values ∷ []) 0 (children_of array) ≡ at_child 0 (Some fault)
-first_child ends values array fault two e =
-    two_children ends values (children_of array) two
-    ∙ ap (λ o. option_or (at_child 0 o) (option_or (at_child 1 (first_fault values (child_at array 1))) None)) e
-
-pub second_child : (ends values : KindTree) (array : ArrayTree) → length (children_of array) ≡ 2 → first_fault ends (child_at array 0) ≡ None
-    → children_fault (ends ∷ values ∷ []) 0 (children_of array) ≡ at_child 1 (first_fault values (child_at array 1))
-second_child ends values array two e =
-    two_children ends values (children_of array) two
-    ∙ ap (λ o. option_or (at_child 0 o) (option_or (at_child 1 (first_fault values (child_at array 1))) None)) e
-    ∙ or-none (at_child 1 (first_fault values (child_at array 1)))
-
 two_lawful : (ends values : KindTree) (children : List ArrayTree) → AllZip LayoutOk (ends ∷ values ∷ []) children
     → LayoutOk ends (get_or children 0 Released) × LayoutOk values (get_or children 1 Released)
 two_lawful ends values [] all = absurd all
@@ -85,24 +57,6 @@ two_lawful ends values (a ∷ []) all = absurd (all.1)
 two_lawful ends values (a ∷ b ∷ more) all = (all.0, all.1.0)
 
 -- ---- ends
-
-whole_or_null : (b : Bool) (n : ℤ) → (is_null (if b then Whole n else Null) ≡ true) ⊎ ((m : ℤ) × ((if b then Whole n else Null) ≡ Whole m))
-whole_or_null true n = inr (n, refl)
-whole_or_null false n = inl refl
-
--- an end is null or a number
-pub end_is : (ends : KindTree) (array : ArrayTree) (k : ℕ) → IsEnds ends
-    → (is_null (value_at ends array k) ≡ true) ⊎ ((m : ℤ) × (value_at ends array k ≡ Whole m))
-end_is (Live (kinds.Int bits true) kids absent) Released k is = inl refl
-end_is (Live (kinds.Int bits true) kids absent) (Live own children dictionary) k is = whole_or_null (is_valid own k) _
-end_is _ array k is = absurd is
-
-pub no_number : (ends : KindTree) (array : ArrayTree) (k : ℕ) → IsEnds ends → ((m : ℤ) → value_at ends array k ≢ Whole m) → is_null (value_at ends array k) ≡ true
-no_number ends array k is none = pick (end_is ends array k is)
-  where
-    pick : (is_null (value_at ends array k) ≡ true) ⊎ ((m : ℤ) × (value_at ends array k ≡ Whole m)) → is_null (value_at ends array k) ≡ true
-    pick (inl e) = e
-    pick (inr e) = absurd (none e.0 e.1)
 
 above : (a b : ℤ) → a ≡ pos (natural a) → int_lt a b ≡ true → (b ≡ pos (natural b)) × (natural a < natural b)
 above (pos x) (pos y) is e = (refl, grind (arith, nat_tests))

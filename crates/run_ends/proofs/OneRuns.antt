@@ -1,27 +1,19 @@
 -- A schema has one answer.
-use Rattle.std.proofs.Common.{◌≡◌, ◌≢◌, ℕ, List, [], ◌∷◌, length, map, Option, Some, None, refl, ap, sym, ◌∙◌, subst, inl, inr, arith}
+use Rattle.std.proofs.Common.{◌≡◌, ◌≢◌, List, [], ◌∷◌, length, map, Option, Some, None, refl, ap, sym, ◌∙◌, subst, inl, inr, arith}
 use Rattle.std.specs.Prelude.{Result, Ok, Err, ◌⊎◌, IfOk, IfErr, All, codes}
 use Rattle.std.specs.List.{AllZip}
-use Rattle.schema_meta.specs.declared.fault.MetaFault.TheVariants as meta
-use Rattle.schema_check.specs.declared.schema.SchemaFault.TheVariants as checked
 use Rattle.schema_check.specs.Schemas.{TypedOf}
-use Rattle.schema_check.specs.SchemaAnswers.{MetaRefused}
 use Rattle.tree_model.specs.Tree.{Released, Live, IsLive, children_of}
 use Rattle.raw_schema.specs.Members.{SchemaTree, members_of}
 use Rattle.kind_tree.specs.Kinds.{KindTree, TypedOk}
 use Rattle.kind_tree.specs.declared.typed.Typed.{Typed}
 use Rattle.kind_tree.specs.TypedView.{typed_of}
 use Rattle.root_check.specs.declared.own_schema.OwnSchemaFault.{OwnSchemaFault}
-use Rattle.root_check.specs.declared.own_schema.OwnSchemaFault.TheVariants as parts
-use Rattle.root_check.specs.declared.kids.KidsFault.{KidsFault}
-use Rattle.root_check.specs.declared.kids.KidsFault.TheVariants as kids
 use Rattle.root_check.specs.Schemas.{OwnSchemaReads, KidFault, KidsRead}
-use Rattle.root_check.specs.KidAnswers.{IsFaultOfKids}
 use Rattle.run_ends.specs.declared.kinds.RunTyped.{RunTyped}
 use Rattle.run_ends.specs.declared.schema_fault.RunsSchemaFault.{RunsSchemaFault}
 use Rattle.run_ends.specs.Runs.{RunTree, RunTypedOk, IsEnds}
 use Rattle.run_ends.specs.RunSchemas.{ArePlainRuns, AreOver, RunsOf, SchemaFound, IsReleased, Format, OwnPart, ChildCount, Child, EndsType, RunsReads}
-use Rattle.run_ends.specs.SchemaParts.{own_refused, kids_refused}
 use Rattle.run_ends.specs.RunAnswers.{runs_of, named, IsRunsFault, FailsIf, GivesIf, GivesRuns}
 
 abbrev pub OwnLaw : Type 0
@@ -173,24 +165,6 @@ pub gives_runs : RunsLaw → (schema : SchemaTree) (result : Result RunTyped Run
     → IfErr result (IsRunsFault schema) → (read : Result RunTree SchemaFound) → RunsReads schema read → GivesRuns result read
 gives_runs law schema (Ok typed) found fault read is = law schema read (Ok (runs_of typed)) is found
 gives_runs law schema (Err fault) found fails read is = gives_if law schema (named fault) read fails.1 is
-
--- ---- the exits of the reading
-
-refused_some : (metadata : Option (List ℕ)) → MetaRefused metadata meta.NoMemory → ⊥
-refused_some None h = h
-refused_some (Some bytes) h = h
-
-pub own_exit : (schema : SchemaTree) (fault : OwnSchemaFault) → IsLive schema → (members_of schema).format ≡ codes "+r" → OwnSchemaReads schema (Err fault)
-    → IsRunsFault schema (own_refused fault)
-own_exit schema (parts.Meta meta.NoMemory) live spelled is = absurd (refused_some (members_of schema).metadata is)
-own_exit schema (parts.Meta fault) live spelled is = (tt, (record { live = live; spelled = spelled }, is))
-own_exit schema parts.Dictionary live spelled is = (tt, (record { live = live; spelled = spelled }, is))
-
-pub kids_exit : (schema : SchemaTree) (fault : KidsFault) → ArePlainRuns schema → length (children_of schema) ≡ 2 → IsFaultOfKids (children_of schema) fault
-    → IsRunsFault schema (kids_refused fault)
-kids_exit schema (kids.Child child (checked.At path rule)) plain count is = (tt, (plain, count, is))
-kids_exit schema (kids.Child child checked.NoMemory) plain count is = absurd is
-kids_exit schema kids.NoMemory plain count is = (tt, tt)
 
 -- ---- the kinds of two children
 

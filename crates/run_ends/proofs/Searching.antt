@@ -100,10 +100,6 @@ not_above ends place k h = above_is place (run_end ends k) ∙ test_no place (na
 abbrev Above : Ends → ℕ → ℕ → ℕ → ℕ → Type 0
 Above ends n place low high = Parted (ends_above ends place) n low high
 
-pub search_begins : (ends : Ends) (n place : ℕ) → Above ends n place 0 n
-search_begins ends n place =
-    record { ordered = omega arith; inside = omega arith; below = λ i h. absurd (omega arith); from = λ i le lt. absurd (omega (arith, le, lt)) }
-
 pub search_low : (ends : Ends) (n place low high middle : ℕ) → ((k : ℕ) → k < n → EndHolds ends k) → Above ends n place low high → low ≤ middle
     → middle < high → int_lt (pos place) (run_end ends middle) ≡ true → Above ends n place low middle
 search_low ends n place low high middle each is le lt test =

@@ -1,15 +1,15 @@
--- The runs of values: they rise, stand apart, and show the values again.
-use Rattle.std.proofs.Common.{◌≡◌, ◌≢◌, ℕ, zero, suc, ◌+◌, ◌<◌, ◌≤◌, Bool, true, false, not, ℤ, pos, List, [], ◌∷◌, length, map, get_or, drop, ◌-◌, Option, None, Some, refl, ap, sym, ◌∙◌, subst, arith}
-use Rattle.std.specs.Prelude.{if◌then◌else◌, nat_lt, ◌==◌}
+-- The runs of values: they rise, stand apart, and show the values again; where the run of an item ends.
+use Rattle.std.proofs.Common.{◌≡◌, ℕ, zero, suc, ◌+◌, ◌<◌, ◌≤◌, Bool, true, false, not, List, [], ◌∷◌, length, get_or, drop, ◌-◌, Option, None, refl, ap, sym, ◌∙◌, subst, arith}
+use Rattle.std.specs.Prelude.{if◌then◌else◌, nat_lt}
 use Rattle.std.specs.Bool.{Decides}
 use Rattle.std.specs.Ordering.{int_eq}
 use Rattle.std.specs.Str.{bytes_eq}
-use Rattle.std.proofs.lemmas.Bool.{eqb-true, eq-eqb}
+use Rattle.std.proofs.lemmas.Bool.{eqb-true}
 use Rattle.std.proofs.lemmas.List.{drop_more, drop_all}
 use Rattle.std.proofs.lemmas.Bool.Decides.{Decides-int_eq, nat_tests}
 use Rattle.std.proofs.lemmas.Slice.Eq.{bytes_eq-Decides}
 use Rattle.data_types.specs.Value.{Value}
-use Rattle.data_types.specs.Value.Value.{Null, Truth, Whole, Bits, Bytes, Items, Fields}
+use Rattle.data_types.specs.Value.Value.{Null, Truth, Whole, Bits, Bytes}
 use Rattle.data_types.specs.declared.kind.DataType.{DataType}
 use Rattle.data_types.specs.declared.kind.DataType.TheVariants as kinds
 use Rattle.tree_model.specs.Tree.{Released, Live, Trees, absent, IsLive}
@@ -163,42 +163,6 @@ apart at (v ∷ n ∷ r) = pick (is_same v n) refl (apart (suc at) (n ∷ r))
         apart-more (record { value = v; stop = suc at }) (runs_from (suc at) (n ∷ r)) (some (suc at) n r)
         (ap (is_same v) (first-is (suc at) n r) ∙ e) more
 
--- ---- a flat value is the same as itself
-
-abbrev pub IsFlatValue : Value → Type 0
-IsFlatValue (Items values) = ⊥
-IsFlatValue (Fields values) = ⊥
-IsFlatValue _ = Unit {0}
-
-yes : {P : Type 0} → (b : Bool) → Decides b P → P → b ≡ true
-yes b d p = grind (arith, d, p)
-
-truth-same : (a : Bool) → (if a then a else not a) ≡ true
-truth-same true = refl
-truth-same false = refl
-
-pub is-same : (v : Value) → IsFlatValue v → is_same v v ≡ true
-is-same Null flat = refl
-is-same (Truth a) flat = truth-same a
-is-same (Whole a) flat = yes (int_eq a a) (Decides-int_eq a a) refl
-is-same (Bits a) flat = eq-eqb a a refl
-is-same (Bytes a) flat = yes (bytes_eq a a) (bytes_eq-Decides a a) refl
-is-same (Items a) flat = absurd flat
-is-same (Fields a) flat = absurd flat
-
-pub same-flat : (r : Bool) (v w : Value) → IsFlatValue v → (r ≡ true → w ≡ v) × (w ≡ v → r ≡ true)
-    → (r ≡ true → is_same v w ≡ true) × (is_same v w ≡ true → r ≡ true)
-same-flat r v w flat is = (λ e. ap (is_same v) (is.0 e) ∙ is-same v flat, λ e. is.1 (sym (same-is v w e)))
-
-pub never-same : (v w : Value) → (IsFlatValue v → ⊥) → (false ≡ true → is_same v w ≡ true) × (is_same v w ≡ true → false ≡ true)
-never-same (Items a) w none = (λ e. absurd (cc), λ e. e)
-never-same (Fields a) w none = (λ e. absurd (cc), λ e. e)
-never-same Null w none = absurd (none tt)
-never-same (Truth a) w none = absurd (none tt)
-never-same (Whole a) w none = absurd (none tt)
-never-same (Bits a) w none = absurd (none tt)
-never-same (Bytes a) w none = absurd (none tt)
-
 -- ---- the runs of the values from one on
 
 runs-step : (at : ℕ) (v n : Value) (r : List Value) → is_same v n ≡ true → runs_from at (v ∷ n ∷ r) ≡ runs_from (suc at) (n ∷ r)
@@ -234,15 +198,6 @@ alike-more xs i j h e is =
           ∙ ap (runs_from (suc j)) (sym (more-of xs (j + 1) h)) ∙ ap (λ (n : ℕ). runs_from n (drop (j + 1) xs)) next;
       value = sym (same-is (value_in xs j) (value_in xs (j + 1)) e) ∙ is.value;
     }
-
-pub stops-here : (xs : List Value) (i j : ℕ) → j + 1 < length xs → is_same (value_in xs j) (value_in xs (j + 1)) ≡ false → Alike xs i j → IsRun xs i (j + 1)
-stops-here xs i j h e is =
-    let two : drop j xs ≡ value_in xs j ∷ value_in xs (j + 1) ∷ drop (j + 1 + 1) xs =
-    more-of xs j (omega (arith, h)) ∙ ap (λ (ys : List Value). value_in xs j ∷ ys) (more-of xs (j + 1) h) in
-    let next : suc j ≡ j + 1 = omega arith in
-    is.runs ∙ ap (runs_from j) two ∙ runs-stop j (value_in xs j) (value_in xs (j + 1)) (drop (j + 1 + 1) xs) e
-    ∙ ap (λ (ys : List Value). record { value = value_in xs j; stop = suc j } ∷ runs_from (suc j) ys) (sym (more-of xs (j + 1) h))
-    ∙ (λ t. record { value = is.value t; stop = next t } ∷ runs_from (next t) (drop (j + 1) xs))
 
 pub stops-last : (xs : List Value) (i j : ℕ) → j + 1 ≡ length xs → Alike xs i j → IsRun xs i (j + 1)
 stops-last xs i j h is =

@@ -1,5 +1,5 @@
 -- Values as runs ("Arrow Columnar Format", "Run-End Encoded Layout"), and the schema and the array of such runs.
-use Rattle.std.specs.Prelude.{◌≡◌, ℕ, suc, ◌+◌, ◌<◌, ◌==◌, pos, Bool, true, false, not, if◌then◌else◌, codes, List, [], ◌∷◌, length, map, get_or, drop, Option, Some, None}
+use Rattle.std.specs.Prelude.{◌≡◌, ℕ, suc, ◌==◌, pos, Bool, true, false, not, if◌then◌else◌, codes, List, [], ◌∷◌, length, map, get_or, drop, Some, None}
 use Rattle.std.specs.Ordering.{int_eq}
 use Rattle.std.specs.Str.{bytes_eq}
 use Rattle.data_types.specs.declared.kind.DataType.{DataType}

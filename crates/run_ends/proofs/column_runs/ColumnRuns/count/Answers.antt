@@ -1,8 +1,7 @@
-use Rattle.std.proofs.Common.{◌≡◌, ◌∙◌, ap, sym, length, arith}
+use Rattle.std.proofs.Common.{◌≡◌, ◌∙◌, ap, sym, arith}
 use Rattle.kind_tree.specs.TypedView.{typed_of}
 use Rattle.arr_import.specs.Window.{Window}
 use Rattle.layout_rules.specs.Values.{tree_items}
-use Rattle.run_ends.specs.ColumnRuns.{values_in}
 use Rattle.run_ends.proofs.ValueRuns.{count-is}
 use Rattle.run_ends.proofs.column_runs.ColumnRuns.count.Goals as goal
 

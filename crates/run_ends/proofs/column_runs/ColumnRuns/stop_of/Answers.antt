@@ -1,4 +1,4 @@
-use Rattle.std.proofs.Common.{rules, ◌≡◌, sym, subst, true, arith}
+use Rattle.std.proofs.Common.{rules, sym, subst, arith}
 use Rattle.std.specs.Prelude.{IsTrue}
 use Rattle.run_ends.specs.RunCoding.{IsRun}
 use Rattle.run_ends.specs.ColumnRuns.{values_in}
