@@ -1,5 +1,5 @@
 -- The distinct texts of a column's first items, as a dictionary in the making holds them.
-use Rattle.std.proofs.Common.{◌≡◌, ◌∙◌, ◌≤◌, ◌<◌, ◌+◌, ◌^◌, ◌++◌, ℕ, zero, suc, pos, Bool, true, false, List, [], ◌∷◌, length, map, get_or, take}
+use Rattle.std.proofs.Common.{◌-◌, ◌≡◌, ◌∙◌, ◌≤◌, ◌<◌, ◌+◌, ◌^◌, ◌++◌, ℕ, zero, suc, pos, Bool, true, false, List, [], ◌∷◌, length, map, get_or, take}
 use Rattle.std.proofs.Common.{not, rules, refl, sym, ap, subst, arith}
 use Rattle.std.proofs.lemmas.List.{length-append, length-map, length-take, take_more}
 use Rattle.std.proofs.Math.Seq.{take-length}
@@ -24,7 +24,8 @@ use Rattle.column_fill.proofs.Counts.{length-each}
 use Rattle.column_fill.specs.Takes.{IsStored, Takes}
 use Rattle.column_fill.proofs.ValuesTaken.{before-small, value-stored, value-taken}
 use Rattle.dict_stage.specs.Indices.{index_type}
-use Rattle.dict_stage.specs.Texts.{Codes, HasTexts, IsText, index_by, number_of, texts_after, texts_in, texts_with}
+use Rattle.item_keys.specs.Distinct.{Numbers, number_of, texts_with}
+use Rattle.dict_stage.specs.Texts.{Codes, HasTexts, IsText, index_by, texts_after}
 use Rattle.dict_stage.specs.declared.coder.Coder.{Coder}
 use Rattle.dict_stage.proofs.Texts.{after-push, are-in-after, indices-stay, same-number, with-new, with-old}
 
@@ -162,28 +163,22 @@ push-map f [] x = refl
 push-map f (y ∷ xs) x = ap (λ (zs : List _). f y ∷ zs) (push-map f xs x)
 
 pub codes-new : (coder after : Coder) (type : DataType) (texts : List (List ℕ)) (text : List ℕ) → Codes coder type texts
-    → has_bytes (texts_in coder.texts) text ≡ false → texts_in after.texts ≡ texts_with (texts_in coder.texts) text
+    → has_bytes texts text ≡ false → Numbers after.texts (texts_with texts text)
     → Adds (Bytes text) coder.entries after.entries → Codes after type (texts_with texts text)
-codes-new coder after type texts text codes new lends adds =
-    let is = ap (λ (ts : List (List ℕ)). texts_with ts text) codes.lends in
-    let fresh : has_bytes texts text ≡ false = ap (λ (ts : List (List ℕ)). has_bytes ts text) (sym codes.lends) ∙ new in
-    record {
-      lends = lends ∙ is;
-      holds = subst (Holds after.entries type) (sym (push-map Bytes texts text) ∙ ap (map Bytes) (sym (with-new texts text fresh)))
-          (adds type (map Bytes texts) codes.holds);
-    }
+codes-new coder after type texts text codes fresh numbers adds = record {
+  numbers = numbers;
+  holds = subst (Holds after.entries type) (sym (push-map Bytes texts text) ∙ ap (map Bytes) (sym (with-new texts text fresh)))
+      (adds type (map Bytes texts) codes.holds);
+}
 
 pub codes-old : (coder after : Coder) (type : DataType) (texts : List (List ℕ)) (text : List ℕ) → Codes coder type texts
-    → has_bytes (texts_in coder.texts) text ≡ true → texts_in after.texts ≡ texts_with (texts_in coder.texts) text
+    → has_bytes texts text ≡ true → Numbers after.texts (texts_with texts text)
     → after.entries ≡ coder.entries → Codes after type (texts_with texts text)
-codes-old coder after type texts text codes old lends same =
-    let is = ap (λ (ts : List (List ℕ)). texts_with ts text) codes.lends in
-    let known : has_bytes texts text ≡ true = ap (λ (ts : List (List ℕ)). has_bytes ts text) (sym codes.lends) ∙ old in
-    record {
-      lends = lends ∙ is;
-      holds = subst (λ (ts : List (List ℕ)). Holds after.entries type (map Bytes ts)) (sym (with-old texts text known))
-          (subst (λ (b : Builder). Holds b type (map Bytes texts)) (sym same) codes.holds);
-    }
+codes-old coder after type texts text codes known numbers same = record {
+  numbers = numbers;
+  holds = subst (λ (ts : List (List ℕ)). Holds after.entries type (map Bytes ts)) (sym (with-old texts text known))
+      (subst (λ (b : Builder). Holds b type (map Bytes texts)) (sym same) codes.holds);
+}
 
 -- ---- indices
 
@@ -257,6 +252,10 @@ takes-index type w i builder v has small holds is =
       omega (arith, many, few-first type w i has small, has.few, small),
       value-taken index_type (map (index_by texts) vs) (index_by texts (item_at w i)) index-kind of (omega (arith, no-bytes texts vs, none)),
     )
+
+-- the texts of the items so far are few
+pub few-texts : (type : DataType) (w : Window) (i : ℕ) → HasTexts type w → i < w.count → length (texts_after [] (take i (items_of w))) < 2 ^ 32 - 1
+few-texts type w i has small = omega (arith, fewer [] (take i (items_of w)), few-first type w i has small, has.few, small)
 
 -- ---- one item more
 

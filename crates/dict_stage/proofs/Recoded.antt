@@ -26,7 +26,8 @@ use Rattle.column_fill.proofs.ColumnCosts.{few-blocks}
 use Rattle.column_fill.proofs.ValuesTaken.{values-fit}
 use Rattle.dict_stage.specs.Indices.{Indices, index_type, recoded_tree}
 use Rattle.dict_stage.specs.Recoded.{IsRecoded}
-use Rattle.dict_stage.specs.Texts.{IsText, index_by, number_of, texts_after, texts_with}
+use Rattle.item_keys.specs.Distinct.{number_of, texts_with}
+use Rattle.dict_stage.specs.Texts.{IsText, index_by, texts_after}
 use Rattle.dict_stage.proofs.Codes.{fewer, index-kind, index-of, no-bytes, shorter, text-of}
 use Rattle.dict_stage.proofs.Texts.{AreIn, are-in-after, dictionary-is, indices-are, with-new, with-old}
 

@@ -2,48 +2,15 @@
 use Rattle.std.proofs.Common.{◌≡◌, ◌∙◌, ◌+◌, ◌||◌, ◌++◌, ℕ, suc, pos, Bool, true, false, not, List, [], ◌∷◌, length, map}
 use Rattle.std.proofs.Common.{refl, sym, ap, arith, true≢false}
 use Rattle.std.specs.Prelude.{if◌then◌else◌}
-use Rattle.std.specs.List.{list_any, position_or_len}
+use Rattle.std.specs.List.{position_or_len}
 use Rattle.std.specs.Str.{bytes_eq}
 use Rattle.std.proofs.lemmas.Cmp.{nat_list_eq_equiv}
 use Rattle.std.proofs.lemmas.List.Folds.{list_any-append}
 use Rattle.data_types.specs.Value.{Value, Null, Truth, Whole, Bits, Bytes, Items, Fields}
 use Rattle.stage_model.specs.Dictionary.{Dictionary, distinct_behind, has_bytes}
 use Rattle.dict_stage.specs.Indices.{Indices, index_in, is_text}
-use Rattle.dict_stage.specs.Texts.{index_by, number_of, texts_after, texts_with}
-use denote.Ref.{Bor}
-
--- ---- the texts that a set lends
-
-turned : (a b : List ℕ) → bytes_eq a b ≡ bytes_eq b a
-turned a b = nat_list_eq_equiv.symm a b
-
-abbrev pub lent : List (Bor (List ℕ)) → List (List ℕ)
-lent keys = map (λ (k : Bor (List ℕ)). k.now) keys
-
-abbrev pub same_text : Bor (List ℕ) → Bor (List ℕ) → Bool
-same_text a b = bytes_eq a.now b.now
-
-pub any-lent : (keys : List (Bor (List ℕ))) (key : Bor (List ℕ)) → list_any (same_text key) keys ≡ has_bytes (lent keys) key.now
-any-lent [] key = refl
-any-lent (k ∷ keys) key = λ i. turned key.now k.now i || any-lent keys key i
-
-pub number-lent : (keys : List (Bor (List ℕ))) (key : Bor (List ℕ)) → position_or_len (same_text key) keys ≡ number_of (lent keys) key.now
-number-lent [] key = refl
-number-lent (k ∷ keys) key = λ i. if not (turned key.now k.now i) then 1 + number-lent keys key i else 0
-
-lent-push : (keys : List (Bor (List ℕ))) (key : Bor (List ℕ)) → lent (keys ++ key ∷ []) ≡ lent keys ++ key.now ∷ []
-lent-push [] key = refl
-lent-push (k ∷ keys) key = ap (λ (ts : List (List ℕ)). k.now ∷ ts) (lent-push keys key)
-
-with-by : (b : Bool) (keys : List (Bor (List ℕ))) (key : Bor (List ℕ))
-    → lent (if b then keys else keys ++ key ∷ []) ≡ (if b then lent keys else lent keys ++ key.now ∷ [])
-with-by true keys key = refl
-with-by false keys key = lent-push keys key
-
-pub lent-with : (keys : List (Bor (List ℕ))) (key : Bor (List ℕ))
-    → lent (if list_any (same_text key) keys then keys else keys ++ key ∷ []) ≡ texts_with (lent keys) key.now
-lent-with keys key =
-    with-by (list_any (same_text key) keys) keys key ∙ ap (λ (b : Bool). if b then lent keys else lent keys ++ key.now ∷ []) (any-lent keys key)
+use Rattle.item_keys.specs.Distinct.{number_of, texts_with}
+use Rattle.dict_stage.specs.Texts.{index_by, texts_after}
 
 -- ---- one more
 

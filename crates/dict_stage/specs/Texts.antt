@@ -1,17 +1,13 @@
 -- Distinct texts, numbered in the order in which they come.
-use Rattle.std.specs.Prelude.{◌≡◌, ℕ, ◌^◌, ◌≤◌, pos, if◌then◌else◌, List, [], ◌∷◌, ◌++◌, map}
-use Rattle.std.specs.List.{position_or_len}
-use Rattle.std.specs.Str.{bytes_eq}
-use Rattle.std.specs.HashSet.{HashSet}
+use Rattle.std.specs.Prelude.{ℕ, ◌^◌, ◌≤◌, pos, List, [], ◌∷◌, map}
 use Rattle.data_types.specs.ColumnForms.{IsColumnKind}
 use Rattle.data_types.specs.Value.{Value, Null, Whole, Bytes}
 use Rattle.data_types.specs.declared.kind.DataType.{DataType}
 use Rattle.col_build.specs.Holding.{Holds}
 use Rattle.arr_import.specs.Window.{Window, items_of}
-use Rattle.stage_model.specs.Dictionary.{has_bytes}
+use Rattle.item_keys.specs.Distinct.{Numbers, number_of, texts_with}
 use Rattle.stream_face.specs.Lawful.{AreValues, HasBytes}
 use Rattle.dict_stage.specs.declared.coder.Coder.{Coder}
-use denote.Ref.{Bor}
 
 -- null, or bytes
 abbrev pub IsText : Value → Type 0
@@ -28,18 +24,6 @@ pub record HasTexts (type : DataType) (w : Window) : Type 0 where
 
 -- ---- distinct texts
 
--- those that a set lends, in its order
-abbrev pub texts_in : {S : Type 0} → HashSet (Bor (List ℕ)) S → List (List ℕ)
-texts_in set = map (λ text. text.now) set.keys
-
--- with one more behind them, unless it is among them
-abbrev pub texts_with : List (List ℕ) → List ℕ → List (List ℕ)
-texts_with texts text = if has_bytes texts text then texts else texts ++ text ∷ []
-
--- the number of a text
-abbrev pub number_of : List (List ℕ) → List ℕ → ℕ
-number_of texts text = position_or_len (λ t. bytes_eq t text) texts
-
 -- the texts after values
 abbrev pub texts_after : List (List ℕ) → List Value → List (List ℕ)
 texts_after texts [] = texts
@@ -53,7 +37,7 @@ index_by texts _ = Null
 
 -- ---- the making
 
--- the distinct texts so far, and a builder of them
+-- the distinct texts so far, each with its number, and a builder of them
 pub record Codes (coder : Coder) (type : DataType) (texts : List (List ℕ)) : Type 0 where
-  pub lends : texts_in coder.texts ≡ texts
+  pub numbers : Numbers coder.texts texts
   pub holds : Holds coder.entries type (map Bytes texts)

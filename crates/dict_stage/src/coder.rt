@@ -1,41 +1,28 @@
 //! A dictionary in the making, and the indices of values into it.
-ghost use Rattle.std.specs.Prelude.{◌≡◌, ℕ, List, [], ◌∷◌, not, IfOk, OnOk};
+ghost use Rattle.std.specs.Prelude.{◌≡◌, ◌<◌, ◌-◌, ◌^◌, ℕ, List, [], ◌∷◌, length, IfOk, OnOk};
 ghost use Rattle.data_types.specs.Value.{Bytes};
 ghost use Rattle.data_types.specs.declared.kind.DataType.{DataType as AType};
 ghost use Rattle.col_build.specs.Holding.{Adds, Holds, HoldsWholes, Takes};
 ghost use Rattle.col_build.specs.Items.{value_of};
 ghost use Rattle.arr_import.specs.Cols.{window_of};
 ghost use Rattle.arr_import.specs.Window.{items_of};
-ghost use Rattle.stage_model.specs.Dictionary.{Dictionary, has_bytes};
+ghost use Rattle.stage_model.specs.Dictionary.{Dictionary};
 ghost use Rattle.dict_stage.specs.Indices.{Indices, index_type};
-ghost use Rattle.dict_stage.specs.Texts.{Codes, HasTexts, IsText, index_by, number_of, texts_after, texts_in, texts_with};
+ghost use Rattle.dict_stage.specs.Texts.{Codes, HasTexts, IsText, index_by, texts_after};
 
 use crate::item::{count, item_of};
 use arr_import::Col;
 use col_build::{Builder, Item};
 use data_types::{DataType, clone_kind};
-use indexmap::IndexSet;
+use item_keys::Distinct;
 use std::alloc::Global;
 use unit_pass::NoMemory;
 
-/// Distinct texts, which the set lends from the column, and a builder that holds them.
+/// Distinct texts, which are lent from the column, and a builder that holds them.
 #[derive(Drop)]
 pub(crate) struct Coder<'a> {
-    pub(crate) texts: IndexSet<&'a [u8]>,
+    pub(crate) texts: Distinct<'a>,
     pub(crate) entries: Builder,
-}
-
-/// The number of a text among distinct ones, behind which it goes where it is none of them; and whether it is new.
-#[inline(always)]
-fn numbered<'a>(texts: &mut IndexSet<&'a [u8]>, text: &'a [u8]) -> Result<(usize, bool), NoMemory>
-    ensures number { IfOk result (λ found. found.0 ≡ number_of (texts_in texts.old) text.now) }
-    ensures new { IfOk result (λ found. found.1 ≡ not (has_bytes (texts_in texts.old) text.now)) }
-    ensures texts { OnOk result (texts_in texts.new ≡ texts_with (texts_in texts.old) text.now) }
-{
-    match texts.insert_full(text) {
-        Ok(found) => Ok(found),
-        Err(_) => Err(NoMemory),
-    }
 }
 
 /// Adds a text that is new to the dictionary.
@@ -56,7 +43,8 @@ fn add_index<'a>(
 ) -> Result<(), NoMemory>
     requires text { IsText (value_of item) }
     requires takes { Takes coder.old.entries (value_of item) }
-    requires codes { (type : AType) × (texts : List (List ℕ)) × Codes coder.old type texts × Takes indices.old (index_by texts (value_of item)) }
+    requires codes { (type : AType) × (texts : List (List ℕ)) × Codes coder.old type texts × Takes indices.old (index_by texts (value_of item))
+        × (length texts < 2 ^ 32 - 1) }
     requires width { HoldsWholes 4 indices.old }
     ensures added { OnOk result ((type : AType) (texts : List (List ℕ)) → Codes coder.old type texts
         → Adds (index_by texts (value_of item.entry)) indices.old indices.new) }
@@ -65,7 +53,7 @@ fn add_index<'a>(
 {
     match item {
         Item::Bytes(text) => {
-            let (number, new) = numbered(&mut coder.texts, text)?;
+            let (number, new) = coder.texts.number(text)?;
             if new {
                 new_entry(&mut coder.entries, text)?;
             }
@@ -90,7 +78,7 @@ pub(crate) fn coded(alloc: Global, kind: &DataType, items: &Col<'_>) -> Result<B
     ensures indices { IfOk result (λ coded. Holds coded.indices index_type (Indices (items_of (window_of items.now)))) }
 {
     let mut coder = Coder {
-        texts: IndexSet::new(alloc),
+        texts: Distinct::new(alloc, count(items))?,
         entries: Builder::new(alloc, clone_kind(alloc, kind)?),
     };
     let mut indices = Builder::new(

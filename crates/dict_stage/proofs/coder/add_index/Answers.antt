@@ -1,4 +1,4 @@
-use Rattle.std.proofs.Common.{◌≡◌, ◌∙◌, ℕ, pos, to_z, List, [], ◌∷◌, sym, ap, subst, arith}
+use Rattle.std.proofs.Common.{◌≡◌, ◌∙◌, pos, to_z, [], ◌∷◌, sym, ap, subst, arith}
 use Rattle.std.specs.Int.{w128}
 use Rattle.std.proofs.lemmas.Int.{ints}
 use Rattle.std.proofs.lemmas.Result.{on_ok_weaker}
@@ -6,7 +6,9 @@ use Rattle.col_build.specs.Holding.{Adds}
 use Rattle.col_build.specs.Items.{value_of}
 use Rattle.data_types.specs.Value.{Value, Whole, Bytes}
 use Rattle.stage_model.specs.Dictionary.{has_bytes}
-use Rattle.dict_stage.specs.Texts.{Codes, index_by, number_of, texts_after, texts_in}
+use Rattle.item_keys.specs.Distinct.{Numbers, texts_with}
+use Rattle.item_keys.specs.declared.distinct.Distinct.{Distinct}
+use Rattle.dict_stage.specs.Texts.{Codes, index_by, texts_after}
 use Rattle.dict_stage.proofs.Codes.{codes-new, codes-old, is-false, is-true}
 use Rattle.dict_stage.proofs.coder.add_index.Goals as goal
 use Rattle.dict_stage.proofs.coder.add_index.Goals.{then-new+in_ok-new_entry-in-Bytes, else-new}
@@ -18,8 +20,8 @@ returns-after-new-clause-added c =
     on_ok_weaker c.add_whole.result
     (λ adds type texts codes.
     subst (λ (v : Value). Adds v c.args.indices.now c.add_whole.new.self)
-    (ap Whole same ∙ ap (λ n. Whole (pos n)) c.in_ok-number-in-Bytes.ensures.number
-    ∙ ap (λ (ts : List (List ℕ)). Whole (pos (number_of ts text))) codes.lends ∙ sym (ap (λ i. index_by texts (value_of i)) c.in-Bytes.is)) adds)
+    (ap Whole same ∙ ap (λ n. Whole (pos n)) (c.in_ok-number-in-Bytes.ensures.number texts codes.numbers)
+    ∙ sym (ap (λ i. index_by texts (value_of i)) c.in-Bytes.is)) adds)
     c.add_whole.ensures.added
 
 pub returns-after-new-clause-coded : goal.returns-after-new-clause-coded
@@ -32,11 +34,11 @@ returns-after-new-clause-coded c =
     subst (λ (v : Value). Codes c.if-new.coder type (texts_after texts (v ∷ []))) (sym (ap value_of c.in-Bytes.is))
     (elim c.if-new.branch [
       | then-new+in_ok-new_entry-in-Bytes w ↦
-          codes-new coder c.if-new.coder type texts text codes (is-false (has_bytes (texts_in coder.texts) text) (sym found.new ∙ w.if-new.true))
-          (ap (λ d. texts_in d.texts) w.coder-is ∙ found.texts)
+          codes-new coder c.if-new.coder type texts text codes (is-false (has_bytes texts text) (sym (found.new texts codes.numbers) ∙ w.if-new.true))
+          (subst (λ (d : Distinct). Numbers d (texts_with texts text)) (sym (ap (λ d. d.texts) w.coder-is)) (found.texts texts codes.numbers))
           (subst (λ d. Adds (Bytes text) coder.entries d.entries) (sym w.coder-is) w.in_ok-new_entry-in-Bytes.ensures)
       | else-new w ↦
-          codes-old coder c.if-new.coder type texts text codes (is-true (has_bytes (texts_in coder.texts) text) (sym found.new ∙ w.if-new.false))
-          (ap (λ d. texts_in d.texts) w.coder-is ∙ found.texts) (ap (λ d. d.entries) w.coder-is)
+          codes-old coder c.if-new.coder type texts text codes (is-true (has_bytes texts text) (sym (found.new texts codes.numbers) ∙ w.if-new.false))
+          (subst (λ (d : Distinct). Numbers d (texts_with texts text)) (sym (ap (λ d. d.texts) w.coder-is)) (found.texts texts codes.numbers)) (ap (λ d. d.entries) w.coder-is)
     ]))
     c.add_whole.ensures.added

@@ -7,7 +7,7 @@ use Rattle.arr_import.specs.Window.{items_of}
 use Rattle.dict_stage.specs.Indices.{index_type}
 use Rattle.dict_stage.specs.Texts.{Codes, IsText, index_by, texts_after}
 use Rattle.column_fill.proofs.ItemsMoved.{holds-wholes}
-use Rattle.dict_stage.proofs.Codes.{all-taken, indices-more, item-text, takes-entry, takes-index, texts-next}
+use Rattle.dict_stage.proofs.Codes.{all-taken, few-texts, indices-more, item-text, takes-entry, takes-index, texts-next}
 use Rattle.dict_stage.proofs.Texts.{dictionary-is, indices-are}
 use Rattle.dict_stage.proofs.coder.coded.Goals as goal
 
@@ -32,6 +32,7 @@ add_index-requires-clause-codes c =
       c.loop-i.invariant.codes,
       takes-index c.args.kind.now w c.loop-i.i c.loop-i.indices (value_of c.item_of.result) c.requires (omega arith) c.loop-i.invariant.indices
           c.item_of.ensures,
+      few-texts c.args.kind.now w c.loop-i.i c.requires (omega arith),
     )
 
 pub add_index-requires-clause-width : goal.add_index-requires-clause-width
