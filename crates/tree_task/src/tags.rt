@@ -1,9 +1,10 @@
 //! The columns of a chunk, tagged: the children of a union.
-ghost use Rattle.std.specs.Prelude.{◌≡◌, ◌+◌, ◌⊎◌, ◌≤◌, Bool, None, IfOk, IfErr, OnOk};
+ghost use Rattle.std.specs.Prelude.{◌≡◌, ◌+◌, ◌⊎◌, ◌≤◌, ◌≤ℤ◌, pos, Bool, None, IfOk, IfErr, OnOk};
 ghost use Rattle.kind_tree.specs.Kinds.{TypedOk};
 ghost use Rattle.kind_tree.specs.TypedView.{typed_of};
 ghost use Rattle.layout_rules.specs.Walk.{ChunkOk, first_chunk_fault};
-ghost use Rattle.raw_array.specs.Members.{Cost};
+ghost use Rattle.raw_array.specs.Members.{Cost, members_of};
+ghost use Rattle.tree_model.specs.Tree.{IsLive};
 ghost use Rattle.raw_schema.specs.Members.{Nodes};
 ghost use Rattle.schema_check.specs.Schemas.{TypedOf};
 ghost use Rattle.union_cols.specs.Tags.{tag_blocks};
@@ -16,6 +17,7 @@ use crate::fault::TreeRunFault;
 use crate::union::union_text;
 use kind_tree::Typed;
 use layout_check::check_chunk;
+use layout_rules::lawful_root;
 use raw_array::RawArray;
 use raw_schema::RawSchema;
 use schema_check::check_schema;
@@ -23,6 +25,12 @@ use std::alloc::Global;
 use tree_check::CheckFault;
 use union_cols::{one_union_answer, tag};
 use unit_pass::{Pass, SUPPLY};
+use value_text::BoundedText;
+
+/// The most columns and the most rows of a dense union, as `tag` takes them.
+const MOST_COLUMNS: i64 = 128;
+
+const MOST_DENSE_ROWS: u64 = (1 << 31) - 1;
 
 /// A line for each row of a chunk, whose columns are made the children of a union ("Arrow Columnar Format", "Union Layout"): the number
 /// of the first column that isn't null, and its value; or the first fault: of the schema, of the chunk, of the number of columns and
@@ -91,6 +99,12 @@ fn columns_text(
     ensures nodes { OnOk result (pass.new.nodes ≡ risen pass.old.nodes 2) }
 {
     one_union_answer();
+    lawful_root(typed, &array);
+    if !may_fit(alloc, &array, dense) {
+        schema.end(pass);
+        array.end(pass);
+        return Err(TreeRunFault::NoMemory);
+    }
     match tag(alloc, typed, schema, array, dense, pass) {
         Ok((schema, array)) => {
             let answer = union_text(alloc, &schema, &array);
@@ -104,4 +118,18 @@ fn columns_text(
             Err(TreeRunFault::from(fault))
         }
     }
+}
+
+/// Whether a text may have a line for each row of a chunk, so that nothing is made for very many rows: a line has two bytes at least.
+/// Where the columns make no union, that is told first.
+fn may_fit(alloc: Global, array: &RawArray, dense: bool) -> bool
+    requires live { IsLive array.now }
+    requires length { pos 0 ≤ℤ (members_of array.now).length }
+{
+    let rows = array.length() as u64;
+    let columns = array.n_children();
+    columns == 0
+        || columns > MOST_COLUMNS
+        || (dense && rows > MOST_DENSE_ROWS)
+        || BoundedText::new(alloc).has_room(rows * 2).is_ok()
 }
