@@ -68,6 +68,21 @@ impl Case {
         }
         Ok(Some(words))
     }
+
+    /// The words as texts. None where one spells no text.
+    pub fn texts(&self, alloc: Global) -> Result<Option<Vec<String>>, AllocError> {
+        let mut texts = Vec::new(alloc);
+        let Some(words) = self.words(alloc)? else {
+            return Ok(None);
+        };
+        for word in words {
+            match String::from_utf8(word) {
+                Ok(text) => texts.push(text)?,
+                Err(_) => return Ok(None),
+            }
+        }
+        Ok(Some(texts))
+    }
 }
 
 /// Adds so many lines of input, in each of which `{i}` is its number from 1, `{d}` the last digit of that, and `{odd}` whether it is

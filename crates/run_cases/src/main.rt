@@ -7,7 +7,6 @@
 //! is copied. So a transcript whose answers are right comes out as it went in.
 #![tactic(auto)]
 
-mod end;
 mod plan;
 mod ran;
 mod told;

@@ -1,6 +1,5 @@
 //! What a case asks for: the words, the input, and how the source, the sinks and the tap behave.
-use crate::end::End;
-use case_text::{Case, push_input};
+use case_text::{Case, End, push_input};
 use std::alloc::{AllocError, Global};
 
 #[derive(Drop)]
@@ -11,21 +10,6 @@ pub(crate) struct Plan {
     pub(crate) write: End,
     pub(crate) lines: End,
     pub(crate) is_tapped: bool,
-}
-
-/// The words as texts. None where one spells no text.
-fn texts_of(alloc: Global, case: &Case) -> Result<Option<Vec<String>>, AllocError> {
-    let mut texts = Vec::new(alloc);
-    let Some(words) = case.words(alloc)? else {
-        return Ok(None);
-    };
-    for word in words {
-        match String::from_utf8(word) {
-            Ok(text) => texts.push(text)?,
-            Err(_) => return Ok(None),
-        }
-    }
-    Ok(Some(texts))
 }
 
 impl Plan {
@@ -48,7 +32,7 @@ impl Plan {
 
     /// What the lines of a case ask for. None where one is of no form that there is.
     pub(crate) fn of(alloc: Global, case: &Case) -> Result<Option<Plan>, AllocError> {
-        let Some(words) = texts_of(alloc, case)? else {
+        let Some(words) = case.texts(alloc)? else {
             return Ok(None);
         };
         let mut plan = Plan {

@@ -1,6 +1,6 @@
 //! The run that a case asks for.
-use crate::end::End;
 use crate::plan::Plan;
+use case_text::End;
 use edge_io::{Got, MemSink, MemSource, OpenGate, Source};
 use kind_tree::Typed;
 use pipe_top::{Outcome, run};

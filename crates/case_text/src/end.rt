@@ -2,15 +2,15 @@
 
 /// How many bytes a call moves at most, for how many there is room, and which call fails. Calls are numbered from 1, so call 0 is none.
 #[derive(Clone, Copy)]
-pub(crate) struct End {
-    pub(crate) step: usize,
-    pub(crate) room: usize,
-    pub(crate) fails: usize,
+pub struct End {
+    pub step: usize,
+    pub room: usize,
+    pub fails: usize,
 }
 
 impl End {
     /// A source or a sink that moves so many bytes a call, has room for a million, and never fails.
-    pub(crate) fn new(step: usize) -> End {
+    pub fn new(step: usize) -> End {
         End {
             step,
             room: 1_000_000,
@@ -36,7 +36,7 @@ impl End {
     }
 
     /// Takes words such as `step=2 fails=3`, and says whether they are of this form.
-    pub(crate) fn take(&mut self, text: &str) -> bool {
+    pub fn take(&mut self, text: &str) -> bool {
         for word in text.split(' ') {
             if !self.take_word(word) {
                 return false;
