@@ -1,0 +1,82 @@
+//! What came of a run, as answers.
+use crate::ran::Ran;
+use case_text::Answers;
+use schema_check::SchemaRule;
+use std::alloc::{AllocError, Global};
+use tree_top::TreeRunFault;
+
+/// What a rule of schemas says besides.
+fn rule_text(alloc: Global, rule: SchemaRule) -> Result<String, AllocError> {
+    match rule {
+        SchemaRule::Format(fault) => format!(in alloc; ", {fault}"),
+        SchemaRule::Meta(fault) => format!(in alloc; ", {fault}"),
+        _ => Ok(String::new(alloc)),
+    }
+}
+
+/// A fault: of a schema or an array with the way to the node, the rule, and what else the fault has.
+fn fault_text(alloc: Global, fault: TreeRunFault) -> Result<String, AllocError> {
+    match fault {
+        TreeRunFault::Words => String::from_str(alloc, "words refused"),
+        TreeRunFault::InputTooLong => String::from_str(alloc, "input too long"),
+        TreeRunFault::ReadFault => String::from_str(alloc, "read failed"),
+        TreeRunFault::WriteFault { taken } => {
+            format!(in alloc; "write failed after {taken} bytes")
+        }
+        TreeRunFault::Text(fault) => format!(in alloc; "{fault}"),
+        TreeRunFault::Schema { path, rule } => {
+            format!(in alloc; "schema {path}: {rule}{}", rule_text(alloc, rule)?)
+        }
+        TreeRunFault::Layout(fault) => format!(in alloc; "array {fault}"),
+        TreeRunFault::NoMemory => String::from_str(alloc, "out of memory"),
+    }
+}
+
+/// The status; the fault; whether a source that was to fail wasn't called; the units that are left, where any are.
+fn end_text(alloc: Global, ran: &Ran) -> Result<String, AllocError> {
+    let mut text = format!(in alloc; "{}", ran.outcome.status)?;
+    if let Some(fault) = ran.outcome.fault {
+        text.push_str(", ")?;
+        text.push_str(fault_text(alloc, fault)?.as_str())?;
+    }
+    if ran.is_unread {
+        text.push_str(", unread")?;
+    }
+    let left = ran.outcome.audit.left;
+    if left != 0 {
+        text.push_str(format!(in alloc; ", {left} left")?.as_str())?;
+    }
+    Ok(text)
+}
+
+/// What was written and told.
+fn texts_of(alloc: Global, ran: &Ran) -> Result<Answers, AllocError> {
+    let mut answers = Answers::new(alloc);
+    answers.push_text(alloc, ">", ran.text.taken())?;
+    answers.push_text(alloc, "!", ran.told.taken())?;
+    Ok(answers)
+}
+
+/// What came of a run: the text, the diagnostics, the status, and, without a fault, what was made.
+pub(crate) fn answers_of(alloc: Global, ran: &Ran) -> Result<Answers, AllocError> {
+    let mut answers = texts_of(alloc, ran)?;
+    let mut end = end_text(alloc, ran)?;
+    if ran.outcome.fault.is_none() {
+        let audit = ran.outcome.audit;
+        let made = format!(in alloc; ", {} blocks, {} nodes", audit.blocks, audit.nodes)?;
+        end.push_str(made.as_str())?;
+    }
+    answers.push(alloc, "=", end.as_str())?;
+    Ok(answers)
+}
+
+/// What came of the run of a row: the same, but for the line of diagnostics of a fault, what was made and a status 0.
+pub(crate) fn row_answers_of(alloc: Global, ran: &Ran) -> Result<Answers, AllocError> {
+    let mut answers = Answers::new(alloc);
+    answers.push_text(alloc, ">", ran.text.taken())?;
+    let end = end_text(alloc, ran)?;
+    if end.as_str() != "0" {
+        answers.push(alloc, "=", end.as_str())?;
+    }
+    Ok(answers)
+}
