@@ -4,13 +4,14 @@ ghost use Rattle.data_types.specs.Table.{Flat, Dict};
 ghost use Rattle.unit_pass.specs.declared.pass.TheConstants.{SUPPLY};
 ghost use Rattle.col_build.specs.Holding.{Holds};
 ghost use Rattle.arr_import.specs.Cols.{window_of};
+ghost use Rattle.arr_import.specs.Indexing.{shown_by};
 ghost use Rattle.arr_import.specs.Window.{items_of};
 ghost use Rattle.dict_stage.specs.Recoded.{IsRecoded, text_kind};
 ghost use Rattle.dict_stage.specs.Texts.{HasTexts};
 
 use crate::coder::coded;
-use crate::item::{count, item_of};
-use arr_import::Col;
+use crate::item::{count, entry_of, item_of};
+use arr_import::{Col, Indexed};
 use col_build::Builder;
 use column_fill::{built_column, push};
 use data_types::{DataType, clone_kind, storage_of};
@@ -18,8 +19,8 @@ use raw_array::RawArray;
 use std::alloc::Global;
 use unit_pass::{NoMemory, Pass, SUPPLY};
 
-/// A builder that holds the items of a column.
-fn plain_items(alloc: Global, kind: &DataType, items: &Col<'_>) -> Result<Builder, NoMemory>
+/// A builder that holds the items of a column, each looked up by itself.
+fn own_items(alloc: Global, kind: &DataType, items: &Col<'_>) -> Result<Builder, NoMemory>
     requires { HasTexts kind.now (window_of items.now) }
     ensures { IfOk result (λ builder. Holds builder kind.now (items_of (window_of items.now))) }
 {
@@ -29,6 +30,36 @@ fn plain_items(alloc: Global, kind: &DataType, items: &Col<'_>) -> Result<Builde
         push(&mut builder, storage, item_of(items, i))?;
     }
     Ok(builder)
+}
+
+/// A builder that holds so many items of a column with a dictionary, which is all of them.
+fn entry_items(
+    alloc: Global,
+    kind: &DataType,
+    items: &Indexed<'_>,
+    count: u32,
+) -> Result<Builder, NoMemory>
+    requires items { HasTexts kind.now (shown_by items.now) }
+    requires all { count ≡ (shown_by items.now).count }
+    ensures { IfOk result (λ builder. Holds builder kind.now (items_of (shown_by items.now))) }
+{
+    let mut builder = Builder::new(alloc, clone_kind(alloc, kind)?);
+    let storage = storage_of(kind);
+    for i in 0..count {
+        push(&mut builder, storage, entry_of(items, i))?;
+    }
+    Ok(builder)
+}
+
+/// A builder that holds the items of a column. Its dictionary, where it has one, is looked up once.
+fn plain_items(alloc: Global, kind: &DataType, items: &Col<'_>) -> Result<Builder, NoMemory>
+    requires { HasTexts kind.now (window_of items.now) }
+    ensures { IfOk result (λ builder. Holds builder kind.now (items_of (window_of items.now))) }
+{
+    match items.indexed() {
+        Some(entries) => entry_items(alloc, kind, &entries, count(items)),
+        None => own_items(alloc, kind, items),
+    }
 }
 
 /// The array of the items of a column, as they are. On want of memory all units are back.

@@ -2,10 +2,11 @@
 ghost use Rattle.std.specs.Prelude.{◌≡◌, ◌<◌, ◌≤◌, ◌^◌};
 ghost use Rattle.col_build.specs.Items.{value_of};
 ghost use Rattle.arr_import.specs.Cols.{window_of};
+ghost use Rattle.arr_import.specs.Indexing.{shown_by};
 ghost use Rattle.arr_import.specs.Window.{item_at};
 ghost use Rattle.dict_stage.specs.Texts.{IsText};
 
-use arr_import::Col;
+use arr_import::{Col, Indexed};
 use col_build::Item;
 
 /// The number of items.
@@ -22,6 +23,19 @@ pub(crate) fn item_of<'a>(items: &Col<'a>, i: u32) -> Item<'a>
     requires inside { i < (window_of items.now).count }
     requires text { IsText (item_at (window_of items.now) i) }
     ensures { value_of result ≡ item_at (window_of items.now) i }
+{
+    match items.bytes(i64::from(i)) {
+        Some(bytes) => Item::Bytes(bytes),
+        None => Item::Null,
+    }
+}
+
+/// An item of a column with a dictionary, that is bytes or null. The dictionary was looked up before.
+#[inline(always)]
+pub(crate) fn entry_of<'a>(items: &Indexed<'a>, i: u32) -> Item<'a>
+    requires inside { i < (shown_by items.now).count }
+    requires text { IsText (item_at (shown_by items.now) i) }
+    ensures { value_of result ≡ item_at (shown_by items.now) i }
 {
     match items.bytes(i64::from(i)) {
         Some(bytes) => Item::Bytes(bytes),

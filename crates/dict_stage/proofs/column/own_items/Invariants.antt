@@ -2,7 +2,7 @@ use Rattle.std.proofs.Common.{take}
 use Rattle.col_build.specs.Holding.{Holds}
 use Rattle.arr_import.specs.Cols.{window_of}
 use Rattle.arr_import.specs.Window.{items_of}
-use Rattle.dict_stage.proofs.column.plain_items.Given as goal
+use Rattle.dict_stage.proofs.column.own_items.Given as goal
 
 -- the builder holds the items so far
 abbrev pub invariant-loop-i : goal.invariant-loop-i

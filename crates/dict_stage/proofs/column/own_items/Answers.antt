@@ -6,7 +6,7 @@ use Rattle.arr_import.specs.Cols.{window_of}
 use Rattle.arr_import.specs.Window.{items_of}
 use Rattle.column_fill.specs.Takes.{Takes}
 use Rattle.dict_stage.proofs.Codes.{all-taken, item-text, one-more, takes-item}
-use Rattle.dict_stage.proofs.column.plain_items.Goals as goal
+use Rattle.dict_stage.proofs.column.own_items.Goals as goal
 
 pub loop-i-init : goal.loop-i-init
 loop-i-init c = subst (λ (k : DataType). Holds c.new-builder.result k []) c.in_ok-clone_kind.ensures.same c.new-builder.ensures

@@ -1,0 +1,9 @@
+use Rattle.std.proofs.Common.{take}
+use Rattle.col_build.specs.Holding.{Holds}
+use Rattle.arr_import.specs.Indexing.{shown_by}
+use Rattle.arr_import.specs.Window.{items_of}
+use Rattle.dict_stage.proofs.column.entry_items.Given as goal
+
+-- the builder holds the items so far
+abbrev pub invariant-loop-i : goal.invariant-loop-i
+invariant-loop-i l = Holds l.builder l.kind (take l.i (items_of (shown_by l.items)))
