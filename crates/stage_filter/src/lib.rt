@@ -19,8 +19,6 @@ mod filter;
 mod indices;
 mod kept;
 mod laws;
-#[cfg(test)]
-mod worker_tests;
 mod workers;
 
 pub use filter::FilterStep;

@@ -18,8 +18,6 @@ mod job;
 mod numbers;
 mod row;
 mod sums;
-#[cfg(test)]
-mod tests;
 mod totals;
 mod window;
 
