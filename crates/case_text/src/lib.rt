@@ -11,8 +11,6 @@ mod case;
 mod end;
 mod line;
 mod spelling;
-#[cfg(test)]
-mod tests;
 
 pub use answers::Answers;
 pub use case::{Case, push_input};

@@ -41,7 +41,7 @@ fn bits_of(digits: &[u8]) -> u64 {
 }
 
 /// The item that a word spells: `~` a null, `true`, `false`, `0x3c00` the bits of a float, `=ab` bytes, or a whole number.
-fn item_of(word: &[u8]) -> Option<Item<'_>> {
+pub(crate) fn item_of(word: &[u8]) -> Option<Item<'_>> {
     match word {
         [b'~'] => Some(Item::Null),
         [b'=', bytes @ ..] => Some(Item::Bytes(bytes)),
@@ -146,8 +146,43 @@ fn tell_buffers(
     Ok(told.answer(alloc, line.as_str())?)
 }
 
-/// Tells a column, and lets it go.
-fn tell_built(alloc: Global, built: Built, told: &mut Told, pass: &mut Pass) -> io::Result<()>
+/// The bytes of a buffer in lines of eight.
+fn push_lines(text: &mut String, alloc: Global, bytes: &[u8]) -> io::Result<()> {
+    for (i, byte) in bytes.iter().enumerate() {
+        if i % 8 == 0 {
+            text.push_str("\n=")?;
+        }
+        text.push_str(format!(in alloc; "{byte:02x}")?.as_str())?;
+    }
+    Ok(())
+}
+
+/// Tells the counts of a column and then its buffers in lines of eight bytes, `~` for one that is absent.
+fn tell_long_buffers(
+    alloc: Global,
+    counts: (i64, i64),
+    buffers: &[Option<BufView>],
+    told: &mut Told,
+) -> io::Result<()> {
+    let mut text = format!(in alloc; "{} items, {} null", counts.0, counts.1)?;
+    for buffer in buffers {
+        match buffer {
+            Some(view) => push_lines(&mut text, alloc, view.bytes())?,
+            None => text.push_str("\n~")?,
+        }
+    }
+    text.push('\n')?;
+    Ok(told.text(alloc, text.as_bytes())?)
+}
+
+/// Tells a column, and lets it go. Where it is long, its buffers stand in lines of their own.
+fn tell_built(
+    alloc: Global,
+    built: Built,
+    is_long: bool,
+    told: &mut Told,
+    pass: &mut Pass,
+) -> io::Result<()>
     requires { (kind : DataType) × (values : List Value) × IsEncoded built kind values × (pass.old.units + blocks_of kind values ≡ SUPPLY) }
     ensures { pass.new.units ≡ SUPPLY }
 {
@@ -157,9 +192,32 @@ fn tell_built(alloc: Global, built: Built, told: &mut Told, pass: &mut Pass) -> 
         null_count,
         buffers,
     } = built;
-    let came = tell_buffers(alloc, (length, null_count), &buffers, told);
+    let counts = (length, null_count);
+    let came = if is_long {
+        tell_long_buffers(alloc, counts, &buffers, told)
+    } else {
+        tell_buffers(alloc, counts, &buffers, told)
+    };
     let_go_all(buffers, pass);
     came
+}
+
+/// Tells the column that a builder holds.
+pub(crate) fn tell_finished(
+    alloc: Global,
+    builder: Builder,
+    is_long: bool,
+    told: &mut Told,
+    pass: &mut Pass,
+) -> io::Result<()>
+    requires holds { HoldsSome builder }
+    requires units { pass.old.units ≡ SUPPLY }
+    ensures { pass.new.units ≡ SUPPLY }
+{
+    match builder.finish(alloc, pass) {
+        Ok(built) => tell_built(alloc, built, is_long, told, pass),
+        Err((_builder, _no_memory)) => Err(no_memory()),
+    }
 }
 
 /// Fills a column of a type with the items that words spell, and tells it.
@@ -177,10 +235,7 @@ fn tell_filled(
 {
     let mut builder = Builder::new(alloc, kind);
     push_words(alloc, &mut builder, words, told)?;
-    match builder.finish(alloc, pass) {
-        Ok(built) => tell_built(alloc, built, told, pass),
-        Err((_builder, _no_memory)) => Err(no_memory()),
-    }
+    tell_finished(alloc, builder, false, told, pass)
 }
 
 /// `column FORMAT ITEM..`: the items that aren't taken, in their order, and the column of the others.

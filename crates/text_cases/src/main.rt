@@ -8,15 +8,18 @@
 //! tells the truth comes out as it went in.
 #![tactic(auto)]
 
+mod added;
 mod columns;
 mod commands;
 mod formats;
 mod items;
 mod metadata;
+mod spellings;
 mod stages;
 mod subject;
 mod told;
 mod trees;
+mod ways;
 
 use case_text::{Case, Line, line_of, push_input};
 use std::alloc::{AllocError, Global};

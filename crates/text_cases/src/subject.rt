@@ -1,11 +1,13 @@
 //! What a case calls, by the first word of its `$` line.
+use crate::added::tell_added;
 use crate::columns::{tell_column_of, tell_made, tell_utf8};
 use crate::commands::tell_words;
 use crate::formats::{tell_flat, tell_format, tell_hex, tell_storage, tell_type};
 use crate::metadata::tell_metadata;
+use crate::spellings::{tell_given, tell_line, tell_spelled, tell_spelling};
 use crate::stages::{tell_plan, tell_stage, tell_types};
 use crate::told::Told;
-use crate::trees::{Asked, tell_check, tell_items, tell_places, tell_tree};
+use crate::trees::{Asked, Read, tell_check, tell_items, tell_places, tell_tree};
 use std::alloc::Global;
 use std::io;
 use std::io::{Error, ErrorKind};
@@ -47,6 +49,7 @@ pub(crate) fn run_subject(
         "plan" => tell_plan(alloc, text_of(first), words.get(1..).unwrap_or(&[]), told),
         "words" => tell_words(alloc, words, told),
         "column" => tell_column_of(alloc, first, words.get(1..).unwrap_or(&[]), told),
+        "added" => tell_added(alloc, words, told),
         "utf8" => tell_utf8(alloc, first, told),
         "made" => tell_made(alloc, first, told),
         "tree" => tell_tree(alloc, input, Asked::Report, told),
@@ -54,7 +57,12 @@ pub(crate) fn run_subject(
         "places" => tell_places(alloc, input, told),
         "chunk" => tell_tree(alloc, input, Asked::Chunk, told),
         "check" => tell_check(alloc, input, told),
-        "items" => tell_items(alloc, input, told),
+        "items" => tell_items(alloc, input, Read::Items, told),
+        "ways" => tell_items(alloc, input, Read::Ways, told),
+        "spells" => tell_spelled(alloc, text_of(first), told),
+        "spelling" => tell_spelling(alloc, first, told),
+        "line" => tell_line(alloc, text_of(first), told),
+        "given" => tell_given(alloc, words, input, told),
         _ => Ok(told.fault(alloc, "what is called?")?),
     }
 }

@@ -7,6 +7,8 @@ ghost use Rattle.unit_pass.specs.declared.pass.TheConstants.{SUPPLY};
 use crate::items::tell_column;
 use crate::subject::no_memory;
 use crate::told::Told;
+use crate::ways::tell_ways_of;
+use arr_import::Col;
 use layout_check::{check_array, check_chunk, chunk_passes, nulls_of};
 use raw_array::RawArray;
 use raw_schema::RawSchema;
@@ -157,11 +159,29 @@ pub(crate) fn tell_check(alloc: Global, text: &[u8], told: &mut Told) -> io::Res
     Ok(told.made(alloc, &audit)?)
 }
 
-/// Tells the items of a tree that is taken in, or its fault, and releases it.
+/// What is told of a tree that is taken in.
+#[derive(Clone, Copy)]
+pub(crate) enum Read {
+    /// Its items.
+    Items,
+    /// The common ways in which all of them are read.
+    Ways,
+}
+
+/// Tells what is asked of a column.
+fn tell_read(alloc: Global, col: &Col<'_>, read: Read, told: &mut Told) -> io::Result<()> {
+    match read {
+        Read::Items => tell_column(alloc, col, told),
+        Read::Ways => tell_ways_of(alloc, col, told),
+    }
+}
+
+/// Tells what is asked of a tree that is taken in, or its fault, and releases it.
 fn tell_imported(
     alloc: Global,
     schema: RawSchema,
     array: RawArray,
+    read: Read,
     told: &mut Told,
     pass: &mut Pass,
 ) -> io::Result<()>
@@ -170,7 +190,7 @@ fn tell_imported(
 {
     let (schema, array, came) = match import(alloc, schema, array) {
         Ok(imported) => {
-            let came = tell_column(alloc, &imported.col(), told);
+            let came = tell_read(alloc, &imported.col(), read, told);
             let (schema, array, _typed) = imported.into_raw();
             (schema, array, came)
         }
@@ -189,11 +209,16 @@ fn tell_import_fault(alloc: Global, fault: &ImportFault, told: &mut Told) -> io:
     }
 }
 
-/// `items`, with a tree as input: its items, or why it isn't taken in.
-pub(crate) fn tell_items(alloc: Global, text: &[u8], told: &mut Told) -> io::Result<()> {
+/// `items` and `ways`, with a tree as input: what is asked of it, or why it isn't taken in.
+pub(crate) fn tell_items(
+    alloc: Global,
+    text: &[u8],
+    read: Read,
+    told: &mut Told,
+) -> io::Result<()> {
     let (desk, mut pass) = open_desk();
     let came = match read_tree(alloc, text, &mut pass) {
-        Ok((schema, array)) => tell_imported(alloc, schema, array, told, &mut pass),
+        Ok((schema, array)) => tell_imported(alloc, schema, array, read, told, &mut pass),
         Err(fault) => tell_text_fault(alloc, fault, told),
     };
     desk.close(pass);

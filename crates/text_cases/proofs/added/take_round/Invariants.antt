@@ -1,0 +1,8 @@
+use Rattle.std.proofs.Common.{◌≤◌, List, length}
+use Rattle.data_types.specs.Value.{Value}
+use Rattle.col_build.specs.Holding.{Holds}
+use Rattle.text_cases.proofs.added.take_round.Given as goal
+
+-- both columns hold the same values, no more than items so far
+abbrev pub invariant-loop-i : goal.invariant-loop-i
+invariant-loop-i l = (values : List Value) × Holds l.pushed l.kind values × Holds l.added l.kind values × (length values ≤ l.i)
