@@ -1,15 +1,13 @@
-//! Tests of the crates between CSV and chunks: the header and the records that are read, the stream of their chunks, and
-//! the text that is written.
+//! Tests of the crates between CSV and chunks: the stream of the chunks of records, the text that is written, and faults as they
+//! are printed. What texts of headers and records come to is a case of `run_cases`.
 //!
 //! They stand apart from the crates that they test, so that their check needn't prove these once more.
 #![tactic(auto)]
 
 #[cfg(test)]
-mod batches;
-#[cfg(test)]
 mod bodies;
 #[cfg(test)]
-mod headers;
+mod faults;
 #[cfg(test)]
 mod sources;
 #[cfg(test)]
