@@ -28,6 +28,9 @@ fn fault_text(alloc: Global, fault: TreeRunFault) -> Result<String, AllocError> 
             format!(in alloc; "schema {path}: {rule}{}", rule_text(alloc, rule)?)
         }
         TreeRunFault::Layout(fault) => format!(in alloc; "array {fault}"),
+        TreeRunFault::UnionSchema(fault) => format!(in alloc; "union schema: {fault}"),
+        TreeRunFault::Union(fault) => format!(in alloc; "union: {fault}"),
+        TreeRunFault::Tag(fault) => format!(in alloc; "tag: {fault}"),
         TreeRunFault::NoMemory => String::from_str(alloc, "out of memory"),
     }
 }
