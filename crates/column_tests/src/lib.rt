@@ -1,5 +1,5 @@
-//! Tests of columns: the trees that columns are exported as, and the common ways in which columns are
-//! read. The buffers of columns and the values that are read of trees are cases of `text_cases`.
+//! Tests of columns: the trees that columns are exported as. The buffers of columns, the values that are read of trees and the
+//! common ways in which columns are read are cases of `text_cases`.
 //!
 //! They stand apart from the crates that they test, so that their check needn't prove these once more.
 #![tactic(auto)]
@@ -7,8 +7,4 @@
 #[cfg(test)]
 mod arrays;
 #[cfg(test)]
-mod plain;
-#[cfg(test)]
 mod schemas;
-#[cfg(test)]
-mod trees;
