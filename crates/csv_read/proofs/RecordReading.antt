@@ -1,5 +1,5 @@
--- What one read does to a reader over a text in memory.
-use Rattle.std.proofs.Common.{◌≡◌, ◌≤◌, ◌<◌, ◌+◌, ◌++◌, ◌∙◌, ℕ, true, false, List, [], ◌∷◌, length, Option, Some, None, Bor, refl, sym, ap, subst, arith, inl}
+-- What one read does to a reader over a source that tells its bytes.
+use Rattle.std.proofs.Common.{◌≡◌, ◌≤◌, ◌<◌, ◌+◌, ◌++◌, ◌∙◌, ℕ, true, false, List, [], ◌∷◌, length, Option, Some, None, refl, sym, ap, subst, arith, inl}
 use Rattle.std.proofs.Common.{inr, length-append}
 use Rattle.std.proofs.lemmas.Bool.{cases_Bool, false≢true, true≢false}
 use Rattle.std.specs.Option.{unwrap_or}
@@ -14,7 +14,7 @@ use Rattle.csv.specs.declared.parser.State.{State}
 use Rattle.csv.specs.declared.parser.State.TheVariants as st
 use Rattle.csv.specs.declared.reader.Reader.{Reader}
 use Rattle.csv_model.specs.Reading.{Record}
-use Rattle.csv_read.specs.RecordReader.{IsReading, Takes, known, records_left, text_left}
+use Rattle.csv_read.specs.RecordReader.{IsReading, Takes, records_left, text_left}
 
 next-is : (o : Option Read) (fields : Record) (s : State) (ys : List ℕ) → NextIs o true fields s ys → o ≡ Some (fields, s, ys)
 next-is None fields s ys h = absurd (true≢false h)
@@ -36,8 +36,9 @@ after-end cfg s xs None fields s2 h = absurd h
 after-end cfg s xs (Some ys) fields s2 h = next-is-none (next_record cfg s [] [] xs) fields s2 ys h
 
 -- what is left after a read is what is pending
-pending-left : (reader : Reader (Bor (List ℕ))) → reader.bom_checked ≡ true → source_of known reader ≡ pending_of (known reader.rdr) reader
-pending-left reader checked = rw checked refl
+pending-left : {R : Type 0} (rem : R → Option (List ℕ)) (reader : Reader R) → reader.bom_checked ≡ true
+    → source_of rem reader ≡ pending_of (rem reader.rdr) reader
+pending-left rem reader checked = rw checked refl
 
 -- ---- a record has a field
 
@@ -78,27 +79,27 @@ pub record InTurn : Type 0 where
   pub bytes : (s : State) (xs : List ℕ) (q : Read) → next_record default_config s [] [] xs ≡ Some q → length (concat q.0) + length q.2 ≤ length xs
   pub count : (s : State) (xs : List ℕ) (q : Read) → next_record default_config s [] [] xs ≡ Some q → length q.0 + length q.2 ≤ length xs + 1
 
-pub record Stepped (old new : Reader (Bor (List ℕ))) (fields : Record) : Type 0 where
-  pub reading : IsReading new
-  pub more : records_left old ≡ fields ∷ records_left new
+pub record Stepped {R : Type 0} (rem : R → Option (List ℕ)) (old new : Reader R) (fields : Record) : Type 0 where
+  pub reading : IsReading rem new
+  pub more : records_left rem old ≡ fields ∷ records_left rem new
   pub some : 1 ≤ length fields
-  pub takes : Takes (length (text_left old)) fields (length (text_left new))
+  pub takes : Takes (length (text_left rem old)) fields (length (text_left rem new))
 
 -- a record was read
-pub stepped : InTurn → (old new : Reader (Bor (List ℕ))) (fields : Record) → IsReading old → ReadRecord known old new true fields → took_first new ≡ true
-    → is_flexible new ≡ is_flexible old → has_failed new ≡ has_failed old → Stepped old new fields
-stepped law old new fields ready read first flexible failed =
-    let here : ReadsNext default_config (reader_state old) (Some (text_left old)) (pending_of (known new.rdr) new) true fields (reader_state new) =
-    subst (λ (src : Option (List ℕ)). ReadsNext default_config (reader_state old) src (pending_of (known new.rdr) new) true fields (reader_state new))
+pub stepped : InTurn → {R : Type 0} (rem : R → Option (List ℕ)) (old new : Reader R) (fields : Record) → IsReading rem old → ReadRecord rem old new true fields → took_first new ≡ true
+    → is_flexible new ≡ is_flexible old → has_failed new ≡ has_failed old → Stepped rem old new fields
+stepped law rem old new fields ready read first flexible failed =
+    let here : ReadsNext default_config (reader_state old) (Some (text_left rem old)) (pending_of (rem new.rdr) new) true fields (reader_state new) =
+    subst (λ (src : Option (List ℕ)). ReadsNext default_config (reader_state old) src (pending_of (rem new.rdr) new) true fields (reader_state new))
     ready.source
-    (subst (λ (cfg : Config). ReadsNext cfg (reader_state old) (source_of known old) (pending_of (known new.rdr) new) true fields (reader_state new))
+    (subst (λ (cfg : Config). ReadsNext cfg (reader_state old) (source_of rem old) (pending_of (rem new.rdr) new) true fields (reader_state new))
     ready.config read.0) in
-    let after = after-record default_config (reader_state old) (text_left old) (pending_of (known new.rdr) new) fields (reader_state new) here in
-    let source : source_of known new ≡ Some after.0 = pending-left new read.1 ∙ after.1 in
-    let left : text_left new ≡ after.0 = ap (λ (o : Option (List ℕ)). unwrap_or o []) source in
+    let after = after-record default_config (reader_state old) (text_left rem old) (pending_of (rem new.rdr) new) fields (reader_state new) here in
+    let source : source_of rem new ≡ Some after.0 = pending-left rem new read.1 ∙ after.1 in
+    let left : text_left rem new ≡ after.0 = ap (λ (o : Option (List ℕ)). unwrap_or o []) source in
     let next = after.2 in
     let q : Read = (fields, reader_state new, after.0) in
-    let more = law.next (reader_state old) (text_left old) q ready.between next in
+    let more = law.next (reader_state old) (text_left rem old) q ready.between next in
     record {
       reading = record {
         config = read.2 ∙ ready.config;
@@ -106,27 +107,27 @@ stepped law old new fields ready read first flexible failed =
         flexible = flexible ∙ ready.flexible;
         ready = inl first;
         fresh = failed ∙ ready.fresh;
-        between = law.between (reader_state old) (text_left old) q next;
+        between = law.between (reader_state old) (text_left rem old) q next;
         source = source ∙ ap (λ (xs : List ℕ). Some xs) (sym left);
       };
       more = more ∙ ap (λ (xs : List ℕ). fields ∷ records_from default_config (length xs + 1) (reader_state new) xs) (sym left);
-      some = next-some default_config (reader_state old) [] [] (text_left old) q next;
+      some = next-some default_config (reader_state old) [] [] (text_left rem old) q next;
       takes = record {
-        shorter = rw left (law.shorter (reader_state old) (text_left old) q ready.between next);
-        bytes = rw left (law.bytes (reader_state old) (text_left old) q next);
-        count = rw left (law.count (reader_state old) (text_left old) q next);
+        shorter = rw left (law.shorter (reader_state old) (text_left rem old) q ready.between next);
+        bytes = rw left (law.bytes (reader_state old) (text_left rem old) q next);
+        count = rw left (law.count (reader_state old) (text_left rem old) q next);
       };
     }
 
 -- there was none
-pub ended : InTurn → (old new : Reader (Bor (List ℕ))) (fields : Record) → IsReading old → ReadRecord known old new false fields → records_left old ≡ []
-ended law old new fields ready read =
-    let here : ReadsNext default_config (reader_state old) (Some (text_left old)) (pending_of (known new.rdr) new) false fields (reader_state new) =
-    subst (λ (src : Option (List ℕ)). ReadsNext default_config (reader_state old) src (pending_of (known new.rdr) new) false fields (reader_state new))
+pub ended : InTurn → {R : Type 0} (rem : R → Option (List ℕ)) (old new : Reader R) (fields : Record) → IsReading rem old → ReadRecord rem old new false fields → records_left rem old ≡ []
+ended law rem old new fields ready read =
+    let here : ReadsNext default_config (reader_state old) (Some (text_left rem old)) (pending_of (rem new.rdr) new) false fields (reader_state new) =
+    subst (λ (src : Option (List ℕ)). ReadsNext default_config (reader_state old) src (pending_of (rem new.rdr) new) false fields (reader_state new))
     ready.source
-    (subst (λ (cfg : Config). ReadsNext cfg (reader_state old) (source_of known old) (pending_of (known new.rdr) new) false fields (reader_state new))
+    (subst (λ (cfg : Config). ReadsNext cfg (reader_state old) (source_of rem old) (pending_of (rem new.rdr) new) false fields (reader_state new))
     ready.config read.0) in
-    law.end (reader_state old) (text_left old) (after-end default_config (reader_state old) (text_left old) _ fields (reader_state new) here)
+    law.end (reader_state old) (text_left rem old) (after-end default_config (reader_state old) (text_left rem old) _ fields (reader_state new) here)
 
 -- a mark at the start makes a text no longer
 pub strip-shorter : (text : List ℕ) → length (strip_bom text) ≤ length text

@@ -1,5 +1,5 @@
 -- The records of a text are no more than its bytes, nor are the bytes of their fields.
-use Rattle.std.proofs.Common.{◌≡◌, ◌≤◌, ◌<◌, ◌+◌, ◌⊎◌, ℕ, zero, suc, Bool, true, false, List, [], length, Option, None, Some, Bor, refl, sym, subst, arith}
+use Rattle.std.proofs.Common.{◌≡◌, ◌≤◌, ◌<◌, ◌+◌, ◌⊎◌, ℕ, zero, suc, Bool, true, false, List, [], length, Option, None, Some, refl, sym, subst, arith}
 use Rattle.std.proofs.Common.{inl, inr}
 use Rattle.csv.specs.Machine.{Read, ends_at_end, next_record}
 use Rattle.csv.specs.Reading.{default_config, reader_state, records_from}
@@ -33,8 +33,8 @@ text-short law (suc n) s xs between below = elim (cases-read (next_record defaul
       (record { count = omega (arith, rest.count, shorter); bytes = omega (arith, rest.bytes, bytes) })
 ]
 
-pub ahead-short : InTurn → (ended : Bool) (reader : Reader (Bor (List ℕ))) → (ended ≡ false → IsReading reader)
-    → AreShort (records_ahead ended reader) (size_ahead ended reader)
-ahead-short law true reader reading = none-short 0
-ahead-short law false reader reading =
-    text-short law (length (text_left reader) + 1) (reader_state reader) (text_left reader) (reading refl).between (omega arith)
+pub ahead-short : InTurn → {R : Type 0} (rem : R → Option (List ℕ)) (ended : Bool) (reader : Reader R) → (ended ≡ false → IsReading rem reader)
+    → AreShort (records_ahead rem ended reader) (size_ahead rem ended reader)
+ahead-short law rem true reader reading = none-short 0
+ahead-short law rem false reader reading =
+    text-short law (length (text_left rem reader) + 1) (reader_state reader) (text_left rem reader) (reading refl).between (omega arith)

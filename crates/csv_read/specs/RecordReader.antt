@@ -1,6 +1,5 @@
--- A reader of records over a text in memory: what it has left of the text and of its records.
+-- A reader of records over a text: what it has left of the text and of its records.
 use Rattle.std.specs.Prelude.{◌≡◌, ◌≤◌, ◌<◌, ◌+◌, ℕ, Bool, true, false, if◌then◌else◌, List, [], ◌∷◌, length, Option, Some}
-use Rattle.std.specs.Borrow.{Bor}
 use Rattle.std.specs.Option.{unwrap_or}
 use Rattle.std.specs.List.{concat}
 use Rattle.csv.specs.Machine.{ends_at_end}
@@ -29,33 +28,33 @@ abbrev pub field_bytes : List Record → ℕ
 field_bytes [] = 0
 field_bytes (fields ∷ records) = length (concat fields) + field_bytes records
 
--- ---- the reader
+-- ---- the reader, over a source that tells which bytes it has still to give
 
--- a text in memory is known
-abbrev pub known : Bor (List ℕ) → Option (List ℕ)
-known text = Some text.now
+-- the bytes that a source has still to give, where it tells them
+abbrev pub told_by : Option (List ℕ) → List ℕ
+told_by told = unwrap_or told []
 
 -- the bytes not yet read
-abbrev pub text_left : Reader (Bor (List ℕ)) → List ℕ
-text_left reader = unwrap_or (source_of known reader) []
+abbrev pub text_left : {R : Type 0} → (R → Option (List ℕ)) → Reader R → List ℕ
+text_left rem reader = told_by (source_of rem reader)
 
 -- the records not yet read
-abbrev pub records_left : Reader (Bor (List ℕ)) → List Record
-records_left reader = records_from default_config (length (text_left reader) + 1) (reader_state reader) (text_left reader)
+abbrev pub records_left : {R : Type 0} → (R → Option (List ℕ)) → Reader R → List Record
+records_left rem reader = records_from default_config (length (text_left rem reader) + 1) (reader_state reader) (text_left rem reader)
 
 -- the reader stands between two records, and reads the next one by the default settings, however many fields it has
-pub record IsReading (reader : Reader (Bor (List ℕ))) : Type 0 where
+pub record IsReading {R : Type 0} (rem : R → Option (List ℕ)) (reader : Reader R) : Type 0 where
   pub config : reader_config reader ≡ default_config
   pub trim : reader_trim reader ≡ trim.None
   pub flexible : is_flexible reader ≡ true
   pub ready : Ready reader
   pub fresh : has_failed reader ≡ false
   pub between : ends_at_end (reader_state reader) ≡ false
-  pub source : source_of known reader ≡ Some (text_left reader)
+  pub source : source_of rem reader ≡ Some (text_left rem reader)
 
 -- the records and the bytes that are left, unless the reader came to the end
-abbrev pub records_ahead : Bool → Reader (Bor (List ℕ)) → List Record
-records_ahead ended reader = if ended then [] else records_left reader
+abbrev pub records_ahead : {R : Type 0} → (R → Option (List ℕ)) → Bool → Reader R → List Record
+records_ahead rem ended reader = if ended then [] else records_left rem reader
 
-abbrev pub size_ahead : Bool → Reader (Bor (List ℕ)) → ℕ
-size_ahead ended reader = if ended then 0 else length (text_left reader)
+abbrev pub size_ahead : {R : Type 0} → (R → Option (List ℕ)) → Bool → Reader R → ℕ
+size_ahead rem ended reader = if ended then 0 else length (text_left rem reader)

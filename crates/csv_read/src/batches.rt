@@ -16,11 +16,12 @@ use col_build::{Builder, Spares};
 use data_types::ColumnType;
 use raw_array::RawArray;
 use std::alloc::Global;
+use std::io::Read;
 use std::marker::Model;
 use unit_pass::{NoMemory, Pass};
 
 /// Leaves no record and no builder.
-fn end(records: &mut Records<'_>, body: &mut BodyColumns)
+fn end<R: Read>(records: &mut Records<R>, body: &mut BodyColumns)
     ensures records { records.new.records ≡ [] }
     ensures size { records.new.size ≡ 0 }
     ensures builders { body.new.builders.items ≡ [] }
@@ -35,8 +36,8 @@ fn end(records: &mut Records<'_>, body: &mut BodyColumns)
 ///
 /// [`read_body`](crate::read_body) reads them all at once.
 #[derive(Drop)]
-pub struct BatchReader<'a> {
-    records: Records<'a>,
+pub struct BatchReader<R: Read> {
+    records: Records<R>,
     columns: Vec<ColumnType>,
     // How they are read, under the text that stands for a null.
     body: BodyColumns,
@@ -44,7 +45,7 @@ pub struct BatchReader<'a> {
     read: u64,
 }
 
-impl<'a> Model for BatchReader<'a> {
+impl<R: Read> Model for BatchReader<R> {
     ghost use Rattle.std.specs.Prelude.{◌≤◌, ◌+◌, ◌^◌, map};
     ghost use Rattle.std.specs.Coded.{codes};
     ghost use Rattle.data_types.specs.ColumnView.{column_of};
@@ -71,22 +72,24 @@ impl<'a> Model for BatchReader<'a> {
         × AreReady s.body.builders.items (map column_of s.columns.items) };
 }
 
-impl<'a> BatchReader<'a> {
+impl<R: Read> BatchReader<R> {
     ghost use Rattle.csv_read.specs.BatchesLeft.{IsNextBatch, IsNextFault, all_left, at_end, columns_in, with_builders};
 
     /// Stands before the first batch of the records that are left, which stand behind the header. A field that equals the
     /// mark is null.
     pub fn start(
         alloc: Global,
-        records: Records<'a>,
+        records: Records<R>,
         columns: Vec<ColumnType>,
         mark: &[u8],
-    ) -> Result<BatchReader<'a>, NoMemory>
+    ) -> Result<BatchReader<R>, NoMemory>
+    where
+        R: Drop,
         requires short { records.size ≤ 2 ^ 30 }
         // The columns are such as a header names: of plain values, and of types that may be asked for.
         requires proper { AreProper (map column_of columns.items) }
         requires allowed { AreAllowed (map column_of columns.items) }
-        ensures left { IfOk result (λ batches. batches ≡ all_left records.entry.records columns.items mark.now) }
+        ensures left { IfOk result (λ batches. batches ≡ all_left records.records columns.items mark.now) }
     {
         let body = BodyColumns::empty(alloc, columns.as_slice(), mark)?;
         Ok(BatchReader {

@@ -13,6 +13,7 @@ use col_build::Builder;
 use data_types::{ColumnType, RowFault};
 use std::alloc::Global;
 use std::fmt;
+use std::io::Read;
 use unit_pass::NoMemory;
 
 /// Why the records behind a header make no columns.
@@ -54,9 +55,9 @@ impl std::error::Error for BodyFault {}
 /// The first record that spells no row is the fault, and in it that it has another number of fields than there are columns,
 /// or else its first field that is no value of its column. Records are numbered from 1 behind the header. Want of memory alone
 /// is free.
-pub fn read_body(
+pub fn read_body<R: Read + Drop>(
     alloc: Global,
-    records: Records<'_>,
+    records: Records<R>,
     columns: &[ColumnType],
     mark: &[u8],
 ) -> Result<Vec<Builder>, BodyFault>
@@ -65,9 +66,9 @@ pub fn read_body(
     requires proper { AreProper (map column_of columns.now) }
     requires allowed { AreAllowed (map column_of columns.now) }
     // The builders hold the rows that the records spell.
-    ensures body { IfOk result (λ builders. HoldsBody mark.now builders.items (map column_of columns.now) records.entry.records) }
+    ensures body { IfOk result (λ builders. HoldsBody mark.now builders.items (map column_of columns.now) records.records) }
     // Which fault it is.
-    ensures fault { IfErr result (λ fault. IsBodyFault fault mark.now (map column_of columns.now) records.entry.records) }
+    ensures fault { IfErr result (λ fault. IsBodyFault fault mark.now (map column_of columns.now) records.records) }
 {
     let mut made = BodyColumns::new(alloc, columns, mark)?;
     let mut records = records;
@@ -77,8 +78,8 @@ pub fn read_body(
 
 /// Reads the next records into columns without rows, so many or all that are left; `read` were read before.
 #[inline(never)]
-pub(crate) fn read_rows(
-    records: &mut Records<'_>,
+pub(crate) fn read_rows<R: Read>(
+    records: &mut Records<R>,
     made: &mut BodyColumns,
     batch: u64,
     read: u64,

@@ -17,15 +17,16 @@ use csv_model::HeaderFault;
 use data_types::ColumnType;
 use stage_plan::TypeEntry;
 use std::alloc::Global;
+use std::io::Read;
 
 /// The columns that the header of a text names, each of the type of the first entry of its name, and of text where there is
 /// none. The header is the first of the records, and those behind it are left.
 ///
 /// The first fault counts, in the order of the variants of [`HeaderFault`]; want of memory alone is free. After an error no
 /// record is left.
-pub fn read_header(
+pub fn read_header<R: Read>(
     alloc: Global,
-    records: &mut Records<'_>,
+    records: &mut Records<R>,
     entries: &[TypeEntry],
 ) -> Result<Vec<ColumnType>, HeaderFault>
     // The entries' types are proper ones.
@@ -57,9 +58,9 @@ pub fn read_header(
 }
 
 /// The columns of the first record, or why there are none.
-fn header_columns(
+fn header_columns<R: Read>(
     alloc: Global,
-    records: &mut Records<'_>,
+    records: &mut Records<R>,
     entries: &[TypeEntry],
 ) -> Result<Vec<ColumnType>, HeaderFault>
     requires { All (λ e. KindOk e.kind) entries.now }

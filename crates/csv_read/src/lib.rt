@@ -22,6 +22,7 @@ mod items;
 mod names;
 mod records;
 mod row;
+mod shared;
 
 pub use batch_laws::batches_are_read_in_turn;
 pub use batches::BatchReader;
@@ -30,3 +31,4 @@ pub use chunk::{chunks_have_their_rows, export_rows, held_rows_fit};
 pub use csv_model::HeaderFault;
 pub use header::read_header;
 pub use records::Records;
+pub use shared::SharedText;

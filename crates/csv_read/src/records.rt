@@ -1,70 +1,103 @@
 //! The records of a text, read one after the other by one reader into one record.
-ghost use Rattle.std.specs.Prelude.{◌≡◌, ◌≢◌, ◌≤◌, ◌∷◌, length, All, IfOk, OnErr, Ok, true, false, []};
+ghost use Rattle.std.specs.Prelude.{◌≡◌, ◌≢◌, ◌≤◌, ◌∷◌, length, vec_len, All, IfOk, OnErr, Ok, Some, true, false, []};
 ghost use Rattle.csv.specs.Reading.{error_kind, stops_reader};
+ghost use Rattle.std.specs.Arc.{arc_value};
+ghost use Rattle.std.specs.Str.{is_utf8};
 ghost use Rattle.csv.specs.Records.{fields_of};
 ghost use Rattle.csv_model.specs.Reading.{behind_header, records_of};
-ghost use Rattle.csv_read.specs.RecordReader.{IsReading, Takes, field_bytes, records_left, text_left};
+ghost use Rattle.csv_read.specs.RecordReader.{IsReading, Takes, field_bytes, records_left, text_left, told_by};
 ghost use Rattle.csv_read.specs.Texts.{AreTexts};
 
+use crate::shared::SharedText;
 use col_build::is_text;
 use csv::{ByteRecord, Error, Reader, ReaderBuilder};
 use csv_model::records_are_read_in_turn;
 use std::alloc::Global;
+use std::io::Read;
 use std::marker::Model;
+use std::sync::Arc;
 use unit_pass::NoMemory;
 
 /// The records of a text that are not yet read.
 ///
 /// One reader and one record serve for the whole text: [`read_header`](crate::read_header) takes the first record, and
-/// [`read_body`](crate::read_body) or a [`BatchReader`](crate::BatchReader) goes on behind it.
+/// [`read_body`](crate::read_body) or a [`BatchReader`](crate::BatchReader) goes on behind it. The text is lent
+/// ([`start`](Records::start)) or shared ([`start_shared`](Records::start_shared)); a call that keeps the source asks no `Drop` of
+/// it, so that it is compiled once for each of the two.
 #[derive(Drop)]
-pub struct Records<'a> {
+pub struct Records<R: Read> {
     // In a place of its own: a reader is large, and the records are moved about.
-    reader: Box<Reader<&'a [u8]>>,
+    reader: Box<Reader<R>>,
     // The record that was read last.
     row: ByteRecord,
     // No record is left.
     ended: bool,
     // The text is UTF-8, and so is each field of its records.
     texts: bool,
-    ghost all_texts: { texts ≡ true → ended ≡ false → AreTexts (fields_of row) × All AreTexts (records_left reader.value) },
+    ghost all_texts: { texts ≡ true → ended ≡ false → AreTexts (fields_of row) × All AreTexts (records_left R.remaining reader.value) },
 }
 
-impl<'a> Model for Records<'a> {
+impl<R: Read> Model for Records<R> {
     ghost use Rattle.std.specs.Prelude.{◌≡◌, false};
     ghost use Rattle.csv.specs.Records.{fields_of};
     ghost use Rattle.csv_read.specs.RecordReader.{IsReading, RecordsLeft, records_ahead, size_ahead};
 
     ghost Value = { RecordsLeft };
 
-    ghost view = { λ s. record { row = fields_of s.row; size = size_ahead s.ended s.reader.value; records = records_ahead s.ended s.reader.value } };
+    ghost view = { λ s. record { row = fields_of s.row; size = size_ahead R.remaining s.ended s.reader.value; records = records_ahead R.remaining s.ended s.reader.value } };
 
-    ghost invariant = { λ s. s.ended ≡ false → IsReading s.reader.value };
+    ghost invariant = { λ s. s.ended ≡ false → IsReading R.remaining s.reader.value };
 }
 
-impl<'a> Records<'a> {
+impl<'a> Records<&'a [u8]> {
     /// Stands before the header of a text. The text is read by `csv`'s default settings after one byte order mark.
-    pub fn start(alloc: Global, bytes: &'a [u8]) -> Result<Records<'a>, NoMemory>
+    pub fn start(alloc: Global, bytes: &'a [u8]) -> Result<Records<&'a [u8]>, NoMemory>
         ensures records { IfOk result (λ records. records.records ≡ records_of bytes.now) }
         ensures size { IfOk result (λ records. records.size ≤ length bytes.now) }
     {
-        let reader = Box::new(alloc, start_reading(alloc, bytes))?;
-        Ok(Records {
-            reader,
-            row: ByteRecord::new(alloc),
-            ended: false,
-            texts: is_text(bytes),
-        })
+        let texts = is_text(bytes);
+        Records::over(alloc, bytes, texts)
     }
 
     /// Stands behind the header of a text. A text of no records has none behind it.
-    pub fn behind_header(alloc: Global, bytes: &'a [u8]) -> Result<Records<'a>, NoMemory>
+    pub fn behind_header(alloc: Global, bytes: &'a [u8]) -> Result<Records<&'a [u8]>, NoMemory>
         ensures records { IfOk result (λ records. records.records ≡ behind_header (records_of bytes.now)) }
         ensures size { IfOk result (λ records. records.size ≤ length bytes.now) }
     {
         let mut records = Records::start(alloc, bytes)?;
         let _found = records.next()?;
         Ok(records)
+    }
+}
+
+impl Records<SharedText> {
+    /// Stands before the header of a text that several owners share, as [`start`](Records::start) does.
+    pub fn start_shared(alloc: Global, bytes: Arc<Vec<u8>>) -> Result<Records<SharedText>, NoMemory>
+        ensures records { IfOk result (λ records. records.records ≡ records_of (arc_value bytes).items) }
+        ensures size { IfOk result (λ records. records.size ≤ vec_len (arc_value bytes)) }
+    {
+        let texts = is_text(bytes.as_slice());
+        Records::over(alloc, SharedText::new(bytes), texts)
+    }
+}
+
+impl<R: Read> Records<R> {
+    /// Stands before the header of the text that a source gives. That the text is UTF-8 may be known.
+    fn over(alloc: Global, source: R, texts: bool) -> Result<Records<R>, NoMemory>
+    where
+        R: Drop,
+        requires told { R.remaining source ≡ Some (told_by (R.remaining source)) }
+        requires texts { texts ≡ true → is_utf8 (told_by (R.remaining source)) ≡ true }
+        ensures records { IfOk result (λ records. records.records ≡ records_of (told_by (R.remaining source))) }
+        ensures size { IfOk result (λ records. records.size ≤ length (told_by (R.remaining source))) }
+    {
+        let reader = Box::new(alloc, start_reading(alloc, source))?;
+        Ok(Records {
+            reader,
+            row: ByteRecord::new(alloc),
+            ended: false,
+            texts,
+        })
     }
 
     /// Reads the next record, where there is one.
@@ -126,26 +159,28 @@ impl<'a> Records<'a> {
     }
 }
 
-/// A reader at the start of a text.
-fn start_reading(alloc: Global, text: &[u8]) -> Reader<&[u8]>
-    ensures ready { IsReading result }
-    ensures records { records_left result ≡ records_of text.now }
-    ensures bytes { length (text_left result) ≤ length text.now }
+/// A reader at the start of the text that a source gives.
+fn start_reading<R: Read>(alloc: Global, source: R) -> Reader<R>
+    requires told { R.remaining source ≡ Some (told_by (R.remaining source)) }
+    ensures ready { IsReading R.remaining result }
+    ensures records { records_left R.remaining result ≡ records_of (told_by (R.remaining source)) }
+    ensures bytes { length (text_left R.remaining result) ≤ length (told_by (R.remaining source)) }
 {
     ReaderBuilder::new()
         .has_headers(false)
         .flexible(true)
-        .from_reader(alloc, text)
+        .from_reader(alloc, source)
 }
 
 /// Reads the next record, where there is one.
-fn next_record(reader: &mut Reader<&[u8]>, row: &mut ByteRecord) -> Result<bool, NoMemory>
-    requires { IsReading reader.old }
-    ensures reads_on { result ≡ Ok true → IsReading reader.new }
-    ensures more { result ≡ Ok true → records_left reader.old ≡ fields_of row.new ∷ records_left reader.new }
+fn next_record<R: Read>(reader: &mut Reader<R>, row: &mut ByteRecord) -> Result<bool, NoMemory>
+    requires { IsReading R.remaining reader.old }
+    ensures reads_on { result ≡ Ok true → IsReading R.remaining reader.new }
+    ensures more { result ≡ Ok true → records_left R.remaining reader.old ≡ fields_of row.new ∷ records_left R.remaining reader.new }
     ensures some { result ≡ Ok true → 1 ≤ length (fields_of row.new) }
-    ensures takes { result ≡ Ok true → Takes (length (text_left reader.old)) (fields_of row.new) (length (text_left reader.new)) }
-    ensures end { result ≡ Ok false → records_left reader.old ≡ [] }
+    ensures takes { result ≡ Ok true
+        → Takes (length (text_left R.remaining reader.old)) (fields_of row.new) (length (text_left R.remaining reader.new)) }
+    ensures end { result ≡ Ok false → records_left R.remaining reader.old ≡ [] }
 {
     records_are_read_in_turn();
     match reader.read_byte_record(row) {

@@ -29,7 +29,7 @@ fn count_rows(builders: &[Builder]) -> i64
 /// Puts the chunk of the next `batch` records out, or of all that are left where they are fewer; none where no record is
 /// left; or tells why there is none.
 pub(crate) fn next_chunk(
-    batches: &mut BatchReader<'_>,
+    batches: &mut BatchReader<&[u8]>,
     alloc: Global,
     batch: u64,
     spares: &mut Spares,

@@ -28,10 +28,10 @@ use unit_pass::{NoMemory, Pass};
 /// The records of a text behind its header, as a stream of chunks of at most so many rows. It keeps no structure between two
 /// calls. It can't be dropped.
 pub struct CsvSource<'a> {
-    batches: BatchReader<'a>,
+    batches: BatchReader<&'a [u8]>,
     // What was to be read at the start. It has no bytes: clauses tell of it how the stream ends, also where memory ran out
     // in the middle of the text.
-    whole: Snapshot<BatchReader<'a>>,
+    whole: Snapshot<BatchReader<&'a [u8]>>,
     batch: u32,
     // Room that serves for all chunks.
     spares: Spares,
@@ -53,7 +53,7 @@ impl<'a> CsvSource<'a> {
     /// mark is null. Each chunk has `batch` rows, and the last one those that are left.
     pub fn start(
         alloc: Global,
-        records: Records<'a>,
+        records: Records<&'a [u8]>,
         columns: Vec<ColumnType>,
         mark: &[u8],
         batch: u32,

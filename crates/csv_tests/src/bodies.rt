@@ -14,7 +14,7 @@ use std::process::Abort;
 use std::test::Fail;
 
 /// The columns of the header of a text: the first holds whole numbers, the others texts.
-fn columns_of(alloc: Global, records: &mut Records<'_>) -> Result<Vec<ColumnType>, Fail>
+fn columns_of(alloc: Global, records: &mut Records<&[u8]>) -> Result<Vec<ColumnType>, Fail>
     ensures proper { IfOk result (λ columns. AreProper (map column_of columns.items)) }
     ensures allowed { IfOk result (λ columns. AreAllowed (map column_of columns.items)) }
     ensures size { records.new.size ≤ records.old.size }

@@ -35,7 +35,7 @@ use unit_pass::{NoMemory, Pass, ROOM, SUPPLY};
 /// The columns that the header of a text names, or why it is refused. The records behind it are left.
 fn header_columns(
     alloc: Global,
-    records: &mut Records<'_>,
+    records: &mut Records<&[u8]>,
     entries: &[TypeEntry],
 ) -> Result<Vec<ColumnType>, RunFault>
     requires proper { All (λ e. KindOk e.kind) entries.now }
@@ -91,7 +91,7 @@ fn read_columns(plan: &Plan) -> &[ColumnType]
 /// The records behind a header as a stream of chunks of the columns that a plan reads.
 fn source_of<'a>(
     alloc: Global,
-    records: Records<'a>,
+    records: Records<&'a [u8]>,
     columns: &[ColumnType],
     batch: u32,
     mark: &[u8],

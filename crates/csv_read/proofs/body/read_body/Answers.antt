@@ -7,7 +7,7 @@ use Rattle.csv_read.proofs.BodyRead.{body-refused, whole-body}
 use Rattle.csv_read.proofs.body.read_body.Goals as goal
 
 pub returns-clause-body : goal.returns-clause-body
-returns-clause-body c =
+returns-clause-body g c =
     let columns = map column_of c.args.columns.now in
     let has =
     subst (λ (m : List ℕ). HasBatch m 1 18446744073709551615 columns c.args.records c.read_rows.new.made c.read_rows.new.records) c.in_ok-made.ensures.mark
@@ -15,7 +15,7 @@ returns-clause-body c =
     whole-body c.args.mark.now c.read_rows.new.made columns c.args.records c.read_rows.new.records 18446744073709551615 c.requires.short (omega arith) has
 
 pub returns-in_err-read_rows-clause-fault : goal.returns-in_err-read_rows-clause-fault
-returns-in_err-read_rows-clause-fault c =
+returns-in_err-read_rows-clause-fault g c =
     let columns = map column_of c.args.columns.now in
     let fault = c.in_err-read_rows.field-0.0 in
     let refused : IsRowsFault fault (body_from c.args.mark.now 1 columns (take 18446744073709551615 c.args.records.records)) =

@@ -16,20 +16,20 @@ ended true e = λ _. absurd (cc)
 ended false e = λ h. absurd (cc)
 
 pub loop-made-init : goal.loop-made-init
-loop-made-init c = record {
+loop-made-init g c = record {
   forms = refl;
   mark = refl;
   so_far = λ columns has. none-read (c.args.read + 1) c.args.batch columns c.args.made.now c.args.records.now has;
 }
 
 pub returns-then-not-branch-clause-rows : goal.returns-then-not-branch-clause-rows
-returns-then-not-branch-clause-rows c = λ columns has.
+returns-then-not-branch-clause-rows g c = λ columns has.
     no-more c.args.made.now.mark (c.args.read + 1) c.args.batch columns c.args.records.now c.loop-made.records c.next.new.self c.loop-made.made
     (c.loop-made.invariant.so_far columns has) (c.in_ok-next.ensures.end (ok c.in_ok-next.field-0 false c.if-not-branch.true))
     (c.in_ok-next.ensures.end_stays (ended c.in_ok-next.field-0 c.if-not-branch.true)) c.in_ok-next.ensures.size
 
 pub push-requires-clause-fits : goal.push-requires-clause-fits
-push-requires-clause-fits c =
+push-requires-clause-fits g c =
     let some = c.requires.none in
     let found = ok c.in_ok-next.field-0 true c.if-not-branch.false in
     room-for c.args.made.now.mark (c.args.read + 1) c.args.batch some.0 c.args.records.now c.loop-made.records c.loop-made.made
@@ -38,7 +38,7 @@ push-requires-clause-fits c =
     (subst (λ (f : Record). Takes c.loop-made.records.size f c.next.new.self.size) (sym c.row.ensures) (c.in_ok-next.ensures.takes found))
 
 pub loop-made-preserved : goal.loop-made-preserved
-loop-made-preserved c =
+loop-made-preserved g c =
     let found = ok c.in_ok-next.field-0 true c.if-not-branch.false in
     let next = c.in_ok-next.ensures in
     let below = c.loop-made-test.true in
@@ -54,7 +54,7 @@ loop-made-preserved c =
     }
 
 pub returns-in_err-push-clause-fault : goal.returns-in_err-push-clause-fault
-returns-in_err-push-clause-fault c =
+returns-in_err-push-clause-fault g c =
     let found = ok c.in_ok-next.field-0 true c.if-not-branch.false in
     let below = c.loop-made-test.true in
     let told : RefusesBatch c.in_err-push.field-0.0 (c.args.read + 1) c.args.batch c.args.records.now.records c.args.made.now = λ columns has.

@@ -5,7 +5,7 @@ use Rattle.csv_read.proofs.body.read_rows.Given as goal
 
 -- the columns are read as before, and hold the rows of the records that were read
 abbrev pub invariant-loop-made : goal.invariant-loop-made
-invariant-loop-made l = record {
+invariant-loop-made g l = record {
   forms : l.made.forms ≡ l.initial.made.forms;
   mark : l.made.mark ≡ l.initial.made.mark;
   so_far : (columns : List Column) → HasRows l.initial.made columns []
@@ -13,4 +13,4 @@ invariant-loop-made l = record {
 }
 
 abbrev pub decreases-loop-made : goal.decreases-loop-made
-decreases-loop-made l = l.records.size
+decreases-loop-made g l = l.records.size

@@ -11,7 +11,7 @@ use Rattle.csv_read.proofs.HeaderColumns.{columns-differ, columns-have, header-f
 use Rattle.csv_read.proofs.header.header_columns.Goals as goal
 
 pub returns-clause-differ : goal.returns-clause-differ
-returns-clause-differ c =
+returns-clause-differ g c =
     let entries = entries_of c.args.entries.now in
     let same = c.as_slice.ensures.value ∙ sym c.as_slice-2.ensures.value in
     let none : names_fault entries (texts c.as_slice-2.result.now) ≡ None =
@@ -20,11 +20,11 @@ returns-clause-differ c =
     (columns-differ entries (texts c.as_slice-2.result.now) (no-twice entries (texts c.as_slice-2.result.now) none))
 
 pub returns-clause-proper : goal.returns-clause-proper
-returns-clause-proper c =
+returns-clause-proper g c =
     subst AreProper (sym c.in_ok-columns.ensures) (columns-have KindOk tt c.args.entries.now c.requires (texts c.as_slice-2.result.now))
 
 pub returns-clause-allowed : goal.returns-clause-allowed
-returns-clause-allowed c =
+returns-clause-allowed g c =
     λ each.
     subst AreAllowed (sym c.in_ok-columns.ensures) (columns-have IsAllowed refl c.args.entries.now each (texts c.as_slice-2.result.now))
 
@@ -32,7 +32,7 @@ ok : (a b : Bool) → a ≡ b → ◌≡◌ {A = Result Bool NoMemory} (Ok a) (O
 ok a b e = ap (λ (x : Bool). Ok x) e
 
 pub returns-clause-found : goal.returns-clause-found
-returns-clause-found c =
+returns-clause-found g c =
     let entries = entries_of c.args.entries.now in
     let first = c.in_ok-next.ensures.more (ok c.in_ok-next.field-0 true c.if-not-branch.false) in
     let few = subst (λ (row : Record). nat_le (length row) most_columns ≡ true) c.row.ensures c.in_ok-check_count.ensures.few in

@@ -4,7 +4,7 @@ use Rattle.csv_read.proofs.EmptiedBuilders.{ready-spent, spent-by}
 use Rattle.csv_read.proofs.batches.BatchReader.export.Goals as goal
 
 pub invariant_of-self : goal.invariant_of-self
-invariant_of-self c =
+invariant_of-self g c =
     let inside = c.self.inside in
     let old = inside.body.builders.items in
     let new = c.export.new.self.builders.items in (

@@ -10,19 +10,19 @@ use Rattle.csv_read.proofs.EmptiedBuilders.{rows-kept}
 use Rattle.csv_read.proofs.batches.BatchReader.next.Goals as goal
 
 pub begin-requires-clause-proper : goal.begin-requires-clause-proper
-begin-requires-clause-proper c = subst (λ cs. AreProper (map column_of cs)) (sym c.as_slice.ensures.value) c.self.invariant.0
+begin-requires-clause-proper g c = subst (λ cs. AreProper (map column_of cs)) (sym c.as_slice.ensures.value) c.self.invariant.0
 
 pub begin-requires-clause-allowed : goal.begin-requires-clause-allowed
-begin-requires-clause-allowed c = subst (λ cs. AreAllowed (map column_of cs)) (sym c.as_slice.ensures.value) c.self.invariant.1
+begin-requires-clause-allowed g c = subst (λ cs. AreAllowed (map column_of cs)) (sym c.as_slice.ensures.value) c.self.invariant.1
 
 pub begin-requires-clause-forms : goal.begin-requires-clause-forms
-begin-requires-clause-forms c = subst (λ cs. AreForms c.self.inside.body.forms.items (map column_of cs)) (sym c.as_slice.ensures.value) c.self.invariant.2
+begin-requires-clause-forms g c = subst (λ cs. AreForms c.self.inside.body.forms.items (map column_of cs)) (sym c.as_slice.ensures.value) c.self.invariant.2
 
 pub begin-requires-clause-builders : goal.begin-requires-clause-builders
-begin-requires-clause-builders c = subst (λ cs. AreReady c.self.inside.body.builders.items (map column_of cs)) (sym c.as_slice.ensures.value) c.self.invariant.4
+begin-requires-clause-builders g c = subst (λ cs. AreReady c.self.inside.body.builders.items (map column_of cs)) (sym c.as_slice.ensures.value) c.self.invariant.4
 
 pub returns-then-self-eq0-clause-end : goal.returns-then-self-eq0-clause-end
-returns-then-self-eq0-clause-end c = λ _.
+returns-then-self-eq0-clause-end g c = λ _.
     let inside = c.self.inside in
     let columns = map column_of inside.columns.items in
     let s : BatchesLeft = record {
@@ -43,7 +43,7 @@ returns-then-self-eq0-clause-end c = λ _.
     (next-end s c.args.batch inside.records c.read_rows.new.records made c.requires.some refl reads c.if-self-eq0.true)
 
 pub invariant_of-self-in-Ok-read_rows : goal.invariant_of-self-in-Ok-read_rows
-invariant_of-self-in-Ok-read_rows c =
+invariant_of-self-in-Ok-read_rows g c =
     let inside = c.self.inside in
     let columns = map column_of inside.columns.items in
     let s : BatchesLeft = record {
@@ -68,7 +68,7 @@ invariant_of-self-in-Ok-read_rows c =
     )
 
 pub returns-else-self-eq0-clause-batch : goal.returns-else-self-eq0-clause-batch
-returns-else-self-eq0-clause-batch c = λ _.
+returns-else-self-eq0-clause-batch g c = λ _.
     let inside = c.self.inside in
     let columns = map column_of inside.columns.items in
     let s : BatchesLeft = record {

@@ -5,17 +5,17 @@ use Rattle.csv_read.proofs.RecordSizes.{ahead-short}
 use Rattle.csv_read.proofs.records.Records.are_short.Goals as goal
 
 pub returns-clause-count : goal.returns-clause-count
-returns-clause-count c =
+returns-clause-count g c =
     let law = c.records_are_read_in_turn.ensures in
     let turn : InTurn =
     record { next = law.next; end = law.end; between = law.between; shorter = law.shorter; bytes = law.bytes; count = law.count } in
     let inside = c.self.inside in
-    subst (λ (s : RecordsLeft). length s.records ≤ s.size) c.self.view_is (ahead-short turn inside.ended inside.reader.value c.self.invariant).count
+    subst (λ (s : RecordsLeft). length s.records ≤ s.size) c.self.view_is (ahead-short turn _ inside.ended inside.reader.value c.self.invariant).count
 
 pub returns-clause-bytes : goal.returns-clause-bytes
-returns-clause-bytes c =
+returns-clause-bytes g c =
     let law = c.records_are_read_in_turn.ensures in
     let turn : InTurn =
     record { next = law.next; end = law.end; between = law.between; shorter = law.shorter; bytes = law.bytes; count = law.count } in
     let inside = c.self.inside in
-    subst (λ (s : RecordsLeft). field_bytes s.records ≤ s.size) c.self.view_is (ahead-short turn inside.ended inside.reader.value c.self.invariant).bytes
+    subst (λ (s : RecordsLeft). field_bytes s.records ≤ s.size) c.self.view_is (ahead-short turn _ inside.ended inside.reader.value c.self.invariant).bytes
