@@ -157,13 +157,12 @@ fn index_lengths(
     requires entries { AreLengths entries.now (value_at (typed_of dict.now) dictionary.now) (tree_items dictionary.now) }
     ensures { IfOk result (λ lengths. AreLengths lengths.items (value_at (typed_of typed.now) array.now) (tree_items array.now)) }
 {
-    let col = Col::of(typed, array);
-    let count = count_items(&col);
+    let count = count_items(&Col::of(typed, array));
     let mut lengths = Vec::with_capacity(alloc, count as usize)?;
     for i in 0..count {
-        lengths.push(match col.value(number(i)) {
-            ValueRef::Null => 1,
-            _ => entries[index_at(typed, array, dict, dictionary, i)],
+        lengths.push(match index_at(typed, array, dict, dictionary, i) {
+            Some(index) => entries[index],
+            None => 1,
         })?;
     }
     Ok(lengths)

@@ -1,6 +1,6 @@
 //! Where the parts of an item stand: its index, the items of a list, the fields of a struct, and how long the text is that they make.
-ghost use Rattle.std.specs.Prelude.{◌≡◌, ◌≢◌, ◌+◌, ◌-◌, ◌*◌, ◌/◌, ◌^◌, ◌<◌, ◌≤◌, ◌≤ℤ◌, ℕ, pos, IsTrue, None, Some, length, get_or};
-ghost use Rattle.bit_pack.specs.Packed.{IsWidth, meant, number_at, offset_width};
+ghost use Rattle.std.specs.Prelude.{◌≡◌, ◌==◌, ◌+◌, ◌-◌, ◌*◌, ◌/◌, ◌^◌, ◌<◌, ◌≤◌, ◌≤ℤ◌, ℕ, pos, true, false, IsTrue, IfSome, IfNone, None, Some, length, get_or};
+ghost use Rattle.bit_pack.specs.Packed.{IsWidth, bit, meant, number_at, offset_width};
 ghost use Rattle.data_types.specs.Storage.{storage_of as storage_is};
 ghost use Rattle.data_types.specs.Value.{values};
 ghost use Rattle.data_types.specs.Value.Value.{Fields, Items, Null};
@@ -10,15 +10,16 @@ ghost use Rattle.raw_array.specs.Members.{members_of};
 ghost use Rattle.kind_tree.specs.declared.typed.Typed.{out-Typed};
 ghost use Rattle.kind_tree.specs.Kinds.{NodesOk};
 ghost use Rattle.kind_tree.specs.TypedView.{typed_of, kind_of, kids_of, dict_in};
-ghost use Rattle.layout_rules.specs.Layout.{bytes, first, natural, offset_in, stored_number};
+ghost use Rattle.layout_rules.specs.Layout.{buffer, bytes, first, is_valid as is_valid_at, natural, offset_in, stored_number};
 ghost use Rattle.layout_rules.specs.Values.{child_item, each, listed, readers, row_items, tree_items, value_at};
 ghost use Rattle.layout_rules.specs.Walk.{LayoutOk};
+ghost use Rattle.arr_import.specs.Lent.{lent_bytes};
 ghost use Rattle.arr_import.specs.StoredItems.{AreItemsThere, IsIndexThere, IsListStorage, IsThere};
 ghost use Rattle.arr_import.specs.Window.{index_at as index_in};
 ghost use Rattle.value_text.specs.Lengths.{AreKidLengths, IsNested, IsNestedAt, text_length};
 
 use crate::lengths::{list_length, row_length};
-use bit_pack::{int_at, offset_at};
+use bit_pack::{bit_at, int_at, offset_at};
 use data_types::{Storage, storage_of};
 use kind_tree::{Typed, kinds_of_typed};
 use layout_rules::{lawful_items_lie_within, lawful_parts, lawful_root};
@@ -183,14 +184,56 @@ pub(crate) fn nested_is(typed: &Typed, array: &RawArray, i: u64)
     lawful_root(typed, array);
 }
 
-/// What holds of the index that stands for an item which isn't null.
+/// The validity bits, where there are some.
+fn validity_of(array: &RawArray) -> Option<&[u8]>
+    requires { IsLive array.now }
+    ensures { lent_bytes result ≡ buffer (members_of array.now) 0 }
+{
+    if array.n_buffers() > 0 {
+        array.buffer(0)
+    } else {
+        None
+    }
+}
+
+fn is_set(bits: &[u8], place: u64) -> bool
+    requires { place < 8 * length bits.now }
+    ensures { result ≡ (bit bits.now place == 1) }
+{
+    bit_at(bits, place as usize)
+}
+
+/// Whether an item's own validity bit isn't clear.
+fn is_valid(typed: &Typed, array: &RawArray, i: u64) -> bool
+    requires lawful { LayoutOk (typed_of typed.now) array.now }
+    requires inside { i < tree_items array.now }
+    ensures { result ≡ is_valid_at (members_of array.now) i }
+{
+    lawful_root(typed, array);
+    match validity_of(array) {
+        Some(bits) => is_set(bits, place_of(typed, array, i)),
+        None => true,
+    }
+}
+
+/// An item whose validity bit is clear is null.
+fn clear_is_null(typed: &Typed, array: &RawArray, i: u64)
+    requires lawful { LayoutOk (typed_of typed.now) array.now }
+    requires clear { is_valid_at (members_of array.now) i ≡ false }
+    ensures { value_at (typed_of typed.now) array.now i ≡ Null }
+{
+    kinds_of_typed(typed);
+    lawful_root(typed, array);
+}
+
+/// What holds of the index that stands for an item whose validity bit isn't clear.
 fn index_is_there(typed: &Typed, array: &RawArray, dict: &Typed, dictionary: &RawArray, i: u64)
     requires lawful { LayoutOk (typed_of typed.now) array.now }
     requires types { NodesOk (typed_of typed.now) }
     requires kinds { dict_in (out-Typed typed.now).dict ≡ Some (typed_of dict.now) }
     requires behind { dictionary_of array.now ≡ Some dictionary.now }
     requires inside { i < tree_items array.now }
-    requires valid { value_at (typed_of typed.now) array.now i ≢ Null }
+    requires valid { is_valid_at (members_of array.now) i ≡ true }
     ensures there { IsIndexThere (storage_is (kind_of typed.now)) (members_of array.now) i (index_in (kind_of typed.now) (members_of array.now) i)
         (tree_items dictionary.now) }
     ensures value { value_at (typed_of dict.now) dictionary.now (index_in (kind_of typed.now) (members_of array.now) i)
@@ -204,8 +247,32 @@ fn index_is_there(typed: &Typed, array: &RawArray, dict: &Typed, dictionary: &Ra
     lawful_root(dict, dictionary);
 }
 
-/// The index that stands for an item which isn't null.
+/// The index that stands for an item; none where its validity bit is clear.
 pub(crate) fn index_at(
+    typed: &Typed,
+    array: &RawArray,
+    dict: &Typed,
+    dictionary: &RawArray,
+    i: u64,
+) -> Option<usize>
+    requires lawful { LayoutOk (typed_of typed.now) array.now }
+    requires types { NodesOk (typed_of typed.now) }
+    requires kinds { dict_in (out-Typed typed.now).dict ≡ Some (typed_of dict.now) }
+    requires behind { dictionary_of array.now ≡ Some dictionary.now }
+    requires inside { i < tree_items array.now }
+    ensures inside { IfSome result (λ index. index < tree_items dictionary.now) }
+    ensures value { IfSome result (λ index. value_at (typed_of dict.now) dictionary.now index ≡ value_at (typed_of typed.now) array.now i) }
+    ensures null { IfNone result (value_at (typed_of typed.now) array.now i ≡ Null) }
+{
+    if !is_valid(typed, array, i) {
+        clear_is_null(typed, array, i);
+        return None;
+    }
+    Some(valid_index(typed, array, dict, dictionary, i))
+}
+
+/// The index that stands for an item whose validity bit isn't clear.
+fn valid_index(
     typed: &Typed,
     array: &RawArray,
     dict: &Typed,
@@ -217,7 +284,7 @@ pub(crate) fn index_at(
     requires kinds { dict_in (out-Typed typed.now).dict ≡ Some (typed_of dict.now) }
     requires behind { dictionary_of array.now ≡ Some dictionary.now }
     requires inside { i < tree_items array.now }
-    requires valid { value_at (typed_of typed.now) array.now i ≢ Null }
+    requires valid { is_valid_at (members_of array.now) i ≡ true }
     ensures inside { result < tree_items dictionary.now }
     ensures value { value_at (typed_of dict.now) dictionary.now result ≡ value_at (typed_of typed.now) array.now i }
 {

@@ -1,12 +1,9 @@
-use Rattle.std.proofs.Common.{◌≡◌, Bool, true, false, refl, sym, arith}
+use Rattle.std.proofs.Common.{refl, sym, arith}
 use Rattle.std.proofs.lemmas.Grind.{merely}
-use Rattle.data_types.specs.Value.Value.{Null}
 use Rattle.data_types.specs.Storage.{storage_of}
 use Rattle.raw_array.specs.Members.{members_of}
 use Rattle.kind_tree.specs.TypedView.{typed_of, kind_of}
-use Rattle.layout_rules.specs.Layout.{is_valid}
-use Rattle.layout_rules.specs.Values.{value_at}
-use Rattle.arr_import.proofs.Reading.{index-int, index-there, value-entry, value-null}
+use Rattle.arr_import.proofs.Reading.{index-int, index-there, value-entry}
 use Rattle.value_text.proofs.placed.index_is_there.Goals as goal
 
 pub returns : goal.returns
@@ -19,15 +16,10 @@ returns c =
     let e = c.kinds_of_typed.ensures in
     let live = c.lawful_root.ensures.live in
     let int = index-int t e kinds c.requires.kinds (merely c.requires.types) in
-    let valid : is_valid (members_of array) i ≡ true = there (is_valid (members_of array) i) (value-null t e array i live) in
     record {
       there =
-          index-there (kind_of t) (storage_of (kind_of t)) (members_of array) i dictionary refl int valid
+          index-there (kind_of t) (storage_of (kind_of t)) (members_of array) i dictionary refl int c.requires.valid
           (c.lawful_items_lie_within.ensures.index i kinds dictionary c.requires.inside c.requires.kinds c.requires.behind);
-      value = sym (value-entry t e array i live valid kinds dictionary c.requires.kinds c.requires.behind int);
+      value = sym (value-entry t e array i live c.requires.valid kinds dictionary c.requires.kinds c.requires.behind int);
       few = omega (arith, c.lawful_root-2.ensures.end, c.lawful_root-2.ensures.items);
     }
-  where
-    there : (b : Bool) → (b ≡ false → value_at (typed_of c.args.typed.now) c.args.array.now c.args.i ≡ Null) → b ≡ true
-    there true null = refl
-    there false null = absurd (c.requires.valid (null refl))
