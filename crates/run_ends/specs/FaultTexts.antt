@@ -4,6 +4,8 @@ use Rattle.std.specs.Fmt.{signed_decimal}
 use Rattle.schema_meta.specs.FaultTexts.{read_fault_text}
 use Rattle.layout_rules.specs.FaultTexts.{layout_fault_text}
 use Rattle.schema_check.specs.FaultTexts.{schema_fault_text}
+use Rattle.run_ends.specs.declared.code_fault.CodeFault.{CodeFault}
+use Rattle.run_ends.specs.declared.code_fault.CodeFault.TheVariants as codings
 use Rattle.run_ends.specs.declared.rule.RunsRule.{RunsRule}
 use Rattle.run_ends.specs.declared.rule.RunsRule.TheVariants as rules
 use Rattle.run_ends.specs.declared.rule.RunsFault.{RunsFault}
@@ -46,3 +48,8 @@ runs_schema_text (schemas.ChildCount found) = codes "ChildCount: " ++ decimal fo
 runs_schema_text (schemas.Child child fault) = codes "child " ++ decimal child ++ codes ": " ++ schema_fault_text fault
 runs_schema_text schemas.EndsType = codes "EndsType"
 runs_schema_text schemas.NoMemory = codes "out of memory"
+
+abbrev pub code_fault_text : CodeFault → List ℕ
+code_fault_text codings.WrongKind = codes "WrongKind"
+code_fault_text codings.TooLong = codes "TooLong"
+code_fault_text codings.NoMemory = codes "out of memory"

@@ -8,5 +8,6 @@ pub mod RunCols
 pub mod WindowProps
 pub mod FaultTexts
 pub mod RunCoding
+pub mod CodeFaults
 pub mod ColumnRuns
 pub mod WorkedRuns

@@ -70,11 +70,13 @@ impl<'a> RunCol<'a> {
         self.count as i64
     }
 
-    /// The column of the values, one of each run.
+    /// The column of the values, one of each run, and the run of each item is among them.
     #[inline(always)]
     pub fn values(&self) -> Col<'a>
-        ensures { window_of result ≡ whole (kinds_in self.now).values (child_at (array_in self.now) 1) }
+        ensures window { window_of result ≡ whole (kinds_in self.now).values (child_at (array_in self.now) 1) }
+        ensures stored { (i : ℕ) → i < items (members_of (array_in self.now)) → run_of (kinds_in self.now) (array_in self.now) i < (window_of result).count }
     {
+        runs_hold(self.typed, self.array);
         self.values
     }
 

@@ -1,7 +1,8 @@
 //! The texts of faults.
 ghost use Rattle.std.specs.Prelude.{Some};
-ghost use Rattle.run_ends.specs.FaultTexts.{runs_rule_text, runs_fault_text, runs_schema_text};
+ghost use Rattle.run_ends.specs.FaultTexts.{runs_rule_text, runs_fault_text, runs_schema_text, code_fault_text};
 
+use crate::code_fault::CodeFault;
 use crate::rule::{RunsFault, RunsRule};
 use crate::schema_fault::RunsSchemaFault;
 use std::fmt;
@@ -65,3 +66,17 @@ impl fmt::Display for RunsSchemaFault {
 }
 
 impl std::error::Error for RunsSchemaFault {}
+
+impl fmt::Display for CodeFault {
+    ghost output = { λ fault. Some (code_fault_text fault) };
+
+    fn fmt<W: fmt::Write>(&self, f: &mut fmt::Formatter<W>) -> fmt::Result {
+        f.write_str(match self {
+            CodeFault::WrongKind => "WrongKind",
+            CodeFault::TooLong => "TooLong",
+            CodeFault::NoMemory => "out of memory",
+        })
+    }
+}
+
+impl std::error::Error for CodeFault {}

@@ -7,17 +7,20 @@
 //! - [`RunCol`] shows the items of an array that passed: an item's value, and the run that it lies in, which is searched for. A
 //!   walk over all items asks for the first item behind each run instead.
 //! - [`ColumnRuns`] finds the runs of equal values in a column of any lawful array.
+//! - [`CodeFault`] is why a column isn't made into runs.
 //! - [`coded_values_are_the_values`] is the law of values as runs: their schema is in order, their array is lawful and has these
 //!   values, and no two neighbouring runs have equal ones.
 //!
 //! The ends are walked once by the check, and items never are: a window's length costs nothing. An end may be as far as 2^63 - 1
 //! whatever the window. Nothing here copies bytes of an array.
 //!
-//! What runs are, and the values of their items, stands in `specs/Runs.antt`, a schema in `RunSchemas`, the rules in `RunRules`, and
-//! values as runs in `RunCoding`. Left to others: runs below the root, which `fmt_string` refuses, and what a child's items are (`arr_import`).
+//! What runs are, and the values of their items, stands in `specs/Runs.antt`, a schema in `RunSchemas`, the rules in `RunRules`,
+//! values as runs in `RunCoding`, and which columns aren't made into runs in `CodeFaults`. Left to others: runs below the root, which
+//! `fmt_string` refuses, and what a child's items are (`arr_import`).
 #![tactic(auto)]
 
 mod check;
+mod code_fault;
 mod coding;
 mod column;
 mod column_runs;
@@ -32,6 +35,7 @@ mod schema_fault;
 mod worked_runs;
 
 pub use check::check_runs;
+pub use code_fault::CodeFault;
 pub use coding::coded_values_are_the_values;
 pub use column::RunCol;
 pub use column_runs::ColumnRuns;
