@@ -31,6 +31,9 @@ fn fault_text(alloc: Global, fault: TreeRunFault) -> Result<String, AllocError> 
         TreeRunFault::UnionSchema(fault) => format!(in alloc; "union schema: {fault}"),
         TreeRunFault::Union(fault) => format!(in alloc; "union: {fault}"),
         TreeRunFault::Tag(fault) => format!(in alloc; "tag: {fault}"),
+        TreeRunFault::RunsSchema(fault) => format!(in alloc; "runs schema: {fault}"),
+        TreeRunFault::Runs(fault) => format!(in alloc; "runs: {fault}"),
+        TreeRunFault::Code(fault) => format!(in alloc; "code: {fault}"),
         TreeRunFault::NoMemory => String::from_str(alloc, "out of memory"),
     }
 }

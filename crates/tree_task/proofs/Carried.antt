@@ -18,10 +18,16 @@ use Rattle.tree_task.specs.Answer.{Answer, AnswerWithin, AreBytes, CountsCommand
 use Rattle.tree_task.specs.Answer.{TreesAnswer, input_limit}
 use Rattle.tree_task.specs.Faults.{AtWriteFault, AtWriting, Cause, Memory, OfLength, OfTrees, OfWords, Reading, Writing}
 use Rattle.tree_task.specs.Faults.{cause_of, fault_in, is_decided, is_write_fault, is_writing}
+use Rattle.run_ends.specs.RunRules.{RunsFound, runs_fault}
+use Rattle.run_ends.specs.RunSchemas.{SchemaFound as RunsSchemaFound}
+use Rattle.run_ends.specs.Runs.{RunTree}
+use Rattle.run_ends.specs.declared.code_fault.CodeFault.{CodeFault}
+use Rattle.tree_task.specs.FlatAnswer.{flat_of_schema, flat_unless}
 use Rattle.tree_task.specs.ForeignAnswer.{chunk_of_kinds, chunk_unless}
 use Rattle.tree_task.specs.Over.{RanOver}
 use Rattle.tree_task.specs.Refusals.{fault_of_tree}
 use Rattle.tree_task.specs.RowsAnswer.{rows_of_kinds, rows_unless}
+use Rattle.tree_task.specs.RunsAnswer.{runs_of_array, runs_of_kinds, runs_unless}
 use Rattle.tree_task.specs.TagAnswer.{tags_of_chunk, tags_of_kinds, tags_unless}
 use Rattle.tree_task.specs.UnionAnswer.{union_of_schema, union_unless}
 use Rattle.union_cols.specs.declared.tag_fault.TagFault.{TagFault}
@@ -102,6 +108,9 @@ fault-cases (run.Layout fault) = inl refl
 fault-cases (run.UnionSchema fault) = inl refl
 fault-cases (run.Union fault) = inl refl
 fault-cases (run.Tag fault) = inl refl
+fault-cases (run.RunsSchema fault) = inl refl
+fault-cases (run.Runs fault) = inl refl
+fault-cases (run.Code fault) = inl refl
 fault-cases run.NoMemory = inr (inr (inr refl))
 
 pub not-writing : (P : ℕ → Type 0) (cause : Cause) → is_writing cause ≡ false → AtWriting cause P
@@ -169,11 +178,33 @@ in-union_schema : (read : Result UnionTree SchemaFound) (array : ArrayTree) → 
 in-union_schema (Ok u) array = in-union u array (union_fault u array)
 in-union_schema (Err fault) array = tt
 
+in-coded : (typed : KindTree) (array : ArrayTree) (fault : Option CodeFault) → TextFaultIn (runs_unless typed array fault)
+in-coded typed array None = tt
+in-coded typed array (Some fault) = tt
+
+in-column : (typed : KindTree) (array : ArrayTree) (fault : Option ArrayFault) → TextFaultIn (runs_of_array typed array fault)
+in-column typed array None = in-coded typed array _
+in-column typed array (Some fault) = in-tree (array_fault fault)
+
+in-runs : (read : Result KindTree FirstFault) (array : ArrayTree) → TextFaultIn (runs_of_kinds read array)
+in-runs (Ok typed) array = in-column typed array (first_fault typed array)
+in-runs (Err first) array = in-tree (schema_fault first)
+
+in-flat_array : (u : RunTree) (array : ArrayTree) (fault : Option RunsFound) → TextFaultIn (flat_unless u array fault)
+in-flat_array u array None = tt
+in-flat_array u array (Some fault) = tt
+
+in-flat : (read : Result RunTree RunsSchemaFound) (array : ArrayTree) → TextFaultIn (flat_of_schema read array)
+in-flat (Ok u) array = in-flat_array u array (runs_fault u array)
+in-flat (Err fault) array = tt
+
 in-trees : (command : Command) (schema : SchemaTree) (array : ArrayTree) (answer : Answer) → TreesAnswer command schema array answer → TextFaultIn answer
 in-trees commands.Rows schema array answer is = subst TextFaultIn (sym is.2) (in-kinds is.0 array)
 in-trees commands.Union schema array answer is = subst TextFaultIn (sym is.2) (in-union_schema is.0 array)
 in-trees (commands.Tag dense) schema array answer is = subst TextFaultIn (sym is.2) (in-tags dense is.0 array)
 in-trees commands.Foreign schema array answer is = subst TextFaultIn (sym is.2) (in-chunk_kinds is.0 array)
+in-trees commands.Runs schema array answer is = subst TextFaultIn (sym is.2) (in-runs is.0 array)
+in-trees commands.Flat schema array answer is = subst TextFaultIn (sym is.2) (in-flat is.0 array)
 
 in-read : (command : Command) (read : Result (SchemaTree × ArrayTree) TextFault) (answer : Answer) → ReadAnswer command read answer → TextFaultIn answer
 in-read command (Ok read) answer is = in-trees command read.0 read.1 answer is

@@ -1,4 +1,5 @@
 pub mod SomeUnion
+pub mod SomeRuns
 pub mod OneAnswer
 pub mod MemoryFaults
 pub mod Coming
@@ -8,3 +9,4 @@ pub mod FewUnits
 pub mod ForeignRows
 pub mod UnionLines
 pub mod Tagging
+pub mod Running

@@ -1,5 +1,5 @@
 -- No answer is a fault with a want of memory inside it.
-use Rattle.std.proofs.Common.{if◌then◌else◌, length, ◌≡◌, ◌∙◌, ◌+◌, ℕ, Bool, true, false, List, [], ◌∷◌, suc, Option, None, Some, Result, Ok, Err, ap, inl, inr, refl}
+use Rattle.std.proofs.Common.{if◌then◌else◌, not, length, ◌≡◌, ◌∙◌, ◌+◌, ℕ, Bool, true, false, List, [], ◌∷◌, suc, Option, None, Some, Result, Ok, Err, ap, inl, inr, refl}
 use Rattle.fmt_string.specs.declared.fault.FormatFault.TheVariants as format
 use Rattle.kind_tree.specs.Kinds.{KindTree}
 use Rattle.kind_tree.specs.Ways.{Steps}
@@ -19,18 +19,27 @@ use Rattle.tree_text.specs.declared.fault.TextFault.TheVariants as texts
 use Rattle.root_check.specs.Schemas.{OwnSchemaReads}
 use Rattle.root_check.specs.declared.own_schema.OwnSchemaFault.{OwnSchemaFault}
 use Rattle.root_check.specs.declared.own_schema.OwnSchemaFault.TheVariants as parts
+use Rattle.run_ends.specs.declared.code_fault.CodeFault.TheVariants as codings
+use Rattle.run_ends.specs.RunRules.{RunsFound, runs_fault}
+use Rattle.run_ends.specs.RunSchemas as runs
+use Rattle.run_ends.specs.RunSchemas.{RunsReads, RunsSchemaFails}
+use Rattle.run_ends.specs.RunSchemas.{SchemaFound as RunsSchemaFound}
+use Rattle.run_ends.specs.Runs.{RunTree}
 use Rattle.union_cols.specs.declared.tag_fault.TagFault.TheVariants as tags
 use Rattle.union_cols.specs.UnionRules.{UnionFound, union_fault}
 use Rattle.union_cols.specs.UnionSchemas as found
 use Rattle.union_cols.specs.UnionSchemas.{SchemaFound, UnionReads, UnionSchemaFails}
 use Rattle.union_cols.specs.Unions.{UnionTree}
 use Rattle.tree_task.specs.Answer.{Answer, AnswerWithin, Fault, IsAnswerTo, ReadAnswer, Text, TreesAnswer, is_too_long}
+use Rattle.tree_task.specs.FlatAnswer.{flat_of_schema, flat_unless}
 use Rattle.tree_task.specs.ForeignAnswer.{chunk_of_kinds, chunk_unless}
 use Rattle.tree_task.specs.Refusals.{own_part_fault, union_schema_fault}
 use Rattle.tree_task.specs.RowsAnswer.{rows_of_kinds, rows_unless}
+use Rattle.tree_task.specs.RunRefusals.{runs_part_fault, runs_schema_fault}
+use Rattle.tree_task.specs.RunsAnswer.{runs_of_array, runs_of_kinds, runs_unless}
 use Rattle.tree_task.specs.TagAnswer.{tags_of_chunk, tags_of_kinds, tags_unless}
 use Rattle.tree_task.specs.UnionAnswer.{union_of_schema, union_unless}
-use Rattle.tree_task.specs.Faults.{has_memory_inside, is_decided, is_meta_memory, is_text_memory, rule_has_memory, union_has_memory}
+use Rattle.tree_task.specs.Faults.{has_memory_inside, is_decided, is_meta_memory, is_text_memory, rule_has_memory, runs_has_memory, union_has_memory}
 use Rattle.tree_task.specs.declared.command.Command.{Command}
 use Rattle.tree_task.specs.declared.command.Command.TheVariants as commands
 use Rattle.tree_task.specs.declared.fault.TreeRunFault.{TreeRunFault}
@@ -146,6 +155,44 @@ of-union : (schema : SchemaTree) (array : ArrayTree) (read : Result UnionTree Sc
 of-union schema array (Ok u) reads = of-union_array u array (union_fault u array)
 of-union schema array (Err fault) reads = of-union_schema schema fault reads
 
+-- ---- runs of a column
+
+of-coded : (typed : KindTree) (array : ArrayTree) (flat long : Bool)
+    → within (runs_unless typed array (if not flat then Some codings.WrongKind else if long then Some codings.TooLong else None)) ≡ false
+of-coded typed array false long = refl
+of-coded typed array true true = refl
+of-coded typed array true false = refl
+
+of-column : (typed : KindTree) (array : ArrayTree) (fault : Option ArrayFault) → within (runs_of_array typed array fault) ≡ false
+of-column typed array None = of-coded typed array _ _
+of-column typed array (Some fault) = refl
+
+of-runs : (schema : SchemaTree) (array : ArrayTree) (read : Result KindTree FirstFault) → SchemaReads schema read → within (runs_of_kinds read array) ≡ false
+of-runs schema array (Ok typed) reads = of-column typed array (first_fault typed array)
+of-runs schema array (Err first) reads = fault-from 1 schema first.path first.rule reads
+
+-- ---- run-end encoded arrays
+
+of-runs_part : (schema : SchemaTree) (fault : OwnSchemaFault) → OwnSchemaReads schema (Err fault) → runs_has_memory (runs_part_fault fault) ≡ false
+of-runs_part schema (parts.Meta fault) reads = of-meta (members_of schema).metadata fault reads
+of-runs_part schema parts.Dictionary reads = refl
+
+of-runs_schema : (schema : SchemaTree) (fault : RunsSchemaFound) → RunsSchemaFails schema fault → runs_has_memory (runs_schema_fault fault) ≡ false
+of-runs_schema schema runs.IsReleased fails = refl
+of-runs_schema schema runs.Format fails = refl
+of-runs_schema schema (runs.OwnPart fault) fails = of-runs_part schema fault fails.1
+of-runs_schema schema (runs.ChildCount count) fails = refl
+of-runs_schema schema (runs.Child fault) fails = fault-from 1 _ fault.first.path fault.first.rule fails.2.fails
+of-runs_schema schema runs.EndsType fails = refl
+
+of-runs_array : (u : RunTree) (array : ArrayTree) (fault : Option RunsFound) → within (flat_unless u array fault) ≡ false
+of-runs_array u array None = refl
+of-runs_array u array (Some fault) = refl
+
+of-flat : (schema : SchemaTree) (array : ArrayTree) (read : Result RunTree RunsSchemaFound) → RunsReads schema read → within (flat_of_schema read array) ≡ false
+of-flat schema array (Ok u) reads = of-runs_array u array (runs_fault u array)
+of-flat schema array (Err fault) reads = of-runs_schema schema fault reads
+
 -- ---- answers
 
 of-text : (bytes : List ℕ) (fault : TextFault) → Reads bytes (Err fault) → is_text_memory fault ≡ false
@@ -159,6 +206,8 @@ of-trees commands.Rows schema array answer is = ap within is.2 ∙ of-kinds sche
 of-trees commands.Union schema array answer is = ap within is.2 ∙ of-union schema array is.0 is.1
 of-trees (commands.Tag dense) schema array answer is = ap within is.2 ∙ of-tags dense schema array is.0 is.1
 of-trees commands.Foreign schema array answer is = ap within is.2 ∙ of-chunk_kinds schema array is.0 is.1
+of-trees commands.Runs schema array answer is = ap within is.2 ∙ of-runs schema array is.0 is.1
+of-trees commands.Flat schema array answer is = ap within is.2 ∙ of-flat schema array is.0 is.1
 
 of-read : (command : Command) (bytes : List ℕ) (read : Result (SchemaTree × ArrayTree) TextFault) (answer : Answer) → Reads bytes read
     → ReadAnswer command read answer → within answer ≡ false
@@ -181,4 +230,6 @@ of-fault command bytes (run.Text fault) answer = of-answer command bytes (Fault 
 of-fault command bytes (run.Schema path rule) answer = of-answer command bytes (Fault (run.Schema path rule)) (answer refl)
 of-fault command bytes (run.UnionSchema fault) answer = of-answer command bytes (Fault (run.UnionSchema fault)) (answer refl)
 of-fault command bytes (run.Tag fault) answer = of-answer command bytes (Fault (run.Tag fault)) (answer refl)
+of-fault command bytes (run.RunsSchema fault) answer = of-answer command bytes (Fault (run.RunsSchema fault)) (answer refl)
+of-fault command bytes (run.Code fault) answer = of-answer command bytes (Fault (run.Code fault)) (answer refl)
 of-fault command bytes _ answer = refl

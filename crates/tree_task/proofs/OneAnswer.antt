@@ -10,10 +10,16 @@ use Rattle.tree_text.specs.TreeText.{SchemaFits}
 use Rattle.union_cols.specs.UnionSchemas.{SchemaFound, UnionReads}
 use Rattle.union_cols.specs.Unions.{UnionTree}
 use Rattle.tree_task.specs.Answer.{Answer, AnswerWithin, Fault, IsAnswerTo, ReadAnswer, TextAnswer, TreesAnswer, is_too_long}
+use Rattle.run_ends.specs.RunSchemas.{RunsReads}
+use Rattle.run_ends.specs.RunSchemas.{SchemaFound as RunsSchemaFound}
+use Rattle.run_ends.specs.Runs.{RunTree}
+use Rattle.tree_task.specs.FlatAnswer.{FlatAnswer, flat_of_schema}
 use Rattle.tree_task.specs.ForeignAnswer.{ForeignAnswer, chunk_of_kinds}
 use Rattle.tree_task.specs.RowsAnswer.{RowsAnswer, rows_of_kinds}
+use Rattle.tree_task.specs.RunsAnswer.{RunsAnswer, runs_of_kinds}
 use Rattle.tree_task.specs.TagAnswer.{TagAnswer, tags_of_kinds}
 use Rattle.tree_task.specs.UnionAnswer.{UnionAnswer, union_of_schema}
+use Rattle.tree_task.proofs.SomeRuns.{some-runs}
 use Rattle.tree_task.proofs.SomeUnion.{SomeFormat, SomeKinds, SomeMetadata, some-union}
 use Rattle.tree_task.specs.declared.command.Command.{Command}
 use Rattle.tree_task.specs.declared.command.Command.TheVariants as commands
@@ -39,6 +45,12 @@ module _ (some-reading : (bytes : List ℕ) → (read : Texts) × Reads bytes re
   some-trees commands.Foreign schema array fits =
       let read = some-kinds 1 schema fits in
       (chunk_of_kinds read.0 array, (read.0, read.1, refl))
+  some-trees commands.Runs schema array fits =
+      let read = some-kinds 1 schema fits in
+      (runs_of_kinds read.0 array, (read.0, read.1, refl))
+  some-trees commands.Flat schema array fits =
+      let read = some-runs some-kinds some-metadata 1 schema fits in
+      (flat_of_schema read.0 array, (read.0, read.1, refl))
 
   some-read : (command : Command) (bytes : List ℕ) (read : Texts) → Reads bytes read → (answer : Answer) × ReadAnswer command read answer
   some-read command bytes (Ok read) reads = some-trees command read.0 read.1 reads.1.schema_fits
@@ -63,7 +75,8 @@ module _ (some-reading : (bytes : List ℕ) → (read : Texts) × Reads bytes re
 module _ (one-text : (bytes : List ℕ) (first second : Texts) → Reads bytes first → Reads bytes second → first ≡ second)
     (one-schema : (schema : SchemaTree) (first second : Result KindTree FirstFault) → SchemaReads schema first → SchemaReads schema second
     → first ≡ second)
-    (one-union : (schema : SchemaTree) (first second : Result UnionTree SchemaFound) → UnionReads schema first → UnionReads schema second → first ≡ second) where
+    (one-union : (schema : SchemaTree) (first second : Result UnionTree SchemaFound) → UnionReads schema first → UnionReads schema second → first ≡ second)
+    (one-runs : (schema : SchemaTree) (first second : Result RunTree RunsSchemaFound) → RunsReads schema first → RunsReads schema second → first ≡ second) where
   one-rows : (schema : SchemaTree) (array : ArrayTree) (one other : Answer) → RowsAnswer schema array one → RowsAnswer schema array other → one ≡ other
   one-rows schema array one other is also = is.2 ∙ ap (λ r. rows_of_kinds r array) (one-schema schema is.0 also.0 is.1 also.1) ∙ sym also.2
 
@@ -79,12 +92,20 @@ module _ (one-text : (bytes : List ℕ) (first second : Texts) → Reads bytes f
   one-tags dense schema array one other is also =
       is.2 ∙ ap (λ r. tags_of_kinds dense r array) (one-schema schema is.0 also.0 is.1 also.1) ∙ sym also.2
 
+  one-runs-answer : (schema : SchemaTree) (array : ArrayTree) (one other : Answer) → RunsAnswer schema array one → RunsAnswer schema array other → one ≡ other
+  one-runs-answer schema array one other is also = is.2 ∙ ap (λ r. runs_of_kinds r array) (one-schema schema is.0 also.0 is.1 also.1) ∙ sym also.2
+
+  one-flat : (schema : SchemaTree) (array : ArrayTree) (one other : Answer) → FlatAnswer schema array one → FlatAnswer schema array other → one ≡ other
+  one-flat schema array one other is also = is.2 ∙ ap (λ r. flat_of_schema r array) (one-runs schema is.0 also.0 is.1 also.1) ∙ sym also.2
+
   one-trees : (command : Command) (schema : SchemaTree) (array : ArrayTree) (one other : Answer) → TreesAnswer command schema array one
       → TreesAnswer command schema array other → one ≡ other
   one-trees commands.Rows schema array one other is also = one-rows schema array one other is also
   one-trees commands.Union schema array one other is also = one-union-answer schema array one other is also
   one-trees (commands.Tag dense) schema array one other is also = one-tags dense schema array one other is also
   one-trees commands.Foreign schema array one other is also = one-foreign schema array one other is also
+  one-trees commands.Runs schema array one other is also = one-runs-answer schema array one other is also
+  one-trees commands.Flat schema array one other is also = one-flat schema array one other is also
 
   one-read : (command : Command) (read : Texts) (one other : Answer) → ReadAnswer command read one → ReadAnswer command read other → one ≡ other
   one-read command (Ok read) one other is also = one-trees command read.0 read.1 one other is also

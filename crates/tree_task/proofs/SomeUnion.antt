@@ -30,7 +30,7 @@ SomeMetadata =
 
 -- ---- children
 
-abbrev Kids : List SchemaTree → Type 0
+abbrev pub Kids : List SchemaTree → Type 0
 Kids children = (read : Result (List KindTree) KidFault) × KidsRead children read
 
 one_more : (kid : SchemaTree) (kids : List SchemaTree) (read : Result KindTree FirstFault) → SchemaReads kid read
@@ -44,7 +44,7 @@ one_more kid kids (Ok typed) is (Err fault) are = (
 )
 
 module _ (some-kinds : SomeKinds) where
-  some-kids : (level : ℕ) (kids : Trees SchemaMembers) → AllFit SchemaNodeFits level kids → Kids (tree_list kids)
+  pub some-kids : (level : ℕ) (kids : Trees SchemaMembers) → AllFit SchemaNodeFits level kids → Kids (tree_list kids)
   some-kids level no_trees fits = (Ok [], tt)
   some-kids level (more_trees kid kids) fits =
       let first = some-kinds level kid fits.0 in
@@ -53,10 +53,10 @@ module _ (some-kinds : SomeKinds) where
 
 -- ---- the schema's own parts
 
-abbrev Own : SchemaTree → Type 0
+abbrev pub Own : SchemaTree → Type 0
 Own schema = (read : Result (Unit {0}) OwnSchemaFault) × OwnSchemaReads schema read
 
-own-parts : (schema : SchemaTree) → MetaFits (members_of schema).metadata ⊎ ((fault : MetaFault) × MetaRefused (members_of schema).metadata fault)
+pub own-parts : (schema : SchemaTree) → MetaFits (members_of schema).metadata ⊎ ((fault : MetaFault) × MetaRefused (members_of schema).metadata fault)
     → (dictionary : Option SchemaTree) → dictionary_of schema ≡ dictionary → Own schema
 own-parts schema (inr refused) dictionary same = (Err (parts.Meta refused.0), refused.1)
 own-parts schema (inl fits) None same = (Ok tt, (fits, same))

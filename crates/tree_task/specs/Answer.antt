@@ -11,8 +11,10 @@ use Rattle.tree_text.specs.Answers.{Reads}
 use Rattle.tree_text.specs.TreeText.{TreeIs}
 use Rattle.tree_text.specs.declared.fault.TextFault.{TextFault}
 use Rattle.union_cols.specs.Tags.{tag_blocks}
+use Rattle.tree_task.specs.FlatAnswer.{FlatAnswer}
 use Rattle.tree_task.specs.ForeignAnswer.{ForeignAnswer}
 use Rattle.tree_task.specs.RowsAnswer.{RowsAnswer}
+use Rattle.tree_task.specs.RunsAnswer.{RunsAnswer}
 use Rattle.tree_task.specs.TagAnswer.{TagAnswer}
 use Rattle.tree_task.specs.UnionAnswer.{UnionAnswer}
 use Rattle.tree_task.specs.declared.command.Command.{Command}
@@ -28,6 +30,8 @@ command_named word =
     else if bytes_eq word (codes "tag") then Some (commands.Tag false)
     else if bytes_eq word (codes "tagdense") then Some (commands.Tag true)
     else if bytes_eq word (codes "foreign") then Some commands.Foreign
+    else if bytes_eq word (codes "runs") then Some commands.Runs
+    else if bytes_eq word (codes "flat") then Some commands.Flat
     else None
 
 -- the command that the words are, if they are one: no words are that of the rows
@@ -47,6 +51,8 @@ TreesAnswer commands.Rows schema array answer = RowsAnswer schema array answer
 TreesAnswer commands.Union schema array answer = UnionAnswer schema array answer
 TreesAnswer (commands.Tag dense) schema array answer = TagAnswer dense schema array answer
 TreesAnswer commands.Foreign schema array answer = ForeignAnswer schema array answer
+TreesAnswer commands.Runs schema array answer = RunsAnswer schema array answer
+TreesAnswer commands.Flat schema array answer = FlatAnswer schema array answer
 
 -- to what was read of a text
 abbrev pub ReadAnswer : Command → Result (SchemaTree × ArrayTree) TextFault → Answer → Type 0
@@ -102,6 +108,9 @@ Makes commands.Union array old_blocks old_nodes blocks nodes = (blocks ≡ old_b
 Makes (commands.Tag dense) array old_blocks old_nodes blocks nodes = (blocks ≡ risen old_blocks (tag_blocks dense array)) × (nodes ≡ risen old_nodes 2)
 -- the producer's own block
 Makes commands.Foreign array old_blocks old_nodes blocks nodes = (blocks ≡ risen old_blocks 1) × (nodes ≡ old_nodes)
+-- of run ends nothing is said
+Makes commands.Runs array old_blocks old_nodes blocks nodes = Unit {0}
+Makes commands.Flat array old_blocks old_nodes blocks nodes = Unit {0}
 
 -- The counts rise by the trees of a text, a block for each buffer that is there and a node for each live node of the schema and of
 -- the array, and then by what the command makes.

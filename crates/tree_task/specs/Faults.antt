@@ -10,6 +10,10 @@ use Rattle.schema_meta.specs.declared.fault.MetaFault.{MetaFault}
 use Rattle.schema_meta.specs.declared.fault.MetaFault.TheVariants as meta
 use Rattle.tree_text.specs.declared.fault.TextFault.{TextFault}
 use Rattle.tree_text.specs.declared.fault.TextFault.TheVariants as texts
+use Rattle.run_ends.specs.declared.code_fault.CodeFault.{CodeFault}
+use Rattle.run_ends.specs.declared.code_fault.CodeFault.TheVariants as codings
+use Rattle.run_ends.specs.declared.schema_fault.RunsSchemaFault.{RunsSchemaFault}
+use Rattle.run_ends.specs.declared.schema_fault.RunsSchemaFault.TheVariants as runs
 use Rattle.union_cols.specs.declared.tag_fault.TagFault.{TagFault}
 use Rattle.union_cols.specs.declared.tag_fault.TagFault.TheVariants as tags
 use Rattle.union_cols.specs.declared.schema_fault.UnionSchemaFault.{UnionSchemaFault}
@@ -23,7 +27,7 @@ pub data Cause : Type 0 where
   OfWords : Cause
   -- the length of the input
   OfLength : Cause
-  -- the text, the schema, the array, or the columns of one that is tagged
+  -- the text, the schema, the array, or columns that a command can't take
   OfTrees : Cause
   Reading : Cause
   -- a write, when so many bytes of the text were taken
@@ -41,6 +45,9 @@ cause_of (run.Layout fault) = OfTrees
 cause_of (run.UnionSchema fault) = OfTrees
 cause_of (run.Union fault) = OfTrees
 cause_of (run.Tag fault) = OfTrees
+cause_of (run.RunsSchema fault) = OfTrees
+cause_of (run.Runs fault) = OfTrees
+cause_of (run.Code fault) = OfTrees
 cause_of run.NoMemory = Memory
 
 abbrev pub status_by : Cause → ℕ
@@ -121,10 +128,22 @@ abbrev pub is_tag_memory : TagFault → Bool
 is_tag_memory tags.NoMemory = true
 is_tag_memory _ = false
 
+abbrev pub runs_has_memory : RunsSchemaFault → Bool
+runs_has_memory (runs.Meta fault) = is_meta_memory fault
+runs_has_memory (runs.Child child fault) = schema_has_memory fault
+runs_has_memory runs.NoMemory = true
+runs_has_memory _ = false
+
+abbrev pub is_code_memory : CodeFault → Bool
+is_code_memory codings.NoMemory = true
+is_code_memory _ = false
+
 -- the types of all other faults have no such value
 abbrev pub has_memory_inside : TreeRunFault → Bool
 has_memory_inside (run.Text fault) = is_text_memory fault
 has_memory_inside (run.Schema path rule) = rule_has_memory rule
 has_memory_inside (run.UnionSchema fault) = union_has_memory fault
 has_memory_inside (run.Tag fault) = is_tag_memory fault
+has_memory_inside (run.RunsSchema fault) = runs_has_memory fault
+has_memory_inside (run.Code fault) = is_code_memory fault
 has_memory_inside _ = false

@@ -4,8 +4,12 @@ pub mod RowsAnswer
 pub mod UnionAnswer
 pub mod TagAnswer
 pub mod ForeignAnswer
+pub mod RunsAnswer
+pub mod FlatAnswer
 pub mod Faults
 pub mod Over
 pub mod Told
 pub mod Refusals
+pub mod RunRefusals
 pub mod Gathered
+pub mod RunLines

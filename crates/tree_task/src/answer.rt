@@ -7,8 +7,10 @@ ghost use Rattle.tree_task.specs.Answer.{CountsCommand, Fault, Makes, Text, Text
 
 use crate::command::Command;
 use crate::fault::TreeRunFault;
+use crate::flat::flat_text;
 use crate::foreign::foreign_text;
 use crate::rows::rows_text;
+use crate::runs::runs_text;
 use crate::tags::tag_text;
 use crate::union::union_text;
 use raw_array::RawArray;
@@ -39,6 +41,8 @@ fn trees_text(
         Command::Union => union_text(alloc, &schema, &array),
         Command::Tag { dense } => return tag_text(alloc, schema, array, dense, pass),
         Command::Foreign => return foreign_text(alloc, schema, array, pass),
+        Command::Runs => runs_text(alloc, &schema, &array),
+        Command::Flat => flat_text(alloc, &schema, &array),
     };
     schema.end(pass);
     array.end(pass);

@@ -15,6 +15,10 @@ pub enum Command {
     Tag { dense: bool },
     /// A line for each row of a chunk that a foreign producer owns.
     Foreign,
+    /// A line for each run of equal values of a flat column: the place behind its last item, and its value.
+    Runs,
+    /// A line for each item of a run-end encoded array.
+    Flat,
 }
 
 /// The command that the words after the program's name are, if they are one.
@@ -44,6 +48,12 @@ fn named(word: &String) -> Option<Command>
     }
     if is_word(word, b"foreign") {
         return Some(Command::Foreign);
+    }
+    if is_word(word, b"runs") {
+        return Some(Command::Runs);
+    }
+    if is_word(word, b"flat") {
+        return Some(Command::Flat);
     }
     None
 }

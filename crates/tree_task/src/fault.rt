@@ -7,6 +7,7 @@ ghost use Rattle.union_cols.specs.declared.schema_fault.UnionSchemaFault.TheVari
 use edge_face::WriteFault;
 use kind_tree::Path;
 use layout_rules::LayoutFault;
+use run_ends::{CodeFault, RunsFault, RunsSchemaFault};
 use schema_check::{SchemaFault, SchemaRule};
 use tree_check::{CheckFault, TreeFault};
 use tree_text::TextFault;
@@ -39,6 +40,13 @@ pub enum TreeRunFault {
     Union(UnionFault),
     /// The columns of a chunk make no union: there are none, or too many, or too many rows. It is never want of memory.
     Tag(TagFault),
+    /// The schema is none of a run-end encoded array: its first fault. The places of a path inside it behind its depth are 0, and it is
+    /// never want of memory.
+    RunsSchema(RunsSchemaFault),
+    /// A rule of run-end encoded arrays fails: the first one. The places of a path inside it behind its depth are 0.
+    Runs(RunsFault),
+    /// A column isn't made into runs: it isn't flat, or is too long. It is never want of memory.
+    Code(CodeFault),
     /// Memory ran out, or the text would have more than 2^31 bytes.
     NoMemory,
 }

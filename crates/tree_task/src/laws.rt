@@ -16,6 +16,7 @@ pub fn one_answer()
     tree_check::some_schema_answer();
     union_cols::one_union_answer();
     union_cols::some_union_format();
+    run_ends::one_runs_answer();
 }
 
 /// A law: no fault that is an answer has a want of memory inside it, nor has any that words and bytes don't decide.

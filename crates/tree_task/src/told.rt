@@ -30,6 +30,9 @@ fn line_of(fault: TreeRunFault) -> &'static [u8]
         TreeRunFault::UnionSchema(_) => b"arrowtree: status 8\n",
         TreeRunFault::Union(_) => b"arrowtree: status 8\n",
         TreeRunFault::Tag(_) => b"arrowtree: status 8\n",
+        TreeRunFault::RunsSchema(_) => b"arrowtree: status 8\n",
+        TreeRunFault::Runs(_) => b"arrowtree: status 8\n",
+        TreeRunFault::Code(_) => b"arrowtree: status 8\n",
         TreeRunFault::NoMemory => b"arrowtree: status 9\n",
     }
 }

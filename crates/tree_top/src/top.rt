@@ -20,7 +20,9 @@ use unit_pass::open_desk;
 /// may be of any kind, and a line is the text of an item's value. Under `union` it is read as a union ("Arrow Columnar Format", "Union
 /// Layout"), and a line begins with the item's type id. Under `tag` and `tagdense` the columns of a chunk are made the children of a
 /// sparse or dense union, and a line is the number of the first column that isn't null in a row, with its value. Under `foreign` a
-/// chunk is given to an owner with a release of its own, and drained. A text of more than 2^31 bytes is refused as want of memory.
+/// chunk is given to an owner with a release of its own, and drained. Under `runs` there is a line for each run of equal values of a
+/// flat column, with the place behind its last item and its value. Under `flat` the array is read as a run-end encoded one ("Arrow
+/// Columnar Format", "Run-End Encoded Layout"). A text of more than 2^31 bytes is refused as want of memory.
 ///
 /// The first of these faults is told: of the words, of reading, of the text, of the schema, of the array, of the command, of writing.
 /// To `errs` goes the line `arrowtree: status N` of a fault.

@@ -1,0 +1,112 @@
+-- What the runs of a column and the items of a run-end encoded array come to.
+use Rattle.std.proofs.Common.{◌≡◌, ◌∙◌, ◌<◌, ◌+◌, ℕ, zero, suc, List, ◌++◌, length, get_or, None, Some, Ok, Err}
+use Rattle.std.proofs.Common.{inl, inr, ap, arith, refl, subst, sym}
+use Rattle.std.specs.List.{flat_map}
+use Rattle.data_types.specs.Value.{Value}
+use Rattle.data_types.specs.Value.Value.{Null}
+use Rattle.kind_tree.specs.Kinds.{KindTree}
+use Rattle.kind_tree.specs.Ways.{steps_of}
+use Rattle.layout_rules.specs.Found.{fault_of}
+use Rattle.layout_rules.specs.Layout.{items}
+use Rattle.layout_rules.specs.Walk.{first_fault}
+use Rattle.layout_rules.specs.declared.rule.LayoutFault.{LayoutFault}
+use Rattle.raw_array.specs.Members.{ArrayTree}
+use Rattle.raw_schema.specs.Members.{SchemaTree}
+use Rattle.root_check.specs.declared.own_schema.OwnSchemaFault.TheVariants as parts
+use Rattle.arr_import.specs.Window.{Window, item_at, items_of}
+use Rattle.layout_rules.specs.Values.{each, value_at}
+use Rattle.union_cols.proofs.Numbering.{get_or-each}
+use Rattle.run_ends.specs.RunAnswers.{FailsIf, IsRunsFault, found_of, named}
+use Rattle.run_ends.specs.RunRules.{runs_fault}
+use Rattle.run_ends.specs.RunSchemas as found
+use Rattle.run_ends.specs.RunSchemas.{RunsOf}
+use Rattle.run_ends.specs.Runs.{RunTree, run_values}
+use Rattle.run_ends.specs.declared.rule.RunsFault.{RunsFault}
+use Rattle.run_ends.specs.declared.schema_fault.RunsSchemaFault.{RunsSchemaFault}
+use Rattle.run_ends.specs.declared.schema_fault.RunsSchemaFault.TheVariants as faults
+use Rattle.schema_check.specs.Schemas.{TypedOf}
+use Rattle.schema_check.specs.declared.schema.SchemaFault.TheVariants as schemas
+use Rattle.tree_check.specs.Checks.{array_refused}
+use Rattle.tree_check.specs.declared.fault.CheckFault.{CheckFault}
+use Rattle.value_text.specs.ValueTexts.{lines_text, value_line}
+use Rattle.value_text.proofs.Parts.{lines-more}
+use Rattle.tree_task.specs.FlatAnswer.{FlatAnswer, flat_unless}
+use Rattle.tree_task.specs.Refusals.{fault_of_check}
+use Rattle.tree_task.specs.RunLines.{Reaches}
+use Rattle.tree_task.specs.RunRefusals.{fault_of_runs_schema, runs_fault_told}
+use Rattle.tree_task.specs.RunsAnswer.{RunsAnswer, runs_of_array}
+use Rattle.tree_task.specs.TextOrFault.{Fault, Text}
+use Rattle.tree_task.specs.declared.fault.TreeRunFault.{TreeRunFault}
+use Rattle.tree_task.specs.declared.fault.TreeRunFault.TheVariants as run
+use Rattle.tree_task.proofs.Coming.{IsRefused}
+
+-- ---- the runs of a column
+
+-- the fault of its array
+pub column-refused : (schema : SchemaTree) (array : ArrayTree) (typed : KindTree) → TypedOf schema typed → (fault : LayoutFault) (checked : CheckFault)
+    (told : TreeRunFault) → checked ≡ array_refused fault → told ≡ fault_of_check checked → first_fault typed array ≡ Some (fault_of fault)
+    → IsRefused (RunsAnswer schema array) told
+column-refused schema array typed kinds fault checked told same gives is =
+    inr (Ok typed, kinds, ap Fault (gives ∙ ap fault_of_check same) ∙ ap (runs_of_array typed array) (sym is))
+
+-- ---- the items of a window, as a list
+
+length-each : {X : Type 0} → (f : ℕ → X) (a n : ℕ) → length (each f a n) ≡ n
+length-each f a zero = refl
+length-each f a (suc n) = ap suc (length-each f (suc a) n)
+
+module _ (w : Window) (values : List Value) (same : items_of w ≡ values) (i : ℕ) (inside : i < length values) where
+  pub inside-window : i < w.count
+  inside-window =
+      let many : w.count ≡ length values = sym (length-each (value_at w.typed w.array) w.start w.count) ∙ ap length same in
+      omega (arith, many, inside)
+
+  pub item-there : item_at w i ≡ get_or values i Null
+  item-there = sym (get_or-each (value_at w.typed w.array) w.start w.count i Null inside-window) ∙ ap (λ vs. get_or vs i Null) same
+
+-- ---- the items of a run-end encoded array
+
+module _ (schema : SchemaTree) (array : ArrayTree) where
+  runs_schema-comes : (fault : RunsSchemaFault) → FailsIf schema (named fault) → IsRefused (FlatAnswer schema array) (fault_of_runs_schema fault)
+  runs_schema-comes faults.Released is = inr (Err found.IsReleased, is, refl)
+  runs_schema-comes faults.Format is = inr (Err found.Format, is, refl)
+  runs_schema-comes (faults.Meta fault) is = inr (Err (found.OwnPart (parts.Meta fault)), is, refl)
+  runs_schema-comes faults.Dictionary is = inr (Err (found.OwnPart parts.Dictionary), is, refl)
+  runs_schema-comes (faults.ChildCount count) is = inr (Err (found.ChildCount count), is, refl)
+  runs_schema-comes (faults.Child child (schemas.At path rule)) is =
+      inr (Err (found.Child (record { child = child; first = record { path = steps_of path; rule = rule } })), is, refl)
+  runs_schema-comes (faults.Child child schemas.NoMemory) is = inl refl
+  runs_schema-comes faults.EndsType is = inr (Err found.EndsType, is, refl)
+  runs_schema-comes faults.NoMemory is = inl refl
+
+  -- the fault of the schema
+  pub runs_schema-refused : (fault : RunsSchemaFault) (told : TreeRunFault) → told ≡ fault_of_runs_schema fault → IsRunsFault schema fault
+      → IsRefused (FlatAnswer schema array) told
+  runs_schema-refused fault told gives is = subst (IsRefused (FlatAnswer schema array)) (sym gives) (runs_schema-comes fault is.1)
+
+  module _ (u : RunTree) (kinds : RunsOf schema u) where
+    -- the items of a lawful array
+    pub flat-come : (text : List ℕ) → runs_fault u array ≡ None → text ≡ lines_text (run_values u array) → FlatAnswer schema array (Text text)
+    flat-come text none is = (Ok u, kinds, ap (λ (t : List ℕ). Text t) is ∙ ap (flat_unless u array) (sym none))
+
+    -- the fault of the array
+    pub flat-refused : (fault : RunsFault) (told : TreeRunFault) → told ≡ run.Runs (runs_fault_told (found_of fault))
+        → runs_fault u array ≡ Some (found_of fault) → IsRefused (FlatAnswer schema array) told
+    flat-refused fault told gives is =
+        subst (IsRefused (FlatAnswer schema array)) (sym gives) (inr (Ok u, kinds, ap (flat_unless u array) (sym is)))
+
+-- the lines from the first item on
+pub lines-more-at : (f : ℕ → Value) (n : ℕ) → flat_map value_line (each f 0 (n + 1)) ≡ flat_map value_line (each f 0 n) ++ value_line (f n)
+lines-more-at f n =
+    let from : 0 + n ≡ n = omega arith in
+    lines-more f 0 n ∙ ap (λ k. flat_map value_line (each f 0 n) ++ value_line (f k)) from
+
+module _ (u : RunTree) (array : ArrayTree) where
+  -- an item is behind
+  pub reaches-more : (i run stop : ℕ) → i < stop → Reaches u array i run stop → Reaches u array (i + 1) run stop
+  reaches-more i run stop lt is = record {
+    ordered = omega (arith, lt);
+    within = is.within;
+    same = λ j from to. is.same j (omega (arith, from)) to;
+    next = is.next;
+  }

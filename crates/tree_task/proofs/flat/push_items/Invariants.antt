@@ -1,0 +1,14 @@
+use Rattle.std.proofs.Common.{◌≡◌, ◌++◌}
+use Rattle.std.specs.List.{flat_map}
+use Rattle.layout_rules.specs.Values.{each}
+use Rattle.run_ends.specs.RunCols.{array_in, kinds_in}
+use Rattle.run_ends.specs.Runs.{run_value}
+use Rattle.value_text.specs.ValueTexts.{value_line}
+use Rattle.tree_task.specs.RunLines.{Reaches}
+use Rattle.tree_task.proofs.flat.push_items.Given as goal
+
+-- the lines so far, and the run that the walk is in
+abbrev pub invariant-loop-i : goal.invariant-loop-i
+invariant-loop-i l =
+    (l.text ≡ l.initial.text ++ flat_map value_line (each (run_value (kinds_in l.col) (array_in l.col)) 0 l.i))
+    × Reaches (kinds_in l.col) (array_in l.col) l.i l.at.run l.at.stop
