@@ -24,7 +24,7 @@ use raw_array::RawArray;
 use std::alloc::Global;
 use unit_pass::NoMemory;
 
-/// How many items are measured at most, so that measuring takes a second or so and 256 megabytes.
+/// How many items are measured at most, so that measuring takes a second or so and 128 megabytes.
 const MOST: u64 = 1 << 25;
 
 /// Whether lists of these kinds have indices into dictionaries, so that a short array may tell of very many values.
@@ -71,7 +71,7 @@ pub(crate) fn is_too_long(alloc: Global, typed: &Typed, array: &RawArray) -> Res
 }
 
 /// Whether lines of texts of these lengths, behind `ok`, have more than 2^31 bytes.
-fn are_too_long(lengths: &[u64]) -> bool
+fn are_too_long(lengths: &[u32]) -> bool
     ensures { (item : ℕ → Value) → AreLengths lengths.now item (length lengths.now)
         → result ≡ nat_lt text_limit (length (lines_text (each item 0 (length lengths.now)))) }
 {
@@ -98,7 +98,7 @@ fn lengths_of(
     left: &mut u64,
     typed: &Typed,
     array: &RawArray,
-) -> Result<Vec<u64>, NoMemory>
+) -> Result<Vec<u32>, NoMemory>
     requires lawful { LayoutOk (typed_of typed.now) array.now }
     requires levels { Depth (typed_of typed.now) ≤ 64 }
     requires types { NodesOk (typed_of typed.now) }
@@ -126,7 +126,7 @@ fn kid_lengths(
     left: &mut u64,
     kids: &[Typed],
     array: &RawArray,
-) -> Result<Vec<Vec<u64>>, NoMemory>
+) -> Result<Vec<Vec<u32>>, NoMemory>
     requires lawful { (k : ℕ) → k < length (map typed_of kids.now) → LayoutOk (get_or (map typed_of kids.now) k Released) (child_at array.now k) }
     requires levels { 1 + depth_of_all (trees (map typed_of kids.now)) ≤ 64 }
     requires types { AllNodesOk (trees (map typed_of kids.now)) }
@@ -148,8 +148,8 @@ fn index_lengths(
     array: &RawArray,
     dict: &Typed,
     dictionary: &RawArray,
-    entries: &[u64],
-) -> Result<Vec<u64>, NoMemory>
+    entries: &[u32],
+) -> Result<Vec<u32>, NoMemory>
     requires lawful { LayoutOk (typed_of typed.now) array.now }
     requires types { TypedOk (typed_of typed.now) }
     requires kinds { dict_in (out-Typed typed.now).dict ≡ Some (typed_of dict.now) }
@@ -173,8 +173,8 @@ fn own_lengths(
     alloc: Global,
     typed: &Typed,
     array: &RawArray,
-    kids: &[Vec<u64>],
-) -> Result<Vec<u64>, NoMemory>
+    kids: &[Vec<u32>],
+) -> Result<Vec<u32>, NoMemory>
     requires lawful { LayoutOk (typed_of typed.now) array.now }
     requires types { TypedOk (typed_of typed.now) }
     requires own { dict_in (out-Typed typed.now).dict ≡ None }
@@ -196,10 +196,10 @@ fn item_length(
     col: &Col<'_>,
     typed: &Typed,
     array: &RawArray,
-    kids: &[Vec<u64>],
+    kids: &[Vec<u32>],
     i: u64,
     room: &mut Vec<u8>,
-) -> Result<u64, NoMemory>
+) -> Result<u32, NoMemory>
     requires lawful { LayoutOk (typed_of typed.now) array.now }
     requires types { NodesOk (typed_of typed.now) }
     requires own { dict_in (out-Typed typed.now).dict ≡ None }
@@ -220,7 +220,7 @@ fn item_length(
 }
 
 /// The length of the text of a list or a struct.
-fn nested_length(typed: &Typed, array: &RawArray, kids: &[Vec<u64>], i: u64) -> u64
+fn nested_length(typed: &Typed, array: &RawArray, kids: &[Vec<u32>], i: u64) -> u32
     requires lawful { LayoutOk (typed_of typed.now) array.now }
     requires types { NodesOk (typed_of typed.now) }
     requires own { dict_in (out-Typed typed.now).dict ≡ None }

@@ -101,7 +101,7 @@ fn items_are_there(typed: &Typed, array: &RawArray, i: u64)
 }
 
 /// The length of the text of a list between two offsets.
-pub(crate) fn list_at(wide: bool, typed: &Typed, array: &RawArray, kids: &[Vec<u64>], i: u64) -> u64
+pub(crate) fn list_at(wide: bool, typed: &Typed, array: &RawArray, kids: &[Vec<u32>], i: u64) -> u32
     requires lawful { LayoutOk (typed_of typed.now) array.now }
     requires types { NodesOk (typed_of typed.now) }
     requires kids { AreKidLengths kids.now (kids_of typed.now) array.now (length (kids_of typed.now)) }
@@ -123,9 +123,9 @@ pub(crate) fn fixed_list_at(
     size: u32,
     typed: &Typed,
     array: &RawArray,
-    kids: &[Vec<u64>],
+    kids: &[Vec<u32>],
     i: u64,
-) -> u64
+) -> u32
     requires lawful { LayoutOk (typed_of typed.now) array.now }
     requires types { NodesOk (typed_of typed.now) }
     requires kids { AreKidLengths kids.now (kids_of typed.now) array.now (length (kids_of typed.now)) }
@@ -162,7 +162,7 @@ fn fields_are_there(typed: &Typed, array: &RawArray, i: u64)
 }
 
 /// The length of the text of a struct.
-pub(crate) fn row_at(typed: &Typed, array: &RawArray, kids: &[Vec<u64>], i: u64) -> u64
+pub(crate) fn row_at(typed: &Typed, array: &RawArray, kids: &[Vec<u32>], i: u64) -> u32
     requires lawful { LayoutOk (typed_of typed.now) array.now }
     requires kids { AreKidLengths kids.now (kids_of typed.now) array.now (length (kids_of typed.now)) }
     requires inside { i < tree_items array.now }
