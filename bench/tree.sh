@@ -3,6 +3,8 @@
 #   text:  a struct of one column of 6 bytes of text a row
 #   nodes: a struct of so many columns of whole numbers, each of one row
 #   pairs: a column without rows whose metadata has so many empty pairs, of 24 bytes of text each
+#   lists: lists of three indices of a byte each into a dictionary of 200 texts of 7 bytes
+#   union: a dense union of whole numbers, texts of 6 bytes and wide whole numbers, in turn
 bytes=${1:?bytes}
 kind=${2:-text}
 exec awk -v size="$bytes" -v kind="$kind" '
@@ -27,6 +29,38 @@ BEGIN {
     for (i = 0; i < n; i++) print "S =i ~ 0 0 0 ~"
     print "A 1 0 0 1 " n " 0\nB ~"
     for (i = 0; i < n; i++) print "A 1 0 0 2 0 0\nB ~\nB =01000000"
+    exit
+  }
+  if (kind == "lists") {
+    n = int(size / 14)
+    print "S =+l ~ 0 1 0 ~\nS =C =i 0 0 1 ~\nS =u ~ 0 0 0 ~\nA " n " 0 0 2 1 0\nB ~"
+    printf "B ="
+    for (i = 0; i <= n; i++) printf "%s", le(3 * i, 4)
+    printf "\nA " 3 * n " 0 0 2 0 1\nB ~\nB ="
+    for (i = 0; i < 3 * n; i++) printf "%02x", 7 * i % 200
+    printf "\nA 200 0 0 3 0 0\nB ~\nB ="
+    for (i = 0; i <= 200; i++) printf "%s", le(7 * i, 4)
+    printf "\nB ="
+    for (i = 0; i < 200; i++) printf "6974656d3%d3%d3%d", i / 100, i / 10 % 10, i % 10
+    print ""
+    exit
+  }
+  if (kind == "union") {
+    n = int(size / 74)
+    print "S =+ud:0,1,2 ~ 0 3 0 ~\nS =i =n 0 0 0 ~\nS =u =t 0 0 0 ~\nS =l =w 0 0 0 ~\nA " 3 * n " 0 0 2 3 0"
+    printf "B ="
+    for (i = 0; i < n; i++) printf "000102"
+    printf "\nB ="
+    for (i = 0; i < n; i++) { at = le(i, 4); printf "%s", at at at }
+    printf "\nA " n " 0 0 2 0 0\nB ~\nB ="
+    for (i = 0; i < n; i++) printf "%s", le(i, 4)
+    printf "\nA " n " 0 0 3 0 0\nB ~\nB ="
+    for (i = 0; i <= n; i++) printf "%s", le(6 * i, 4)
+    printf "\nB ="
+    for (i = 0; i < n; i++) printf "6974656d30%02x", 48 + i % 10
+    printf "\nA " n " 0 0 2 0 0\nB ~\nB ="
+    for (i = 0; i < n; i++) printf "%s", le(1000 * i, 8)
+    print ""
     exit
   }
   if (kind != "pairs") exit 2
