@@ -1,5 +1,6 @@
-//! Chunks of a producer, shown one after another: the second one's offsets fall.
-ghost use Rattle.std.specs.Prelude.{◌≡◌, [], ◌∷◌, ◌++◌, None};
+//! Three chunks of a producer, shown one after another; the offsets of one may fall.
+ghost use Rattle.std.specs.Prelude.{◌≡◌, ◌≢◌, ◌+◌, [], ◌∷◌, ◌++◌, None};
+ghost use Rattle.foreign_array.specs.Kept.{units_in};
 
 use crate::owned::{Kept, owner, trees};
 use foreign_array::{DrainFault, Foreign, Visit, drain};
@@ -10,7 +11,7 @@ use raw_array::RawArray;
 use schema_check::check_schema;
 use std::alloc::Global;
 use std::process::Abort;
-use unit_pass::{NoMemory, ROOM, open_desk};
+use unit_pass::{NoMemory, Pass, ROOM, open_desk};
 
 /// Counts the chunks that it is shown, and their rows.
 #[derive(Drop)]
@@ -48,45 +49,54 @@ fn listed<T>(rt: &impl Abort, items: &mut Vec<T>, item: T)
     }
 }
 
-fn two(
+fn three(
     rt: &impl Abort,
     alloc: Global,
     first: Foreign<Kept>,
     second: Foreign<Kept>,
+    third: Foreign<Kept>,
 ) -> Vec<Foreign<Kept>>
-    ensures { result.items ≡ first ∷ second ∷ [] }
+    ensures { result.items ≡ first ∷ second ∷ third ∷ [] }
 {
     let mut chunks = Vec::new(alloc);
     listed(rt, &mut chunks, first);
     listed(rt, &mut chunks, second);
+    listed(rt, &mut chunks, third);
     chunks
 }
 
-/// Drains the trees of two texts, each with an owner that owes 1, by a visitor that has room for so many chunks. No unit is out
+/// The array of a text with an owner that owes 1.
+fn owned(rt: &impl Abort, alloc: Global, text: &str, pass: &mut Pass) -> Foreign<Kept>
+    ensures live { result ≢ None }
+    ensures units { pass.new.units + units_in (λ _. 1) result ≡ pass.old.units }
+{
+    assert!(rt; pass.units() >= ROOM);
+    let (schema, array) = trees(rt, alloc, text, pass);
+    schema.end(pass);
+    assert!(rt; pass.units() >= 1);
+    let owner = owner(rt, alloc, pass);
+    Foreign::new(array, owner)
+}
+
+/// Drains the trees of three texts, each with an owner that owes 1, by a visitor that has room for so many chunks. No unit is out
 /// behind it, or the desk couldn't be closed.
 fn outcome(
     rt: &impl Abort,
     alloc: Global,
-    first: &str,
-    second: &str,
+    texts: [&str; 3],
     room: u64,
 ) -> (Result<(), DrainFault>, u64, i64) {
     let (desk, mut pass) = open_desk();
-    let (schema, array) = trees(rt, alloc, first, &mut pass);
+    let (schema, array) = trees(rt, alloc, texts[0], &mut pass);
     let Ok(typed) = check_schema(alloc, &schema) else {
         panic!(rt; "a schema");
     };
     schema.end(&mut pass);
-    assert!(rt; pass.units() >= 1);
-    let first_owner = owner(rt, alloc, &mut pass);
-    let first = Foreign::new(array, first_owner);
-    assert!(rt; pass.units() >= ROOM);
-    let (schema, array) = trees(rt, alloc, second, &mut pass);
-    schema.end(&mut pass);
-    assert!(rt; pass.units() >= 1);
-    let second_owner = owner(rt, alloc, &mut pass);
-    let second = Foreign::new(array, second_owner);
-    let chunks = two(rt, alloc, first, second);
+    array.end(&mut pass);
+    let first = owned(rt, alloc, texts[0], &mut pass);
+    let second = owned(rt, alloc, texts[1], &mut pass);
+    let third = owned(rt, alloc, texts[2], &mut pass);
+    let chunks = three(rt, alloc, first, second, third);
     let mut visit = Counted {
         chunks: 0,
         rows: 0,
@@ -97,40 +107,51 @@ fn outcome(
     (drained, visit.chunks, visit.rows)
 }
 
-#[test]
-fn lawful_chunks_are_all_shown(rt: HostRuntime) {
-    let found = outcome(&rt, rt.alloc(), LAWFUL, LAWFUL, 2);
-    assert_eq!(rt; found, (Ok(()), 2, 2));
-}
-
-#[test]
-fn the_second_chunk_is_named(rt: HostRuntime) {
-    match outcome(&rt, rt.alloc(), LAWFUL, FALLING, 2) {
-        (Err(DrainFault::Layout { chunk, fault }), chunks, _rows) => {
-            let found = (
-                chunk,
-                fault.rule,
-                fault.place,
-                fault.left,
-                fault.right,
-                chunks,
-            );
-            assert_eq!(rt; found, (1, LayoutRule::OffsetsFall, 1, 3, 2, 1));
-        }
+/// What is told of the chunk at fault: its number, and its fault with the two numbers; and how many chunks were shown.
+fn fault_of(
+    rt: &impl Abort,
+    found: (Result<(), DrainFault>, u64, i64),
+) -> (u64, LayoutRule, u64, i128, i128, u64) {
+    match found {
+        (Err(DrainFault::Layout { chunk, fault }), chunks, _rows) => (
+            chunk,
+            fault.rule,
+            fault.place,
+            fault.left,
+            fault.right,
+            chunks,
+        ),
         other => panic!(rt; "{other:?}"),
     }
 }
 
 #[test]
-fn no_chunk_is_shown_behind_the_first_refused_one(rt: HostRuntime) {
-    let (drained, chunks, _rows) = outcome(&rt, rt.alloc(), FALLING, LAWFUL, 2);
-    assert_eq!(rt; (drained.is_err(), chunks), (true, 0));
+fn lawful_chunks_are_all_shown(rt: HostRuntime) {
+    let found = outcome(&rt, rt.alloc(), [LAWFUL, LAWFUL, LAWFUL], 3);
+    assert_eq!(rt; found, (Ok(()), 3, 2));
+}
+
+#[test]
+fn the_first_chunk_at_fault_is_named(rt: HostRuntime) {
+    let alloc = rt.alloc();
+    let found = (
+        fault_of(&rt, outcome(&rt, alloc, [FALLING, LAWFUL, FALLING], 3)),
+        fault_of(&rt, outcome(&rt, alloc, [LAWFUL, FALLING, LAWFUL], 3)),
+        fault_of(&rt, outcome(&rt, alloc, [LAWFUL, LAWFUL, FALLING], 3)),
+    );
+    let falls = |chunk| (chunk, LayoutRule::OffsetsFall, 1, 3, 2, chunk);
+    assert_eq!(rt; found, (falls(0), falls(1), falls(2)));
 }
 
 #[test]
 fn a_visitor_may_run_out_of_memory(rt: HostRuntime) {
-    let first = outcome(&rt, rt.alloc(), LAWFUL, LAWFUL, 0);
-    let second = outcome(&rt, rt.alloc(), LAWFUL, FALLING, 1);
-    assert_eq!(rt; first, (Err(DrainFault::NoMemory), 0, 0));
-    assert_eq!(rt; second.1, 1);
+    let alloc = rt.alloc();
+    let first = outcome(&rt, alloc, [LAWFUL, LAWFUL, LAWFUL], 0);
+    let second = outcome(&rt, alloc, [LAWFUL, LAWFUL, FALLING], 1);
+    let third = outcome(&rt, alloc, [LAWFUL, LAWFUL, LAWFUL], 2);
+    let none = Err(DrainFault::NoMemory);
+    assert_eq!(rt;
+        (first, second, third),
+        ((none, 0, 0), (none, 1, 2), (none, 2, 2))
+    );
 }

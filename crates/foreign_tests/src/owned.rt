@@ -32,6 +32,22 @@ impl Owner for Kept {
     }
 }
 
+/// A producer that keeps nothing.
+struct Nothing;
+
+impl Owner for Nothing {
+    ghost owes = { λ _. 0 };
+
+    fn owes(&self) -> u64 {
+        0
+    }
+
+    fn release(self, pass: &mut Pass) {
+        let Nothing = self;
+        let _pass = pass;
+    }
+}
+
 /// An owner with a new block.
 pub(crate) fn owner(rt: &impl Abort, alloc: Global, pass: &mut Pass) -> Kept
     requires { 1 ≤ pass.old.units }
@@ -96,4 +112,23 @@ fn a_release_acts_once(rt: HostRuntime) {
     moved.discard();
     let audit = desk.close(pass);
     assert_eq!(rt; (audit.blocks, audit.nodes, audit.left), (2, 2, 0));
+}
+
+#[test]
+fn an_owner_may_owe_nothing(rt: HostRuntime) {
+    let alloc = rt.alloc();
+    let (desk, mut pass) = open_desk();
+    let (schema, array) = trees(
+        &rt,
+        alloc,
+        "tree 1\nS =n ~ 0 0 0 ~\nA 1 0 0 0 0 0\n",
+        &mut pass,
+    );
+    schema.end(&mut pass);
+    let mut foreign = Foreign::new(array, Nothing);
+    let owes = foreign.owes();
+    assert!(rt; foreign.release(&mut pass) == Acted::Acted);
+    foreign.discard();
+    let audit = desk.close(pass);
+    assert_eq!(rt; (owes, audit.blocks, audit.nodes, audit.left), (0, 0, 2, 0));
 }
