@@ -89,6 +89,18 @@ impl<'a> UnionCol<'a> {
         (self.child(i), self.number(i))
     }
 
+    /// The number of the child that has item `i`'s id, counted from 0.
+    #[inline(always)]
+    pub fn child_number(&self, i: i64) -> usize
+        requires from { pos 0 ≤ℤ i }
+        requires below { i <ℤ pos (items (members_of (array_in self.now))) }
+        ensures number { result ≡ child_number (kinds_in self.now).ids (members_of (array_in self.now)) (natural i) }
+        ensures within { result < length (kinds_in self.now).kids }
+    {
+        union_holds(self.typed, self.node.array);
+        self.node.child_number(&self.table, i as u64)
+    }
+
     /// Item `i`: the value of the item of its child. Bytes are lent from the child's blocks.
     pub fn value(&self, i: i64) -> ValueRef<'a>
         requires from { pos 0 ≤ℤ i }

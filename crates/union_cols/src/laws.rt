@@ -29,7 +29,7 @@ pub fn one_union_answer()
 }
 
 /// A law: what holds of a union's array at which no rule fails.
-pub(crate) fn union_holds(typed: &UnionTyped, array: &RawArray)
+pub fn union_holds(typed: &UnionTyped, array: &RawArray)
     requires lawful { IsTrue (is_none (union_fault (union_of typed.now) array.now)) }
     requires same { length typed.now.ids.items ≡ length typed.now.kids.items }
     ensures { UnionHolds (union_of typed.now) array.now }

@@ -38,7 +38,7 @@ mod worked_unions;
 pub use check::check_union;
 pub use column::UnionCol;
 pub use kinds::UnionTyped;
-pub use laws::{one_union_answer, tagged_chunks_are_unions};
+pub use laws::{one_union_answer, tagged_chunks_are_unions, union_holds};
 pub use read::read_union;
 pub use rule::{UnionFault, UnionRule};
 pub use schema_fault::UnionSchemaFault;

@@ -25,8 +25,8 @@ fn counted(count: usize) -> u32
     }
 }
 
-/// The sum of two lengths.
-pub(crate) fn plus(one: u32, other: u32) -> u32
+/// The sum of two lengths in bytes, of which each above 2^31 is told as 2^31 + 1.
+pub fn plus(one: u32, other: u32) -> u32
     ensures { result ≡ capped (one + other) }
 {
     one.saturating_add(other).min(LONGER)
@@ -48,8 +48,8 @@ pub(crate) fn truth_length(truth: bool) -> u32
     if truth { 4 } else { 5 }
 }
 
-/// The length of the text of a whole number, which is made in this room.
-pub(crate) fn whole_length(whole: i128, room: &mut Vec<u8>) -> Result<u32, NoMemory>
+/// The length in bytes of the text of a whole number, which is made in this room.
+pub fn whole_length(whole: i128, room: &mut Vec<u8>) -> Result<u32, NoMemory>
     ensures { IfOk result (λ count. count ≡ text_length (Whole whole)) }
 {
     let text = whole_text(whole, room)?;

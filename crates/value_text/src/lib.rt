@@ -6,6 +6,9 @@
 //! - [`items_text`] is the text `ok` and a line for each item of a lawful array. Where lists have indices into dictionaries, it
 //!   finds the length of the text first (`measure`), from the lengths of the texts of the items of all arrays below, each once.
 //!
+//! - [`measured`] finds the lengths of the texts of all items of an array, for others that tell of items any number of times, and
+//!   [`tells_often`] says where it pays.
+//!
 //! What a value's text is stands in `specs/ValueTexts.antt`, and how long it is in `specs/Lengths.antt`. The calls go down one level
 //! of the checked kinds at a time; but for that measure they take no memory but that of the text. Left to others: whether an array is lawful (`layout_check`), and what an item of it is
 //! (`arr_import`).
@@ -22,6 +25,8 @@ mod table;
 mod value;
 
 pub use bounded::BoundedText;
+pub use lengths::{plus, whole_length};
 pub use lines::items_text;
+pub use measure::{MOST_MEASURED, measured, tells_often};
 pub use numbered::push_numbered;
 pub use value::push_value;

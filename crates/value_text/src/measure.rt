@@ -25,10 +25,10 @@ use std::alloc::Global;
 use unit_pass::NoMemory;
 
 /// How many items are measured at most, so that measuring takes a second or so and 128 megabytes.
-const MOST: u64 = 1 << 25;
+pub const MOST_MEASURED: u64 = 1 << 25;
 
 /// Whether lists of these kinds have indices into dictionaries, so that a short array may tell of very many values.
-pub(crate) fn tells_often(typed: &Typed) -> bool {
+pub fn tells_often(typed: &Typed) -> bool {
     lists_indices(typed, false)
 }
 
@@ -65,8 +65,8 @@ pub(crate) fn is_too_long(alloc: Global, typed: &Typed, array: &RawArray) -> Res
     requires lawful { LayoutOk (typed_of typed.now) array.now }
     ensures { IfOk result (λ long. long ≡ nat_lt text_limit (length (lines_text (values_of (typed_of typed.now) array.now)))) }
 {
-    let mut left = MOST;
-    let lengths = lengths_of(alloc, &mut left, typed, array)?;
+    let mut left = MOST_MEASURED;
+    let lengths = measured(alloc, &mut left, typed, array)?;
     Ok(are_too_long(&lengths))
 }
 
@@ -80,6 +80,22 @@ fn are_too_long(lengths: &[u32]) -> bool
         sum = plus(sum, plus(lengths[i], 1));
     }
     sum > 1 << 31
+}
+
+/// The length in bytes of the text of each item of a lawful array's window, where 2^31 + 1 stands for each above 2^31. The items
+/// that are measured, of the array and of all arrays below it, are taken from those that are left to measure; `NoMemory` comes also
+/// where there are too many.
+pub fn measured(
+    alloc: Global,
+    left: &mut u64,
+    typed: &Typed,
+    array: &RawArray,
+) -> Result<Vec<u32>, NoMemory>
+    requires types { TypedOk (typed_of typed.now) }
+    requires lawful { LayoutOk (typed_of typed.now) array.now }
+    ensures { IfOk result (λ lengths. AreLengths lengths.items (value_at (typed_of typed.now) array.now) (tree_items array.now)) }
+{
+    lengths_of(alloc, left, typed, array)
 }
 
 /// Takes a number of items from those that are left to measure.
