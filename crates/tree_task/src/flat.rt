@@ -1,11 +1,18 @@
 //! The items of a run-end encoded array.
-ghost use Rattle.std.specs.Prelude.{◌≡◌, ◌<◌, ◌^◌, ◌++◌, ◌⊎◌, ℕ, IfOk, IfErr, OnOk};
+ghost use Rattle.std.specs.Prelude.{◌≡◌, ◌<◌, ◌^◌, ◌++◌, ◌⊎◌, ℕ, IfOk, IfErr, OnOk, length, nat_lt};
 ghost use Rattle.std.specs.List.{flat_map};
 ghost use Rattle.layout_rules.specs.Layout.{items};
+ghost use Rattle.kind_tree.specs.TypedView.{typed_of};
+ghost use Rattle.layout_rules.specs.Values.{tree_items, value_at};
+ghost use Rattle.layout_rules.specs.Walk.{LayoutOk};
 ghost use Rattle.raw_array.specs.Members.{members_of};
+ghost use Rattle.run_ends.specs.RunAnswers.{runs_of};
 ghost use Rattle.run_ends.specs.RunCols.{array_in, kinds_in};
-ghost use Rattle.run_ends.specs.Runs.{run_of, run_value, run_values};
-ghost use Rattle.value_text.specs.ValueTexts.{lines_text, value_line};
+ghost use Rattle.run_ends.specs.RunRules.{RunsOk};
+ghost use Rattle.run_ends.specs.Runs.{RunTypedOk, run_of, run_value, run_values};
+ghost use Rattle.tree_model.specs.Tree.{child_at, children_of};
+ghost use Rattle.value_text.specs.Lengths.{AreLengths, capped};
+ghost use Rattle.value_text.specs.ValueTexts.{lines_text, text_limit, value_line};
 ghost use Rattle.tree_task.specs.FlatAnswer.{FlatAnswer};
 ghost use Rattle.tree_task.specs.RunLines.{Reaches};
 ghost use Rattle.tree_task.specs.TextOrFault.{Fault, Text};
@@ -13,10 +20,10 @@ ghost use Rattle.tree_task.specs.TextOrFault.{Fault, Text};
 use crate::fault::TreeRunFault;
 use raw_array::RawArray;
 use raw_schema::RawSchema;
-use run_ends::{RunCol, check_runs, read_runs};
+use run_ends::{RunCol, RunTyped, check_runs, read_runs};
 use std::alloc::Global;
 use unit_pass::NoMemory;
-use value_text::{BoundedText, push_value};
+use value_text::{BoundedText, MOST_MEASURED, measured, plus, push_value, tells_often};
 
 /// A line for each item of a run-end encoded array under its schema, or the first fault: of the schema, and then of the array ("Arrow
 /// Columnar Format", "Run-End Encoded Layout").
@@ -33,9 +40,23 @@ pub(crate) fn flat_text(
         Err(fault) => return Err(TreeRunFault::from(fault)),
     };
     match check_runs(&typed, array) {
-        Ok(()) => Ok(lines(alloc, &RunCol::of(&typed, array))?),
+        Ok(()) => Ok(measured_lines(alloc, &typed, array)?),
         Err(fault) => Err(TreeRunFault::from(fault)),
     }
+}
+
+/// The text of an array's items. Where a short array may tell of very many values, its length is found first.
+fn measured_lines(alloc: Global, typed: &RunTyped, array: &RawArray) -> Result<Vec<u8>, NoMemory>
+    requires types { RunTypedOk (runs_of typed.now) }
+    requires lawful { RunsOk (runs_of typed.now) array.now }
+    ensures { IfOk result (λ text. text.items ≡ lines_text (run_values (runs_of typed.now) array.now)) }
+{
+    let col = RunCol::of(typed, array);
+    BoundedText::new(alloc).has_room(count_items(&col) * 2)?;
+    if tells_often(&typed.values) && is_too_long(alloc, typed, array).unwrap_or(false) {
+        return Err(NoMemory);
+    }
+    lines(alloc, &col)
 }
 
 /// The text of a column's items.
@@ -46,6 +67,53 @@ fn lines(alloc: Global, col: &RunCol<'_>) -> Result<Vec<u8>, NoMemory>
     text.push_bytes(b"ok\n")?;
     push_items(&mut text, col)?;
     Ok(text.into_bytes())
+}
+
+/// Whether the text of an array's items would have more than 2^31 bytes. Each value is measured once, however long its run is.
+/// `NoMemory` comes also where there are too many items to measure.
+fn is_too_long(alloc: Global, typed: &RunTyped, array: &RawArray) -> Result<bool, NoMemory>
+    requires types { RunTypedOk (runs_of typed.now) }
+    requires lawful { RunsOk (runs_of typed.now) array.now }
+    ensures { IfOk result (λ long. long ≡ nat_lt text_limit (length (lines_text (run_values (runs_of typed.now) array.now)))) }
+{
+    values_are_lawful(typed, array);
+    let mut left = MOST_MEASURED;
+    let lengths = measured(alloc, &mut left, &typed.values, array.child(1))?;
+    Ok(are_too_long(&RunCol::of(typed, array), &lengths))
+}
+
+/// A law: where no rule fails, the second child is there and lawful.
+fn values_are_lawful(typed: &RunTyped, array: &RawArray)
+    requires { RunsOk (runs_of typed.now) array.now }
+    ensures children { length (children_of array.now) ≡ 2 }
+    ensures values { LayoutOk (typed_of typed.now.values) (child_at array.now 1) }
+{
+    root_check::faultless_roots();
+}
+
+/// The same of a column whose values have texts of these lengths.
+fn are_too_long(col: &RunCol<'_>, lengths: &[u32]) -> bool
+    requires { AreLengths lengths.now (value_at (kinds_in col.now).values (child_at (array_in col.now) 1)) (tree_items (child_at (array_in col.now) 1)) }
+    ensures { result ≡ nat_lt text_limit (length (lines_text (run_values (kinds_in col.now) (array_in col.now)))) }
+{
+    let mut at = first_run(col);
+    let mut sum = 3;
+    for i in 0..count_items(col) {
+        at = run_from(col, i, at);
+        sum = plus(sum, line_length(col, lengths, i, at.run));
+    }
+    sum > 1 << 31
+}
+
+/// The length of the line of an item of this run.
+fn line_length(col: &RunCol<'_>, lengths: &[u32], i: u64, run: u64) -> u32
+    requires lengths { AreLengths lengths.now (value_at (kinds_in col.now).values (child_at (array_in col.now) 1)) (tree_items (child_at (array_in col.now) 1)) }
+    requires inside { i < items (members_of (array_in col.now)) }
+    requires at { run ≡ run_of (kinds_in col.now) (array_in col.now) i }
+    ensures { result ≡ capped (length (value_line (run_value (kinds_in col.now) (array_in col.now) i))) }
+{
+    col.values();
+    plus(lengths[run as usize], 1)
 }
 
 /// The number of a column's items.

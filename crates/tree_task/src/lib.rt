@@ -30,6 +30,7 @@ mod shown;
 mod tags;
 mod told;
 mod union;
+mod union_length;
 
 pub use carry::carry_out;
 pub use command::{Command, read_command};

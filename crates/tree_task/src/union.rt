@@ -4,16 +4,19 @@ ghost use Rattle.std.specs.List.{flat_map};
 ghost use Rattle.layout_rules.specs.Layout.{items};
 ghost use Rattle.raw_array.specs.Members.{members_of};
 ghost use Rattle.union_cols.specs.UnionCols.{array_in, kinds_in};
-ghost use Rattle.union_cols.specs.Unions.{union_item, union_items};
+ghost use Rattle.union_cols.specs.UnionAnswers.{union_of};
+ghost use Rattle.union_cols.specs.UnionRules.{UnionOk};
+ghost use Rattle.union_cols.specs.Unions.{UnionTypedOk, union_item, union_items};
 ghost use Rattle.value_text.specs.NumberedTexts.{numbered_line};
 ghost use Rattle.tree_task.specs.TextOrFault.{Fault, Text};
 ghost use Rattle.tree_task.specs.UnionAnswer.{UnionAnswer, items_text, numbered_item};
 
 use crate::fault::TreeRunFault;
+use crate::union_length::{is_union_too_long, union_tells_often};
 use raw_array::RawArray;
 use raw_schema::RawSchema;
 use std::alloc::Global;
-use union_cols::{UnionCol, check_union, read_union};
+use union_cols::{UnionCol, UnionTyped, check_union, read_union};
 use unit_pass::NoMemory;
 use value_text::{BoundedText, push_numbered};
 
@@ -32,12 +35,24 @@ pub(crate) fn union_text(
         Err(fault) => return Err(TreeRunFault::from(fault)),
     };
     match check_union(&typed, array) {
-        Ok(()) => Ok(lines(alloc, &UnionCol::of(&typed, array))?),
+        Ok(()) => Ok(measured_lines(alloc, &typed, array)?),
         Err(fault) => Err(TreeRunFault::from(fault)),
     }
 }
 
-/// The text of a union's items.
+/// The text of a union's items. Where a short array may tell of very many values, its length is found first.
+fn measured_lines(alloc: Global, typed: &UnionTyped, array: &RawArray) -> Result<Vec<u8>, NoMemory>
+    requires types { UnionTypedOk (union_of typed.now) }
+    requires lawful { UnionOk (union_of typed.now) array.now }
+    ensures { IfOk result (λ text. text.items ≡ items_text (union_items (union_of typed.now) array.now)) }
+{
+    if union_tells_often(typed) && is_union_too_long(alloc, typed, array).unwrap_or(false) {
+        return Err(NoMemory);
+    }
+    lines(alloc, &UnionCol::of(typed, array))
+}
+
+/// The text of a column's items.
 fn lines(alloc: Global, col: &UnionCol<'_>) -> Result<Vec<u8>, NoMemory>
     ensures { IfOk result (λ text. text.items ≡ items_text (union_items (kinds_in col.now) (array_in col.now))) }
 {
@@ -48,7 +63,7 @@ fn lines(alloc: Global, col: &UnionCol<'_>) -> Result<Vec<u8>, NoMemory>
 }
 
 /// The number of a union's items.
-fn count_items(col: &UnionCol<'_>) -> u64
+pub(crate) fn count_items(col: &UnionCol<'_>) -> u64
     ensures count { result ≡ items (members_of (array_in col.now)) }
     ensures small { result < 2 ^ 63 }
 {

@@ -1,8 +1,5 @@
-use Rattle.std.proofs.Common.{◌∙◌, ap, sym}
+use Rattle.std.proofs.Common.{sym}
 use Rattle.run_ends.specs.RunAnswers.{runs_of}
-use Rattle.run_ends.specs.RunCols.{array_in}
-use Rattle.run_ends.specs.Runs.{run_values}
-use Rattle.value_text.specs.ValueTexts.{lines_text}
 use Rattle.tree_task.proofs.Running.{flat-come, flat-refused, runs_schema-refused}
 use Rattle.tree_task.proofs.flat.flat_text.Goals as goal
 
@@ -13,11 +10,9 @@ returns-in-Err-clause-fault c =
 pub returns-in-Ok-check_runs-clause-text : goal.returns-in-Ok-check_runs-clause-text
 returns-in-Ok-check_runs-clause-text c =
     let u = runs_of c.in-Ok.typed in
-    flat-come c.args.schema.now c.args.array.now u c.in-Ok.ensures.found c.in_ok-lines-in-Ok-check_runs.field-0.items
+    flat-come c.args.schema.now c.args.array.now u c.in-Ok.ensures.found c.in_ok-measured_lines-in-Ok-check_runs.field-0.items
     (sym c.in-Ok-check_runs.ensures.fault)
-    (c.in_ok-lines-in-Ok-check_runs.ensures
-    ∙ ap (λ kinds. lines_text (run_values kinds (array_in c.of.result))) c.of.ensures.kinds
-    ∙ ap (λ array. lines_text (run_values u array)) c.of.ensures.array)
+    c.in_ok-measured_lines-in-Ok-check_runs.ensures
 
 pub returns-clause-fault : goal.returns-clause-fault
 returns-clause-fault c =

@@ -1,8 +1,5 @@
-use Rattle.std.proofs.Common.{◌∙◌, ap, sym}
+use Rattle.std.proofs.Common.{sym}
 use Rattle.union_cols.specs.UnionAnswers.{union_of}
-use Rattle.union_cols.specs.UnionCols.{array_in}
-use Rattle.union_cols.specs.Unions.{union_items}
-use Rattle.tree_task.specs.UnionAnswer.{items_text}
 use Rattle.tree_task.proofs.Coming.{union-come, union-refused, union_schema-refused}
 use Rattle.tree_task.proofs.union.union_text.Goals as goal
 
@@ -13,11 +10,9 @@ returns-in-Err-clause-fault c =
 pub returns-in-Ok-check_union-clause-text : goal.returns-in-Ok-check_union-clause-text
 returns-in-Ok-check_union-clause-text c =
     let u = union_of c.in-Ok.typed in
-    union-come c.args.schema.now c.args.array.now u c.in-Ok.ensures.found c.in_ok-lines-in-Ok-check_union.field-0.items
+    union-come c.args.schema.now c.args.array.now u c.in-Ok.ensures.found c.in_ok-measured_lines-in-Ok-check_union.field-0.items
     (sym c.in-Ok-check_union.ensures.fault)
-    (c.in_ok-lines-in-Ok-check_union.ensures
-    ∙ ap (λ kinds. items_text (union_items kinds (array_in c.of.result))) c.of.ensures.kinds
-    ∙ ap (λ array. items_text (union_items u array)) c.of.ensures.array)
+    c.in_ok-measured_lines-in-Ok-check_union.ensures
 
 pub returns-clause-fault : goal.returns-clause-fault
 returns-clause-fault c =

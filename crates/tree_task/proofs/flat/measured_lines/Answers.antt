@@ -1,0 +1,13 @@
+use Rattle.std.proofs.Common.{◌≡◌, subst}
+use Rattle.std.specs.Prelude.{IfOk}
+use Rattle.raw_array.specs.Members.{ArrayTree}
+use Rattle.run_ends.specs.RunCols.{kinds_in}
+use Rattle.run_ends.specs.Runs.{RunTree, run_values}
+use Rattle.value_text.specs.ValueTexts.{lines_text}
+use Rattle.tree_task.proofs.flat.measured_lines.Goals as goal
+
+pub returns : goal.returns
+returns c =
+    let told = c.lines.result in
+    subst (λ (w : RunTree). IfOk told (λ text. text.items ≡ lines_text (run_values w c.args.array.now))) c.of-col.ensures.kinds
+    (subst (λ (a : ArrayTree). IfOk told (λ text. text.items ≡ lines_text (run_values (kinds_in c.of-col.result) a))) c.of-col.ensures.array c.lines.ensures)

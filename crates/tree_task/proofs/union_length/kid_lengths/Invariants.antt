@@ -1,0 +1,8 @@
+use Rattle.std.proofs.Common.{map}
+use Rattle.kind_tree.specs.TypedView.{typed_of}
+use Rattle.value_text.specs.Lengths.{AreKidLengths}
+use Rattle.tree_task.proofs.union_length.kid_lengths.Given as goal
+
+-- the children so far
+abbrev pub invariant-loop-k : goal.invariant-loop-k
+invariant-loop-k l = AreKidLengths l.kids.items (map typed_of l.typed.kids.items) l.array l.k
