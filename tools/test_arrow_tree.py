@@ -27,6 +27,9 @@ HERE = Path(__file__).resolve().parent
 sys.path.insert(0, str(HERE))
 import arrow_tree as at  # noqa: E402
 
+# A job in the background begins with SIGINT ignored, and so would the tool that it starts.
+signal.signal(signal.SIGINT, signal.default_int_handler)
+
 ROOM = tempfile.TemporaryDirectory(prefix="arrow-tree-")
 FOLDER = Path(ROOM.name)
 PROGRAM: Optional[str] = None
