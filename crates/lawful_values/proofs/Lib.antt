@@ -1,0 +1,3 @@
+pub mod Ranges
+pub mod OneItem
+pub mod AllItems

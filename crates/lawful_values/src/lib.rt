@@ -1,0 +1,13 @@
+//! What the values of a lawful array are good for, as a law over the definitions.
+//!
+//! What this crate owns: [`lawful_values_fit`]. The values of a lawful array of a flat type without a dictionary have an encoding
+//! ([`Fits`](../../col_build/specs/Encoding.antt)), and so has any list of its items, as far as offsets reach their bytes: so a
+//! column can be made of them (`column_gather`, `arr_export`).
+//!
+//! What it leaves to others: which arrays are lawful (`layout_rules`), and the column that is made.
+#![tactic(auto)]
+
+mod stored;
+mod values;
+
+pub use values::lawful_values_fit;

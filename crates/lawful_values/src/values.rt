@@ -1,0 +1,37 @@
+//! The values of a lawful array.
+ghost use Rattle.std.specs.Prelude.{◌≡◌, ◌<◌, ◌≤◌, ◌^◌, ℕ, List, [], length, true, None, All};
+ghost use Rattle.data_types.specs.FieldText.{form_of};
+ghost use Rattle.data_types.specs.Table.{Flat};
+ghost use Rattle.data_types.specs.Value.{Value};
+ghost use Rattle.data_types.specs.declared.kind.DataType.{DataType};
+ghost use Rattle.col_build.specs.Encoding.{Fits, HasForm, are_bounded, are_within, byte_total, is_wide, push_fault};
+ghost use Rattle.kind_tree.specs.ColumnKinds.{type_of_kind};
+ghost use Rattle.kind_tree.specs.Kinds.{TypedOk};
+ghost use Rattle.kind_tree.specs.TypedView.{typed_of};
+ghost use Rattle.layout_rules.specs.Values.{tree_items, value_at, values_of};
+ghost use Rattle.layout_rules.specs.Walk.{LayoutOk};
+ghost use Rattle.lawful_values.specs.Items.{IsItemOf};
+
+use crate::stored::numbers_of_bytes;
+use kind_tree::Typed;
+use layout_rules::{lawful_root, lawful_trees};
+use raw_array::RawArray;
+
+/// A law: of the items of a lawful array of a flat type without a dictionary a column can be made, of all of them and of any of
+/// them, as often as their bytes stay in the reach of offsets. Reads the address of a buffer, and does nothing else.
+pub fn lawful_values_fit(typed: &Typed, array: &RawArray)
+    requires types { TypedOk (typed_of typed.now) }
+    requires lawful { LayoutOk (typed_of typed.now) array.now }
+    ensures each { (kind : DataType) (i : ℕ) → typed_of typed.now ≡ type_of_kind (Flat kind) → HasForm (form_of kind) → i < tree_items array.now
+        → push_fault kind [] (value_at (typed_of typed.now) array.now i) ≡ None }
+    ensures whole { (kind : DataType) → typed_of typed.now ≡ type_of_kind (Flat kind) → HasForm (form_of kind)
+        → Fits kind (values_of (typed_of typed.now) array.now) }
+    ensures items { (kind : DataType) (values : List Value) → typed_of typed.now ≡ type_of_kind (Flat kind) → HasForm (form_of kind)
+        → All (IsItemOf (typed_of typed.now) array.now) values → length values ≤ 2 ^ 40
+        → are_within (is_wide kind) (form_of kind) (byte_total values) ≡ true → are_bounded (form_of kind) (byte_total values) ≡ true
+        → Fits kind values }
+{
+    lawful_root(typed, array);
+    lawful_trees();
+    numbers_of_bytes(array);
+}
