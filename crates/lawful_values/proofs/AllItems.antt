@@ -130,6 +130,11 @@ reached-bounded (kinds.Decimal precision scale false) total near = refl
 reached-bounded (kinds.Decimal precision scale true) total near = refl
 reached-bounded _ total near = refl
 
+less-reached : (kind : DataType) (few many : ℕ) → few ≤ many → IfOffsets kind many → IfOffsets kind few
+less-reached (kinds.Binary wide) few many le near = reaches-less wide few many le near
+less-reached (kinds.Utf8 wide) few many le near = reaches-less wide few many le near
+less-reached kind few many le near = tt
+
 -- ---- a lawful array of a flat type
 
 pub record Lawful (kind : DataType) (typed : KindTree) (array : ArrayTree) : Type 0 where
@@ -195,3 +200,12 @@ items-fit kind typed array values l are few small bounded = record {
   small = small;
   bounded = bounded;
 }
+
+pub fewer-fit : (kind : DataType) (typed : KindTree) (array : ArrayTree) (values : List Value) → Lawful kind typed array
+    → All (IsItemOf typed array) values → length values ≤ 2 ^ 40 → byte_total values ≤ byte_total (values_of typed array)
+    → Fits kind values
+fewer-fit kind typed array values l are few less =
+    let many = byte_total (values_of (Live kind no_trees absent) array) in
+    let most : byte_total values ≤ many = omega (arith, less, ap (λ t. byte_total (values_of t array)) l.is) in
+    let reached = less-reached kind (byte_total values) many most (all-reached kind array l.holds) in
+    items-fit kind typed array values l are few (reached-within kind (byte_total values) reached) (reached-bounded kind (byte_total values) reached)

@@ -1,3 +1,3 @@
-pub mod Ranges
-pub mod OneItem
-pub mod AllItems
+mod Ranges
+mod OneItem
+mod AllItems

@@ -17,8 +17,11 @@ use kind_tree::Typed;
 use layout_rules::{lawful_root, lawful_trees};
 use raw_array::RawArray;
 
-/// A law: of the items of a lawful array of a flat type without a dictionary a column can be made, of all of them and of any of
-/// them, as often as their bytes stay in the reach of offsets. Reads the address of a buffer, and does nothing else.
+/// A law: the values of a lawful array of a flat type without a dictionary have an encoding, and so has each item. So has any list of
+/// its items and of nulls, each as often as it may be, whose bytes offsets reach (`items`): of these, that is what the caller has to
+/// see to. Where they have no more bytes than the array's values, as items that are taken once each, offsets reach them (`fewer`).
+///
+/// The call looks up one buffer, and does nothing else.
 pub fn lawful_values_fit(typed: &Typed, array: &RawArray)
     requires types { TypedOk (typed_of typed.now) }
     requires lawful { LayoutOk (typed_of typed.now) array.now }
@@ -29,6 +32,10 @@ pub fn lawful_values_fit(typed: &Typed, array: &RawArray)
     ensures items { (kind : DataType) (values : List Value) → typed_of typed.now ≡ type_of_kind (Flat kind) → HasForm (form_of kind)
         → All (IsItemOf (typed_of typed.now) array.now) values → length values ≤ 2 ^ 40
         → are_within (is_wide kind) (form_of kind) (byte_total values) ≡ true → are_bounded (form_of kind) (byte_total values) ≡ true
+        → Fits kind values }
+    ensures fewer { (kind : DataType) (values : List Value) → typed_of typed.now ≡ type_of_kind (Flat kind) → HasForm (form_of kind)
+        → All (IsItemOf (typed_of typed.now) array.now) values → length values ≤ 2 ^ 40
+        → byte_total values ≤ byte_total (values_of (typed_of typed.now) array.now)
         → Fits kind values }
 {
     lawful_root(typed, array);
