@@ -1,3 +1,4 @@
 mod Ranges
 mod OneItem
 mod AllItems
+mod FlatTypes

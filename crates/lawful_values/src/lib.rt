@@ -8,6 +8,8 @@
 #![tactic(auto)]
 
 mod stored;
+mod types;
 mod values;
 
+pub use types::flat_types_have_no_children;
 pub use values::lawful_values_fit;
