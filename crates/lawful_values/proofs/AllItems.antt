@@ -1,9 +1,10 @@
 -- The values of a lawful array have an encoding.
 use Rattle.std.proofs.Common.{◌≡◌, ℕ, zero, suc, ◌+◌, ◌^◌, ◌<◌, ◌≤◌, Bool, true, false, List, [], length, refl, sym, ap, subst, arith, length-append}
 use Rattle.std.proofs.Common.{inl, inr}
-use Rattle.std.specs.Prelude.{◌⊎◌, None, All, map, slice_index_or, if◌then◌else◌}
+use Rattle.std.specs.Prelude.{◌⊎◌, None, All, map, slice_index_or, get_or, if◌then◌else◌}
 use Rattle.std.specs.List.{concat}
 use Rattle.std.proofs.lemmas.Bool.{lt-ltb}
+use Rattle.std.proofs.lemmas.List.{get_or-map, length-map}
 use Rattle.data_types.specs.FieldText.{form_of}
 use Rattle.data_types.specs.Kinds.{KindOk}
 use Rattle.data_types.specs.Value.{Value, Null, Bytes, byte_total, bytes_of}
@@ -20,8 +21,9 @@ use Rattle.layout_rules.specs.Walk.{LayoutOk}
 use Rattle.layout_rules.specs.Within.{OffsetsRise}
 use Rattle.layout_rules.proofs.TextData.{natural-rise}
 use Rattle.layout_rules.proofs.TreeLaws.{OfLawful}
-use Rattle.lawful_values.specs.Items.{IsItemOf}
+use Rattle.lawful_values.specs.Items.{AreApart, IsItemOf}
 use Rattle.lawful_values.proofs.OneItem.{at-taken, data-long, null-taken}
+use Rattle.lawful_values.proofs.OnceEach.{once-few, once-total}
 use Rattle.lawful_values.proofs.Ranges.{Numbered, Reaches, offset-reaches, reaches-less}
 
 -- ---- the items of a list
@@ -209,3 +211,20 @@ fewer-fit kind typed array values l are few less =
     let most : byte_total values ≤ many = omega (arith, less, ap (λ t. byte_total (values_of t array)) l.is) in
     let reached = less-reached kind (byte_total values) many most (all-reached kind array l.holds) in
     items-fit kind typed array values l are few (reached-within kind (byte_total values) reached) (reached-bounded kind (byte_total values) reached)
+
+-- ---- items that are taken once each
+
+pub once-fit : (kind : DataType) (typed : KindTree) (array : ArrayTree) (start : ℕ) (kept : List ℕ) → Lawful kind typed array
+    → All (λ i. start + i < tree_items array) kept → AreApart kept
+    → Fits kind (map (λ i. value_at typed array (start + i)) kept)
+once-fit kind typed array start kept l inside apart =
+    let f = value_at typed array in
+    let many = once-few start (tree_items array) kept inside apart in
+    fewer-fit kind typed array (map (λ i. f (start + i)) kept) l
+    (λ k d small. inr (
+      start + get_or kept k 0,
+      inside k 0 (omega (arith, small, length-map kept (λ i. f (start + i)))),
+      get_or-map (λ i. f (start + i)) kept k 0 d (omega (arith, small, length-map kept (λ i. f (start + i)))),
+    ))
+    (omega (arith, many, length-map kept (λ i. f (start + i)), l.root.many, l.root.near))
+    (once-total f start (tree_items array) kept inside apart)

@@ -1,4 +1,5 @@
 mod Ranges
 mod OneItem
+mod OnceEach
 mod AllItems
 mod FlatTypes

@@ -1,5 +1,5 @@
 //! The values of a lawful array.
-ghost use Rattle.std.specs.Prelude.{◌≡◌, ◌<◌, ◌≤◌, ◌^◌, ℕ, List, [], length, true, None, All};
+ghost use Rattle.std.specs.Prelude.{◌≡◌, ◌+◌, ◌<◌, ◌≤◌, ◌^◌, ℕ, List, [], length, map, true, None, All};
 ghost use Rattle.data_types.specs.FieldText.{form_of};
 ghost use Rattle.data_types.specs.Table.{Flat};
 ghost use Rattle.data_types.specs.Value.{Value};
@@ -10,7 +10,7 @@ ghost use Rattle.kind_tree.specs.Kinds.{TypedOk};
 ghost use Rattle.kind_tree.specs.TypedView.{typed_of};
 ghost use Rattle.layout_rules.specs.Values.{tree_items, value_at, values_of};
 ghost use Rattle.layout_rules.specs.Walk.{LayoutOk};
-ghost use Rattle.lawful_values.specs.Items.{IsItemOf};
+ghost use Rattle.lawful_values.specs.Items.{AreApart, IsItemOf};
 
 use crate::stored::numbers_of_bytes;
 use kind_tree::Typed;
@@ -19,7 +19,8 @@ use raw_array::RawArray;
 
 /// A law: the values of a lawful array of a flat type without a dictionary have an encoding, and so has each item. So has any list of
 /// its items and of nulls, each as often as it may be, whose bytes offsets reach (`items`): of these, that is what the caller has to
-/// see to. Where they have no more bytes than the array's values, as items that are taken once each, offsets reach them (`fewer`).
+/// see to. Where they have no more bytes than the array's values, offsets reach them (`fewer`), and so they do where they are taken
+/// once each, by numbers that are counted from an item on (`once`).
 ///
 /// The call looks up one buffer, and does nothing else.
 pub fn lawful_values_fit(typed: &Typed, array: &RawArray)
@@ -37,6 +38,9 @@ pub fn lawful_values_fit(typed: &Typed, array: &RawArray)
         → All (IsItemOf (typed_of typed.now) array.now) values → length values ≤ 2 ^ 40
         → byte_total values ≤ byte_total (values_of (typed_of typed.now) array.now)
         → Fits kind values }
+    ensures once { (kind : DataType) (start : ℕ) (kept : List ℕ) → typed_of typed.now ≡ type_of_kind (Flat kind) → HasForm (form_of kind)
+        → All (λ i. start + i < tree_items array.now) kept → AreApart kept
+        → Fits kind (map (λ i. value_at (typed_of typed.now) array.now (start + i)) kept) }
 {
     lawful_root(typed, array);
     lawful_trees();

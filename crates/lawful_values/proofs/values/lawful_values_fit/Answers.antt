@@ -4,7 +4,7 @@ use Rattle.data_types.specs.declared.kind.DataType.{DataType}
 use Rattle.col_build.specs.Encoding.{HasForm}
 use Rattle.tree_model.specs.Tree.{Live, no_trees, absent}
 use Rattle.kind_tree.specs.TypedView.{typed_of}
-use Rattle.lawful_values.proofs.AllItems.{each-fits, fewer-fit, items-fit, lawful, whole-fits}
+use Rattle.lawful_values.proofs.AllItems.{each-fits, fewer-fit, items-fit, lawful, once-fit, whole-fits}
 use Rattle.lawful_values.proofs.values.lawful_values_fit.Goals as goal
 
 pub returns : goal.returns
@@ -17,5 +17,6 @@ returns c =
       each = λ kind i is flat. each-fits kind typed array i (here kind is flat);
       whole = λ kind is flat. whole-fits kind typed array (here kind is flat);
       items = λ kind values is flat. items-fit kind typed array values (here kind is flat);
+      once = λ kind start kept is flat. once-fit kind typed array start kept (here kind is flat);
       fewer = λ kind values is flat. fewer-fit kind typed array values (here kind is flat);
     }
