@@ -9,6 +9,5 @@ pub mod Chunks
 pub mod Scanned
 pub mod ViewsScanned
 pub mod TextRuns
-pub mod ViewPasses
 pub mod MarkedText
 pub mod Passes

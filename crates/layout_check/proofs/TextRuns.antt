@@ -1,5 +1,5 @@
 -- Texts in a buffer, and what a table of them says of a part of it.
-use Rattle.std.proofs.Common.{◌≡◌, ℕ, ◌+◌, ◌-◌, ◌<◌, ◌≤◌, List, length, take, drop, replicate, inl, inr, ap, ◌∙◌, sym, subst, arith}
+use Rattle.std.proofs.Common.{◌≡◌, ℕ, ◌+◌, ◌-◌, ◌<◌, ◌≤◌, List, length, take, drop, get_or, replicate, inl, inr, ap, ◌∙◌, sym, subst, arith}
 use Rattle.std.specs.Prelude.{IsUtf8, slice_set}
 use Rattle.std.specs.Str.{IsCharBoundary}
 use Rattle.std.proofs.Math.Seq.{take-add}
@@ -8,31 +8,46 @@ use Rattle.std.proofs.lemmas.List.{drop-take, take-take, drop-drop, length-set, 
 use Rattle.std.proofs.lemmas.Grind.{get_or-set_at}
 use Rattle.std.proofs.lemmas.Str.{IsUtf8-append, IsUtf8-take, IsUtf8-drop, IsUtf8-nil}
 use Rattle.layout_check.specs.declared.runs.Run.{Run}
-use Rattle.layout_check.specs.Scans.{IsRun, AreRuns, no_run}
+use Rattle.raw_array.specs.Members.{ArrayMembers}
+use Rattle.layout_check.specs.declared.marks.Mark.{Mark}
+use Rattle.layout_check.specs.Scans.{sized_data, no_mark, IsRun, AreMarks, MarksIn}
 
 -- ---- a table
 
-no_run-is : (bytes : List ℕ) → IsRun bytes no_run
+no_run-is : (bytes : List ℕ) → IsRun bytes no_mark.run
 no_run-is bytes = record { order = omega arith; within = omega arith; text = IsUtf8-nil }
 
-pub no-runs : (bytes : List ℕ) (n : ℕ) → AreRuns bytes (replicate n no_run)
-no-runs bytes n =
-    record { at = λ j l. subst (IsRun bytes) (sym (get_or-replicate n j no_run no_run (omega (arith, l, length-replicate n no_run)))) (no_run-is bytes) }
+abbrev IsMark : ArrayMembers → Mark → Type 0
+IsMark own mark = IsRun (sized_data own mark.buffer) mark.run
 
-pub runs-set : (bytes : List ℕ) (runs : List Run) (k : ℕ) (new : Run) → AreRuns bytes runs → IsRun bytes new → AreRuns bytes (slice_set runs k new)
-runs-set bytes runs k new h is =
+pub no-marks : (own : ArrayMembers) (n : ℕ) → AreMarks own (replicate n no_mark)
+no-marks own n =
+    record {
+      at = λ j l. subst (IsMark own) (sym (get_or-replicate n j no_mark no_mark (omega (arith, l, length-replicate n no_mark))))
+          (no_run-is (sized_data own no_mark.buffer));
+    }
+
+pub marks-set : (own : ArrayMembers) (marks : List Mark) (k : ℕ) (new : Mark) → AreMarks own marks → IsRun (sized_data own new.buffer) new.run
+    → AreMarks own (slice_set marks k new)
+marks-set own marks k new h is =
     record {
       at = λ j l.
-          let inside : j < length runs = omega (arith, l, length-set runs k new) in
+          let inside : j < length marks = omega (arith, l, length-set marks k new) in
           elim (cases_eq j k) [
-            | inl same ↦ subst (IsRun bytes) (sym (get_or-set_at runs k j new no_run same (subst (λ n. n < length runs) same inside))) is
-            | inr other ↦ subst (IsRun bytes) (sym (get_or-set_other runs k j new no_run other)) (h.at j inside)
+            | inl same ↦ subst (IsMark own) (sym (get_or-set_at marks k j new no_mark same (subst (λ n. n < length marks) same inside))) is
+            | inr other ↦ subst (IsMark own) (sym (get_or-set_other marks k j new no_mark other)) (h.at j inside)
           ];
     }
 
-pub ruleset no_runs = (no-runs)
+pub marks-in : (own : ArrayMembers) (marks : List Mark) (bytes : List ℕ) (k : ℕ) → bytes ≡ sized_data own k → AreMarks own marks → MarksIn bytes k marks
+marks-in own marks bytes k is h =
+    record {
+      at = λ j l e. subst (λ d. IsRun d (get_or marks j no_mark).run) (ap (sized_data own) e ∙ sym is) (h.at j l);
+    }
 
-pub ruleset noted = (runs-set)
+pub ruleset noted = (marks-set)
+
+pub ruleset marked = (marks-in)
 
 -- ---- behind a border
 

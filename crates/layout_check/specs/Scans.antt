@@ -1,13 +1,13 @@
 -- What the scans over whole buffers look at.
-use Rattle.std.specs.Prelude.{◌≡◌, ℕ, ◌+◌, ◌-◌, ◌*◌, ◌<◌, ◌≤◌, ℤ, Bool, true, false, ◌&&◌, nat_lt, List, length, take, drop, get_or, Option, None, IsUtf8}
+use Rattle.std.specs.Prelude.{◌≡◌, ℕ, ◌+◌, ◌-◌, ◌*◌, ◌<◌, ◌≤◌, ℤ, Bool, List, length, take, drop, get_or, Option, IsUtf8}
 use Rattle.std.specs.Str.{IsCharBoundary}
 use Rattle.bit_pack.specs.Packed.{meant, number_at}
 use Rattle.raw_array.specs.Members.{ArrayMembers}
 use Rattle.layout_rules.specs.declared.rule.Numbers.{Numbers}
+use Rattle.layout_check.specs.declared.marks.Mark.{Mark}
 use Rattle.layout_check.specs.declared.runs.Run.{Run}
 use Rattle.layout_rules.specs.Layout.{natural, offset_in, data_between, first, end, bytes, data_place, data_length}
-use Rattle.layout_rules.specs.Rules.{fault_if, is_outside, view_not_text}
-use Rattle.layout_rules.specs.Views.{view_length, view_buffer, is_long}
+use Rattle.layout_rules.specs.Rules.{fault_if, is_outside}
 
 -- the data of the window's items
 abbrev pub used_data : Bool → ArrayMembers → List ℕ
@@ -31,7 +31,7 @@ sized_data own k = take (data_length own k) (bytes own (data_place k))
 pub record AreTexts (own : ArrayMembers) (n : ℕ) : Type 0 where
   pub at : (k : ℕ) → k < n → IsUtf8 (sized_data own k)
 
--- ---- views of large data buffers, a buffer at a time
+-- ---- views, where a data buffer isn't text
 
 -- some bytes are text from one place to another
 pub record IsRun (bytes : List ℕ) (run : Run) : Type 0 where
@@ -39,27 +39,14 @@ pub record IsRun (bytes : List ℕ) (run : Run) : Type 0 where
   pub within : run.to ≤ length bytes
   pub text : IsUtf8 (take (run.to - run.from) (drop run.from bytes))
 
-abbrev pub no_run : Run
-no_run = record { from = 0; to = 0 }
+-- what a table of texts has behind its last one: the empty text of a data buffer that isn't there
+abbrev pub no_mark : Mark
+no_mark = record { buffer = 18446744073709551615; run = record { from = 0; to = 0 } }
 
-pub record AreRuns (bytes : List ℕ) (runs : List Run) : Type 0 where
-  pub at : (j : ℕ) → j < length runs → IsRun bytes (get_or runs j no_run)
+-- each text of a table is one of its data buffer
+pub record AreMarks (own : ArrayMembers) (marks : List Mark) : Type 0 where
+  pub at : (j : ℕ) → j < length marks → IsRun (sized_data own (get_or marks j no_mark).buffer) (get_or marks j no_mark).run
 
--- a long item's data buffer is large
-abbrev pub names_large : ArrayMembers → ℕ → Bool
-names_large own i = is_long (view_length own i) && nat_lt 4096 (data_length own (natural (view_buffer own i)))
-
--- those of the first n items pass that name no large data buffer
-pub record PassAlone (own : ArrayMembers) (n : ℕ) : Type 0 where
-  pub at : (i : ℕ) → i < n → names_large own i ≡ false → view_not_text own i ≡ None
-
--- an item passes if it names the large data buffer k
-abbrev pub PassesIn : ArrayMembers → ℕ → ℕ → Type 0
-PassesIn own k i = names_large own i ≡ true → natural (view_buffer own i) ≡ k → view_not_text own i ≡ None
-
-pub record PassOne (own : ArrayMembers) (k n : ℕ) : Type 0 where
-  pub at : (i : ℕ) → i < n → PassesIn own k i
-
--- those of the first n items pass that name one of the first k data buffers, a large one
-pub record PassBefore (own : ArrayMembers) (k n : ℕ) : Type 0 where
-  pub at : (i : ℕ) → i < n → names_large own i ≡ true → natural (view_buffer own i) < k → view_not_text own i ≡ None
+-- each text of a table that is said to be of this data buffer is one of it
+pub record MarksIn (bytes : List ℕ) (k : ℕ) (marks : List Mark) : Type 0 where
+  pub at : (j : ℕ) → j < length marks → (get_or marks j no_mark).buffer ≡ k → IsRun bytes (get_or marks j no_mark).run

@@ -22,6 +22,7 @@ mod chunk;
 mod counts;
 mod failing;
 mod indices;
+mod marks;
 mod node;
 mod nulls;
 mod runs;

@@ -1,23 +1,21 @@
 //! The rule on texts, for views. Views may overlap, so no time is spent on a byte for each view that names it: data buffers
-//! are tested as a whole, and where one isn't text, by a table of its texts.
-ghost use Rattle.std.specs.Prelude.{◌≡◌, None, is_none, IsTrue, false, ◌+◌, ◌*◌, ◌^◌, ◌<◌, ◌≤◌, ◌≤ℤ◌, pos, length, Option};
+//! are tested as a whole, and where one isn't text, the views are tested by a table of the buffers' texts.
+ghost use Rattle.std.specs.Prelude.{◌≡◌, None, is_none, IsTrue, ◌*◌, ◌<◌, ◌≤◌, length};
 ghost use Rattle.layout_check.specs.NodeView.{own_of};
 ghost use Rattle.layout_rules.specs.Layout.{items, end, bytes as bytes_at, is_valid, IsLongIfPresent, view_width, data_buffers, data_lengths, lengths_need};
 ghost use Rattle.layout_rules.specs.Rules.{first_below, misplaced, view_not_text};
 ghost use Rattle.layout_rules.specs.Within.{DataWithin, AreThere};
-ghost use Rattle.layout_check.specs.Scans.{sized_data, AreTexts, AreRuns, names_large, PassAlone, PassesIn, PassOne};
+ghost use Rattle.layout_check.specs.Scans.{AreTexts, AreMarks};
 
+use crate::marks::{ENTRIES, Mark, NO_MARK, note_all, part_is_text};
 use crate::node::FormedNode;
 use crate::nulls::is_valid;
-use crate::runs::{Run, is_border, part_is_text, text_runs};
+use crate::runs::is_border;
 use crate::texts::{is_text, not_utf8};
 use crate::views::{
-    MOST_IN_VIEW, data_buffers, data_length, view_buffer, view_data, view_length, view_offset,
+    MOST_IN_VIEW, data_buffers, sized_data, view_buffer, view_data, view_length, view_offset,
 };
 use layout_rules::Numbers;
-
-/// The size of a data buffer above which its views are tested by a table.
-const LARGE: u64 = 4096;
 
 fn view_not_text(node: &FormedNode, i: u64) -> Option<Numbers>
     requires buffers { 3 ≤ length (own_of node.now).buffers }
@@ -52,18 +50,6 @@ fn first_bad_text(node: &FormedNode, from: u64) -> Option<Numbers>
         }
     }
     None
-}
-
-/// A data buffer as far as its length goes.
-fn sized_data<'a>(node: &FormedNode<'a>, k: usize) -> &'a [u8]
-    requires buffers { 3 ≤ length (own_of node.now).buffers }
-    requires inside { k < data_buffers (own_of node.now) }
-    requires few { k < 2 ^ 63 }
-    requires lengths { lengths_need (own_of node.now) ≤ length (data_lengths (own_of node.now)) }
-    requires named { AreThere (own_of node.now) }
-    ensures { result.now ≡ sized_data (own_of node.now) k }
-{
-    &node.bytes(k + 2)[..data_length(node, k) as usize]
 }
 
 /// Each data buffer is UTF-8, as far as its length goes.
@@ -129,21 +115,9 @@ fn are_cut_well(node: &FormedNode) -> bool
 
 // ---- where a data buffer isn't text as a whole
 
-/// A long view names a large data buffer.
-fn names_large(node: &FormedNode, i: u64) -> bool
-    requires buffers { 3 ≤ length (own_of node.now).buffers }
-    requires inside { i < items (own_of node.now) }
-    requires long { end (own_of node.now) * view_width ≤ length (bytes_at (own_of node.now) 1) }
-    requires lengths { lengths_need (own_of node.now) ≤ length (data_lengths (own_of node.now)) }
-    requires within { DataWithin (own_of node.now) i }
-    ensures { result ≡ names_large (own_of node.now) i }
-{
-    view_length(node, i) > MOST_IN_VIEW && data_length(node, view_buffer(node, i) as usize) > LARGE
-}
-
-/// A view is a text, or names a large data buffer.
-#[tactic(auto, using(crate::proofs::ViewsScanned::views))]
-fn passes_alone(node: &FormedNode, i: u64) -> bool
+/// A view is a text, where the table of the data buffers' texts says so or its bytes are read.
+#[tactic(auto, using(crate::proofs::ViewsScanned::views, crate::proofs::TextRuns::marked))]
+fn passes(node: &FormedNode, marks: &[Mark], i: u64) -> bool
     requires buffers { 3 ≤ length (own_of node.now).buffers }
     requires inside { i < items (own_of node.now) }
     requires validity { IsLongIfPresent (own_of node.now) }
@@ -151,111 +125,44 @@ fn passes_alone(node: &FormedNode, i: u64) -> bool
     requires lengths { lengths_need (own_of node.now) ≤ length (data_lengths (own_of node.now)) }
     requires named { AreThere (own_of node.now) }
     requires within { IsTrue (is_valid (own_of node.now) i) → DataWithin (own_of node.now) i }
-    ensures { IsTrue result → names_large (own_of node.now) i ≡ false → view_not_text (own_of node.now) i ≡ None }
+    requires marks { AreMarks (own_of node.now) marks.now }
+    ensures { IsTrue result → view_not_text (own_of node.now) i ≡ None }
 {
-    if !is_valid(node, i) || names_large(node, i) {
-        return true;
-    }
-    view_not_text(node, i).is_none()
-}
-
-/// How many of the first n views, from the first on, are texts or name large data buffers.
-#[tactic(auto, using(layout_rules::proofs::Placed::placed, crate::proofs::ViewPasses::alone))]
-fn pass_alone(node: &FormedNode, n: u64) -> u64
-    requires buffers { 3 ≤ length (own_of node.now).buffers }
-    requires validity { IsLongIfPresent (own_of node.now) }
-    requires long { end (own_of node.now) * view_width ≤ length (bytes_at (own_of node.now) 1) }
-    requires lengths { lengths_need (own_of node.now) ≤ length (data_lengths (own_of node.now)) }
-    requires named { AreThere (own_of node.now) }
-    requires placed { first_below (misplaced (own_of node.now)) (items (own_of node.now)) ≡ None }
-    requires items { n ≤ items (own_of node.now) }
-    ensures bound { result ≤ n }
-    ensures pass { PassAlone (own_of node.now) result }
-{
-    for i in 0..n {
-        if !passes_alone(node, i) {
-            return i;
-        }
-    }
-    n
-}
-
-/// A view is a text, or doesn't name a data buffer.
-#[tactic(auto, using(crate::proofs::ViewsScanned::views, crate::proofs::ViewPasses::named))]
-fn passes_in(node: &FormedNode, k: usize, bytes: &[u8], runs: &[Run], i: u64) -> bool
-    requires buffers { 3 ≤ length (own_of node.now).buffers }
-    requires inside { i < items (own_of node.now) }
-    requires validity { IsLongIfPresent (own_of node.now) }
-    requires long { end (own_of node.now) * view_width ≤ length (bytes_at (own_of node.now) 1) }
-    requires lengths { lengths_need (own_of node.now) ≤ length (data_lengths (own_of node.now)) }
-    requires named { AreThere (own_of node.now) }
-    requires within { IsTrue (is_valid (own_of node.now) i) → DataWithin (own_of node.now) i }
-    requires buffer { k < data_buffers (own_of node.now) }
-    requires few { k < 2 ^ 32 }
-    requires bytes { bytes.now ≡ sized_data (own_of node.now) k }
-    requires runs { AreRuns bytes.now runs.now }
-    ensures { IsTrue result → PassesIn (own_of node.now) k i }
-{
-    if view_buffer(node, i) != k as i64 || !is_valid(node, i) {
+    if !is_valid(node, i) {
         return true;
     }
     let size = view_length(node, i);
     if size <= MOST_IN_VIEW {
-        return true;
+        return is_text(view_data(node, i));
     }
-    part_is_text(bytes, runs, view_offset(node, i) as usize, size as usize)
+    let from = view_offset(node, i) as usize;
+    let k = view_buffer(node, i) as usize;
+    part_is_text(sized_data(node, k), k, marks, from, size as usize)
 }
 
-/// How many of the first n views, from the first on, are texts or don't name a data buffer.
-#[tactic(auto, using(layout_rules::proofs::Placed::placed, crate::proofs::ViewPasses::one))]
-fn pass_by(node: &FormedNode, k: usize, bytes: &[u8], runs: &[Run], n: u64) -> u64
+/// How many views, from the first on, are texts, by the table of the data buffers' texts.
+#[tactic(auto, using(layout_rules::proofs::Placed::placed, layout_rules::proofs::Firsts::one_more))]
+fn passed_by(node: &FormedNode, marks: &[Mark]) -> u64
     requires buffers { 3 ≤ length (own_of node.now).buffers }
     requires validity { IsLongIfPresent (own_of node.now) }
     requires long { end (own_of node.now) * view_width ≤ length (bytes_at (own_of node.now) 1) }
     requires lengths { lengths_need (own_of node.now) ≤ length (data_lengths (own_of node.now)) }
     requires named { AreThere (own_of node.now) }
     requires placed { first_below (misplaced (own_of node.now)) (items (own_of node.now)) ≡ None }
-    requires buffer { k < data_buffers (own_of node.now) }
-    requires few { k < 2 ^ 32 }
-    requires bytes { bytes.now ≡ sized_data (own_of node.now) k }
-    requires runs { AreRuns bytes.now runs.now }
-    requires items { n ≤ items (own_of node.now) }
-    ensures bound { result ≤ n }
-    ensures pass { PassOne (own_of node.now) k result }
+    requires marks { AreMarks (own_of node.now) marks.now }
+    ensures bound { result ≤ items (own_of node.now) }
+    ensures pass { first_below (view_not_text (own_of node.now)) result ≡ None }
 {
-    for i in 0..n {
-        if !passes_in(node, k, bytes, runs, i) {
+    for i in 0..node.len() {
+        if !passes(node, marks, i) {
             return i;
         }
     }
-    n
+    node.len()
 }
 
-/// The same, by a table of the buffer's texts; all of them where the buffer isn't large.
+/// How many views, from the first on, are texts.
 #[inline(never)]
-#[tactic(auto, using(crate::proofs::ViewPasses::one))]
-fn pass_one(node: &FormedNode, k: usize, n: u64) -> u64
-    requires buffers { 3 ≤ length (own_of node.now).buffers }
-    requires validity { IsLongIfPresent (own_of node.now) }
-    requires long { end (own_of node.now) * view_width ≤ length (bytes_at (own_of node.now) 1) }
-    requires lengths { lengths_need (own_of node.now) ≤ length (data_lengths (own_of node.now)) }
-    requires named { AreThere (own_of node.now) }
-    requires placed { first_below (misplaced (own_of node.now)) (items (own_of node.now)) ≡ None }
-    requires buffer { k < data_buffers (own_of node.now) }
-    requires few { k < 2 ^ 32 }
-    requires items { n ≤ items (own_of node.now) }
-    ensures bound { result ≤ n }
-    ensures pass { PassOne (own_of node.now) k result }
-{
-    if data_length(node, k) <= LARGE {
-        return n;
-    }
-    let bytes = sized_data(node, k);
-    pass_by(node, k, bytes, &text_runs(bytes), n)
-}
-
-/// How many views, from the first on, are texts: those of large data buffers a buffer at a time.
-#[tactic(auto, using(layout_rules::proofs::Placed::placed, crate::proofs::ViewPasses::all))]
 fn passed(node: &FormedNode) -> u64
     requires buffers { 3 ≤ length (own_of node.now).buffers }
     requires validity { IsLongIfPresent (own_of node.now) }
@@ -266,15 +173,13 @@ fn passed(node: &FormedNode) -> u64
     ensures bound { result ≤ items (own_of node.now) }
     ensures pass { first_below (view_not_text (own_of node.now)) result ≡ None }
 {
-    let mut n = pass_alone(node, node.len());
-    for k in 0..data_buffers(node) {
-        n = pass_one(node, k, n);
-    }
-    n
+    let mut marks = [NO_MARK; ENTRIES];
+    note_all(node, &mut marks);
+    passed_by(node, &marks)
 }
 
 /// The first valid view whose bytes aren't UTF-8: none where the data buffers as a whole
-/// pass, else item by item, once those before it are passed buffer by buffer.
+/// pass, else item by item, once those before it are passed by the table of the buffers' texts.
 pub fn view_text_wrong(node: &FormedNode) -> Option<Numbers>
     requires buffers { 3 ≤ length (own_of node.now).buffers }
     requires validity { IsLongIfPresent (own_of node.now) }

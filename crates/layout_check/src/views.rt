@@ -2,6 +2,7 @@
 ghost use Rattle.std.specs.Prelude.{◌≡◌, ◌==◌, is_none, ◌&&◌, not, nat_lt, None, IsTrue, true, ◌+◌, ◌*◌, ◌^◌, ◌<◌, ◌≤◌, ◌≤ℤ◌, pos, length, Option};
 ghost use Rattle.bit_pack.specs.Packed.{meant};
 ghost use Rattle.layout_check.specs.NodeView.{AreReadable, own_of};
+ghost use Rattle.layout_check.specs.Scans.{sized_data};
 ghost use Rattle.layout_rules.specs.Layout.{layout_of, items, end, bytes, is_valid, IsLongIfPresent, view_width, data_buffers, data_lengths};
 ghost use Rattle.layout_rules.specs.Layout.{lengths_need, data_length};
 ghost use Rattle.layout_rules.specs.Views.{view_number, view_length, view_prefix, view_buffer, view_offset, view_data, is_long};
@@ -36,6 +37,18 @@ pub fn data_length(node: &FormedNode, k: usize) -> u64
 {
     let size = offset_at(node.bytes(data_buffers(node) + 2), k, true);
     if size < 0 { 0 } else { size as u64 }
+}
+
+/// A data buffer as far as its length goes.
+pub fn sized_data<'a>(node: &FormedNode<'a>, k: usize) -> &'a [u8]
+    requires buffers { 3 ≤ length (own_of node.now).buffers }
+    requires inside { k < data_buffers (own_of node.now) }
+    requires few { k < 2 ^ 63 }
+    requires lengths { lengths_need (own_of node.now) ≤ length (data_lengths (own_of node.now)) }
+    requires named { AreThere (own_of node.now) }
+    ensures { result.now ≡ sized_data (own_of node.now) k }
+{
+    &node.bytes(k + 2)[..data_length(node, k) as usize]
 }
 
 /// One of the four numbers of an item's view.
