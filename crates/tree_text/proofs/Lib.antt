@@ -4,6 +4,7 @@ pub mod NumberTexts
 pub mod LineLaws
 pub mod LineBack
 pub mod BufferLines
+pub mod LowerHex
 pub mod TreeLaws
 pub mod Stands
 pub mod TreeSteps

@@ -1,9 +1,10 @@
 -- Which line may stand at a place of a text of trees, and the first line that may not.
-use Rattle.std.specs.Prelude.{◌≡◌, ℕ, ◌+◌, ◌*◌, ℤ, pos, negsuc, true, nat_lt, nat_le, ◌&&◌, ◌==◌, if◌then◌else◌, List, [], ◌∷◌}
+use Rattle.std.specs.Prelude.{◌≡◌, ℕ, ◌+◌, ◌*◌, ℤ, pos, negsuc, Bool, true, nat_lt, nat_le, ◌&&◌, ◌||◌, ◌==◌, if◌then◌else◌, List, [], ◌∷◌}
 use Rattle.std.specs.Prelude.{◌++◌, codes, replicate, Option, None, Some, take, drop, length}
 use Rattle.std.specs.Option.{option_map, option_and_then}
 use Rattle.std.specs.List.{list_any, slice_split}
 use Rattle.std.specs.Char.{digit_value, is_ascii_uppercase}
+use Rattle.std.specs.Int.{is_in_range}
 use Rattle.std.specs.Str.{bytes_eq}
 use Rattle.std.specs.Str.Parse.{signed_digits_value}
 use Rattle.std.specs.Str.Lines.{lines}
@@ -103,6 +104,10 @@ abbrev pub read_array_line : List ℕ → Option (NodeLine ArrayNumbers)
 read_array_line line = if bytes_eq line (codes "A !") then Some ReleasedLine else read_array_fields (fields line)
 
 -- ---- a buffer's line: absent, or its bytes by pairs of lower-case digits
+
+-- a digit, or a letter from a to f
+abbrev pub is_lower_digit : ℕ → Bool
+is_lower_digit c = is_in_range 48 57 c || is_in_range 97 102 c
 
 -- the bytes that pairs of lower-case digits write
 abbrev pub read_lower_hex : List ℕ → Option (List ℕ)
