@@ -1,5 +1,5 @@
 -- A builder with one more value, by its parts.
-use Rattle.std.proofs.Common.{◌≡◌, ◌≢◌, ◌≤◌, ◌<◌, ◌⊎◌, ◌∙◌, ◌+◌, ◌*◌, ◌/◌, ◌^◌, ◌++◌, ℕ, Bool, true, false, List, [], ◌∷◌, length, take, refl, sym, ap}
+use Rattle.std.proofs.Common.{◌≡◌, ◌≢◌, ◌≤◌, ◌<◌, ◌∙◌, ◌+◌, ◌*◌, ◌/◌, ◌^◌, ◌++◌, ℕ, Bool, true, false, List, [], ◌∷◌, length, take, refl, sym, ap}
 use Rattle.std.proofs.Common.{subst, arith, add-one, append-nil, inl, inr, length-append}
 use Rattle.std.proofs.lemmas.Grind.{flat_map-append}
 use Rattle.std.proofs.lemmas.List.{length-map, length-take}
@@ -10,8 +10,8 @@ use Rattle.bit_pack.specs.Packed.{IsWidth, le_bytes}
 use Rattle.data_types.specs.FieldText.{form_of, in_range}
 use Rattle.data_types.specs.Value.{Value, Truth, Whole, bytes_of}
 use Rattle.data_types.specs.declared.kind.DataType.{DataType}
-use Rattle.col_build.specs.Encoding.{bit_bytes, if_some, is_null, is_set, is_wide, null_total, offset_bytes, push_fault, stored_item, validity_of}
-use Rattle.col_build.specs.Holding.{HasBytes, HasOffsets, Holds, HoldsFloats, HoldsSome, HoldsWholes, ShapeOk, Takes, bytes_in, kept_bytes, kept_offsets}
+use Rattle.col_build.specs.Encoding.{bit_bytes, if_some, is_set, is_wide, null_total, offset_bytes, push_fault, stored_item, validity_of}
+use Rattle.col_build.specs.Holding.{HasBytes, HasOffsets, HasValidity, Holds, HoldsFew, HoldsFloats, HoldsSome, HoldsWholes, ShapeOk, Takes, bytes_in, kept_bytes, kept_offsets}
 use Rattle.col_build.specs.Holding.{offsets_in}
 use Rattle.col_build.specs.Settled.{IsNarrow, IsNumbers}
 use Rattle.col_build.specs.Shapes.{range_fault, shape_fault, shape_in}
@@ -23,7 +23,7 @@ use Rattle.col_build.proofs.MadeAhead.{Taken, length-offset_bytes, numbers-long,
 use Rattle.col_build.proofs.OffsetBytes.{between-push, offsets-push, offsets-there}
 use Rattle.col_build.proofs.Pushes.{fault-of}
 use Rattle.col_build.proofs.ShapeFacts.{shape-is, shape-same}
-use Rattle.col_build.proofs.ValidityFacts.{nulls-push, still-none}
+use Rattle.col_build.proofs.ValidityFacts.{nulls-push}
 
 -- ---- what a builder takes
 
@@ -192,38 +192,31 @@ pub numbers_small : (builder : Builder) (width : ℕ) → HoldsSome builder → 
 numbers_small builder width some is =
     width-small width (numbers-width builder.shape width is (shape-kept builder some.0 some.1 some.2))
 
-pub width_wide : (width : ℕ) → IsWidth width → 4 ≤ width → (width ≡ 4) ⊎ (width ≡ 8) ⊎ (width ≡ 16)
-width_wide width (inl e) wide = absurd (omega arith)
-width_wide width (inr (inl e)) wide = absurd (omega arith)
-width_wide width (inr (inr (inl e))) wide = inl e
-width_wide width (inr (inr (inr (inl e)))) wide = inr (inl e)
-width_wide width (inr (inr (inr (inr e)))) wide = inr (inr e)
+pub wholes_width : (builder : Builder) (width : ℕ) (signed : Bool) → HoldsSome builder → builder.shape ≡ shapes.Wholes width signed → IsWidth width
+wholes_width builder width signed some is =
+    numbers-width builder.shape width (are_wholes builder.shape width signed is) (shape-kept builder some.0 some.1 some.2)
 
-pub wholes_wide : (builder : Builder) (width : ℕ) (signed : Bool) → HoldsSome builder → builder.shape ≡ shapes.Wholes width signed → 4 ≤ width
-    → (width ≡ 4) ⊎ (width ≡ 8) ⊎ (width ≡ 16)
-wholes_wide builder width signed some is wide =
-    width_wide width (numbers-width builder.shape width (are_wholes builder.shape width signed is) (shape-kept builder some.0 some.1 some.2)) wide
+pub floats_width : (builder : Builder) (width : ℕ) → HoldsSome builder → builder.shape ≡ shapes.Floats width → IsWidth width × (width ≢ 16)
+floats_width builder width some is = subst ShapeOk is (shape-kept builder some.0 some.1 some.2)
 
-pub floats_wide : (builder : Builder) (width : ℕ) → HoldsSome builder → builder.shape ≡ shapes.Floats width → 4 ≤ width → (width ≡ 4) ⊎ (width ≡ 8)
-floats_wide builder width some is wide =
-    let ok = subst ShapeOk is (shape-kept builder some.0 some.1 some.2) in
-    elim (width_wide width ok.0 wide) [
-      | inl four ↦ inl four
-      | inr (inl eight) ↦ inr eight
-      | inr (inr sixteen) ↦ absurd (ok.1 sixteen)
-    ]
+pub any_width : (builder : Builder) (width : ℕ) → HoldsSome builder → IsNumbers width builder.shape → IsWidth width
+any_width builder width some is = numbers-width builder.shape width is (shape-kept builder some.0 some.1 some.2)
 
 -- what a number that is added asks
-pub ruleset whole_adds = (few_kept, wholes_shape, are_wholes, numbers_small, wholes_wide)
+pub ruleset whole_adds = (few_kept, wholes_shape, are_wholes, numbers_small, wholes_width)
 
-pub ruleset float_adds = (few_kept, floats_shape, are_floats, numbers_small, floats_wide)
+pub ruleset float_adds = (few_kept, floats_shape, are_floats, numbers_small, floats_width)
 
--- where no null stands before a value that is none, there are no validity bits
-pub valid-more : (builder : Builder) (kind : DataType) (values : List Value) (value : Value) → Holds builder kind values → builder.nulls ≡ 0
-    → is_null value ≡ false → if_some builder.validity.items ≡ validity_of (values ++ value ∷ [])
-valid-more builder kind values value holds none valid =
-    still-none builder.validity.items builder.count builder.nulls values value none
-    (record { counted = holds.count; nulls_counted = holds.nulls; shown = holds.validity }) valid
+pub few_held : (builder : Builder) → HoldsFew builder → builder.count < 2 ^ 40
+few_held builder few = omega (arith, few.2.count, few.3)
+
+-- and a null
+pub ruleset null_adds = (few_held, are_wholes, are_floats, numbers_small, any_width)
+
+-- the validity bits of the values are there
+pub bits-held : (builder : Builder) (kind : DataType) (values : List Value) → Holds builder kind values
+    → HasValidity builder.validity.items builder.count builder.nulls values
+bits-held builder kind values holds = record { counted = holds.count; nulls_counted = holds.nulls; shown = holds.validity }
 
 -- ---- bytes between narrow offsets
 

@@ -1,18 +1,18 @@
-//! Values added to a column that takes them. Where no null stands before it, a number or a short text costs one test and the
-//! stores, since its place was made ahead.
+//! Values added to a column that takes them. A number or a short text costs one test and the stores, since its place was made
+//! ahead, and behind a null its validity bit.
 ghost use Rattle.std.specs.Prelude.{◌≡◌, ◌≢◌, ◌≤◌, ◌<◌, ◌^◌, ◌+◌, ◌*◌, ◌⊎◌, ◌∷◌, [], Bool, List, true, length, take, vec_len, IfOk, OnOk, OnErr};
 ghost use Rattle.data_types.specs.FieldText.{form_of};
 ghost use Rattle.data_types.specs.Kinds.{KindOk};
 ghost use Rattle.data_types.specs.Value.{Value, Null, Truth, Whole, Bits, Bytes, bytes_of};
 ghost use Rattle.data_types.specs.declared.kind.DataType.{DataType};
-ghost use Rattle.col_build.specs.Encoding.{HasForm, is_null};
+ghost use Rattle.col_build.specs.Encoding.{HasForm, is_null, is_set};
 ghost use Rattle.col_build.specs.Holding.{HasBytes, bytes_in, offsets_in};
 ghost use Rattle.col_build.specs.Items.{value_of};
 
-use crate::ahead::{AHEAD, append_first, fill_ahead, put_number, put_whole};
+use crate::ahead::{AHEAD, append_bytes, fill_ahead, put_number, put_whole, put_zeros};
 use crate::bits::push_bit;
 use crate::shape::{Shape, shape_of};
-use crate::validity::{make_room, push_validity};
+use crate::validity::{add_validity, make_room, push_validity};
 use crate::{Builder, Item, PushFault};
 use data_types::DataType;
 use std::alloc::Global;
@@ -67,7 +67,7 @@ fn first_offsets(alloc: Global, shape: Shape, items: usize) -> Result<Vec<u8>, N
 impl Builder {
     ghost use Rattle.col_build.specs.Holding.{Adds, Holds, HoldsFew, HoldsFloats, HoldsSome, HoldsWholes, Keeps, Takes};
     ghost use Rattle.col_build.specs.Settled.{IsNarrow, IsNumbers};
-    ghost use Rattle.col_build.specs.declared.shape.Shape.TheVariants.{Between, Floats, Wholes};
+    ghost use Rattle.col_build.specs.declared.shape.Shape.TheVariants.{Between, Floats, Truths, Wholes};
 
     /// Adds any item that the column takes.
     #[inline(never)]
@@ -83,15 +83,14 @@ impl Builder {
         }
     }
 
-    /// Whether the next number of a width has its place, and no null stands before it.
+    /// Whether the next number of a width has its place.
     #[inline(always)]
     fn has_place(&self, width: usize) -> bool
         requires few { self.now.count ≤ 2 ^ 40 }
         requires width { width ≤ 16 }
-        ensures valid { result ≡ true → self.now.nulls ≡ 0 }
-        ensures place { result ≡ true → self.now.count * width + width ≤ vec_len self.now.bytes }
+        ensures { result ≡ true → self.now.count * width + width ≤ vec_len self.now.bytes }
     {
-        self.nulls == 0 && self.count * width + width <= self.bytes.len()
+        self.count * width + width <= self.bytes.len()
     }
 
     /// Makes places for the next numbers.
@@ -107,18 +106,36 @@ impl Builder {
         fill_ahead(&mut self.bytes, self.count * width, width)
     }
 
-    /// Stores a whole number in its place.
+    /// Makes the place of the next number, where it isn't there.
+    #[tactic(auto, using(crate::proofs::OneMore::null_adds))]
     #[inline(always)]
-    fn put_whole(&mut self, width: usize, number: i128)
-        requires takes { Takes self.old (Whole number) }
-        requires width { (width ≡ 4) ⊎ (width ≡ 8) ⊎ (width ≡ 16) }
-        requires shape { (signed : Bool) × (self.old.shape ≡ Wholes width signed) }
-        requires valid { self.old.nulls ≡ 0 }
-        requires place { self.old.count * width + width ≤ vec_len self.old.bytes }
-        ensures { Adds (Whole number) self.old self.new }
+    fn make_place(&mut self, width: usize) -> Result<(), NoMemory>
+        requires holds { HoldsFew self.old }
+        requires numbers { IsNumbers width self.old.shape }
+        ensures kept { Keeps self.old self.new }
+        ensures place { OnOk result (self.new.count * width + width ≤ vec_len self.new.bytes) }
+        ensures shape { self.new.shape ≡ self.old.shape }
     {
+        if self.has_place(width) {
+            return Ok(());
+        }
+        self.make_places(width)
+    }
+
+    /// Stores a whole number in its place, and its validity bit.
+    #[tactic(auto, using(crate::proofs::OneMore::whole_adds))]
+    #[inline(always)]
+    fn put_whole(&mut self, width: usize, number: i128) -> Result<(), NoMemory>
+        requires takes { Takes self.old (Whole number) }
+        requires shape { (signed : Bool) × (self.old.shape ≡ Wholes width signed) }
+        requires place { self.old.count * width + width ≤ vec_len self.old.bytes }
+        ensures added { OnOk result (Adds (Whole number) self.old self.new) }
+        ensures kept { OnErr result (Keeps self.old self.new) }
+    {
+        add_validity(&mut self.validity, self.count, self.nulls, false)?;
         put_whole(&mut self.bytes, self.count * width, width, number);
         self.count += 1;
+        Ok(())
     }
 
     /// Adds a whole number that the column takes, of a width in bytes that is a constant where it is added.
@@ -130,11 +147,10 @@ impl Builder {
         ensures added { OnOk result (Adds (Whole number) self.old self.new) }
         ensures kept { OnErr result (Keeps self.old self.new) }
     {
-        if width < 4 || !self.has_place(width) {
-            return self.add_whole_rarely(width, number);
+        if self.has_place(width) {
+            return self.put_whole(width, number);
         }
-        self.put_whole(width, number);
-        Ok(())
+        self.add_whole_rarely(width, number)
     }
 
     #[tactic(auto, using(crate::proofs::OneMore::whole_adds))]
@@ -145,11 +161,23 @@ impl Builder {
         ensures added { OnOk result (Adds (Whole number) self.old self.new) }
         ensures kept { OnErr result (Keeps self.old self.new) }
     {
-        if width < 4 || self.nulls != 0 {
-            return self.add(Item::Whole(number));
-        }
         self.make_places(width)?;
-        self.put_whole(width, number);
+        self.put_whole(width, number)
+    }
+
+    /// Stores the bits of a float in their place, and its validity bit.
+    #[tactic(auto, using(crate::proofs::OneMore::float_adds))]
+    #[inline(always)]
+    fn put_bits(&mut self, width: usize, number: u64) -> Result<(), NoMemory>
+        requires takes { Takes self.old (Bits number) }
+        requires shape { self.old.shape ≡ Floats width }
+        requires place { self.old.count * width + width ≤ vec_len self.old.bytes }
+        ensures added { OnOk result (Adds (Bits number) self.old self.new) }
+        ensures kept { OnErr result (Keeps self.old self.new) }
+    {
+        add_validity(&mut self.validity, self.count, self.nulls, false)?;
+        put_number(&mut self.bytes, self.count * width, width, number);
+        self.count += 1;
         Ok(())
     }
 
@@ -162,11 +190,10 @@ impl Builder {
         ensures added { OnOk result (Adds (Bits number) self.old self.new) }
         ensures kept { OnErr result (Keeps self.old self.new) }
     {
-        if width < 4 || !self.has_place(width) {
-            return self.add_bits_rarely(width, number);
+        if self.has_place(width) {
+            return self.put_bits(width, number);
         }
-        self.put_bits(width, number);
-        Ok(())
+        self.add_bits_rarely(width, number)
     }
 
     #[tactic(auto, using(crate::proofs::OneMore::float_adds))]
@@ -177,26 +204,8 @@ impl Builder {
         ensures added { OnOk result (Adds (Bits number) self.old self.new) }
         ensures kept { OnErr result (Keeps self.old self.new) }
     {
-        if width < 4 || self.nulls != 0 {
-            return self.add(Item::Bits(number));
-        }
         self.make_places(width)?;
-        self.put_bits(width, number);
-        Ok(())
-    }
-
-    /// Stores the bits of a float in their place.
-    #[inline(always)]
-    fn put_bits(&mut self, width: usize, number: u64)
-        requires takes { Takes self.old (Bits number) }
-        requires width { (width ≡ 4) ⊎ (width ≡ 8) }
-        requires shape { self.old.shape ≡ Floats width }
-        requires valid { self.old.nulls ≡ 0 }
-        requires place { self.old.count * width + width ≤ vec_len self.old.bytes }
-        ensures { Adds (Bits number) self.old self.new }
-    {
-        put_number(&mut self.bytes, self.count * width, width, number);
-        self.count += 1;
+        self.put_bits(width, number)
     }
 
     /// Adds a truth value that the column takes.
@@ -206,11 +215,27 @@ impl Builder {
         ensures added { OnOk result (Adds (Truth truth) self.old self.new) }
         ensures kept { OnErr result (Keeps self.old self.new) }
     {
-        if self.nulls != 0 {
-            return self.add(Item::Truth(truth));
+        self.put_truth(truth, false)
+    }
+
+    /// Adds a bit and its validity bit: a truth value, or a null by a clear bit.
+    #[inline(always)]
+    fn put_truth(&mut self, truth: bool, null: bool) -> Result<(), NoMemory>
+        requires holds { HoldsFew self.old }
+        requires truths { self.old.shape ≡ Truths }
+        ensures added { OnOk result ((value : Value) → is_null value ≡ null → is_set value ≡ truth → Takes self.old value
+            → Adds value self.old self.new) }
+        ensures kept { OnErr result (Keeps self.old self.new) }
+    {
+        let nulls = self.nulls;
+        match make_room(&mut self.validity, self.count, nulls, null) {
+            Ok(()) => {}
+            Err(_) => return Err(NoMemory),
         }
         push_bit(&mut self.bytes, self.count, truth)?;
+        push_validity(&mut self.validity, self.count, nulls, null);
         self.count += 1;
+        self.nulls += usize::from(null);
         Ok(())
     }
 
@@ -221,26 +246,12 @@ impl Builder {
         ensures added { OnOk result (Adds (Bytes bytes.now) self.old self.new) }
         ensures kept { OnErr result (Keeps self.old self.new) }
     {
-        self.add_bytes_in(bytes, bytes.len())
-    }
-
-    /// Adds the first bytes of a longer text, so many of them, which the column takes. So a short one is copied by eight
-    /// bytes.
-    #[inline(always)]
-    pub fn add_bytes_in(&mut self, from: &[u8], size: usize) -> Result<(), NoMemory>
-        requires within { size ≤ length from.now }
-        requires takes { Takes self.old (Bytes (take size from.now)) }
-        ensures added { OnOk result (Adds (Bytes (take size from.now)) self.old self.new) }
-        ensures kept { OnErr result (Keeps self.old self.new) }
-    {
         match self.shape {
             Shape::Between {
                 wide: false,
                 text: _,
-            } if self.nulls == 0 && is_offset_there(&self.offsets, self.count) => {
-                self.put_between(from, size, false)
-            }
-            _ => self.add_bytes_rarely(&from[..size]),
+            } if is_offset_there(&self.offsets, self.count) => { self.put_between(bytes, false) }
+            _ => self.add_bytes_rarely(bytes),
         }
     }
 
@@ -257,14 +268,32 @@ impl Builder {
                 text: _,
             } if !self.offsets.is_empty() => {
                 self.make_offset()?;
-                self.put_between(bytes, bytes.len(), false)
+                self.put_between(bytes, false)
             }
             Shape::Between { wide, text: _ } => self.push_untested(wide, bytes),
             _ => self.add(Item::Bytes(bytes)),
         }
     }
 
+    /// Adds a null among numbers of a width.
+    #[tactic(auto, using(crate::proofs::OneMore::null_adds))]
+    #[inline(always)]
+    fn add_null_number(&mut self, width: usize) -> Result<(), NoMemory>
+        requires holds { HoldsFew self.old }
+        requires numbers { IsNumbers width self.old.shape }
+        ensures added { OnOk result (Adds Null self.old self.new) }
+        ensures kept { OnErr result (Keeps self.old self.new) }
+    {
+        self.make_place(width)?;
+        add_validity(&mut self.validity, self.count, self.nulls, true)?;
+        put_zeros(&mut self.bytes, self.count * width, width);
+        self.count += 1;
+        self.nulls += 1;
+        Ok(())
+    }
+
     /// Adds a null.
+    #[tactic(auto, using(crate::proofs::OneMore::null_adds))]
     #[inline(never)]
     pub fn add_null(&mut self) -> Result<(), NoMemory>
         requires holds { HoldsFew self.old }
@@ -272,12 +301,15 @@ impl Builder {
         ensures kept { OnErr result (Keeps self.old self.new) }
     {
         match self.shape {
+            Shape::Wholes { width, signed: _ } => self.add_null_number(width),
+            Shape::Floats { width } => self.add_null_number(width),
+            Shape::Truths => self.put_truth(false, true),
             Shape::Between {
                 wide: false,
                 text: _,
             } if !self.offsets.is_empty() => {
                 self.make_offset()?;
-                self.put_between(&[], 0, true)
+                self.put_between(&[], true)
             }
             _ => self.add(Item::Null),
         }
@@ -299,14 +331,13 @@ impl Builder {
         fill_ahead(&mut self.offsets, self.count * 4 + 4, 4)
     }
 
-    /// Stores the first bytes of a text, so many of them, and their narrow offset in its place, or a null without bytes.
+    /// Stores bytes and their narrow offset in its place, or a null without bytes.
     #[inline(always)]
-    fn put_between(&mut self, from: &[u8], size: usize, null: bool) -> Result<(), NoMemory>
-        requires within { size ≤ length from.now }
+    fn put_between(&mut self, bytes: &[u8], null: bool) -> Result<(), NoMemory>
         requires holds { HoldsFew self.old }
         requires narrow { IsNarrow self.old.shape }
         requires place { self.old.count * 4 + 8 ≤ vec_len self.old.offsets }
-        ensures added { OnOk result ((value : Value) → is_null value ≡ null → bytes_of value ≡ take size from.now → Takes self.old value
+        ensures added { OnOk result ((value : Value) → is_null value ≡ null → bytes_of value ≡ bytes.now → Takes self.old value
             → Adds value self.old self.new) }
         ensures kept { OnErr result (Keeps self.old self.new) }
     {
@@ -315,7 +346,7 @@ impl Builder {
             Ok(()) => {}
             Err(_) => return Err(NoMemory),
         }
-        append_first(&mut self.bytes, from, size)?;
+        append_bytes(&mut self.bytes, bytes)?;
         let end = self.bytes.len() as u64;
         put_number(&mut self.offsets, self.count * 4 + 4, 4, end);
         push_validity(&mut self.validity, self.count, nulls, null);

@@ -1,7 +1,7 @@
 //! What is made ahead of further items: bytes behind those of numbers and of narrow offsets, which nothing reads. An item
 //! that finds its place there is stored without a look at the vector's room.
-ghost use Rattle.std.specs.Prelude.{◌≡◌, ◌≤◌, ◌^◌, ◌+◌, ◌*◌, ◌++◌, ◌⊎◌, Bool, true, OnOk, OnErr, length, take, vec_len};
-ghost use Rattle.bit_pack.specs.Packed.{le_bytes, stored};
+ghost use Rattle.std.specs.Prelude.{◌≡◌, ◌≢◌, ◌≤◌, ◌<◌, ◌^◌, ◌+◌, ◌*◌, ◌++◌, Bool, true, OnOk, OnErr, length, replicate, take, vec_len};
+ghost use Rattle.bit_pack.specs.Packed.{IsWidth, le_bytes, stored};
 ghost use Rattle.data_types.specs.FieldText.{in_range};
 ghost use Rattle.col_build.specs.Holding.{ShapeOk, bytes_in, offsets_in};
 
@@ -62,15 +62,18 @@ fn put_at(bytes: &mut Vec<u8>, at: usize, more: &[u8])
     bytes[at..at + more.len()].copy_from_slice(more);
 }
 
-/// Stores the lowest four or eight bytes of a number in their place.
+/// Stores the lowest bytes of a number in their place, so many of them.
 #[inline(always)]
 pub(crate) fn put_number(bytes: &mut Vec<u8>, at: usize, width: usize, number: u64)
-    requires width { (width ≡ 4) ⊎ (width ≡ 8) }
+    requires width { IsWidth width }
+    requires narrow { width ≢ 16 }
     requires place { at + width ≤ vec_len bytes.old }
     ensures put { take (at + width) bytes.new.items ≡ take at bytes.old.items ++ le_bytes width number }
     ensures len { vec_len bytes.new ≡ vec_len bytes.old }
 {
     match width {
+        1 => put_at(bytes, at, &[(number % 0x100) as u8]),
+        2 => put_at(bytes, at, &((number % 0x1_0000) as u16).to_le_bytes()),
         4 => put_at(bytes, at, &((number % 0x1_0000_0000) as u32).to_le_bytes()),
         _ => put_at(bytes, at, &number.to_le_bytes()),
     }
@@ -88,10 +91,10 @@ fn put_sixteen(bytes: &mut Vec<u8>, at: usize, number: u128)
     put_number(bytes, at + 8, 8, high);
 }
 
-/// Stores a whole number that is in the range of its width, which is four bytes or more.
+/// Stores a whole number that is in the range of its width.
 #[inline(always)]
 pub(crate) fn put_whole(bytes: &mut Vec<u8>, at: usize, width: usize, number: i128)
-    requires width { (width ≡ 4) ⊎ (width ≡ 8) ⊎ (width ≡ 16) }
+    requires width { IsWidth width }
     requires place { at + width ≤ vec_len bytes.old }
     requires range { (signed : Bool) × (in_range (8 * width) signed number ≡ true) }
     ensures { take (at + width) bytes.new.items ≡ take at bytes.old.items ++ le_bytes width (stored width number) }
@@ -107,24 +110,42 @@ pub(crate) fn put_whole(bytes: &mut Vec<u8>, at: usize, width: usize, number: i1
     }
 }
 
-/// Appends the first bytes of a text, so many of them. A short text is copied by eight bytes and cut.
+/// Stores as many zeros as a number has bytes in its place.
 #[inline(always)]
-pub(crate) fn append_first(bytes: &mut Vec<u8>, from: &[u8], size: usize) -> Result<(), NoMemory>
-    requires { size ≤ length from.now }
-    ensures added { OnOk result (bytes.new.items ≡ bytes.old.items ++ take size from.now) }
+pub(crate) fn put_zeros(bytes: &mut Vec<u8>, at: usize, width: usize)
+    requires width { IsWidth width }
+    requires place { at + width ≤ vec_len bytes.old }
+    ensures { take (at + width) bytes.new.items ≡ take at bytes.old.items ++ replicate width 0 }
+{
+    match width {
+        1 => put_at(bytes, at, &[0]),
+        2 => put_at(bytes, at, &[0; 2]),
+        4 => put_at(bytes, at, &[0; 4]),
+        8 => put_at(bytes, at, &[0; 8]),
+        _ => put_at(bytes, at, &[0; 16]),
+    }
+}
+
+/// Appends bytes.
+#[inline(always)]
+fn append(bytes: &mut Vec<u8>, more: &[u8]) -> Result<(), NoMemory>
+    ensures added { OnOk result (bytes.new.items ≡ bytes.old.items ++ more.now) }
     ensures kept { OnErr result (bytes.new.items ≡ bytes.old.items) }
 {
-    if size <= 8 && from.len() >= 8 {
-        let start = bytes.len();
-        match bytes.extend_from_slice(&from[..8]) {
-            Ok(()) => {}
-            Err(_) => return Err(NoMemory),
-        }
-        bytes.truncate(start + size);
-        return Ok(());
-    }
-    match bytes.extend_from_slice(&from[..size]) {
+    match bytes.extend_from_slice(more) {
         Ok(()) => Ok(()),
         Err(_) => Err(NoMemory),
     }
+}
+
+/// Appends bytes, and eight of them by a copy of a constant size.
+#[inline(always)]
+pub(crate) fn append_bytes(bytes: &mut Vec<u8>, more: &[u8]) -> Result<(), NoMemory>
+    ensures added { OnOk result (bytes.new.items ≡ bytes.old.items ++ more.now) }
+    ensures kept { OnErr result (bytes.new.items ≡ bytes.old.items) }
+{
+    if more.len() == 8 {
+        return append(bytes, &more[..8]);
+    }
+    append(bytes, more)
 }
