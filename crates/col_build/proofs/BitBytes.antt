@@ -1,8 +1,10 @@
 -- Bits in bytes, with one more bit.
 use Rattle.std.proofs.Common.{◌≡◌, ◌+◌, ◌-◌, ◌*◌, ◌%◌, ◌^◌, ◌<◌, ◌≤◌, ◌++◌, ℕ, zero, suc, Bool, true, false, List, [], ◌∷◌, length, get_or, set, replicate}
-use Rattle.std.proofs.Common.{refl, ap, arith}
+use Rattle.std.proofs.Common.{◌∙◌, refl, ap, append_assoc, length-append, arith}
+use Rattle.std.proofs.lemmas.List.{length-replicate, replicate-append-replicate}
 use Rattle.std.proofs.Math.Nat.{pow-suc}
 use Rattle.col_build.specs.Encoding.{bit_bytes, bit_value, byte_of}
+use Rattle.col_build.specs.Times.{AddsBits, ShowsBits}
 
 pub value-small : (flag : Bool) → bit_value flag ≤ 1
 value-small true = omega arith
@@ -134,6 +136,52 @@ bits-filled zero (suc (suc (suc (suc (suc (suc (suc (suc r)))))))) less = absurd
 bits-filled (suc q) r less =
     let eight : 8 * suc q + r ≡ suc (suc (suc (suc (suc (suc (suc (suc (8 * q + r)))))))) = omega arith in
     rw eight (ap (λ bytes. 255 ∷ bytes) (bits-filled q r less))
+
+-- a byte of one bit eight times
+abbrev pub full_byte : Bool → ℕ
+full_byte true = 255
+full_byte false = 0
+
+bits-all : (k : ℕ) (flag : Bool) → bit_bytes (replicate (8 * k) flag) ≡ replicate k (full_byte flag)
+bits-all zero flag = refl
+bits-all (suc k) true =
+    let eight : 8 * suc k ≡ suc (suc (suc (suc (suc (suc (suc (suc (8 * k)))))))) = omega arith in
+    rw eight (ap (λ bytes. 255 ∷ bytes) (bits-all k true))
+bits-all (suc k) false =
+    let eight : 8 * suc k ≡ suc (suc (suc (suc (suc (suc (suc (suc (8 * k)))))))) = omega arith in
+    rw eight (ap (λ bytes. 0 ∷ bytes) (bits-all k false))
+
+-- behind whole bytes
+pub bits-whole : (flags : List Bool) (q k : ℕ) (flag : Bool) → length flags ≡ 8 * q
+    → bit_bytes (flags ++ replicate (8 * k) flag) ≡ bit_bytes flags ++ replicate k (full_byte flag)
+bits-whole [] q k flag e = bits-all k flag
+bits-whole (a ∷ []) q k flag e = absurd (omega arith)
+bits-whole (a ∷ b ∷ []) q k flag e = absurd (omega arith)
+bits-whole (a ∷ b ∷ c ∷ []) q k flag e = absurd (omega arith)
+bits-whole (a ∷ b ∷ c ∷ d ∷ []) q k flag e = absurd (omega arith)
+bits-whole (a ∷ b ∷ c ∷ d ∷ f ∷ []) q k flag e = absurd (omega arith)
+bits-whole (a ∷ b ∷ c ∷ d ∷ f ∷ g ∷ []) q k flag e = absurd (omega arith)
+bits-whole (a ∷ b ∷ c ∷ d ∷ f ∷ g ∷ h ∷ []) q k flag e = absurd (omega arith)
+bits-whole (a ∷ b ∷ c ∷ d ∷ f ∷ g ∷ h ∷ i ∷ flags) zero k flag e = absurd (omega arith)
+bits-whole (a ∷ b ∷ c ∷ d ∷ f ∷ g ∷ h ∷ i ∷ flags) (suc q) k flag e =
+    ap (λ bytes. byte_of (a ∷ b ∷ c ∷ d ∷ f ∷ g ∷ h ∷ i ∷ []) ∷ bytes) (bits-whole flags q k flag (omega arith))
+
+-- a bit so many times, and so many times more
+pub adds-more : (count more times : ℕ) (flag : Bool) (old between new : List ℕ) → AddsBits count flag more old between
+    → AddsBits (count + more) flag times between new → AddsBits count flag (more + times) old new
+adds-more count more times flag old between new first then = λ flags len is.
+    let here = flags ++ replicate more flag in
+    then here (omega (arith, length-append flags (replicate more flag), length-replicate more flag, len)) (first flags len is)
+    ∙ ap bit_bytes (append_assoc flags (replicate more flag) (replicate times flag)
+    ∙ ap (λ (fs : List Bool). flags ++ fs) (replicate-append-replicate more times flag))
+
+pub shows-more : (count more : ℕ) (flag : Bool) (old between : List ℕ) → ShowsBits count old → AddsBits count flag more old between
+    → ShowsBits (count + more) between
+shows-more count more flag old between shows first = (
+  shows.0 ++ replicate more flag,
+  omega (arith, length-append shows.0 (replicate more flag), length-replicate more flag, shows.1),
+  first shows.0 shows.1 shows.2,
+)
 
 -- the one bit of a place within a byte, and what is still free above the lower ones
 pub record Mask (r : ℕ) : Type 0 where

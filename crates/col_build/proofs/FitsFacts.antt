@@ -94,7 +94,7 @@ alone (shapes.Between false text) total (Bytes b) taken = first text total b (na
 alone (shapes.Between false text) total (Items vs) taken = taken
 alone (shapes.Between false text) total (Fields vs) taken = taken
 
-taken-alone : (kind : DataType) (values : List Value) (value : Value) → KindOk kind → HasForm (form_of kind) → push_fault kind values value ≡ None
+pub taken-alone : (kind : DataType) (values : List Value) (value : Value) → KindOk kind → HasForm (form_of kind) → push_fault kind values value ≡ None
     → push_fault kind [] value ≡ None
 taken-alone kind values value ok flat taken =
     fault-is kind [] value ok flat ∙ alone (shape_in (storage_of kind)) (byte_total values) value (sym (fault-is kind values value ok flat) ∙ taken)

@@ -9,6 +9,7 @@ pub mod ValidityFacts
 pub mod LaidAs
 pub mod Pushes
 pub mod OneMore
+pub mod ManyTimes
 pub mod FinishFacts
 pub mod Views
 pub mod TextBytes

@@ -16,15 +16,18 @@ flags_of values = map (λ value. not (is_null value)) values
 flags-push : (values : List Value) (value : Value) → flags_of (values ++ value ∷ []) ≡ flags_of values ++ not (is_null value) ∷ []
 flags-push values value = map-append (λ v. not (is_null v)) values (value ∷ [])
 
+pub nulls-append : (values others : List Value) → null_total (values ++ others) ≡ null_total values + null_total others
+nulls-append [] others = omega arith
+nulls-append (Null ∷ values) others = omega (arith, nulls-append values others)
+nulls-append ((Truth t) ∷ values) others = omega (arith, nulls-append values others)
+nulls-append ((Whole n) ∷ values) others = omega (arith, nulls-append values others)
+nulls-append ((Bits n) ∷ values) others = omega (arith, nulls-append values others)
+nulls-append ((Bytes b) ∷ values) others = omega (arith, nulls-append values others)
+nulls-append ((Items vs) ∷ values) others = omega (arith, nulls-append values others)
+nulls-append ((Fields vs) ∷ values) others = omega (arith, nulls-append values others)
+
 pub nulls-push : (values : List Value) (value : Value) → null_total (values ++ value ∷ []) ≡ null_total values + null_total (value ∷ [])
-nulls-push [] value = omega arith
-nulls-push (Null ∷ values) value = omega (arith, nulls-push values value)
-nulls-push ((Truth t) ∷ values) value = omega (arith, nulls-push values value)
-nulls-push ((Whole n) ∷ values) value = omega (arith, nulls-push values value)
-nulls-push ((Bits n) ∷ values) value = omega (arith, nulls-push values value)
-nulls-push ((Bytes b) ∷ values) value = omega (arith, nulls-push values value)
-nulls-push ((Items vs) ∷ values) value = omega (arith, nulls-push values value)
-nulls-push ((Fields vs) ∷ values) value = omega (arith, nulls-push values value)
+nulls-push values value = nulls-append values (value ∷ [])
 
 pub null-one : (value : Value) → is_null value ≡ true → null_total (value ∷ []) ≡ 1
 null-one Null is = refl
@@ -74,7 +77,7 @@ pub shown-is : (bytes others : List ℕ) → if_some bytes ≡ Some others → b
 shown-is [] others is = cc
 shown-is (byte ∷ bytes) others is = cc
 
-not-zero : (n : ℕ) → n ≢ 0 → (n == 0) ≡ false
+pub not-zero : (n : ℕ) → n ≢ 0 → (n == 0) ≡ false
 not-zero n some = grind (arith, nat_tests)
 
 pub validity-none : (values : List Value) → null_total values ≡ 0 → validity_of values ≡ None
@@ -143,3 +146,9 @@ nulls-few ((Bits n) ∷ values) = omega (arith, nulls-few values)
 nulls-few ((Bytes b) ∷ values) = omega (arith, nulls-few values)
 nulls-few ((Items vs) ∷ values) = omega (arith, nulls-few values)
 nulls-few ((Fields vs) ∷ values) = omega (arith, nulls-few values)
+
+-- the bits of values of which one is null
+pub shown-flags : (new : List ℕ) (values : List Value) → null_total values ≢ 0 → new ≡ bit_bytes (flags_of values) → if_some new ≡ validity_of values
+shown-flags new values some made =
+    let there : flags_of values ≢ [] = λ none. some (omega (arith, nulls-few values, flags-length values, ap length none)) in
+    ap if_some made ∙ shown-some (bit_bytes (flags_of values)) (bits-some (flags_of values) there) ∙ sym (validity-some values some)

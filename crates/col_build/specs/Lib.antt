@@ -3,6 +3,7 @@ pub mod Encoding
 pub mod Shapes
 pub mod Holding
 pub mod Settled
+pub mod Times
 pub mod Finished
 pub mod Blocks
 pub mod FaultTexts

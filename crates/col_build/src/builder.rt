@@ -33,7 +33,7 @@ pub struct Builder {
 
 /// Whether an item is null.
 #[inline(always)]
-fn is_null(item: &Item<'_>) -> bool
+pub(crate) fn is_null(item: &Item<'_>) -> bool
     ensures { result ≡ is_null (value_of item.now) }
 {
     match item {

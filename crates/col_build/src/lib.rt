@@ -17,6 +17,7 @@
 //! - An item that the caller knows to be taken is added by [`Builder::add_whole`] and its like, which fail for want of memory
 //!   alone. Numbers and narrow offsets have their places made ahead, as bytes that `Holds` doesn't see; a push and a finish
 //!   cut them first.
+//! - [`Builder::add_times`] adds an item many times at once, and the bits of items without bytes by whole bytes.
 //! - A push allocates only to let a buffer grow, by amortised growth. Validity bits are made with the first null, for all
 //!   items before it. The code copies no byte to finish, but where memory runs out;
 //!   no clause says so.
@@ -35,6 +36,7 @@ mod numbers;
 mod shape;
 mod store;
 mod text;
+mod times;
 mod validity;
 
 pub use builder::Builder;
