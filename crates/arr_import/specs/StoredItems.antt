@@ -2,7 +2,7 @@
 use Rattle.std.specs.Prelude.{◌≡◌, ◌==◌, ℕ, ◌+◌, ◌*◌, ◌/◌, ◌<◌, ◌≤◌, pos, ◌≤ℤ◌, Bool, false, IsTrue, List, length}
 use Rattle.data_types.specs.Value.{Value, values}
 use Rattle.data_types.specs.Value.Value.{Null, Truth, Whole, Bits, Bytes, Items, Fields}
-use Rattle.bit_pack.specs.Packed.{IsWidth, bit, offset_width}
+use Rattle.bit_pack.specs.Packed.{IsWidth, bit}
 use Rattle.raw_array.specs.Members.{ArrayMembers, ArrayTree}
 use Rattle.layout_rules.specs.Layout.{first, bytes, natural, offset_in, stored_number, stored_bytes, data_of, view_width}
 use Rattle.layout_rules.specs.Views.{view_data}

@@ -4,13 +4,13 @@
 //!   are lent from the block, a list as the column of its items, or that it is a struct. [`Col::truth`], [`Col::whole`],
 //!   [`Col::bits`] and [`Col::bytes`] show the items of one kind alone, at less cost. [`Col::child`] is a struct's
 //!   child over the struct's window. [`Col::home`] follows an item through its dictionaries.
-//! - [`Col::texts`], [`Col::wholes`], [`Col::truths`] and [`Col::doubles`] settle once how a column is stored, where that is
-//!   in this common way and without a validity bitmap, so that an item costs the read alone. [`Col::indexed`] finds the
-//!   dictionary of indices once.
+//! - [`Col::plain`] settles once how a column is stored, where its items stand in place or between offsets and no dictionary
+//!   behind them, so that an item costs its validity bit and the read alone ([`Plain`]). [`Col::indexed`] finds the dictionary
+//!   of indices once.
 //!
 //! Contracts see a column as a window (`specs/Window.antt`): the kinds, the array's tree, and which items of it. What an
-//! item is stands in `layout_rules`'s `specs/Values.antt`; what a reference shows, in `specs/Shown.antt`. A column in a
-//! common way is seen as so many items, each by its number (`specs/Plain.antt`).
+//! item is stands in `layout_rules`'s `specs/Values.antt`; what a reference shows, in `specs/Shown.antt`. A plain column is
+//! seen as so many items, each by its number (`specs/Plain.antt`).
 //!
 //! Nothing here takes memory, writes or copies bytes. A column looks its buffers up once, so
 //! that a text costs a bit, two offsets and a slice, whatever the length of the column; a list's items, and a dictionary
@@ -33,5 +33,5 @@ mod view;
 
 pub use col::Col;
 pub use indexed::Indexed;
-pub use plain::{Doubles, Texts, Truths, Wholes};
+pub use plain::Plain;
 pub use value_ref::ValueRef;

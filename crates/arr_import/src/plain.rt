@@ -1,66 +1,53 @@
-//! Columns without nulls that are stored in a common way, read with nothing to look up but the place. All else is settled
-//! once, when the column is asked for.
-ghost use Rattle.std.specs.Prelude.{◌≡◌, ◌↔◌, None, IsTrue, ◌+◌, ◌^◌, ◌<◌, ◌≤◌, ℕ, IfSome, IfNone};
-ghost use Rattle.data_types.specs.Value.{Value};
-ghost use Rattle.data_types.specs.Value.Value.{Truth, Whole, Bits, Bytes};
+//! Columns whose items are stored in place or between offsets, read with nothing to look up but the place. All else is
+//! settled once, when the column is asked for.
+ghost use Rattle.std.specs.Prelude.{◌≡◌, ◌↔◌, IsTrue, IfSome, IfNone, if◌then◌else◌, None, ◌+◌, ◌^◌, ◌<◌, ◌≤◌, ℕ};
+ghost use Rattle.data_types.specs.Storage.{storage_of};
+ghost use Rattle.data_types.specs.declared.storage.Storage.TheVariants as storages;
+ghost use Rattle.data_types.specs.Value.Value.{Null, Truth, Whole, Bits, Bytes};
 ghost use Rattle.tree_model.specs.Tree.{children_of, trees};
 ghost use Rattle.raw_array.specs.Members.{members_of};
-ghost use Rattle.layout_rules.specs.Layout.{buffer, first};
+ghost use Rattle.layout_rules.specs.Layout.{buffer, first, is_valid as is_valid_at};
+ghost use Rattle.kind_tree.specs.Kinds.{kind_in};
 ghost use Rattle.kind_tree.specs.TypedView.{dict_in, kids_of};
 ghost use Rattle.layout_rules.specs.Values.{readers};
 ghost use Rattle.kind_tree.specs.declared.typed.Typed.{out-Typed};
-ghost use Rattle.arr_import.specs.StoredItems.{IsThere, stored_item};
+ghost use Rattle.arr_import.specs.StoredItems.{AreBetween, IsThere, stored_item};
 ghost use Rattle.arr_import.specs.Window.{item_at};
 ghost use Rattle.arr_import.specs.Cols.{window_of};
-ghost use Rattle.arr_import.specs.Plain.{IsCommonWidth, AreTexts, AreWholes, AreTruths, AreDoubles, ShowsTexts, ShowsWholes, ShowsTruths, ShowsDoubles};
+ghost use Rattle.arr_import.specs.Plain.{IsBitThere, IsItemThere, IsPlain, IsPlainStorage, ShowsItems, is_valid_in, storage_in, valid_item};
 
 use crate::col::Col;
-use crate::stored::{bits_at, text_at, truth_at, whole_at};
+use crate::stored::{bits_at, bytes_at, text_at, truth_at, whole_at};
 use data_types::Storage;
 use kind_tree::kinds_of_typed;
 use layout_rules::{lawful_has_no_fault, lawful_items_lie_within, lawful_root};
 
-/// Texts or bytes between offsets of 32 bits.
+/// A column whose items are stored in place or between offsets, and are no indices of a dictionary.
 #[derive(Clone, Copy)]
-pub struct Texts<'a> {
-    offsets: &'a [u8],
+pub struct Plain<'a> {
+    storage: Storage,
+    /// The validity bits, where there are some.
+    validity: Option<&'a [u8]>,
+    stored: &'a [u8],
     text: &'a [u8],
     /// The place of the first item in the buffers.
     first: u64,
 }
 
-/// Whole numbers of one width with a sign.
-#[derive(Clone, Copy)]
-pub struct Wholes<'a> {
-    stored: &'a [u8],
-    first: u64,
-}
-
-/// Truth values.
-#[derive(Clone, Copy)]
-pub struct Truths<'a> {
-    stored: &'a [u8],
-    first: u64,
-}
-
-/// Floats of 64 bits.
-#[derive(Clone, Copy)]
-pub struct Doubles<'a> {
-    stored: &'a [u8],
-    first: u64,
-}
-
 impl<'a> Col<'a> {
-    /// What each item is, and that it can be read, where none is null and no dictionary stands behind them.
+    /// What each item is, and that it can be read, where no dictionary stands behind them.
     fn items_are_stored(&self)
         requires own { dict_in (out-Typed self.now.typed.now).dict ≡ None }
-        requires all_valid { buffer (members_of self.now.array.now) 0 ≡ None }
         ensures near { first (members_of self.now.array.now) + (self.now.start + self.now.count) ≤ 2 ^ 40 }
         ensures there { (i : ℕ) → i < self.now.count
             → IsThere self.now.storage self.now.stored.now self.now.text.now (first (members_of self.now.array.now) + (self.now.start + i)) }
+        ensures validity { (i : ℕ) → i < self.now.count
+            → IsBitThere (buffer (members_of self.now.array.now) 0) (first (members_of self.now.array.now) + (self.now.start + i)) }
         ensures items { (i : ℕ) → i < self.now.count → item_at (window_of self.now) i
-            ≡ stored_item self.now.storage (readers (trees (kids_of self.now.typed.now))) (members_of self.now.array.now)
-            (children_of self.now.array.now) (self.now.start + i) }
+            ≡ (if is_valid_at (members_of self.now.array.now) (self.now.start + i)
+            then stored_item self.now.storage (readers (trees (kids_of self.now.typed.now))) (members_of self.now.array.now)
+            (children_of self.now.array.now) (self.now.start + i)
+            else Null) }
     {
         kinds_of_typed(self.typed);
         lawful_has_no_fault(self.typed, self.array);
@@ -76,155 +63,116 @@ impl<'a> Col<'a> {
         lawful_root(self.typed, self.array);
         self.offset + self.start
     }
-}
 
-impl<'a> Col<'a> {
-    /// The column as texts, where its items are texts or bytes between offsets of 32 bits and it has no validity bitmap.
-    pub fn texts(&self) -> Option<Texts<'a>>
-        ensures some { IfSome result (λ texts. ShowsTexts texts (window_of self.now).count (item_at (window_of self.now))) }
-        ensures only { IfSome result (λ texts. AreTexts (window_of self.now)) }
-        ensures none { IfNone result (¬ AreTexts (window_of self.now)) }
+    /// The column by its places, where its items are stored in place or between offsets, and are no indices of a dictionary.
+    pub fn plain(&self) -> Option<Plain<'a>>
+        ensures some { IfSome result (λ plain. ShowsItems plain (window_of self.now).count (item_at (window_of self.now))) }
+        ensures stored { IfSome result (λ plain. storage_in plain ≡ storage_of (kind_in (window_of self.now).typed)) }
+        ensures only { IfSome result (λ plain. IsPlain (window_of self.now)) }
+        ensures none { IfNone result (¬ IsPlain (window_of self.now)) }
     {
         self.window_is();
-        if self.validity.is_some() {
+        if !is_plain(self.storage) || self.typed.dict.is_some() {
             return None;
         }
-        match self.storage {
-            Storage::Between { wide: false, .. } => {
-                self.has_no_dictionary();
-                self.items_are_stored();
-                Some(Texts {
-                    offsets: self.stored,
-                    text: self.text,
-                    first: self.first_place(),
-                })
-            }
-            _ => None,
-        }
-    }
-
-    /// The column as whole numbers of so many bytes, where its items are such numbers with a sign, are no indices of a
-    /// dictionary, and have no validity bitmap. Numbers of 4, 8 and 16 bytes are read so, and none of another width.
-    pub fn wholes(&self, width: u8) -> Option<Wholes<'a>>
-        ensures some { IfSome result (λ wholes. ShowsWholes wholes width (window_of self.now).count (item_at (window_of self.now))) }
-        ensures only { IfSome result (λ wholes. AreWholes width (window_of self.now)) }
-        ensures none { IfNone result (¬ AreWholes width (window_of self.now)) }
-    {
-        self.window_is();
-        if !is_common(width) || self.validity.is_some() || self.typed.dict.is_some() {
-            return None;
-        }
-        match self.storage {
-            Storage::Wholes { bits, signed: true } => {
-                if bits != 8 * width {
-                    return None;
-                }
-                self.items_are_stored();
-                Some(Wholes {
-                    stored: self.stored,
-                    first: self.first_place(),
-                })
-            }
-            _ => None,
-        }
+        self.items_are_stored();
+        Some(Plain {
+            storage: self.storage,
+            validity: self.validity,
+            stored: self.stored,
+            text: self.text,
+            first: self.first_place(),
+        })
     }
 }
 
-impl<'a> Col<'a> {
-    /// The column as truth values, where its items are such and it has no validity bitmap.
-    pub fn truths(&self) -> Option<Truths<'a>>
-        ensures some { IfSome result (λ truths. ShowsTruths truths (window_of self.now).count (item_at (window_of self.now))) }
-        ensures only { IfSome result (λ truths. AreTruths (window_of self.now)) }
-        ensures none { IfNone result (¬ AreTruths (window_of self.now)) }
-    {
-        self.window_is();
-        if self.validity.is_some() {
-            return None;
-        }
-        match self.storage {
-            Storage::Truths => {
-                self.has_no_dictionary();
-                self.items_are_stored();
-                Some(Truths {
-                    stored: self.stored,
-                    first: self.first_place(),
-                })
-            }
-            _ => None,
-        }
-    }
-
-    /// The column as floats of 64 bits, where its items are such and it has no validity bitmap.
-    pub fn doubles(&self) -> Option<Doubles<'a>>
-        ensures some { IfSome result (λ doubles. ShowsDoubles doubles (window_of self.now).count (item_at (window_of self.now))) }
-        ensures only { IfSome result (λ doubles. AreDoubles (window_of self.now)) }
-        ensures none { IfNone result (¬ AreDoubles (window_of self.now)) }
-    {
-        self.window_is();
-        if self.validity.is_some() {
-            return None;
-        }
-        match self.storage {
-            Storage::Floats { bits: 64 } => {
-                self.has_no_dictionary();
-                self.items_are_stored();
-                Some(Doubles {
-                    stored: self.stored,
-                    first: self.first_place(),
-                })
-            }
-            _ => None,
-        }
-    }
-}
-
-/// The widths in bytes whose numbers are read so.
-fn is_common(width: u8) -> bool
-    ensures { IsTrue result ↔ IsCommonWidth width }
+/// Whether items that are stored so are read by their places.
+fn is_plain(storage: Storage) -> bool
+    ensures { IsTrue result ↔ IsPlainStorage storage }
 {
-    width == 4 || width == 8 || width == 16
-}
-
-impl<'a> Texts<'a> {
-    /// The bytes of item `i`, which is below the column's length.
-    #[inline(always)]
-    pub fn get(&self, i: u64) -> &'a [u8]
-        requires { (count : ℕ) × (item : ℕ → Value) × ShowsTexts self.now count item × (i < count) }
-        ensures { (count : ℕ) (item : ℕ → Value) → ShowsTexts self.now count item → i < count → item i ≡ Bytes result.now }
-    {
-        text_at(false, self.offsets, self.text, self.first + i)
+    match storage {
+        Storage::Truths
+        | Storage::Wholes { .. }
+        | Storage::Floats { .. }
+        | Storage::Sized { .. }
+        | Storage::Between { .. } => true,
+        Storage::Nothing
+        | Storage::Lists { .. }
+        | Storage::FixedLists { .. }
+        | Storage::Children
+        | Storage::Views { .. } => false,
     }
 }
 
-impl<'a> Wholes<'a> {
-    /// Item `i`, which is below the column's length, of numbers of `width` bytes.
-    #[inline(always)]
-    pub fn get(&self, width: u8, i: u64) -> i128
-        requires { (count : ℕ) × (item : ℕ → Value) × ShowsWholes self.now width count item × (i < count) }
-        ensures { (count : ℕ) (item : ℕ → Value) → ShowsWholes self.now width count item → i < count → item i ≡ Whole result }
+impl<'a> Plain<'a> {
+    /// How the items are stored.
+    pub fn storage(&self) -> Storage
+        ensures { result ≡ storage_in self.now }
     {
-        whole_at(self.stored, self.first + i, width, true)
+        self.storage
+    }
+
+    /// Whether item `i` isn't null.
+    #[inline(always)]
+    pub fn is_valid(&self, i: u64) -> bool
+        requires { IsItemThere self.now i }
+        ensures { result ≡ is_valid_in self.now i }
+    {
+        match self.validity {
+            Some(bits) => truth_at(bits, self.first + i),
+            None => true,
+        }
     }
 }
 
-impl<'a> Truths<'a> {
-    /// Item `i`, which is below the column's length.
+impl<'a> Plain<'a> {
+    /// What item `i` of truth values is where it isn't null.
     #[inline(always)]
-    pub fn get(&self, i: u64) -> bool
-        requires { (count : ℕ) × (item : ℕ → Value) × ShowsTruths self.now count item × (i < count) }
-        ensures { (count : ℕ) (item : ℕ → Value) → ShowsTruths self.now count item → i < count → item i ≡ Truth result }
+    pub fn truth(&self, i: u64) -> bool
+        requires there { IsItemThere self.now i }
+        requires stored { storage_in self.now ≡ storages.Truths }
+        ensures { valid_item self.now i ≡ Truth result }
     {
         truth_at(self.stored, self.first + i)
     }
-}
 
-impl<'a> Doubles<'a> {
-    /// The bits of item `i`, which is below the column's length.
+    /// What item `i` of whole numbers of so many bits is where it isn't null.
     #[inline(always)]
-    pub fn get(&self, i: u64) -> u64
-        requires { (count : ℕ) × (item : ℕ → Value) × ShowsDoubles self.now count item × (i < count) }
-        ensures { (count : ℕ) (item : ℕ → Value) → ShowsDoubles self.now count item → i < count → item i ≡ Bits result }
+    pub fn whole(&self, bits: u8, signed: bool, i: u64) -> i128
+        requires there { IsItemThere self.now i }
+        requires stored { storage_in self.now ≡ storages.Wholes bits signed }
+        ensures { valid_item self.now i ≡ Whole result }
     {
-        bits_at(self.stored, self.first + i, 8)
+        whole_at(self.stored, self.first + i, bits / 8, signed)
+    }
+
+    /// The bits of item `i` of floats of so many bits where it isn't null.
+    #[inline(always)]
+    pub fn float_bits(&self, bits: u8, i: u64) -> u64
+        requires there { IsItemThere self.now i }
+        requires stored { storage_in self.now ≡ storages.Floats bits }
+        ensures { valid_item self.now i ≡ Bits result }
+    {
+        bits_at(self.stored, self.first + i, bits / 8)
+    }
+
+    /// The bytes of item `i` of so many bytes each where it isn't null.
+    #[inline(always)]
+    pub fn sized(&self, size: u32, i: u64) -> &'a [u8]
+        requires there { IsItemThere self.now i }
+        requires stored { storage_in self.now ≡ storages.Sized size }
+        ensures { valid_item self.now i ≡ Bytes result.now }
+    {
+        bytes_at(self.stored, self.first + i, size)
+    }
+
+    /// The bytes of item `i` of texts or bytes between offsets, wide or not, where it isn't null.
+    #[inline(always)]
+    pub fn between(&self, wide: bool, i: u64) -> &'a [u8]
+        requires there { IsItemThere self.now i }
+        requires stored { AreBetween wide (storage_in self.now) }
+        ensures { valid_item self.now i ≡ Bytes result.now }
+    {
+        text_at(wide, self.stored, self.text, self.first + i)
     }
 }

@@ -1,14 +1,18 @@
 -- What is read of a column's items, place by place.
-use Rattle.std.proofs.Common.{◌≡◌, ◌<◌, ℕ, zero, suc, List, [], ◌∷◌, length, get_or, refl, sym, ap, subst, arith, ◌∙◌}
+use Rattle.std.proofs.Common.{◌≡◌, ◌<◌, ℕ, zero, suc, List, [], ◌∷◌, true, false, length, get_or, refl, sym, ap, subst, arith, ◌∙◌}
+use Rattle.std.specs.Prelude.{if◌then◌else◌}
 use Rattle.std.specs.List.{AllZip}
-use Rattle.data_types.specs.FieldText.{Form}
+use Rattle.data_types.specs.FieldText.{IsFlatForm}
 use Rattle.data_types.specs.Value.{Value}
-use Rattle.arr_import.specs.Cols.{window_of}
-use Rattle.arr_import.specs.Window.{item_at}
+use Rattle.data_types.specs.Value.Value.{Null}
+use Rattle.arr_import.specs.Plain.{IsItemThere, is_valid_in, valid_item}
+use Rattle.arr_import.specs.declared.plain.Plain.{Plain}
 use Rattle.field_codec.specs.FieldForms.{form_in, written_in}
 use Rattle.csv_write.specs.ChunkTexts.{HasItem, text_in}
 use Rattle.csv_write.specs.Readings.{IsShown}
+use Rattle.csv_write.specs.Ways.{form_by}
 use Rattle.csv_write.specs.declared.chunk_text.ChunkColumn.{ChunkColumn}
+use Rattle.csv_write.specs.declared.way.Way.{Way}
 
 -- what stands beside an item
 pub record IsBeside {A B : Type 0} (R : A → B → Type 0) (ys : List B) (j : ℕ) (x : A) : Type 0 where
@@ -29,13 +33,27 @@ zip-beside R (a ∷ xs) (b ∷ ys) (suc j) x h lt is =
 
 -- ---- an item that is shown
 
-module _ (form : Form) (Shows : ℕ → (ℕ → Value) → Type 0) (column : ChunkColumn) (i : ℕ) (shown : IsShown form Shows column) (has : HasItem column i) where
-  pub item-there : (count : ℕ) × (item : ℕ → Value) × Shows count item × (i < count)
-  item-there = ((window_of column.items).count, item_at (window_of column.items), shown.items, has.inside)
+module _ (way : Way) (plain : Plain) (column : ChunkColumn) (i : ℕ) (shown : IsShown way plain column) (has : HasItem column i) where
+  pub item-there : IsItemThere plain i
+  item-there = shown.items.there i has.inside
 
-  -- its text by its column's form
-  pub item-text : (mark : List ℕ) (v : Value) → ((count : ℕ) (item : ℕ → Value) → Shows count item → i < count → item i ≡ v)
-      → written_in mark form v ≡ text_in mark i column
-  item-text mark v is =
-      ap (λ f. written_in mark f v) (sym shown.form_is)
-      ∙ ap (λ x. written_in mark (form_in column.form) x) (sym (is (window_of column.items).count (item_at (window_of column.items)) shown.items has.inside))
+  pub item-proper : IsFlatForm (form_by way)
+  item-proper = subst IsFlatForm shown.form_is has.proper
+
+  -- the text of a null
+  pub null-text : (mark : List ℕ) → is_valid_in plain i ≡ false → mark ≡ text_in mark i column
+  null-text mark null =
+      ap (λ b. written_in mark (form_in column.form) (if b then valid_item plain i else Null)) (sym null)
+      ∙ ap (λ v. written_in mark (form_in column.form) v) (sym (shown.items.items i has.inside))
+
+  -- and that of any other, by its column's form
+  pub valid-text : (mark : List ℕ) → is_valid_in plain i ≡ true → written_in mark (form_by way) (valid_item plain i) ≡ text_in mark i column
+  valid-text mark valid =
+      ap (λ f. written_in mark f (valid_item plain i)) (sym shown.form_is)
+      ∙ ap (λ b. written_in mark (form_in column.form) (if b then valid_item plain i else Null)) (sym valid)
+      ∙ ap (λ v. written_in mark (form_in column.form) v) (sym (shown.items.items i has.inside))
+
+-- what is written in a way
+pub by-way : (mark : List ℕ) (way w : Way) → way ≡ w → (item v : Value) → item ≡ v
+    → written_in mark (form_by w) v ≡ written_in mark (form_by way) item
+by-way mark way w is item v same = ap (λ x. written_in mark (form_by x) v) (sym is) ∙ ap (λ x. written_in mark (form_by way) x) (sym same)

@@ -2,3 +2,4 @@ pub mod Lines
 pub mod CsvTexts
 pub mod ChunkTexts
 pub mod Readings
+pub mod Ways

@@ -1,8 +1,8 @@
 //! The text of a table in the making: its header, and the rows of chunks, read in place.
 //!
 //! A field is written from the item of its column, which is read as the form of the column has it ([`Col::whole`] and its
-//! like). The form is found once for a table, and a chunk's columns once for a chunk, with how their items are read: those of
-//! a common kind without nulls by their place alone ([`Col::texts`] and its like). A row or a field takes no memory but that
+//! like). The form is found once for a table, and a chunk's columns once for a chunk, with how their items are read: those that
+//! are stored in place or between offsets by their place alone ([`Col::plain`]). A row or a field takes no memory but that
 //! of the text. Whether a chunk is lawful is for `layout_check` to find before. A row is written of each item of the
 //! chunk's window, whether or not the struct's item is null.
 ghost use Rattle.std.specs.Prelude.{◌≡◌, ◌++◌, ℕ, List, map, IfOk, OnOk};
@@ -17,7 +17,7 @@ ghost use Rattle.field_codec.specs.TextColumns.{HaveTexts};
 
 use crate::chunk_text::{chunk_columns, count_rows};
 use crate::column_form::{column_forms, write_names};
-use crate::reading::{Reading, common_readings, readings};
+use crate::reading::{Reading, plain_readings, readings};
 use crate::rows::write_rows;
 use crate::writer::{finish_lines, new_writer};
 use arr_import::Col;
@@ -69,7 +69,7 @@ impl CsvText {
             → (window_of chunk.entry).typed ≡ type_of_columns columns
             → HasText self.new mark columns (written ++ rows_text mark columns (rows_in (window_of chunk.entry)))) }
     {
-        match common_readings(alloc, &self.forms, &chunk)? {
+        match plain_readings(alloc, &self.forms, &chunk)? {
             Some(readings) => self.add_read(&readings, &chunk),
             None => self.add_any(alloc, &chunk),
         }

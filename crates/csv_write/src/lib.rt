@@ -10,6 +10,7 @@ mod column_form;
 mod csv_text;
 mod reading;
 mod rows;
+mod way;
 mod writer;
 
 pub use csv_text::CsvText;

@@ -9,71 +9,42 @@ ghost use Rattle.csv_write.specs.ChunkTexts.{HasEntries, HasItem, text_in};
 ghost use Rattle.csv_write.specs.Readings.{Reads, ReadsChildren};
 ghost use Rattle.csv_write.specs.declared.chunk_text.ChunkColumn.{ChunkColumn};
 
-use crate::chunk_text::{ChunkColumn, entry_text, rare_text, some_text};
-use arr_import::{Col, Doubles, Indexed, Texts, Truths, Wholes};
-use field_codec::{FieldForm, bits_text, bytes_text, decimal_text, truth_text, whole_text};
+use crate::chunk_text::{ChunkColumn, entry_text, rare_text};
+use crate::way::{Way, way_of, way_text};
+use arr_import::{Col, Indexed, Plain};
+use field_codec::FieldForm;
 use std::alloc::Global;
 use unit_pass::NoMemory;
 
-/// How the items of a column are read, settled before the first of them. But for the last three, none of them is null.
+/// How the items of a column are read, settled before the first of them.
 #[derive(Clone, Copy)]
 pub(crate) enum Reading<'b, 'a> {
-    Texts(Texts<'a>),
-    /// Whole numbers of 32 bits.
-    Ints(Wholes<'a>),
-    /// Whole numbers of 64 bits.
-    Longs(Wholes<'a>),
-    Decimals { places: u32, numbers: Wholes<'a> },
-    Truths(Truths<'a>),
-    /// Floats of 64 bits.
-    Doubles(Doubles<'a>),
-    /// Bytes, which are written by their digits.
-    Bytes(Texts<'a>),
-    /// Texts, some of them null.
-    SomeTexts(&'b Col<'a>),
+    /// By their places.
+    Plain { way: Way, items: Plain<'a> },
     /// Texts through a dictionary.
     Entries(&'b Indexed<'a>),
     /// Any other.
     Any(&'b ChunkColumn<'a>),
 }
 
-/// A column's reading in a common way: it has no nulls, and its items are of one of the common widths.
+/// A column's reading by the places of its items.
 #[inline(always)]
-fn common_reading<'b, 'a>(form: FieldForm, items: &Col<'a>) -> Option<Reading<'b, 'a>>
+fn plain_reading<'b, 'a>(form: FieldForm, items: &Col<'a>) -> Option<Reading<'b, 'a>>
     ensures { IfSome result (λ reading. (entries : Option Indexed) → Reads reading (record { form = form; items = items.now; entries = entries })) }
 {
-    match form {
-        FieldForm::Text => Some(Reading::Texts(items.texts()?)),
-        FieldForm::Wholes {
-            bits: 32,
-            signed: true,
-        } => Some(Reading::Ints(items.wholes(4)?)),
-        FieldForm::Wholes {
-            bits: 64,
-            signed: true,
-        } => Some(Reading::Longs(items.wholes(8)?)),
-        FieldForm::Decimals { places, .. } => Some(Reading::Decimals {
-            places,
-            numbers: items.wholes(16)?,
-        }),
-        FieldForm::Truths => Some(Reading::Truths(items.truths()?)),
-        FieldForm::FloatBits { bits: 64 } => Some(Reading::Doubles(items.doubles()?)),
-        FieldForm::HexBytes => Some(Reading::Bytes(items.texts()?)),
-        _ => None,
-    }
+    let items = items.plain()?;
+    let way = way_of(form, items.storage())?;
+    Some(Reading::Plain { way, items })
 }
 
-/// A column's reading where it has none in a common way.
+/// A column's reading where it has none by the places of its items.
 fn rare_reading<'b, 'a>(column: &'b ChunkColumn<'a>) -> Reading<'b, 'a>
     requires { HasEntries column.now }
     ensures { Reads result column.now }
 {
     match &column.entries {
         Some(indexed) => Reading::Entries(indexed),
-        None => match column.form {
-            FieldForm::Text => Reading::SomeTexts(&column.items),
-            _ => Reading::Any(column),
-        },
+        None => Reading::Any(column),
     }
 }
 
@@ -82,7 +53,7 @@ fn reading_of<'b, 'a>(column: &'b ChunkColumn<'a>) -> Reading<'b, 'a>
     requires { HasEntries column.now }
     ensures { Reads result column.now }
 {
-    match common_reading(column.form, &column.items) {
+    match plain_reading(column.form, &column.items) {
         Some(reading) => reading,
         None => rare_reading(column),
     }
@@ -103,8 +74,8 @@ pub(crate) fn readings<'b, 'a>(
     Ok(readings)
 }
 
-/// The reading of each column of a chunk, where each has one in a common way.
-pub(crate) fn common_readings<'b, 'a>(
+/// The reading of each column of a chunk, where each has one by the places of its items.
+pub(crate) fn plain_readings<'b, 'a>(
     alloc: Global,
     forms: &[FieldForm],
     chunk: &Col<'a>,
@@ -116,7 +87,7 @@ pub(crate) fn common_readings<'b, 'a>(
     chunk.rows_are_whole();
     let mut readings = Vec::with_capacity(alloc, forms.len())?;
     for (k, form) in forms.iter().enumerate() {
-        match common_reading(*form, &chunk.child(k)) {
+        match plain_reading(*form, &chunk.child(k)) {
             Some(reading) => readings.push_reserved(reading),
             None => return Ok(None),
         }
@@ -136,14 +107,12 @@ pub(crate) fn item_text<'a: 'b, 'b>(
     ensures { IfOk result (λ text. (column : ChunkColumn) → Reads reading.now column → HasItem column i → text.now ≡ text_in mark.now i column) }
 {
     match reading {
-        Reading::Texts(texts) => Ok(texts.get(i)),
-        Reading::Ints(numbers) => whole_text(numbers.get(4, i), room),
-        Reading::Longs(numbers) => whole_text(numbers.get(8, i), room),
-        Reading::Decimals { places, numbers } => decimal_text(*places, numbers.get(16, i), room),
-        Reading::Truths(truths) => Ok(truth_text(truths.get(i))),
-        Reading::Doubles(doubles) => bits_text(64, doubles.get(i), room),
-        Reading::Bytes(texts) => bytes_text(texts.get(i), room),
-        Reading::SomeTexts(items) => Ok(some_text(items, i, mark)),
+        Reading::Plain { way, items } => {
+            if !items.is_valid(i) {
+                return Ok(mark);
+            }
+            way_text(way, items, i, room)
+        }
         Reading::Entries(indexed) => Ok(entry_text(indexed, i, mark)),
         Reading::Any(column) => rare_text(column, i, mark, room),
     }

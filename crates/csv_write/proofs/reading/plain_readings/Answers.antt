@@ -6,7 +6,7 @@ use Rattle.csv_write.specs.declared.reading.Reading.{Reading}
 use Rattle.field_codec.specs.declared.form.FieldForm.TheVariants as forms
 use Rattle.csv_write.specs.Readings.{Reads}
 use Rattle.csv_write.proofs.ChunkTexts.{child-there, first-all, first-push, zip-push}
-use Rattle.csv_write.proofs.reading.common_readings.Goals as goal
+use Rattle.csv_write.proofs.reading.plain_readings.Goals as goal
 
 pub loop-k-preserved : goal.loop-k-preserved
 loop-k-preserved c =

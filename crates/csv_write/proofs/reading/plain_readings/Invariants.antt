@@ -5,7 +5,7 @@ use Rattle.arr_import.specs.Cols.{window_of}
 use Rattle.csv_write.specs.Readings.{Reads}
 use Rattle.csv_write.specs.declared.chunk_text.ChunkColumn.{ChunkColumn}
 use Rattle.csv_write.proofs.ChunkTexts.{AreFirst}
-use Rattle.csv_write.proofs.reading.common_readings.Given as goal
+use Rattle.csv_write.proofs.reading.plain_readings.Given as goal
 
 -- the readings are those of the children so far, and there is room for the others
 abbrev pub invariant-loop-k : goal.invariant-loop-k

@@ -8,8 +8,8 @@ use Rattle.csv_write.specs.Readings.{ReadsChildren}
 use Rattle.csv_write.proofs.ChunkTexts.{kids-long, zip-long}
 use Rattle.csv_write.proofs.csv_text.CsvText.add.Goals as goal
 
-pub common_readings-requires-clause-count : goal.common_readings-requires-clause-count
-common_readings-requires-clause-count c =
+pub plain_readings-requires-clause-count : goal.plain_readings-requires-clause-count
+plain_readings-requires-clause-count c =
     let (mark, columns, written, h, is) = c.requires in
     ap length c.deref.ensures.value
     ∙ zip-long (λ form column. IsFormOf form column.kind) c.args.self.now.forms.items columns h.forms
