@@ -1,14 +1,11 @@
 -- What is read of a column's items, place by place.
-use Rattle.std.proofs.Common.{◌≡◌, ◌<◌, ℕ, zero, suc, List, [], ◌∷◌, true, false, length, get_or, refl, sym, ap, subst, arith, ◌∙◌}
-use Rattle.std.specs.Prelude.{if◌then◌else◌}
+use Rattle.std.proofs.Common.{◌≡◌, ◌<◌, ℕ, zero, suc, List, [], ◌∷◌, length, get_or, refl, sym, ap, subst, arith, ◌∙◌}
 use Rattle.std.specs.List.{AllZip}
-use Rattle.data_types.specs.FieldText.{IsFlatForm}
 use Rattle.data_types.specs.Value.{Value}
-use Rattle.data_types.specs.Value.Value.{Null}
-use Rattle.arr_import.specs.Plain.{IsItemThere, is_valid_in, valid_item}
+use Rattle.arr_import.specs.Plain.{IsItemThere}
 use Rattle.arr_import.specs.declared.plain.Plain.{Plain}
-use Rattle.field_codec.specs.FieldForms.{form_in, written_in}
-use Rattle.csv_write.specs.ChunkTexts.{HasItem, text_in}
+use Rattle.field_codec.specs.FieldForms.{written_in}
+use Rattle.csv_write.specs.ChunkTexts.{HasItem}
 use Rattle.csv_write.specs.Readings.{IsShown}
 use Rattle.csv_write.specs.Ways.{form_by}
 use Rattle.csv_write.specs.declared.chunk_text.ChunkColumn.{ChunkColumn}
@@ -36,22 +33,6 @@ zip-beside R (a ∷ xs) (b ∷ ys) (suc j) x h lt is =
 module _ (way : Way) (plain : Plain) (column : ChunkColumn) (i : ℕ) (shown : IsShown way plain column) (has : HasItem column i) where
   pub item-there : IsItemThere plain i
   item-there = shown.items.there i has.inside
-
-  pub item-proper : IsFlatForm (form_by way)
-  item-proper = subst IsFlatForm shown.form_is has.proper
-
-  -- the text of a null
-  pub null-text : (mark : List ℕ) → is_valid_in plain i ≡ false → mark ≡ text_in mark i column
-  null-text mark null =
-      ap (λ b. written_in mark (form_in column.form) (if b then valid_item plain i else Null)) (sym null)
-      ∙ ap (λ v. written_in mark (form_in column.form) v) (sym (shown.items.items i has.inside))
-
-  -- and that of any other, by its column's form
-  pub valid-text : (mark : List ℕ) → is_valid_in plain i ≡ true → written_in mark (form_by way) (valid_item plain i) ≡ text_in mark i column
-  valid-text mark valid =
-      ap (λ f. written_in mark f (valid_item plain i)) (sym shown.form_is)
-      ∙ ap (λ b. written_in mark (form_in column.form) (if b then valid_item plain i else Null)) (sym valid)
-      ∙ ap (λ v. written_in mark (form_in column.form) v) (sym (shown.items.items i has.inside))
 
 -- what is written in a way
 pub by-way : (mark : List ℕ) (way w : Way) → way ≡ w → (item v : Value) → item ≡ v
