@@ -1,75 +1,82 @@
-//! The one common way in which all items of a column are read, and the indices of a column with a dictionary.
+//! The items of a plain column, read by their places, and the indices of a column with a dictionary.
 ghost use Rattle.std.specs.Prelude.{◌≤ℤ◌, ◌<ℤ◌, pos};
 ghost use Rattle.arr_import.specs.Indexing.{shown_by};
 ghost use Rattle.arr_import.specs.Window.{IsStruct};
 ghost use Rattle.arr_import.specs.Cols.{window_of};
+ghost use Rattle.arr_import.specs.Plain.{IsItemThere};
 
 use crate::told::Told;
-use arr_import::{Col, Indexed, ValueRef};
+use arr_import::{Col, Indexed, Plain, ValueRef};
 use case_text::spelling_of;
+use data_types::Storage;
 use std::alloc::{AllocError, Global};
 use std::io;
 
-/// The texts of a column that is read as texts.
-fn texts(alloc: Global, col: &Col<'_>) -> Result<Option<String>, AllocError> {
-    let Some(texts) = col.texts() else {
-        return Ok(None);
-    };
-    let mut line = String::from_str(alloc, "texts:")?;
-    for i in 0..col.len() {
-        if i < 0 || col.len() <= i {
-            break;
+/// How the items of a plain column are stored.
+fn stored_as(alloc: Global, storage: Storage) -> Result<String, AllocError> {
+    match storage {
+        Storage::Truths => String::from_str(alloc, "truth values:"),
+        Storage::Wholes { bits, signed } => {
+            let width = bits / 8;
+            let sign = if signed { "" } else { " without sign" };
+            format!(in alloc; "numbers of {width} bytes{sign}:")
         }
-        let text = spelling_of(alloc, texts.get(i as u64))?;
-        line.push_str(format!(in alloc; " \"{text}\"")?.as_str())?;
+        Storage::Floats { bits } => {
+            let width = bits / 8;
+            format!(in alloc; "floats of {width} bytes:")
+        }
+        Storage::Sized { size } => format!(in alloc; "{size} bytes each:"),
+        Storage::Between { wide, .. } => {
+            String::from_str(alloc, if wide { "wide texts:" } else { "texts:" })
+        }
+        _ => String::from_str(alloc, "another way:"),
     }
-    Ok(Some(line))
 }
 
-/// The numbers of a column that is read as numbers of so many bytes.
-fn wholes(alloc: Global, col: &Col<'_>, width: u8) -> Result<Option<String>, AllocError> {
-    let Some(wholes) = col.wholes(width) else {
-        return Ok(None);
-    };
-    let mut line = format!(in alloc; "numbers of {width} bytes:")?;
-    for i in 0..col.len() {
-        if i < 0 || col.len() <= i {
-            break;
-        }
-        let number = wholes.get(width, i as u64);
-        line.push_str(format!(in alloc; " {number}")?.as_str())?;
+/// An item of a plain column.
+fn item(alloc: Global, plain: &Plain<'_>, i: u64) -> Result<String, AllocError>
+    requires { IsItemThere plain.now i }
+{
+    if !plain.is_valid(i) {
+        return String::from_str(alloc, " null");
     }
-    Ok(Some(line))
+    match plain.storage() {
+        Storage::Truths => {
+            let truth = plain.truth(i);
+            format!(in alloc; " {truth}")
+        }
+        Storage::Wholes { bits, signed } => {
+            let number = plain.whole(bits, signed, i);
+            format!(in alloc; " {number}")
+        }
+        Storage::Floats { bits } => {
+            let number = plain.float_bits(bits, i);
+            format!(in alloc; " 0x{number:x}")
+        }
+        Storage::Sized { size } => quoted(alloc, plain.sized(size, i)),
+        Storage::Between { wide: false, .. } => quoted(alloc, plain.between(false, i)),
+        Storage::Between { wide: true, .. } => quoted(alloc, plain.between(true, i)),
+        _ => String::from_str(alloc, " another"),
+    }
 }
 
-/// The truth values of a column that is read as such.
-fn truths(alloc: Global, col: &Col<'_>) -> Result<Option<String>, AllocError> {
-    let Some(truths) = col.truths() else {
-        return Ok(None);
-    };
-    let mut line = String::from_str(alloc, "truth values:")?;
-    for i in 0..col.len() {
-        if i < 0 || col.len() <= i {
-            break;
-        }
-        let truth = truths.get(i as u64);
-        line.push_str(format!(in alloc; " {truth}")?.as_str())?;
-    }
-    Ok(Some(line))
+/// Bytes as they are spelled in a transcript.
+fn quoted(alloc: Global, bytes: &[u8]) -> Result<String, AllocError> {
+    let text = spelling_of(alloc, bytes)?;
+    format!(in alloc; " \"{text}\"")
 }
 
-/// The bits of the floats of a column that is read as such.
-fn doubles(alloc: Global, col: &Col<'_>) -> Result<Option<String>, AllocError> {
-    let Some(doubles) = col.doubles() else {
+/// The items of a column that is read by their places.
+fn plain(alloc: Global, col: &Col<'_>) -> Result<Option<String>, AllocError> {
+    let Some(plain) = col.plain() else {
         return Ok(None);
     };
-    let mut line = String::from_str(alloc, "floats:")?;
+    let mut line = stored_as(alloc, plain.storage())?;
     for i in 0..col.len() {
         if i < 0 || col.len() <= i {
             break;
         }
-        let bits = doubles.get(i as u64);
-        line.push_str(format!(in alloc; " 0x{bits:x}")?.as_str())?;
+        line.push_str(item(alloc, &plain, i as u64)?.as_str())?;
     }
     Ok(Some(line))
 }
@@ -125,12 +132,7 @@ fn tell_way(
 
 /// Tells in which common ways a column is read.
 pub(crate) fn tell_ways(alloc: Global, col: &Col<'_>, told: &mut Told) -> io::Result<()> {
-    let mut ways = tell_way(alloc, texts(alloc, col), 0, told)?;
-    for width in [1u8, 2, 4, 8, 16, 32, 255] {
-        ways = tell_way(alloc, wholes(alloc, col, width), ways, told)?;
-    }
-    ways = tell_way(alloc, truths(alloc, col), ways, told)?;
-    ways = tell_way(alloc, doubles(alloc, col), ways, told)?;
+    let mut ways = tell_way(alloc, plain(alloc, col), 0, told)?;
     ways = tell_way(alloc, indices(alloc, col), ways, told)?;
     if ways == 0 {
         told.answer(alloc, "in no common way")?;
