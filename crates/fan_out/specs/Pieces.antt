@@ -1,5 +1,5 @@
 -- The answers of a job on the pieces of a chunk.
-use Rattle.std.specs.Prelude.{◌<◌, slice_index_or, ◌≡◌, ℕ, ℤ, pos, ◌+◌, List, length}
+use Rattle.std.specs.Prelude.{◌<◌, slice_index_or, ◌≡◌, ℕ, ℤ, pos, ◌+◌, ◌/◌, min, max, List, length}
 use Rattle.data_types.specs.Table.{Row}
 use Rattle.raw_array.specs.Members.{ArrayTree, Cost}
 use Rattle.kind_tree.specs.Kinds.{KindTree}
@@ -24,3 +24,11 @@ pub record IsChunk (typed : KindTree) (table : List Row) (units : ℕ) (t : Arra
   pub lawful : ChunkOk typed t
   pub rows : rows_of typed t ≡ table
   pub cost : Cost t ≡ units
+
+-- the least number of rows of a piece, where there are several
+abbrev pub least_rows : ℕ
+least_rows = 16384
+
+-- in how many pieces so many rows are cut: as many as there are workers, but one alone rather than one of fewer rows than the least
+abbrev pub worth_pieces : ℕ → ℕ → ℕ
+worth_pieces rows workers = min workers (max 1 (rows / least_rows))

@@ -17,7 +17,9 @@ mod piece;
 mod pieces;
 mod run;
 mod share;
+mod worth;
 
 pub use fan::fan_out;
 pub use job::Job;
 pub use laws::pieces_are_in_order;
+pub use worth::worth_pieces;

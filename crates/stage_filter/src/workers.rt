@@ -15,7 +15,7 @@ use crate::chunk::Asked;
 use crate::kept::kept_rows;
 use arr_import::Col;
 use edge_face::Gate;
-use fan_out::{Job, fan_out, pieces_are_in_order};
+use fan_out::{Job, fan_out, pieces_are_in_order, worth_pieces};
 use kind_tree::{Typed, kinds_of_typed};
 use layout_rules::lawful_root;
 use raw_array::RawArray;
@@ -113,7 +113,8 @@ pub(crate) fn kept_by_workers<R: Threads + Sync>(
     ensures nodes { pass.new.nodes ≡ pass.old.nodes }
 {
     let job = FindJob { alloc, asked };
-    let found = fan_out(rt, alloc, chunk, typed, workers, pass, &job, gate)?;
+    let pieces = worth_pieces(typed, chunk, workers);
+    let found = fan_out(rt, alloc, chunk, typed, pieces, pass, &job, gate)?;
     kinds_of_typed(typed);
     lawful_root(typed, chunk);
     pieces_are_in_order();

@@ -10,7 +10,7 @@ use crate::job::SumJob;
 use crate::numbers::Totals;
 use array_laws::pieces_are_the_whole;
 use edge_face::Gate;
-use fan_out::{fan_out, pieces_are_in_order};
+use fan_out::{fan_out, pieces_are_in_order, worth_pieces};
 use kind_tree::Typed;
 use raw_array::RawArray;
 use std::alloc::Global;
@@ -91,7 +91,8 @@ pub(crate) fn add_chunk<R: Threads + Sync>(
     ensures nodes { pass.new.nodes ≡ pass.old.nodes }
 {
     let job = SumJob { alloc, picks };
-    let parts = fan_out(rt, alloc, chunk, typed, workers, pass, &job, gate)?;
-    join_parts(sums, parts.as_slice(), workers);
+    let pieces = worth_pieces(typed, chunk, workers);
+    let parts = fan_out(rt, alloc, chunk, typed, pieces, pass, &job, gate)?;
+    join_parts(sums, parts.as_slice(), pieces);
     Ok(())
 }

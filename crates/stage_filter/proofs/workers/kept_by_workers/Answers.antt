@@ -13,9 +13,9 @@ returns-clause-numbers g c =
     let asked = c.args.asked in
     let rows = rows_of (typed_of c.args.typed.now) c.args.chunk.now in
     let n = length rows in
-    let workers = c.args.workers in
+    let workers = c.worth_pieces-pieces.result in
     let law = c.pieces_are_in_order.ensures in
-    let some = c.requires.workers.0 in
+    let some = c.worth_pieces-pieces.ensures.some in
     subst (λ (ks : List ℕ). IfOk c.joined.result (λ kept. kept.items ≡ ks))
     (all-found asked.column asked.test asked.constant.now rows workers c.in_ok-found.found.items (λ w. law.rising n workers w some) (law.first n workers some)
     (law.last n workers some) c.in_ok-found.ensures.answers) c.joined.ensures
@@ -28,9 +28,9 @@ returns-clause-kept g c =
     let chunk = c.fan_out.new.chunk in
     let rows = rows_of typed c.args.chunk.now in
     let n = length rows in
-    let workers = c.args.workers in
+    let workers = c.worth_pieces-pieces.result in
     let law = c.pieces_are_in_order.ensures in
-    let some = c.requires.workers.0 in
+    let some = c.worth_pieces-pieces.ensures.some in
     let all = all-found asked.column asked.test asked.constant.now rows workers c.in_ok-found.found.items (λ w. law.rising n workers w some)
     (law.first n workers some) (law.last n workers some) c.in_ok-found.ensures.answers in
     let same = c.fan_out.ensures.rows in
