@@ -1,6 +1,6 @@
 -- Hexadecimal digits: the numbers and the bytes that they write.
-use Rattle.std.proofs.Common.{◌≡◌, ℕ, zero, suc, ◌+◌, ◌*◌, ◌/◌, ◌%◌, ◌^◌, ◌<◌, ◌≤◌, true, false, List, [], ◌∷◌, ◌++◌, length, take, get_or, Option, Some, None}
-use Rattle.std.proofs.Common.{refl, sym, ap, ◌∙◌, append_assoc, arith, inl, inr}
+use Rattle.std.proofs.Common.{◌≡◌, ℕ, zero, suc, ◌+◌, ◌-◌, ◌*◌, ◌/◌, ◌%◌, ◌^◌, ◌<◌, ◌≤◌, true, false, List, [], ◌∷◌, ◌++◌, length, take, drop, get_or, Option, Some, None}
+use Rattle.std.proofs.Common.{refl, sym, ap, subst, ◌∙◌, append_assoc, arith, inl, inr, length-drop}
 use Rattle.std.specs.Prelude.{◌&&◌, nat_le, if◌then◌else◌}
 use Rattle.std.specs.Int.{byte_at, bytes_high_first, is_in_range, to_be_bytes, w64}
 use Rattle.std.specs.List.{list_all}
@@ -11,14 +11,16 @@ use Rattle.std.specs.Str.Parse.{digits_value, digits_value_after}
 use Rattle.std.specs.Int.Bits.{bit_or}
 use Rattle.std.proofs.lemmas.Bool.{and_parts, cases_Bool, cases_lt, lt-ltb, le-ltb, leb-true, eq-eqb, false≢true}
 use Rattle.std.proofs.lemmas.Int.Digits.{digits_value_more}
-use Rattle.std.proofs.lemmas.List.{append-nil, take_all}
+use Rattle.std.proofs.lemmas.List.{append-nil, drop_all, length-take-le, take-append-drop, take_all}
 use Rattle.std.proofs.lemmas.List.Folds.{list_all_more}
 use Rattle.std.proofs.lemmas.Nat.{le_or_l, le_or_r, or_lt}
 use Rattle.std.proofs.lemmas.Str.{digit_value_digit}
 use Rattle.std.proofs.Math.Bool.{and-false}
+use Rattle.std.proofs.Math.Seq.{take-add}
 use Rattle.std.proofs.Math.Nat.{pow-succ', pow-zero, pow-le-pow_right, div-div-eq-div-mul}
 use Rattle.data_types.specs.FieldText.{hex_bytes, hex_text, last_digits, read_bits}
 use Rattle.data_types.specs.Value.{Bits}
+use borrow.Rule.Slice.PartMut.{put_mid}
 
 -- ---- the number of digits in front
 
@@ -215,6 +217,104 @@ eight_read number text len is = elim (cases_Bool (list_all is_ascii_hexdigit tex
       let none : read_bits (length text) text ≡ None = rw (eq-eqb (length text) (length text) refl, other) refl in
       ap (option_map (to_be_bytes w64)) (no_bits number (is ∙ none)) ∙ sym (pairs_none text other)
 ]
+
+-- ---- pairs of digits behind others
+
+map_some : (f : List ℕ → List ℕ) (o : Option (List ℕ)) (v : List ℕ) → option_map f o ≡ Some v → (x : List ℕ) × (o ≡ Some x) × (f x ≡ v)
+map_some f None v e = absurd cc
+map_some f (Some x) v e = (x, refl, cc)
+
+map_none : (f : List ℕ → List ℕ) (o : Option (List ℕ)) → option_map f o ≡ None → o ≡ None
+map_none f None e = refl
+map_none f (Some x) e = absurd cc
+
+pub pairs_behind : (k : ℕ) (text rest front back : List ℕ) → length text ≡ 2 * k → hex_bytes text ≡ Some front → hex_bytes rest ≡ Some back
+    → hex_bytes (text ++ rest) ≡ Some (front ++ back)
+pairs_behind zero [] rest front back len is behind = let none : [] ≡ front = cc in subst (λ (bs : List ℕ). hex_bytes rest ≡ Some (bs ++ back)) none behind
+pairs_behind zero (c ∷ cs) rest front back len is behind = absurd (omega (arith, len))
+pairs_behind (suc k) [] rest front back len is behind = absurd (omega (arith, len))
+pairs_behind (suc k) (c ∷ []) rest front back len is behind = absurd (omega (arith, len))
+pairs_behind (suc k) (high ∷ low ∷ more) rest front back len is behind = elim (cases_Bool (is_ascii_hexdigit high && is_ascii_hexdigit low)) [
+  | inl digits ↦
+      let mapped = map_some (λ (bs : List ℕ). digits_value 16 (high ∷ low ∷ []) ∷ bs) (hex_bytes more) front (rw digits at is) in
+      rw (digits, pairs_behind k more rest mapped.0 back (omega (arith, len)) mapped.1 behind) (ap (λ (bs : List ℕ). Some (bs ++ back)) mapped.2)
+  | inr other ↦ let none : ◌≡◌ {A = Option (List ℕ)} None (Some front) = rw other at is in absurd cc
+]
+
+pub none_behind : (k : ℕ) (text rest : List ℕ) → length text ≡ 2 * k → hex_bytes rest ≡ None → hex_bytes (text ++ rest) ≡ None
+none_behind zero [] rest len none = none
+none_behind zero (c ∷ cs) rest len none = absurd (omega (arith, len))
+none_behind (suc k) [] rest len none = absurd (omega (arith, len))
+none_behind (suc k) (c ∷ []) rest len none = absurd (omega (arith, len))
+none_behind (suc k) (high ∷ low ∷ more) rest len none = elim (cases_Bool (is_ascii_hexdigit high && is_ascii_hexdigit low)) [
+  | inl digits ↦ rw (digits, none_behind k more rest (omega (arith, len)) none) refl
+  | inr other ↦ rw other refl
+]
+
+pub none_before : (k : ℕ) (text rest : List ℕ) → length text ≡ 2 * k → hex_bytes text ≡ None → hex_bytes (text ++ rest) ≡ None
+none_before zero [] rest len none = absurd cc
+none_before zero (c ∷ cs) rest len none = absurd (omega (arith, len))
+none_before (suc k) [] rest len none = absurd (omega (arith, len))
+none_before (suc k) (c ∷ []) rest len none = absurd (omega (arith, len))
+none_before (suc k) (high ∷ low ∷ more) rest len none = elim (cases_Bool (is_ascii_hexdigit high && is_ascii_hexdigit low)) [
+  | inl digits ↦
+      let left = map_none (λ (bs : List ℕ). digits_value 16 (high ∷ low ∷ []) ∷ bs) (hex_bytes more) (rw digits at none) in
+      rw (digits, none_before k more rest (omega (arith, len)) left) refl
+  | inr other ↦ rw other refl
+]
+
+-- ---- bytes by eights
+
+-- the bytes of so many eights stand in the room
+pub record Eights (text : List ℕ) (place size : ℕ) (room : List ℕ) : Type 0 where
+  pub len : length room ≡ size
+  pub read : hex_bytes (take (16 * place) text) ≡ Some (take (8 * place) room)
+
+pub eights_none : (text room : List ℕ) → Eights text 0 (length room) room
+eights_none text room = record { len = refl; read = refl }
+
+even_front : (place : ℕ) (text : List ℕ) → 16 * place ≤ length text → length (take (16 * place) text) ≡ 2 * (8 * place)
+even_front place text within = omega (arith, length-take-le (16 * place) text within)
+
+pub eights_more : (text room new eight : List ℕ) (place size : ℕ) → Eights text place size room → 16 * place + 16 ≤ length text
+    → hex_bytes (take 16 (drop (16 * place) text)) ≡ Some eight → length new ≡ length room
+    → take (8 * place + 8) new ≡ take (8 * place) room ++ eight → Eights text (place + 1) size new
+eights_more text room new eight place size so_far within is len put =
+    let digits : 16 * (place + 1) ≡ 16 * place + 16 = omega arith in
+    let bytes : 8 * (place + 1) ≡ 8 * place + 8 = omega arith in
+    let read =
+    pairs_behind (8 * place) (take (16 * place) text) (take 16 (drop (16 * place) text)) (take (8 * place) room) eight
+    (even_front place text (omega (arith, within))) so_far.read is in
+    record {
+      len = len ∙ so_far.len;
+      read = ap (λ (k : ℕ). hex_bytes (take k text)) digits ∙ ap hex_bytes (take-add (16 * place) 16 text) ∙ read
+          ∙ ap (λ (bs : List ℕ). Some bs) (sym put ∙ ap (λ (k : ℕ). take k new) (sym bytes));
+    }
+
+pub eights_other : (text : List ℕ) (place : ℕ) → 16 * place + 16 ≤ length text → hex_bytes (take 16 (drop (16 * place) text)) ≡ None → hex_bytes text ≡ None
+eights_other text place within none =
+    let rest : List ℕ = drop (16 * place) text in
+    let sixteen : length (take 16 rest) ≡ 2 * 8 = omega (arith, length-take-le 16 rest (omega (arith, within, length-drop (16 * place) text))) in
+    let behind : hex_bytes rest ≡ None = ap hex_bytes (sym (take-append-drop 16 rest)) ∙ none_before 8 (take 16 rest) (drop 16 rest) sixteen none in
+    ap hex_bytes (sym (take-append-drop (16 * place) text))
+    ∙ none_behind (8 * place) (take (16 * place) text) rest (even_front place text (omega (arith, within))) behind
+
+pub eights_end : (text room out : List ℕ) (place size : ℕ) → Eights text place size room → 16 * place ≤ length text
+    → hex_bytes (drop (16 * place) text) ≡ Some out → hex_bytes text ≡ Some (take (8 * place) room ++ out)
+eights_end text room out place size so_far within is =
+    ap hex_bytes (sym (take-append-drop (16 * place) text))
+    ∙ pairs_behind (8 * place) (take (16 * place) text) (drop (16 * place) text) (take (8 * place) room) out (even_front place text within) so_far.read is
+
+pub eights_end_other : (text : List ℕ) (place : ℕ) → 16 * place ≤ length text → hex_bytes (drop (16 * place) text) ≡ None → hex_bytes text ≡ None
+eights_end_other text place within none =
+    ap hex_bytes (sym (take-append-drop (16 * place) text))
+    ∙ none_behind (8 * place) (take (16 * place) text) (drop (16 * place) text) (even_front place text within) none
+
+-- what is put into the rest of a room stands behind what is there
+pub put_behind : (at : ℕ) (room out : List ℕ) → at ≤ length room → put_mid at (length room - at) room out ≡ take at room ++ out
+put_behind at room out within =
+    ap (λ (rest : List ℕ). take at room ++ (out ++ rest)) (drop_all (length room - at) (drop at room) (omega (arith, length-drop at room)))
+    ∙ ap (λ (bs : List ℕ). take at room ++ bs) (append-nil out)
 
 -- the two digits of a byte are those of the number that it ends
 byte_digits : (n : ℕ) → last_digits 16 2 (n % 256) ≡ last_digits 16 2 n

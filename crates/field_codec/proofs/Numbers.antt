@@ -1,6 +1,7 @@
 -- Decimal digits in front of a text.
 use Rattle.std.proofs.Common.{◌≡◌, ℕ, suc, ◌+◌, ◌-◌, ◌*◌, ◌^◌, ◌<◌, ◌≤◌, ◌≢◌, ◌⊎◌, true, false, List, [], ◌∷◌, length, take, get_or, refl, sym, ap, ◌∙◌, arith}
-use Rattle.std.proofs.Common.{inl, inr}
+use Rattle.std.proofs.Common.{Option, Some, None, inl, inr}
+use Rattle.std.specs.Prelude.{IfNone, IfSome}
 use Rattle.std.specs.List.{prefix_len}
 use Rattle.std.specs.Char.{is_ascii_digit, digit_value}
 use Rattle.std.specs.Str.Parse.{digits_value}
@@ -121,3 +122,14 @@ part_front (c ∷ cs) count len (inr short) = rw (lt-ltb 0 (suc (length cs)) (om
 
 pub large_text : (text : List ℕ) → 10 ^ 38 ≤ digits_value 10 (take (prefix_len is_ascii_digit text) text) → 2 ^ 64 ≤ digits_value 10 text
 large_text text large = omega (arith, large, digits_value-take-le 10 text (prefix_len is_ascii_digit text) (omega arith))
+
+-- a text of digits, where it is one
+pub numeral_some : (text : List ℕ) (number : Option ℕ) → length text ≢ 0 → IfSome number (λ n. prefix_len is_ascii_digit text ≡ length text)
+    → IfSome number (λ n. is_numeral text ≡ true)
+numeral_some text None some all = tt
+numeral_some text (Some n) some all = rw (lt-ltb 0 (length text) (omega (arith, some)), all_digits text all) refl
+
+pub numeral_none : (text : List ℕ) (number : Option ℕ) → IfNone number (prefix_len is_ascii_digit text < length text)
+    → IfNone number ((is_numeral text ≡ false) ⊎ (2 ^ 64 ≤ digits_value 10 text))
+numeral_none text None short = inl (part_front text (prefix_len is_ascii_digit text) refl (inr short))
+numeral_none text (Some n) short = tt

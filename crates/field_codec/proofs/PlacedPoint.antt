@@ -141,10 +141,10 @@ module _ (places point : ℕ) (text : List ℕ) (some : 0 < places) (len : lengt
   fraction_len : length (drop (point + 1) text) ≡ places
   fraction_len = omega (arith, length-drop (point + 1) text, len)
 
-  pub whole_fits : length text + places ≤ 18 → 1 * 10 ^ length (take point text) ≤ 10 ^ 18
+  pub whole_fits : length text ≤ 19 → 1 * 10 ^ length (take point text) ≤ 10 ^ 18
   whole_fits few = omega (arith, few_digits (length (take point text)) 18 (omega (arith, whole_len, len, few)))
 
-  pub fraction_fits : (whole : ℕ) → length text + places ≤ 18 → whole < 1 * 10 ^ length (take point text)
+  pub fraction_fits : (whole : ℕ) → length text ≤ 19 → whole < 1 * 10 ^ length (take point text)
       → (whole + 1) * 10 ^ length (drop (point + 1) text) ≤ 10 ^ 18
   fraction_fits whole few small =
       rw fraction_len (room_behind whole point places (omega (arith, small, ap (λ (k : ℕ). 10 ^ k) whole_len)) (omega (arith, len, few)))

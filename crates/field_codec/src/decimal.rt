@@ -1,30 +1,16 @@
 //! Decimals: digits before a point and behind it.
-ghost use Rattle.std.specs.Prelude.{◌≡◌, pos, neg_ℤ, if◌then◌else◌, ◌+◌, ◌-◌, ◌*◌, ◌<◌, ◌≤◌, ◌^◌, length, option_map, true, false, IfSome, IfNone, MatchOption};
+ghost use Rattle.std.specs.Prelude.{◌≡◌, pos, neg_ℤ, if◌then◌else◌, ◌+◌, ◌-◌, ◌*◌, ◌<◌, ◌≤◌, ◌^◌, get_or, length, take, option_map, true, false, IfSome, IfNone, MatchOption};
 ghost use Rattle.std.specs.Prelude.{Some, None};
 ghost use Rattle.std.specs.Char.{is_ascii_digit};
 ghost use Rattle.std.specs.List.{prefix_len};
-ghost use Rattle.std.specs.Str.Parse.{digits_value_after};
+ghost use Rattle.std.specs.Str.Parse.{digits_value};
 ghost use Rattle.data_types.specs.FieldText.{read_decimal, read_unscaled};
 ghost use Rattle.data_types.specs.Value.{Whole};
 ghost use Rattle.field_codec.specs.Fractions.{IsPastDecimals, fraction_text};
 
-use crate::number::{front, short_front, split_sign};
+use crate::digits::{with_digits, with_few_digits};
+use crate::number::{SHORT, front, short_front, split_sign};
 use crate::powers::{long_power, power};
-
-/// The value of each byte that is a decimal digit, and 16 for any other.
-static DIGITS: [u8; 256] = [
-    16, 16, 16, 16, 16, 16, 16, 16, 16, 16, 16, 16, 16, 16, 16, 16, 16, 16, 16, 16, 16, 16, 16, 16,
-    16, 16, 16, 16, 16, 16, 16, 16, 16, 16, 16, 16, 16, 16, 16, 16, 16, 16, 16, 16, 16, 16, 16, 16,
-    0, 1, 2, 3, 4, 5, 6, 7, 8, 9, 16, 16, 16, 16, 16, 16, 16, 16, 16, 16, 16, 16, 16, 16, 16, 16,
-    16, 16, 16, 16, 16, 16, 16, 16, 16, 16, 16, 16, 16, 16, 16, 16, 16, 16, 16, 16, 16, 16, 16, 16,
-    16, 16, 16, 16, 16, 16, 16, 16, 16, 16, 16, 16, 16, 16, 16, 16, 16, 16, 16, 16, 16, 16, 16, 16,
-    16, 16, 16, 16, 16, 16, 16, 16, 16, 16, 16, 16, 16, 16, 16, 16, 16, 16, 16, 16, 16, 16, 16, 16,
-    16, 16, 16, 16, 16, 16, 16, 16, 16, 16, 16, 16, 16, 16, 16, 16, 16, 16, 16, 16, 16, 16, 16, 16,
-    16, 16, 16, 16, 16, 16, 16, 16, 16, 16, 16, 16, 16, 16, 16, 16, 16, 16, 16, 16, 16, 16, 16, 16,
-    16, 16, 16, 16, 16, 16, 16, 16, 16, 16, 16, 16, 16, 16, 16, 16, 16, 16, 16, 16, 16, 16, 16, 16,
-    16, 16, 16, 16, 16, 16, 16, 16, 16, 16, 16, 16, 16, 16, 16, 16, 16, 16, 16, 16, 16, 16, 16, 16,
-    16, 16, 16, 16, 16, 16, 16, 16, 16, 16, 16, 16, 16, 16,
-];
 
 /// The decimal that a text spells, by its number in units of 10^-places.
 #[inline(always)]
@@ -97,101 +83,63 @@ fn with_sign(minus: bool, number: u128) -> i128
     if minus { -number } else { number }
 }
 
-/// The number without sign, where it has at most 38 digits.
+/// The number without sign, where it has at most 38 digits. A short one goes by 64 bits.
 fn unscaled(places: usize, text: &[u8]) -> Option<u128>
     ensures some { IfSome result (λ n. read_unscaled places text.now ≡ Some n) }
     ensures none { IfNone result (IsPastDecimals (read_unscaled places text.now)) }
 {
-    if text.len() <= 18 && places <= 18 - text.len() {
-        return Some(u128::from(short_unscaled(places, text)?));
+    if text.len() > SHORT {
+        return long_unscaled(places, text);
+    }
+    if is_placed(places, text) {
+        return Some(u128::from(placed_unscaled(places, text)?));
+    }
+    let (whole, count) = short_front(text);
+    if places <= 18 && count <= 18 - places {
+        return Some(u128::from(with_fraction(whole, count, places, text)?));
     }
     long_unscaled(places, text)
 }
 
-/// The same of a short text, at once where the point stands before exactly so many bytes.
+/// The number without sign of a short text, at once where the point stands before exactly so many bytes.
 #[inline(always)]
 fn quick_unscaled(places: usize, text: &[u8]) -> Option<u64>
     requires { length text.now + places ≤ 18 }
     ensures is { result ≡ read_unscaled places text.now }
     ensures small { IfSome result (λ n. n < 10 ^ 18) }
 {
-    if places == 0 || text.len() < places + 2 {
-        return short_unscaled(places, text);
+    if is_placed(places, text) {
+        return placed_unscaled(places, text);
     }
+    short_unscaled(places, text)
+}
+
+/// Whether a point stands before exactly so many bytes, and some before it.
+#[inline(always)]
+fn is_placed(places: usize, text: &[u8]) -> bool
+    ensures some { result ≡ true → 0 < places }
+    ensures room { result ≡ true → places + 2 ≤ length text.now }
+    ensures point { result ≡ true → get_or text.now (length text.now - 1 - places) 0 ≡ 46 }
+{
+    if places == 0 || text.len() < 2 || places > text.len() - 2 {
+        return false;
+    }
+    text[text.len() - 1 - places] == b'.'
+}
+
+/// The number of a text that has its point there.
+#[inline(always)]
+fn placed_unscaled(places: usize, text: &[u8]) -> Option<u64>
+    requires some { 0 < places }
+    requires room { places + 2 ≤ length text.now }
+    requires few { length text.now ≤ SHORT }
+    requires point { get_or text.now (length text.now - 1 - places) 0 ≡ 46 }
+    ensures is { result ≡ read_unscaled places text.now }
+    ensures small { IfSome result (λ n. n < 10 ^ 18) }
+{
     let point = text.len() - 1 - places;
-    if text[point] != b'.' {
-        return short_unscaled(places, text);
-    }
     let whole = with_few_digits(0, &text[..point])?;
     with_digits(whole, &text[point + 1..])
-}
-
-/// A number with the digits of a text behind it. Two, as of hundredths, go without a loop.
-#[inline(always)]
-fn with_digits(number: u64, text: &[u8]) -> Option<u64>
-    requires { (number + 1) * 10 ^ length text.now ≤ 10 ^ 18 }
-    ensures digits { IfSome result (λ n. prefix_len is_ascii_digit text.now ≡ length text.now) }
-    ensures value { IfSome result (λ n. n ≡ digits_value_after 10 number text.now) }
-    ensures small { IfSome result (λ n. n < (number + 1) * 10 ^ length text.now) }
-    ensures other { IfNone result (prefix_len is_ascii_digit text.now < length text.now) }
-{
-    match text.len() {
-        2 => with_so_many(number, 2, text),
-        count => with_so_many(number, count, text),
-    }
-}
-
-/// The same of a text that is mostly of few digits: each such count is a constant where its loop stands in line.
-#[inline(always)]
-fn with_few_digits(number: u64, text: &[u8]) -> Option<u64>
-    requires { (number + 1) * 10 ^ length text.now ≤ 10 ^ 18 }
-    ensures digits { IfSome result (λ n. prefix_len is_ascii_digit text.now ≡ length text.now) }
-    ensures value { IfSome result (λ n. n ≡ digits_value_after 10 number text.now) }
-    ensures small { IfSome result (λ n. n < (number + 1) * 10 ^ length text.now) }
-    ensures other { IfNone result (prefix_len is_ascii_digit text.now < length text.now) }
-{
-    match text.len() {
-        1 => with_so_many(number, 1, text),
-        2 => with_so_many(number, 2, text),
-        3 => with_so_many(number, 3, text),
-        4 => with_so_many(number, 4, text),
-        5 => with_so_many(number, 5, text),
-        6 => with_so_many(number, 6, text),
-        7 => with_so_many(number, 7, text),
-        count => with_so_many(number, count, text),
-    }
-}
-
-/// A number with the digits of a text of so many bytes behind it.
-#[inline(always)]
-fn with_so_many(number: u64, count: usize, text: &[u8]) -> Option<u64>
-    requires count { count ≡ length text.now }
-    requires fits { (number + 1) * 10 ^ length text.now ≤ 10 ^ 18 }
-    ensures digits { IfSome result (λ n. prefix_len is_ascii_digit text.now ≡ length text.now) }
-    ensures value { IfSome result (λ n. n ≡ digits_value_after 10 number text.now) }
-    ensures small { IfSome result (λ n. n < (number + 1) * 10 ^ length text.now) }
-    ensures other { IfNone result (prefix_len is_ascii_digit text.now < length text.now) }
-{
-    let mut value = number;
-    // At most 15 where each byte so far is a digit.
-    let mut all: u8 = 0;
-    for place in 0..count {
-        let digit = digit(text[place]);
-        value = value.wrapping_mul(10).wrapping_add(u64::from(digit));
-        all |= digit;
-    }
-    if all > 15 {
-        return None;
-    }
-    Some(value)
-}
-
-/// The value of a decimal digit, and 16 for a byte that is none.
-#[inline(always)]
-fn digit(byte: u8) -> u8
-    ensures { result ≡ (if is_ascii_digit byte then byte - 48 else 16) }
-{
-    DIGITS[usize::from(byte)]
 }
 
 /// The same of a short text, wherever its point stands.
@@ -202,6 +150,19 @@ fn short_unscaled(places: usize, text: &[u8]) -> Option<u64>
     ensures small { IfSome result (λ n. n < 10 ^ 18) }
 {
     let (whole, count) = short_front(text);
+    with_fraction(whole, count, places, text)
+}
+
+/// The same where the digits in front are read: the number that they write, and how many there are.
+#[inline(always)]
+fn with_fraction(whole: u64, count: usize, places: usize, text: &[u8]) -> Option<u64>
+    requires count { count ≡ prefix_len is_ascii_digit text.now }
+    requires value { whole ≡ digits_value 10 (take count text.now) }
+    requires small { whole < 10 ^ count }
+    requires few { count + places ≤ 18 }
+    ensures is { result ≡ read_unscaled places text.now }
+    ensures small { IfSome result (λ n. n < 10 ^ 18) }
+{
     if count == 0 {
         return None;
     }

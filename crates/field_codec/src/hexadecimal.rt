@@ -1,5 +1,6 @@
 //! Hexadecimal digits: the bits of floats, and bytes.
-ghost use Rattle.std.specs.Prelude.{◌≡◌, ◌∷◌, [], ◌*◌, ◌/◌, ◌<◌, ◌≤◌, if◌then◌else◌, false, length, option_map, IfOk};
+ghost use Rattle.std.specs.Prelude.{◌≡◌, ◌∷◌, ◌++◌, [], ◌+◌, ◌*◌, ◌/◌, ◌<◌, ◌≤◌, if◌then◌else◌, false, length, take, option_map, IfOk, Some, None};
+ghost use Rattle.std.specs.Bool.{OnFalse, OnTrue};
 ghost use Rattle.std.specs.Fmt.{digit_glyph};
 ghost use Rattle.std.specs.Char.{is_ascii_hexdigit, digit_value};
 ghost use Rattle.data_types.specs.FieldText.{hex_bytes, hex_text, last_digits, read_bits};
@@ -140,10 +141,36 @@ pub fn read_bytes<'a>(text: &[u8], room: &'a mut Vec<u8>) -> Result<Option<&'a [
     ensures { IfOk result (λ bytes. option_map (λ b. b.now) bytes ≡ hex_bytes text.now) }
 {
     sized(room, text.len() / 2)?;
-    if !decode_hex(text, room.as_mut_slice()) {
+    if !decode(text, room.as_mut_slice()) {
         return Ok(None);
     }
     Ok(Some(room.as_slice()))
+}
+
+/// Whether a text is one of pairs of digits; then their bytes are put into the room, by eights and the last ones by pairs.
+fn decode(text: &[u8], room: &mut [u8]) -> bool
+    requires { length room.old ≡ length text.now / 2 }
+    ensures found { OnTrue result (hex_bytes text.now ≡ Some room.new) }
+    ensures none { OnFalse result (hex_bytes text.now ≡ None) }
+{
+    let eights = text.len() / 16;
+    for place in 0..eights {
+        match read_eight(&text[16 * place..16 * place + 16]) {
+            Some(eight) => put_eight(room, 8 * place, &eight),
+            None => return false,
+        }
+    }
+    decode_hex(&text[16 * eights..], &mut room[8 * eights..])
+}
+
+/// Stores eight bytes in their place.
+#[inline(always)]
+fn put_eight(room: &mut [u8], at: usize, eight: &[u8; 8])
+    requires { at + 8 ≤ length room.old }
+    ensures put { take (at + 8) room.new ≡ take at room.old ++ eight.now }
+    ensures len { length room.new ≡ length room.old }
+{
+    room[at..at + 8].copy_from_slice(eight);
 }
 
 /// The pairs of digits of bytes, in lower case.

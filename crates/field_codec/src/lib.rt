@@ -11,6 +11,7 @@
 #![tactic(auto)]
 
 mod decimal;
+mod digits;
 mod form;
 mod hexadecimal;
 mod number;

@@ -5,6 +5,8 @@ ghost use Rattle.std.specs.Char.{is_ascii_digit};
 ghost use Rattle.std.specs.Str.Parse.{digits_value, starts_with_minus, without_leading_sign};
 ghost use Rattle.data_types.specs.FieldText.{is_numeral};
 
+use crate::digits::with_few_digits;
+
 /// The most digits whose number always fits 64 bits.
 pub const SHORT: usize = 19;
 
@@ -85,8 +87,24 @@ pub fn magnitude(text: &[u8]) -> Option<u64>
     ensures value { IfSome result (λ n. n ≡ digits_value 10 text.now) }
     ensures none { IfNone result ((is_numeral text.now ≡ false) ⊎ (2 ^ 64 ≤ digits_value 10 text.now)) }
 {
-    if text.len() > SHORT {
+    if text.len() > 18 {
         return long_magnitude(text);
+    }
+    if text.len() == 0 {
+        return None;
+    }
+    with_few_digits(0, text)
+}
+
+/// The same of a text of more digits.
+#[inline(never)]
+fn long_magnitude(text: &[u8]) -> Option<u64>
+    ensures numeral { IfSome result (λ n. is_numeral text.now ≡ true) }
+    ensures value { IfSome result (λ n. n ≡ digits_value 10 text.now) }
+    ensures none { IfNone result ((is_numeral text.now ≡ false) ⊎ (2 ^ 64 ≤ digits_value 10 text.now)) }
+{
+    if text.len() > SHORT {
+        return longest_magnitude(text);
     }
     let (value, count) = short_front(text);
     if count == 0 || count < text.len() {
@@ -96,7 +114,7 @@ pub fn magnitude(text: &[u8]) -> Option<u64>
 }
 
 /// The same of a text of any length.
-fn long_magnitude(text: &[u8]) -> Option<u64>
+fn longest_magnitude(text: &[u8]) -> Option<u64>
     ensures numeral { IfSome result (λ n. is_numeral text.now ≡ true) }
     ensures value { IfSome result (λ n. n ≡ digits_value 10 text.now) }
     ensures none { IfNone result ((is_numeral text.now ≡ false) ⊎ (2 ^ 64 ≤ digits_value 10 text.now)) }

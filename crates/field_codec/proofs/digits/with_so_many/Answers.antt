@@ -1,6 +1,6 @@
 use Rattle.std.proofs.Common.{◌≡◌, ℕ, ◌+◌, ◌*◌, ◌%◌, ◌^◌, length, ap, ◌∙◌, arith}
 use Rattle.field_codec.proofs.PlacedPoint.{behind_ends, read_behind_more, read_behind_none}
-use Rattle.field_codec.proofs.decimal.with_so_many.Goals as goal
+use Rattle.field_codec.proofs.digits.with_so_many.Goals as goal
 
 pub loop-place-init : goal.loop-place-init
 loop-place-init c = read_behind_none c.args.number c.args.text.now

@@ -1,9 +1,9 @@
 use Rattle.std.proofs.Common.{refl, arith, ℕ, ◌-◌}
 use Rattle.std.specs.Prelude.{if◌then◌else◌}
 use Rattle.std.specs.Char.{is_ascii_digit}
-use Rattle.field_codec.specs.declared.decimal.TheConstants.{DIGITS}
+use Rattle.field_codec.specs.declared.digits.TheConstants.{DIGITS}
 use Rattle.field_codec.proofs.Tables.{entry_at, is_table}
-use Rattle.field_codec.proofs.decimal.digit.Goals as goal
+use Rattle.field_codec.proofs.digits.digit.Goals as goal
 
 pub returns : goal.returns
 unfolding is_table
