@@ -4,8 +4,8 @@ ghost use Rattle.std.specs.List.{list_all};
 ghost use Rattle.std.specs.Str.{bytes_eq, is_utf8};
 ghost use Rattle.csv.specs.Records.{fields_of};
 ghost use Rattle.col_build.specs.Holding.{HoldsFloats, HoldsWholes};
-ghost use Rattle.col_build.specs.Items.{value_of};
 ghost use Rattle.data_types.specs.FieldText.{Decimals, FloatBits, HexBytes, IsFlatForm, SizedHex, Text, Truths, Wholes, read_form};
+ghost use Rattle.data_types.specs.Value.{Bytes};
 ghost use Rattle.data_types.specs.declared.row_fault.RowFault.TheVariants as row;
 ghost use Rattle.csv_read.specs.BodyRows.{AddsField, AddsFields, AddsSome, HasRoom, HasRoomFor, IsOfForm, RefusesFields, SpellsNone, TakesSome};
 ghost use Rattle.csv_read.specs.ColumnForms.{is_text_form};
@@ -16,12 +16,13 @@ ghost use Rattle.field_codec.specs.FieldForms.{IsProper, form_in};
 ghost use Rattle.field_codec.specs.declared.form.FieldForm.TheVariants as field_form;
 
 use crate::body::BodyFault;
-use crate::items::{bytes, sized_bytes};
 use crate::row::field;
-use col_build::{Builder, Item, is_text};
+use col_build::{Builder, is_text};
 use csv::ByteRecord;
 use data_types::RowFault;
-use field_codec::{FieldForm, read_bits, read_decimal, read_eight, read_truth, read_whole};
+use field_codec::{
+    FieldForm, read_bits, read_bytes, read_decimal, read_eight, read_truth, read_whole,
+};
 use unit_pass::NoMemory;
 
 /// What became of a field.
@@ -42,19 +43,6 @@ fn outcome(added: Result<(), NoMemory>) -> Pushed
     match added {
         Ok(()) => Pushed::Added,
         Err(NoMemory) => Pushed::NoMemory,
-    }
-}
-
-/// Adds an item where there is one.
-#[inline(always)]
-fn push_some(item: Option<Item<'_>>, builder: &mut Builder) -> Pushed
-    requires { TakesSome builder.old (option_map value_of item) }
-    ensures added { result ≡ Added → AddsSome (option_map value_of item.entry) builder.old builder.new }
-    ensures none { result ≡ Refused → option_map value_of item.entry ≡ None }
-{
-    match item {
-        Some(item) => outcome(builder.add(item)),
-        None => Pushed::Refused,
     }
 }
 
@@ -96,18 +84,25 @@ fn push_whole(bits: u8, signed: bool, text: &[u8], builder: &mut Builder) -> Pus
     }
 }
 
-/// The same of the widths that are rare.
+/// The same of the widths and signs that are rarer.
 #[inline(never)]
-fn push_rare_whole(bits: u8, signed: bool, text: &[u8], builder: &mut Builder) -> Pushed
+fn push_other_whole(bits: u8, signed: bool, text: &[u8], builder: &mut Builder) -> Pushed
     requires flat { IsFlatForm (Wholes bits signed) }
+    requires width { HoldsWholes (bits / 8) builder.old }
     requires takes { TakesSome builder.old (read_form (Wholes bits signed) text.now) }
     ensures added { result ≡ Added → AddsSome (read_form (Wholes bits signed) text.now) builder.old builder.new }
     ensures none { result ≡ Refused → read_form (Wholes bits signed) text.now ≡ None }
 {
-    push_some(
-        read_whole(bits, signed, text).map(|n| Item::Whole(n)),
-        builder,
-    )
+    if bits == 64 {
+        return push_whole(64, signed, text, builder);
+    }
+    if bits == 32 {
+        return push_whole(32, signed, text, builder);
+    }
+    if bits == 16 {
+        return push_whole(16, signed, text, builder);
+    }
+    push_whole(8, signed, text, builder)
 }
 
 /// Adds a whole number where a field spells one.
@@ -125,7 +120,7 @@ fn push_number(bits: u8, signed: bool, text: &[u8], builder: &mut Builder) -> Pu
     if signed && bits == 32 {
         return push_whole(32, true, text, builder);
     }
-    push_rare_whole(bits, signed, text, builder)
+    push_other_whole(bits, signed, text, builder)
 }
 
 /// Adds a decimal where a field spells one.
@@ -156,29 +151,19 @@ fn push_truth(text: &[u8], builder: &mut Builder) -> Pushed
     }
 }
 
-/// Adds the 64 bits of a float where a field spells them.
+/// Adds so many bits of a float where a field spells them. Their number is a constant where it stands in line.
 #[inline(always)]
-fn push_double(text: &[u8], builder: &mut Builder) -> Pushed
-    requires width { HoldsFloats 8 builder.old }
-    requires takes { TakesSome builder.old (read_form (FloatBits 64) text.now) }
-    ensures added { result ≡ Added → AddsSome (read_form (FloatBits 64) text.now) builder.old builder.new }
-    ensures none { result ≡ Refused → read_form (FloatBits 64) text.now ≡ None }
-{
-    match read_bits(64, text) {
-        Some(number) => outcome(builder.add_bits(8, number)),
-        None => Pushed::Refused,
-    }
-}
-
-/// The same of the widths that are rare.
-#[inline(never)]
-fn push_rare_float(bits: u8, text: &[u8], builder: &mut Builder) -> Pushed
+fn push_bits(bits: u8, text: &[u8], builder: &mut Builder) -> Pushed
     requires flat { IsFlatForm (FloatBits bits) }
+    requires width { HoldsFloats (bits / 8) builder.old }
     requires takes { TakesSome builder.old (read_form (FloatBits bits) text.now) }
     ensures added { result ≡ Added → AddsSome (read_form (FloatBits bits) text.now) builder.old builder.new }
     ensures none { result ≡ Refused → read_form (FloatBits bits) text.now ≡ None }
 {
-    push_some(read_bits(bits, text).map(|n| Item::Bits(n)), builder)
+    match read_bits(bits, text) {
+        Some(number) => outcome(builder.add_bits(usize::from(bits / 8), number)),
+        None => Pushed::Refused,
+    }
 }
 
 /// Adds the bits of a float where a field spells them.
@@ -191,9 +176,25 @@ fn push_float(bits: u8, text: &[u8], builder: &mut Builder) -> Pushed
     ensures none { result ≡ Refused → read_form (FloatBits bits) text.now ≡ None }
 {
     if bits == 64 {
-        return push_double(text, builder);
+        return push_bits(64, text, builder);
     }
-    push_rare_float(bits, text, builder)
+    if bits == 32 {
+        return push_bits(32, text, builder);
+    }
+    push_bits(16, text, builder)
+}
+
+/// Adds bytes where there are some.
+#[inline(always)]
+fn push_found(found: Option<&[u8]>, builder: &mut Builder) -> Pushed
+    requires { TakesSome builder.old (option_map Bytes (option_map (λ b. b.now) found)) }
+    ensures added { result ≡ Added → AddsSome (option_map Bytes (option_map (λ b. b.now) found.entry)) builder.old builder.new }
+    ensures none { result ≡ Refused → option_map Bytes (option_map (λ b. b.now) found.entry) ≡ None }
+{
+    match found {
+        Some(bytes) => outcome(builder.add_bytes(bytes)),
+        None => Pushed::Refused,
+    }
 }
 
 /// Adds the bytes that a field spells, of which eight are copied at once.
@@ -209,23 +210,23 @@ fn push_bytes(text: &[u8], room: &mut Vec<u8>, builder: &mut Builder) -> Pushed
             None => Pushed::Refused,
         };
     }
-    match bytes(text, room) {
-        Ok(found) => push_some(found, builder),
+    match read_bytes(text, room) {
+        Ok(found) => push_found(found, builder),
         Err(NoMemory) => Pushed::NoMemory,
     }
 }
 
 /// Adds so many bytes that a field spells.
-#[inline(never)]
+#[inline(always)]
 fn push_sized(size: u32, text: &[u8], room: &mut Vec<u8>, builder: &mut Builder) -> Pushed
     requires takes { TakesSome builder.old (read_form (SizedHex size) text.now) }
     ensures added { result ≡ Added → AddsSome (read_form (SizedHex size) text.now) builder.old builder.new }
     ensures none { result ≡ Refused → read_form (SizedHex size) text.now ≡ None }
 {
-    match sized_bytes(size, text, room) {
-        Ok(found) => push_some(found, builder),
-        Err(NoMemory) => Pushed::NoMemory,
+    if text.len() as u64 != 2 * u64::from(size) {
+        return Pushed::Refused;
     }
+    push_bytes(text, room, builder)
 }
 
 /// Adds the value that a field spells in a form, where it spells one: in each form by the add of its values. Whether the field

@@ -18,7 +18,6 @@ mod chunk;
 mod columns;
 mod field_push;
 mod header;
-mod items;
 mod names;
 mod records;
 mod row;

@@ -1,0 +1,18 @@
+use denote.Ref.{Bor}
+use Rattle.std.proofs.Common.{List, ℕ, Option, ap}
+use Rattle.std.specs.Option.{option_map}
+use Rattle.csv.proofs.ReadFacts.{on-ok}
+use Rattle.data_types.specs.Value.{Bytes}
+use Rattle.csv_read.proofs.field_push.push_found.Goals as goal
+
+pub add_bytes-requires : goal.add_bytes-requires
+add_bytes-requires c = record {
+  takes = c.requires (Bytes c.in-Some.bytes.now) (ap (λ (bytes : Option (Bor (List ℕ))). option_map Bytes (option_map (λ (b : Bor (List ℕ)). b.now) bytes)) c.in-Some.is);
+}
+
+pub returns-in-Some-clause-added : goal.returns-in-Some-clause-added
+returns-in-Some-clause-added c found = (
+  Bytes c.in-Some.bytes.now,
+  ap (λ (bytes : Option (Bor (List ℕ))). option_map Bytes (option_map (λ (b : Bor (List ℕ)). b.now) bytes)) c.in-Some.is,
+  on-ok c.add_bytes.result (c.outcome.ensures.added found) c.add_bytes.ensures.added,
+)
