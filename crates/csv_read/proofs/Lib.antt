@@ -7,7 +7,7 @@ pub mod Entries
 pub mod HeaderColumns
 pub mod ChunkLaw
 pub mod ChunkCosts
-pub mod HeldRows
+pub mod RowsOfBuilders
 pub mod Taken
 pub mod TextRecords
 pub mod FieldPush

@@ -58,3 +58,11 @@ batches_left batch s = batches_if (body_from s.mark (s.read + 1) (columns_in s) 
 -- the batches behind a first one
 abbrev pub behind : List Row → Chunks → Chunks
 behind rows others = record { chunks = rows ∷ others.chunks; ending = others.ending }
+
+-- the rows of the first batch, and none where there is no batch
+abbrev pub first_rows : List (List Row) → List Row
+first_rows [] = []
+first_rows (rows ∷ others) = rows
+
+abbrev pub next_rows : ℕ → BatchesLeft → List Row
+next_rows batch s = first_rows (batches_left batch s).chunks

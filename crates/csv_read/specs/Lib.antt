@@ -3,6 +3,7 @@ pub mod ColumnForms
 pub mod BodyRows
 pub mod Entries
 pub mod RecordReader
+pub mod StoredRows
 pub mod Chunks
 pub mod Emptied
 pub mod BatchesLeft

@@ -1,5 +1,5 @@
 //! The rows of a text, read into builders a batch a call. The reader keeps its place between two calls.
-ghost use Rattle.std.specs.Prelude.{◌≡◌, ◌≤◌, ◌<◌, ◌+◌, ◌*◌, ◌^◌, [], List, map, length, pos, false, true, Ok, IfErr, IfOk, OnErr, OnOk};
+ghost use Rattle.std.specs.Prelude.{◌≡◌, ◌≤◌, ◌<◌, ◌+◌, ◌*◌, ◌^◌, [], List, map, length, drop, pos, false, true, None, Ok, IfErr, IfOk, IfSome, OnErr, OnOk};
 ghost use Rattle.data_types.specs.ColumnView.{column_of};
 ghost use Rattle.data_types.specs.Table.{Row};
 ghost use Rattle.field_codec.specs.TextColumns.{AreAllowed, AreProper};
@@ -9,8 +9,10 @@ ghost use Rattle.csv_read.specs.Body.{HoldRows};
 ghost use Rattle.csv_read.specs.Chunks.{chunk_blocks, chunk_of};
 ghost use Rattle.csv_read.specs.Emptied.{AreEmptied, AreSpent};
 
+use crate::batch_laws::batches_are_read_in_turn;
 use crate::body::{BodyFault, read_rows};
 use crate::body_columns::BodyColumns;
+use crate::held::HeldRows;
 use crate::records::Records;
 use col_build::{Builder, Spares};
 use data_types::ColumnType;
@@ -18,6 +20,8 @@ use raw_array::RawArray;
 use std::alloc::Global;
 use std::io::Read;
 use std::marker::Model;
+use std::mem::replace;
+use std::snapshot::Snapshot;
 use unit_pass::{NoMemory, Pass};
 
 /// Leaves no record and no builder.
@@ -73,7 +77,7 @@ impl<R: Read> Model for BatchReader<R> {
 }
 
 impl<R: Read> BatchReader<R> {
-    ghost use Rattle.csv_read.specs.BatchesLeft.{IsNextBatch, IsNextFault, all_left, at_end, columns_in, with_builders};
+    ghost use Rattle.csv_read.specs.BatchesLeft.{IsNextBatch, IsNextFault, all_left, at_end, batches_left, behind, columns_in, with_builders};
 
     /// Stands before the first batch of the records that are left, which stand behind the header. A field that equals the
     /// mark is null.
@@ -161,6 +165,33 @@ impl<R: Read> BatchReader<R> {
                 Err(fault)
             }
         }
+    }
+
+    /// Reads the next `batch` records, or all that are left where they are fewer, as [`next`](BatchReader::next) does, and takes
+    /// their rows out; `None` where no record is left.
+    pub fn next_held(&mut self, alloc: Global, batch: u64) -> Result<Option<HeldRows<R>>, BodyFault>
+        requires some { 1 ≤ batch }
+        requires some_columns { 1 ≤ length self.old.columns }
+        ensures columns { self.new.columns ≡ self.old.columns }
+        ensures mark { self.new.mark ≡ self.old.mark }
+        // They are the first of the batches that were left, and the others are left.
+        ensures batch { IfOk result (λ found. IfSome found (λ held. (held.columns ≡ self.old.columns)
+            × (batches_left batch self.old ≡ behind held.rows (batches_left batch self.new)))) }
+        ensures records { IfOk result (λ found. IfSome found (λ _. self.new.records ≡ drop batch self.old.records)) }
+        // There is nothing where no record is left.
+        ensures end { result ≡ Ok None → self.old.records ≡ [] }
+        ensures end_stays { result ≡ Ok None → self.new ≡ at_end self.old }
+        // Which fault it is.
+        ensures fault { IfErr result (λ fault. IsNextFault fault batch self.old) }
+        ensures fault_ends { OnErr result (self.new ≡ at_end self.old) }
+    {
+        batches_are_read_in_turn();
+        let from = Snapshot::of(&*self);
+        if !self.next(alloc, batch)? {
+            return Ok(None);
+        }
+        let builders = replace(&mut self.body.builders, Vec::new(alloc));
+        Ok(Some(HeldRows::of(builders, from, batch)))
     }
 
     /// The chunk of the rows that were read last, as [`export_rows`](crate::export_rows) makes it of the builders.

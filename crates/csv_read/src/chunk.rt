@@ -38,6 +38,16 @@ pub fn held_rows_fit()
     ensures fit { (builders : List ABuilder) (columns : List Column) (rows : List Row) → HoldRows builders columns rows → FitFrom 0 columns rows }
 {}
 
+/// How many rows builders hold, of which there is at least one.
+pub fn count_rows(builders: &[Builder]) -> i64
+    requires some { 1 ≤ length builders.now }
+    requires held { (columns : List Column) × (rows : List Row) × HoldRows builders.now columns rows × (length rows ≤ 2 ^ 30) }
+    ensures { (columns : List Column) (rows : List Row) → HoldRows builders.now columns rows → result ≡ pos (length rows) }
+{
+    held_rows_fit();
+    builders[0].len()
+}
+
 /// The array of the column that a builder holds, which holds nothing then.
 fn column_array(
     alloc: Global,

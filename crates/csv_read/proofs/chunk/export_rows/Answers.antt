@@ -6,7 +6,7 @@ use Rattle.arr_export.specs.ArrayTrees.{IsColumn, table_tree}
 use Rattle.layout_rules.specs.Layout.{natural}
 use Rattle.csv_read.specs.Chunks.{IsColumnOf, all_blocks}
 use Rattle.csv_read.proofs.EmptiedBuilders.{emptied-spent}
-use Rattle.csv_read.proofs.HeldRows.{are-columns, blocks-are, columns-are, from-each, held-fit, held-some}
+use Rattle.csv_read.proofs.RowsOfBuilders.{are-columns, blocks-are, columns-are, from-each, held-fit, held-some}
 use Rattle.csv_read.proofs.chunk.export_rows.Goals as goal
 
 pub column_arrays-requires-clause-holds : goal.column_arrays-requires-clause-holds

@@ -1,4 +1,4 @@
-use Rattle.csv_read.proofs.HeldRows.{from-each, held-fit, held-some}
+use Rattle.csv_read.proofs.RowsOfBuilders.{from-each, held-fit, held-some}
 use Rattle.csv_read.proofs.chunk.held_rows_fit.Goals as goal
 
 pub returns-clause-some : goal.returns-clause-some
