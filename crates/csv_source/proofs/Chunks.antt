@@ -26,13 +26,15 @@ use Rattle.stage_model.specs.Traffic.{Made, kind_nodes, made_nodes}
 use Rattle.stream_face.specs.Lawful.{DictsAreFull, IsChunkOf, IsTable}
 use Rattle.tree_model.specs.Tree.{IsLive, child_at}
 use Rattle.unit_pass.specs.Tally.{Tally, risen}
-use Rattle.csv_source.specs.NextChunks.{AreShort, EndsAt, IsNextChunk, no_batches}
-use Rattle.csv_source.specs.Refusals.{TellsOf}
-use Rattle.csv_source.specs.declared.refused.Refused.{Refused}
-use Rattle.csv_source.specs.declared.refused.Refused.TheVariants as refused
-use Rattle.csv_source.proofs.Blocks.{blocks-are}
-use Rattle.csv_source.proofs.PlainKinds.{IsPlain}
-use Rattle.csv_source.proofs.Tables.{left-lawful}
+use Rattle.csv_chunks.specs.SourceStreams.{AreShort, no_batches}
+use Rattle.csv_source.specs.NextChunks.{EndsAt, IsNextChunk}
+use Rattle.csv_chunks.specs.Refusals.{TellsOf}
+use Rattle.csv_chunks.specs.declared.refused.Refused.{Refused}
+use Rattle.csv_chunks.specs.declared.refused.Refused.TheVariants as refused
+use Rattle.csv_chunks.proofs.Blocks.{blocks-are}
+use Rattle.csv_chunks.proofs.ChunkFacts.{is-chunk, live-chunk, nodes-are}
+use Rattle.csv_chunks.proofs.PlainKinds.{IsPlain}
+use Rattle.csv_chunks.proofs.Tables.{left-lawful}
 
 -- ---- what is left of the records
 
@@ -50,35 +52,6 @@ pub none-short : (new : List Record) → new ≡ [] → AreShort new
 none-short new is = subst AreShort (sym is) (omega arith, omega arith)
 
 -- ---- the chunk
-
-pub kind-count : (builder : Builder) (kind : Kind) (values : List Value) (n : ℤ) → HoldsKind builder kind values
-    → ((k : DataType) (vs : List Value) → Holds builder k vs → n ≡ pos (length vs)) → n ≡ pos (length values)
-kind-count builder (Flat kind) values n holds count = count kind values holds
-kind-count builder (Dict kind) values n holds count = absurd holds
-kind-count builder (Columns _) values n holds count = absurd holds
-
-columns-nodes : (columns : List Column) → All IsPlain columns → sum_by (λ c. kind_nodes Made c.kind) columns ≡ length columns
-columns-nodes [] plain = refl
-columns-nodes (c ∷ cs) plain =
-    let one : kind_nodes Made c.kind ≡ 1 = ap (kind_nodes Made) (plain zero c (omega arith)).is in
-    let rest = columns-nodes cs (λ k d small. plain (suc k) d (omega (arith, small))) in
-    sum_by-cons (λ (c : Column). kind_nodes Made c.kind) c cs ∙ omega (arith, one, rest)
-
-pub nodes-are : (columns : List Column) → All IsPlain columns → 1 + length columns ≡ made_nodes None columns
-nodes-are columns plain = ap (λ (n : ℕ). 1 + n) (sym (columns-nodes columns plain))
-
-is-chunk : (columns : List Column) (rows : List Row) (chunk : ArrayTree) (columns_count : ℕ) → All IsPlain columns → chunk ≡ chunk_of columns rows
-    → ChunkOk (type_of_columns columns) (chunk_of columns rows) → rows_of (type_of_columns columns) (chunk_of columns rows) ≡ rows
-    → Cost chunk ≤ 1 + 4 * columns_count → columns_count ≤ 1024 → IsChunkOf columns rows chunk
-is-chunk columns rows chunk columns_count plain is ok back cost few = record {
-  ok = subst (ChunkOk (type_of_columns columns)) (sym is) ok;
-  rows_are = ap (rows_of (type_of_columns columns)) is ∙ back;
-  small = omega (arith, cost, few);
-  dicts = λ k none small. subst (λ kind. DictsAreFull kind (child_at chunk k)) (sym (plain k none small).is) tt;
-}
-
-live-chunk : (columns : List Column) (rows : List Row) (chunk : ArrayTree) → chunk ≡ chunk_of columns rows → IsLive chunk
-live-chunk columns rows chunk is = subst IsLive (sym is) tt
 
 next-table : (batch : ℕ) (old : BatchesLeft) (rows : List Row) (others : Chunks) → All IsPlain (columns_in old) → AreShort old.records
     → batches_left batch old ≡ behind rows others → IsTable (columns_in old) rows

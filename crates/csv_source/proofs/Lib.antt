@@ -1,7 +1,3 @@
-pub mod PlainKinds
-pub mod Rows
-pub mod Tables
-pub mod Blocks
 pub mod Chunks
 pub mod Streams
 pub mod Replies

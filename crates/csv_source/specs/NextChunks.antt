@@ -1,9 +1,9 @@
 -- The chunk of the next batch of a text, and what it counts.
-use Rattle.std.specs.Prelude.{◌≡◌, ◌≤◌, ◌^◌, ℕ, List, [], length, None, Option, Some}
-use Rattle.csv_model.specs.Batches.{Chunks}
-use Rattle.csv_model.specs.Reading.{Record}
+use Rattle.std.specs.Prelude.{◌≡◌, ℕ, List, [], None, Option, Some}
+use Rattle.csv_chunks.specs.Refusals.{row_of}
+use Rattle.csv_chunks.specs.SourceStreams.{no_batches}
+use Rattle.csv_chunks.specs.declared.refused.Refused.{Refused}
 use Rattle.csv_read.specs.BatchesLeft.{BatchesLeft, batches_left, behind, columns_in}
-use Rattle.csv_read.specs.RecordReader.{field_bytes}
 use Rattle.data_types.specs.Table.{Row}
 use Rattle.data_types.specs.declared.row_fault.RowFault.{RowFault}
 use Rattle.raw_array.specs.Members.{ArrayTree}
@@ -11,20 +11,10 @@ use Rattle.stage_model.specs.Traffic.{made_blocks, made_nodes}
 use Rattle.stream_face.specs.Lawful.{IsChunkOf}
 use Rattle.tree_model.specs.Tree.{IsLive}
 use Rattle.unit_pass.specs.Tally.{Tally, risen}
-use Rattle.csv_source.specs.Refusals.{row_of}
-use Rattle.csv_source.specs.declared.refused.Refused.{Refused}
-
--- records of a text of at most 2^30 bytes
-abbrev pub AreShort : List Record → Type 0
-AreShort records = (length records ≤ 2 ^ 30) × (field_bytes records ≤ 2 ^ 30)
 
 -- the record at which the batches end, where one is at fault
 abbrev pub ending_of : ℕ → BatchesLeft → Option RowFault
 ending_of batch s = (batches_left batch s).ending
-
--- no batch is left
-abbrev pub no_batches : Option RowFault → Chunks
-no_batches ending = record { chunks = []; ending = ending }
 
 -- the chunk of the next batch, which leaves those that are left; the pass counts what it is made of
 pub record IsNextChunk (batch : ℕ) (chunk : ArrayTree) (old new : BatchesLeft) (before after : Tally) : Type 0 where

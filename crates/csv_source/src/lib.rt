@@ -14,7 +14,6 @@
 #![tactic(auto)]
 
 mod next_chunk;
-mod refused;
 mod source;
 
 pub use source::CsvSource;

@@ -3,28 +3,21 @@ ghost use Rattle.std.specs.Prelude.{◌≡◌, ◌≤◌, ◌+◌, ◌*◌, ◌^
 ghost use Rattle.csv_model.specs.Header.{most_columns};
 ghost use Rattle.csv_read.specs.BatchesLeft.{batches_left, columns_in};
 ghost use Rattle.csv_read.specs.Body.{HoldRows};
-ghost use Rattle.csv_source.specs.NextChunks.{AreShort, EndsAt, IsNextChunk, ending_of, no_batches};
+ghost use Rattle.csv_chunks.specs.SourceStreams.{AreShort, no_batches};
+ghost use Rattle.csv_source.specs.NextChunks.{EndsAt, IsNextChunk, ending_of};
 ghost use Rattle.data_types.specs.Table.{Column, Row};
 ghost use Rattle.raw_array.specs.Members.{Cost};
 ghost use Rattle.tree_model.specs.Tree.{IsLive, Released};
 ghost use Rattle.unit_pass.specs.declared.pass.TheConstants.{CHUNK};
 
-use crate::refused::Refused;
-use col_build::{Builder, Spares};
-use csv_read::{BatchReader, batches_are_read_in_turn, chunks_have_their_rows, held_rows_fit};
+use col_build::Spares;
+use csv_chunks::Refused;
+use csv_read::{
+    BatchReader, batches_are_read_in_turn, chunks_have_their_rows, count_rows, held_rows_fit,
+};
 use raw_array::RawArray;
 use std::alloc::Global;
 use unit_pass::{CHUNK, NoMemory, Pass};
-
-/// How many rows the builders hold.
-fn count_rows(builders: &[Builder]) -> i64
-    requires some { 1 ≤ length builders.now }
-    requires held { (columns : List Column) × (rows : List Row) × HoldRows builders.now columns rows × (length rows ≤ 2 ^ 30) }
-    ensures { (columns : List Column) (rows : List Row) → HoldRows builders.now columns rows → result ≡ pos (length rows) }
-{
-    held_rows_fit();
-    builders[0].len()
-}
 
 /// Puts the chunk of the next `batch` records out, or of all that are left where they are fewer; none where no record is
 /// left; or tells why there is none.

@@ -3,17 +3,18 @@ ghost use Rattle.std.specs.Prelude.{◌≡◌, ◌≤◌, ◌^◌, None, Some, m
 ghost use Rattle.std.specs.Coded.{codes};
 ghost use Rattle.csv_model.specs.Batches.{batches_in};
 ghost use Rattle.csv_model.specs.Header.{most_columns};
-ghost use Rattle.csv_source.specs.NextChunks.{AreShort, ending_of};
-ghost use Rattle.csv_source.specs.Refusals.{refusal_in, row_in};
+ghost use Rattle.csv_chunks.specs.SourceStreams.{AreShort};
+ghost use Rattle.csv_source.specs.NextChunks.{ending_of};
+ghost use Rattle.csv_chunks.specs.Refusals.{refusal_in, row_in};
 ghost use Rattle.field_codec.specs.TextColumns.{AreAllowed, AreProper, NamesDiffer};
 ghost use Rattle.data_types.specs.ColumnView.{column_of};
 ghost use Rattle.data_types.specs.contracts.row_fault.RowFault as faults;
 ghost use Rattle.data_types.specs.declared.row_fault.RowFault.{RowFault as RowValue};
 
 use crate::next_chunk::next_chunk;
-use crate::refused::{Refused, Word};
 use arr_export::{column_schemas_are_lawful, export_schema, schema_size};
 use col_build::Spares;
+use csv_chunks::{Refused, Word};
 use csv_read::{BatchReader, Records};
 use data_types::{ColumnType, RowFault};
 use edge_face::Gate;

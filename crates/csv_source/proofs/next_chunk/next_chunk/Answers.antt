@@ -13,7 +13,7 @@ use Rattle.raw_array.specs.Members.{ArrayTree, Cost}
 use Rattle.unit_pass.specs.Tally.{risen}
 use Rattle.csv_source.specs.NextChunks.{IsNextChunk}
 use Rattle.csv_source.proofs.Chunks.{chunk-same, next-chunk, next-short}
-use Rattle.csv_source.proofs.PlainKinds.{plain-columns}
+use Rattle.csv_chunks.proofs.PlainKinds.{plain-columns}
 use Rattle.csv_source.proofs.next_chunk.next_chunk.Goals as goal
 
 pub returns-in-Ok : goal.returns-in-Ok

@@ -3,8 +3,10 @@ use Rattle.std.proofs.Common.{◌≡◌, ◌<◌, ◌^◌, ◌∙◌, ℕ, arith
 use Rattle.std.proofs.lemmas.Int.{ints}
 use Rattle.csv_model.specs.Batches.{Chunks}
 use Rattle.csv_read.specs.BatchesLeft.{batches_left}
-use Rattle.csv_source.specs.NextChunks.{IsNextChunk, no_batches}
-use Rattle.csv_source.proofs.Replies.{no-refusal, none-left, refused-answers}
+use Rattle.csv_source.specs.NextChunks.{IsNextChunk}
+use Rattle.csv_chunks.specs.SourceStreams.{no_batches}
+use Rattle.csv_chunks.proofs.Replies.{no-refusal, refused-answers}
+use Rattle.csv_source.proofs.Replies.{none-left}
 use Rattle.csv_source.proofs.Streams.{chunk-counts, same-counts}
 use Rattle.stream_face.proofs.Producers.{given-answers, live-or-released, shows-nothing}
 use Rattle.csv_source.proofs.source.CsvSourceArrayStream.get_next.Goals as goal

@@ -12,11 +12,11 @@ use Rattle.data_types.specs.declared.row_fault.RowFault.{RowFault}
 use Rattle.csv_model.specs.Batches.{batches_if, cut, rows_before}
 use Rattle.csv_model.specs.Reading.{body_from}
 use Rattle.csv_read.specs.BatchesLeft.{BatchesLeft, batches_left, columns_in}
-use Rattle.csv_source.specs.NextChunks.{AreShort}
+use Rattle.csv_chunks.specs.SourceStreams.{AreShort}
 use Rattle.stage_model.proofs.BatchRows.{cut-rows}
 use Rattle.stream_face.specs.Lawful.{AreItems, AreValues, IsTable, LawfulTables, total_rows}
-use Rattle.csv_source.proofs.PlainKinds.{IsPlain}
-use Rattle.csv_source.proofs.Rows.{AreRows, IsItem, IsRow, all-before, column_bytes, rows-are}
+use Rattle.csv_chunks.proofs.PlainKinds.{IsPlain}
+use Rattle.csv_chunks.proofs.Rows.{AreRows, IsItem, IsRow, all-before, column_bytes, rows-are}
 
 -- ---- one table
 

@@ -14,7 +14,7 @@ use Rattle.csv_model.specs.Batches.{row_before, rows_before}
 use Rattle.csv_model.specs.Reading.{Record, body_from, field_in, row_of, values_from, values_step, with_row, with_value}
 use Rattle.csv_read.specs.RecordReader.{field_bytes}
 use Rattle.csv_read.proofs.Taken.{field-taken}
-use Rattle.csv_source.proofs.PlainKinds.{IsPlain}
+use Rattle.csv_chunks.proofs.PlainKinds.{IsPlain}
 
 -- a value of a column of plain values
 abbrev pub IsItem : Kind → Value → Type 0

@@ -4,10 +4,10 @@ use Rattle.csv_read.specs.declared.body.BodyFault.{BodyFault}
 use Rattle.csv_read.specs.declared.body.BodyFault.TheVariants as faults
 use Rattle.data_types.specs.declared.row_fault.RowFault.{RowFault}
 use Rattle.stream_face.specs.Texts.{Refusal, refused_row, wanting}
-use Rattle.csv_source.specs.declared.refused.Refused.{Refused}
-use Rattle.csv_source.specs.declared.refused.Refused.TheVariants as refused
-use Rattle.csv_source.specs.declared.refused.Word.{Word}
-use Rattle.csv_source.specs.declared.refused.Word.TheVariants as words
+use Rattle.csv_chunks.specs.declared.refused.Refused.{Refused}
+use Rattle.csv_chunks.specs.declared.refused.Refused.TheVariants as refused
+use Rattle.csv_chunks.specs.declared.refused.Word.{Word}
+use Rattle.csv_chunks.specs.declared.refused.Word.TheVariants as words
 
 abbrev pub refusal_of : Refused → Refusal
 refusal_of (refused.Row row) = refused_row row.fault

@@ -18,7 +18,7 @@ use Rattle.data_types.specs.Value.{Value, Null, Truth, Whole, Bits, Bytes, Items
 use Rattle.data_types.specs.declared.kind.DataType.{DataType}
 use Rattle.stage_model.specs.Traffic.{Made, blocks_from as made_from, flat_blocks, form_blocks, kind_blocks, made_blocks, one_if_any, validity_blocks}
 use Rattle.stream_face.specs.Lawful.{AreItems, AreValues, IsTable}
-use Rattle.csv_source.proofs.PlainKinds.{IsPlain}
+use Rattle.csv_chunks.proofs.PlainKinds.{IsPlain}
 
 -- ---- the validity bitmap
 

@@ -9,7 +9,7 @@ use unit_pass::NoMemory;
 
 /// A record that spells no row, and the text of the refusal.
 #[derive(Drop)]
-pub(crate) struct RefusedRow {
+pub struct RefusedRow {
     fault: RowFault,
     text: String,
     ghost told: { string_bytes text ≡ row_fault_text fault },
@@ -17,14 +17,14 @@ pub(crate) struct RefusedRow {
 
 /// Why a call for a chunk refused.
 #[derive(Drop)]
-pub(crate) enum Refused {
+pub enum Refused {
     Row(RefusedRow),
     NoMemory,
 }
 
 /// What the last get call told: nothing, that memory for a schema was wanting, or the refusal that stays.
 #[derive(Clone, Copy)]
-pub(crate) enum Word {
+pub enum Word {
     Nothing,
     Memory,
     Refusal,
@@ -41,10 +41,10 @@ impl RefusedRow {
 }
 
 impl Refused {
-    ghost use Rattle.csv_source.specs.Refusals.{TellsOf, refusal_of, row_of};
+    ghost use Rattle.csv_chunks.specs.Refusals.{TellsOf, refusal_of, row_of};
 
     /// The refusal for a fault of the records. Memory may be wanting for its text.
-    pub(crate) fn of(alloc: Global, fault: BodyFault) -> Refused
+    pub fn of(alloc: Global, fault: BodyFault) -> Refused
         ensures { TellsOf fault result }
     {
         match fault {
@@ -56,7 +56,7 @@ impl Refused {
         }
     }
 
-    pub(crate) fn code(&self) -> i32
+    pub fn code(&self) -> i32
         ensures { result ≡ (refusal_of self.now).code }
     {
         match self {
@@ -65,7 +65,7 @@ impl Refused {
         }
     }
 
-    pub(crate) fn text(&self) -> &str
+    pub fn text(&self) -> &str
         ensures { result.now ≡ (refusal_of self.now).text }
     {
         match self {
@@ -75,7 +75,7 @@ impl Refused {
     }
 
     /// The record at fault.
-    pub(crate) fn row(&self) -> Option<RowFault>
+    pub fn row(&self) -> Option<RowFault>
         ensures { result ≡ row_of self.now }
     {
         match self {
