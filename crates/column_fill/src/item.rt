@@ -1,9 +1,10 @@
 //! Items that are moved into a column in the making.
-ghost use Rattle.std.specs.Prelude.{◌≡◌, ◌<◌, ◌^◌, ◌*◌, Bool, true, OnErr, OnOk};
+ghost use Rattle.std.specs.Prelude.{◌≡◌, ◌≢◌, ◌<◌, ◌^◌, ◌*◌, Bool, true, OnErr, OnOk};
 ghost use Rattle.data_types.specs.declared.storage.Storage.{Storage as AStorage};
 ghost use Rattle.data_types.specs.declared.storage.Storage.TheVariants.{Between, Truths, Wholes};
 ghost use Rattle.col_build.specs.Holding.{Adds, Keeps};
 ghost use Rattle.col_build.specs.Items.{value_of};
+ghost use Rattle.col_build.specs.Times.{AddsSome, AddsTimes, TakesTimes};
 ghost use Rattle.arr_import.specs.Cols.{window_of};
 ghost use Rattle.arr_import.specs.Window.{item_at};
 ghost use Rattle.column_fill.specs.Takes.{IsStored, Takes};
@@ -141,4 +142,29 @@ pub fn push_item(
         Storage::Truths => push_truth(builder, items, i),
         _ => push_rare(builder, storage, items, i),
     }
+}
+
+/// Adds an item of a column so many times. `storage` is how the builder's values are stored.
+///
+/// # Errors
+///
+/// `NoMemory` where there is no memory for them. The item stands less often then, or not at all.
+pub fn push_item_times(
+    builder: &mut Builder,
+    storage: Storage,
+    items: &Col<'_>,
+    i: u64,
+    times: u64,
+) -> Result<(), NoMemory>
+    requires inside { i < (window_of items.now).count }
+    requires near { i < 2 ^ 40 }
+    requires stored { times ≢ 0 → IsStored storage (item_at (window_of items.now) i) }
+    requires takes { TakesTimes builder.old (item_at (window_of items.now) i) times }
+    ensures added { OnOk result (AddsTimes (item_at (window_of items.now) i) times builder.old builder.new) }
+    ensures some { OnErr result (AddsSome (item_at (window_of items.now) i) times builder.old builder.new) }
+{
+    if times == 0 {
+        return Ok(());
+    }
+    builder.add_times(item_of(items, storage, i), times)
 }

@@ -1,8 +1,8 @@
 //! What a column in the making takes from a chunk, and the array that is made of it.
 //!
-//! What this crate owns: [`push_item`] adds an item of a column to a builder of its type, where it stands, and [`push`] one that
-//! the caller has; a text isn't tested again. [`built_column`] makes the array of a builder's column, over a dictionary where it
-//! holds the indices; where there is no memory for it, all is released.
+//! What this crate owns: [`push_item`] adds an item of a column to a builder of its type, where it stands, [`push_item_times`] adds
+//! it many times, and [`push`] one that the caller has; a text isn't tested again. [`built_column`] makes the array of a builder's
+//! column, over a dictionary where it holds the indices; where there is no memory for it, all is released.
 //!
 //! What it promises: the item that the column has then is the one that was read ([`Takes`](../specs/Takes.antt) says which are
 //! taken), the array is the one that `arr_export` says of the values, and it costs a node and a hold for each buffer of its
@@ -17,5 +17,5 @@ mod item;
 mod laws;
 
 pub use built::built_column;
-pub use item::{push, push_item};
+pub use item::{push, push_item, push_item_times};
 pub use laws::fitting_values_make_a_lawful_chunk;
