@@ -1,9 +1,9 @@
 -- A column takes each of the values that can be a column's, behind those before it.
-use Rattle.std.proofs.Common.{◌≡◌, ◌∙◌, ◌≤◌, ◌<◌, ◌+◌, ◌-◌, ◌^◌, ◌++◌, ℕ, suc, Bool, true, false, List, [], ◌∷◌, length, map, take, drop, get_or}
+use Rattle.std.proofs.Common.{◌≡◌, ◌≢◌, ◌∙◌, ◌≤◌, ◌<◌, ◌+◌, ◌-◌, ◌^◌, ◌++◌, ℕ, suc, Bool, true, false, List, [], ◌∷◌, length, map, take, drop, get_or}
 use Rattle.std.proofs.Common.{replicate, refl, sym, ap, subst, arith}
 use Rattle.std.proofs.Math.Seq.{get_or-append_seam, split_at}
 use Rattle.std.proofs.lemmas.Bool.Decides.{nat_tests}
-use Rattle.std.proofs.lemmas.List.{append_assoc, length-append, map-append, replicate-append-replicate}
+use Rattle.std.proofs.lemmas.List.{append_assoc, length-append, length-replicate, map-append, replicate-append-replicate}
 use Rattle.std.proofs.lemmas.Grind.{flat_map-append}
 use Rattle.std.specs.Prelude.{Option, None, Some, if◌then◌else◌, nat_lt}
 use Rattle.std.specs.List.{concat, flat_map}
@@ -14,6 +14,7 @@ use Rattle.data_types.specs.declared.kind.DataType.{DataType}
 use Rattle.data_types.specs.declared.storage.Storage.{Storage}
 use Rattle.col_build.specs.Encoding.{Fits, are_within, is_by_offsets, is_wide, is_within, push_fault}
 use Rattle.col_build.specs.Holding.{Holds}
+use Rattle.col_build.specs.Times.{TakesTimes}
 use Rattle.col_build.specs.declared.builder.Builder.{Builder}
 use Rattle.column_fill.specs.Takes.{IsStored, Takes}
 use Rattle.column_fill.proofs.ValuesTaken.{taken-behind, taken-stored}
@@ -47,25 +48,35 @@ total-cons v vs = length-append (bytes_of v) (concat (map bytes_of vs))
 
 -- ---- one value
 
+alone : (kind : DataType) (before after : List Value) (v : Value) → Fits kind (before ++ v ∷ after) → push_fault kind [] v ≡ None
+alone kind before after v items =
+    let many = length-append before (v ∷ after) in
+    subst (λ (w : Value). push_fault kind [] w ≡ None) (get_or-append_seam before v after Null) (items.each (length before) Null (omega (arith, many)))
+
+taken-one : (kind : DataType) (before after : List Value) (v : Value) → Fits kind (before ++ v ∷ after) → push_fault kind before v ≡ None
+taken-one kind before after v items =
+    let total = total-append before (v ∷ after) in
+    let own = total-cons v after in
+    taken-behind kind before v (alone kind before after v items)
+    (fewer (is_wide kind) (form_of kind) (byte_total before + length (bytes_of v)) (byte_total (before ++ v ∷ after)) (omega (arith, total, own)) items.small)
+
+stored-one : (kind : DataType) (before after : List Value) (v : Value) (storage : Storage) → Fits kind (before ++ v ∷ after) → storage ≡ storage_of kind
+    → IsStored storage v
+stored-one kind before after v storage items stored =
+    subst (λ (s : Storage). IsStored s v) (sym stored) (taken-stored kind v (alone kind before after v items))
+
 pub takes-one : (kind : DataType) (before after all : List Value) (v : Value) (builder : Builder) (storage : Storage) → all ≡ before ++ v ∷ after
     → Fits kind all → Holds builder kind before → storage ≡ storage_of kind → Takes builder storage v
 takes-one kind before after all v builder storage split are holds stored =
     let items = subst (Fits kind) split are in
-    let total = total-append before (v ∷ after) in
-    let own = total-cons v after in
-    let many = length-append before (v ∷ after) in
-    let alone : push_fault kind [] v ≡ None =
-    subst (λ (w : Value). push_fault kind [] w ≡ None) (get_or-append_seam before v after Null) (items.each (length before) Null (omega (arith, many))) in
     record {
       kind = kind;
       values = before;
       holds = holds;
-      few = omega (arith, items.few, many);
+      few = omega (arith, items.few, length-append before (v ∷ after));
       stored = stored;
-      is = subst (λ (s : Storage). IsStored s v) (sym stored) (taken-stored kind v alone);
-      taken = taken-behind kind before v alone
-          (fewer (is_wide kind) (form_of kind) (byte_total before + length (bytes_of v)) (byte_total (before ++ v ∷ after)) (omega (arith, total, own))
-          items.small);
+      is = stored-one kind before after v storage items stored;
+      taken = taken-one kind before after v items;
     }
 
 -- ---- the items of numbers
@@ -82,13 +93,36 @@ repeat-split v times j small =
     let whole : times ≡ j + suc (times - suc j) = omega (arith, small) in
     ap (λ n. replicate n v) whole ∙ sym (replicate-append-replicate j (suc (times - suc j)) v)
 
-pub inside-repeat : (before after : List Value) (v : Value) (times j : ℕ) → j < times
+inside-repeat : (before after : List Value) (v : Value) (times j : ℕ) → j < times
     → before ++ (replicate times v ++ after) ≡ (before ++ replicate j v) ++ v ∷ (replicate (times - suc j) v ++ after)
 inside-repeat before after v times j small =
     let more = replicate (times - suc j) v in
     ap (λ (vs : List Value). before ++ (vs ++ after)) (repeat-split v times j small)
     ∙ ap (λ (vs : List Value). before ++ vs) (append_assoc (replicate j v) (v ∷ more) after)
     ∙ sym (append_assoc before (replicate j v) (v ∷ (more ++ after)))
+
+pub takes-times : (kind : DataType) (before after : List Value) (v : Value) (times : ℕ) (builder : Builder)
+    → Fits kind (before ++ (replicate times v ++ after)) → Holds builder kind before → TakesTimes builder v times
+takes-times kind before after v times builder items holds = record {
+  kind = kind;
+  values = before;
+  holds = holds;
+  few = omega (
+    arith,
+    items.few,
+    length-append before (replicate times v ++ after),
+    length-append (replicate times v) after,
+    length-replicate times v,
+  );
+  each = λ i small. taken-one kind (before ++ replicate i v) (replicate (times - suc i) v ++ after) v
+      (subst (Fits kind) (inside-repeat before after v times i small) items);
+}
+
+pub stored-times : (kind : DataType) (before after : List Value) (v : Value) (times : ℕ) (storage : Storage)
+    → Fits kind (before ++ (replicate times v ++ after)) → storage ≡ storage_of kind → times ≢ 0 → IsStored storage v
+stored-times kind before after v times storage items stored often =
+    stored-one kind (before ++ []) (replicate (times - 1) v ++ after) v storage
+    (subst (Fits kind) (inside-repeat before after v times 0 (omega (arith, often))) items) stored
 
 -- ---- the items of runs
 

@@ -1,19 +1,16 @@
 //! Items of runs.
-ghost use Rattle.std.specs.Prelude.{◌≡◌, ◌<◌, ◌^◌, IfOk, OnOk};
+ghost use Rattle.std.specs.Prelude.{◌≡◌, IfOk};
 ghost use Rattle.data_types.specs.Table.{Flat};
 ghost use Rattle.col_build.specs.Holding.{Holds};
 ghost use Rattle.kind_tree.specs.ColumnKinds.{type_of_kind};
 ghost use Rattle.kind_tree.specs.Kinds.{TypedOk};
 ghost use Rattle.kind_tree.specs.TypedView.{typed_of};
-ghost use Rattle.arr_import.specs.Cols.{window_of};
-ghost use Rattle.arr_import.specs.Window.{item_at};
 ghost use Rattle.column_gather.specs.Gathered.{CanGatherRuns, values_of_runs};
-ghost use Rattle.column_gather.specs.Times.{AddsTimes, TakesTimes};
 
 use arr_import::Col;
 use col_build::Builder;
-use column_fill::push_item;
-use data_types::{DataType, Storage, clone_kind, storage_of};
+use column_fill::push_item_times;
+use data_types::{DataType, clone_kind, storage_of};
 use kind_tree::Typed;
 use layout_rules::lawful_trees;
 use raw_array::RawArray;
@@ -25,25 +22,6 @@ use unit_pass::NoMemory;
 pub struct Run {
     pub item: u64,
     pub times: u64,
-}
-
-/// Adds an item of a column so many times.
-fn push_times(
-    builder: &mut Builder,
-    storage: Storage,
-    items: &Col<'_>,
-    item: u64,
-    times: u64,
-) -> Result<(), NoMemory>
-    requires inside { item < (window_of items.now).count }
-    requires near { item < 2 ^ 40 }
-    requires takes { TakesTimes builder.old storage (item_at (window_of items.now) item) times }
-    ensures { OnOk result (AddsTimes (item_at (window_of items.now) item) times builder.old builder.new) }
-{
-    for _time in 0..times {
-        push_item(builder, storage, items, item)?;
-    }
-    Ok(())
 }
 
 /// A builder that holds an item of an array for each run, as often as the run says, in the order of the runs. `typed` are the
@@ -69,7 +47,7 @@ pub fn gathered_runs(
     let mut builder = Builder::new(alloc, clone_kind(alloc, kind)?);
     let storage = storage_of(kind);
     for run in runs {
-        push_times(&mut builder, storage, &items, run.item, run.times)?;
+        push_item_times(&mut builder, storage, &items, run.item, run.times)?;
     }
     Ok(builder)
 }
