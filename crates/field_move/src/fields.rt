@@ -82,7 +82,7 @@ fn vacant_schema(
     }
 }
 
-fn copied_name(alloc: Global, schema: &RawSchema) -> Result<Option<Vec<u8>>, NoMemory>
+pub(crate) fn copied_name(alloc: Global, schema: &RawSchema) -> Result<Option<Vec<u8>>, NoMemory>
     requires { IsLive schema.now }
     ensures { IfOk result (λ name. bytes_of name ≡ (members_of schema.now).name) }
 {
@@ -92,7 +92,10 @@ fn copied_name(alloc: Global, schema: &RawSchema) -> Result<Option<Vec<u8>>, NoM
     }
 }
 
-fn copied_metadata(alloc: Global, schema: &RawSchema) -> Result<Option<Vec<u8>>, NoMemory>
+pub(crate) fn copied_metadata(
+    alloc: Global,
+    schema: &RawSchema,
+) -> Result<Option<Vec<u8>>, NoMemory>
     requires { IsLive schema.now }
     ensures { IfOk result (λ metadata. bytes_of metadata ≡ (members_of schema.now).metadata) }
 {
