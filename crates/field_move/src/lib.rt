@@ -11,4 +11,4 @@ mod replaced;
 mod tests;
 
 pub use fields::take_fields;
-pub use replaced::with_fields;
+pub use replaced::{built_schema, with_fields};

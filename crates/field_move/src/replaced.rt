@@ -35,8 +35,12 @@ fn end_parts(parts: SchemaParts, pass: &mut Pass)
     }
 }
 
-/// A live structure of these parts, or nothing that is left of them.
-fn built(alloc: Global, parts: SchemaParts, pass: &mut Pass) -> Result<RawSchema, NoMemory>
+/// A live structure of these parts, which draws a unit and counts a node. On want of memory the parts are released.
+pub fn built_schema(
+    alloc: Global,
+    parts: SchemaParts,
+    pass: &mut Pass,
+) -> Result<RawSchema, NoMemory>
     requires some { 1 ≤ pass.old.units }
     requires units { pass.old.units + Nodes (tree_of_parts parts) ≤ SUPPLY + 1 }
     requires few_children { length parts.children.items < 2 ^ 32 - 1 }
@@ -113,7 +117,7 @@ fn top_over(
         children: fields,
         dictionary: None,
     };
-    built(alloc, parts, pass)
+    built_schema(alloc, parts, pass)
 }
 
 /// Moves a field into the same place of the new top, unless there is a new one.
