@@ -1,0 +1,9 @@
+pub mod Together
+pub mod Replaced
+pub mod Spread
+pub mod FlatRows
+pub mod Sums
+pub mod Kids
+pub mod ListItems
+pub mod FieldTypes
+pub mod OneField

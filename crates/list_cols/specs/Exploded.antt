@@ -1,0 +1,25 @@
+-- The array of a chunk's rows, of which the lists in one column are spread out.
+use Rattle.std.specs.Prelude.{ℕ, List, map}
+use Rattle.std.proofs.Common.{set}
+use Rattle.data_types.specs.declared.kind.DataType.{DataType}
+use Rattle.tree_model.specs.Tree.{child_at, children_of}
+use Rattle.raw_array.specs.Members.{ArrayTree}
+use Rattle.kind_tree.specs.Kinds.{KindTree, kind_in}
+use Rattle.layout_rules.specs.Values.{rows_of}
+use Rattle.list_cols.specs.FlatTables.{flat_table, flat_table_type}
+use Rattle.list_cols.specs.Nested.{Explode}
+
+-- the type of a list's items
+abbrev pub item_kind : KindTree → DataType
+item_kind list = kind_in (child_at list 0)
+
+-- the types of the columns
+abbrev pub exploded_kinds : ℕ → KindTree → List DataType
+exploded_kinds column typed = set (map kind_in (children_of typed)) column (item_kind (child_at typed column))
+
+abbrev pub exploded_type : ℕ → KindTree → KindTree
+exploded_type column typed = flat_table_type (exploded_kinds column typed)
+
+-- new columns, of the rows whose lists are spread out
+abbrev pub exploded_array : ℕ → KindTree → ArrayTree → ArrayTree
+exploded_array column typed array = flat_table (exploded_kinds column typed) (Explode column (rows_of typed array))

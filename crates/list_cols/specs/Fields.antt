@@ -1,0 +1,18 @@
+-- The schema of a chunk of which the lists in one column are spread out: the field of that column is replaced.
+use Rattle.std.specs.Prelude.{ℕ, List, Option}
+use Rattle.tree_model.specs.Tree.{Live, no_trees, absent, child_at, with_child}
+use Rattle.raw_schema.specs.Members.{SchemaTree, members_of}
+use Rattle.schema_check.specs.ColumnSchema.{nullable}
+
+-- a column that may have nulls under another one's name: its format and its metadata stay
+abbrev pub renamed_field : Option (List ℕ) → SchemaTree → SchemaTree
+renamed_field name field =
+    Live (record { format = (members_of field).format; name = name; metadata = (members_of field).metadata; flags = nullable }) no_trees absent
+
+-- the items of a list as a column under the list's name, whose own metadata isn't kept
+abbrev pub item_field : SchemaTree → SchemaTree
+item_field list = renamed_field (members_of list).name (child_at list 0)
+
+-- all other columns' nodes stay as they are, and so does the top
+abbrev pub exploded_schema : ℕ → SchemaTree → SchemaTree
+exploded_schema column schema = with_child schema column (item_field (child_at schema column))

@@ -1,0 +1,49 @@
+-- Rows that are grouped by the values of a column, and rows whose lists are spread out.
+use Rattle.std.specs.Prelude.{ℕ, ◌==◌, Bool, true, false, if◌then◌else◌, not, nat_eq, List, [], ◌∷◌, get_or, map}
+use Rattle.std.specs.List.{filter, flat_map, list_any}
+use Rattle.std.specs.Ordering.{int_eq}
+use Rattle.std.specs.Str.{bytes_eq}
+use Rattle.data_types.specs.Parts.{column_values, replaced, value_list}
+use Rattle.data_types.specs.Table.{Row}
+use Rattle.data_types.specs.Value.{Value, Null, Truth, Whole, Bits, Bytes, Items, values}
+use Rattle.layout_rules.specs.Values.{each}
+
+-- whether two values of a flat type are the same: floats by their bits, and a null is a null
+abbrev pub same : Value → Value → Bool
+same Null Null = true
+same (Truth a) (Truth b) = if a then b else not b
+same (Whole m) (Whole n) = int_eq m n
+same (Bits m) (Bits n) = nat_eq m n
+same (Bytes a) (Bytes b) = bytes_eq a b
+same _ _ = false
+
+-- the values that are the same as none of those before them
+abbrev pub distinct_behind : List Value → List Value → List Value
+distinct_behind before [] = []
+distinct_behind before (v ∷ vs) =
+    if list_any (λ b. same b v) before then distinct_behind before vs else v ∷ distinct_behind (v ∷ before) vs
+
+-- the distinct values, in order of first appearance; a null is one
+abbrev pub distinct : List Value → List Value
+distinct vs = distinct_behind [] vs
+
+-- the rows with this value in a column, in order
+abbrev pub rows_with : ℕ → Value → List Row → List Row
+rows_with column key rows = filter (λ row. same key (get_or row column Null)) rows
+
+-- of the rows with a key, the key, or the list of their values in another column
+abbrev pub nested_value : ℕ → Value → List Row → ℕ → Value
+nested_value column key rows k = if k == column then key else Items (values (column_values k (rows_with column key rows)))
+
+-- rows of so many columns, grouped by one of them: a row for each of its distinct values
+abbrev pub Nest : ℕ → ℕ → List Row → List Row
+Nest width column rows = map (λ key. each (nested_value column key rows) 0 width) (distinct (column_values column rows))
+
+-- the items of a list; a null has none
+abbrev pub items_in : Value → List Value
+items_in (Items vs) = value_list vs
+items_in _ = []
+
+-- for each item of a row's list in a column a row with the item in its place
+abbrev pub Explode : ℕ → List Row → List Row
+Explode column rows = flat_map (λ row. map (λ item. replaced column item row) (items_in (get_or row column Null))) rows
