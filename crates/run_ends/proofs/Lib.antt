@@ -4,3 +4,7 @@ pub mod Searching
 pub mod ValueRuns
 pub mod CodedTree
 pub mod CodedSchema
+pub mod FlatKinds
+pub mod ItemsWalked
+pub mod Making
+pub mod Units

@@ -9,5 +9,7 @@ pub mod WindowProps
 pub mod FaultTexts
 pub mod RunCoding
 pub mod CodeFaults
+pub mod RunMaking
+pub mod RunWalks
 pub mod ColumnRuns
 pub mod WorkedRuns

@@ -1,5 +1,5 @@
 -- Values as runs ("Arrow Columnar Format", "Run-End Encoded Layout"), and the schema and the array of such runs.
-use Rattle.std.specs.Prelude.{◌≡◌, ℕ, suc, ◌==◌, pos, Bool, true, false, not, if◌then◌else◌, codes, List, [], ◌∷◌, length, map, get_or, drop, Some, None}
+use Rattle.std.specs.Prelude.{◌≡◌, ℕ, suc, ◌+◌, ◌==◌, pos, Bool, true, false, not, if◌then◌else◌, codes, List, [], ◌∷◌, length, map, get_or, drop, Some, None}
 use Rattle.std.specs.Ordering.{int_eq}
 use Rattle.std.specs.Str.{bytes_eq}
 use Rattle.data_types.specs.declared.kind.DataType.{DataType}
@@ -10,9 +10,11 @@ use Rattle.tree_model.specs.Tree.{Live, no_trees, trees, absent}
 use Rattle.raw_schema.specs.Members.{SchemaTree}
 use Rattle.raw_array.specs.Members.{ArrayTree}
 use Rattle.raw_array.specs.declared.array.ReleaseKind.TheVariants.{Assembled}
+use Rattle.col_build.specs.Finished.{blocks_of}
+use Rattle.kind_tree.specs.Kinds.{kind_in}
 use Rattle.schema_check.specs.ColumnSchema.{node, values_schema}
 use Rattle.arr_export.specs.ArrayTrees.{column_tree, flat_type}
-use Rattle.run_ends.specs.Runs.{RunTree}
+use Rattle.run_ends.specs.Runs.{RunTree, run_values}
 
 -- whether two values of flat types are the same: a null is the same as any null, and floats are by their bits
 abbrev pub is_same : Value → Value → Bool
@@ -60,18 +62,34 @@ value_of run = run.value
 abbrev pub runs_type : DataType → RunTree
 runs_type kind = record { ends = flat_type end_kind None; values = flat_type kind None }
 
--- a root without a name, over ends without nulls and values that may have some
+-- the ends, none of which is null
+abbrev pub ends_schema : SchemaTree
+ends_schema = node (codes "i") (Some (codes "run_ends")) (pos 0) no_trees absent
+
+-- a root without a name, over the ends and values that may be null
 abbrev pub runs_schema : DataType → SchemaTree
 runs_schema kind =
     node (codes "+r") None (pos 0)
-    (trees (node (codes "i") (Some (codes "run_ends")) (pos 0) no_trees absent ∷ values_schema (Some (codes "values")) kind ∷ []))
+    (trees (ends_schema ∷ values_schema (Some (codes "values")) kind ∷ []))
     absent
 
+-- an array of so many items over its ends and its values
+abbrev pub over_runs : ℕ → ArrayTree → ArrayTree → ArrayTree
+over_runs count ends values =
+    Live (record { length = pos count; null_count = pos 0; offset = pos 0; buffers = []; kind = Assembled }) (trees (ends ∷ values ∷ [])) absent
+
 abbrev pub tree_of_runs : DataType → ℕ → List Run → ArrayTree
-tree_of_runs kind count runs =
-    Live (record { length = pos count; null_count = pos 0; offset = pos 0; buffers = []; kind = Assembled })
-    (trees (column_tree end_kind (map end_of runs) None ∷ column_tree kind (map value_of runs) None ∷ [])) absent
+tree_of_runs kind count runs = over_runs count (column_tree end_kind (map end_of runs) None) (column_tree kind (map value_of runs) None)
 
 -- the array of values as runs
 abbrev pub runs_tree : DataType → List Value → ArrayTree
 runs_tree kind values = tree_of_runs kind (length values) (runs_from 0 values)
+
+-- the blocks of it: those of the ends, and those of the runs' values
+abbrev pub runs_blocks : DataType → List Value → ℕ
+runs_blocks kind values = blocks_of end_kind (map end_of (runs_from 0 values)) + blocks_of kind (map value_of (runs_from 0 values))
+
+-- ---- the items of runs as a column
+
+abbrev pub decoded_tree : RunTree → ArrayTree → ArrayTree
+decoded_tree u array = column_tree (kind_in u.values) (run_values u array) None

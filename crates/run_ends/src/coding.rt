@@ -1,12 +1,15 @@
 //! Values as runs: what their schema and their array mean. The calls do nothing.
-ghost use Rattle.std.specs.Prelude.{◌≡◌, ◌^◌, ◌<◌, ℕ, List, length};
+ghost use Rattle.std.specs.Prelude.{◌≡◌, ◌^◌, ◌<◌, ℕ, List, None, length};
 ghost use Rattle.data_types.specs.ColumnForms.{IsColumnKind};
 ghost use Rattle.data_types.specs.Value.{Value};
 ghost use Rattle.data_types.specs.declared.kind.DataType.{DataType};
 ghost use Rattle.col_build.specs.Encoding.{Fits};
 ghost use Rattle.run_ends.specs.Runs.{run_values};
 ghost use Rattle.run_ends.specs.RunRules.{RunsOk};
-ghost use Rattle.run_ends.specs.RunCoding.{AreApart, runs_from, runs_schema, runs_tree, runs_type};
+ghost use Rattle.arr_export.specs.ArrayTrees.{column_tree, flat_type};
+ghost use Rattle.layout_rules.specs.Values.{values_of};
+ghost use Rattle.run_ends.specs.CodeFaults.{decode_fault};
+ghost use Rattle.run_ends.specs.RunCoding.{AreApart, decoded_tree, runs_from, runs_schema, runs_tree, runs_type};
 ghost use Rattle.run_ends.specs.RunSchemas.{RunsOf};
 
 /// A law: the schema of values as runs is in order and has their kinds, their array is lawful and has these values, and no two runs
@@ -19,5 +22,19 @@ pub fn coded_values_are_the_values()
     ensures apart { (values : List Value) → AreApart (runs_from 0 values) }
 {
     fmt_string::spelling_reads_back();
+    arr_export::encoded_columns_are_lawful();
+}
+
+/// A law: the items of values as runs can be made into a column, and it is the column of the values ("Arrow Columnar Format",
+/// "Run-End Encoded Layout").
+pub fn decoded_runs_are_the_values()
+    ensures free { (kind : DataType) (values : List Value) → Fits kind values → length values < 2 ^ 31
+        → decode_fault (flat_type kind None) (run_values (runs_type kind) (runs_tree kind values)) ≡ None }
+    ensures column { (kind : DataType) (values : List Value) → Fits kind values → length values < 2 ^ 31
+        → decoded_tree (runs_type kind) (runs_tree kind values) ≡ column_tree kind values None }
+    ensures values { (kind : DataType) (values : List Value) → Fits kind values → length values < 2 ^ 31
+        → values_of (flat_type kind None) (decoded_tree (runs_type kind) (runs_tree kind values)) ≡ values }
+{
+    coded_values_are_the_values();
     arr_export::encoded_columns_are_lawful();
 }

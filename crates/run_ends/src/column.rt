@@ -133,7 +133,7 @@ impl<'a> RunCol<'a> {
 
     /// The run of an item.
     #[inline(always)]
-    fn run(&self, i: u64) -> u64
+    pub(crate) fn run(&self, i: u64) -> u64
         requires { i < items (members_of (array_in self.now)) }
         ensures run { result ≡ run_of (kinds_in self.now) (array_in self.now) i }
         ensures inside { result < run_count (array_in self.now) }
@@ -205,7 +205,7 @@ impl<'a> RunCol<'a> {
 
     /// The number of the first item behind a run, up to that of all items.
     #[inline(always)]
-    fn behind(&self, i: u64, run: u64) -> u64
+    pub(crate) fn behind(&self, i: u64, run: u64) -> u64
         requires inside { i < items (members_of (array_in self.now)) }
         requires at { run ≡ run_of (kinds_in self.now) (array_in self.now) i }
         ensures above { i < result }

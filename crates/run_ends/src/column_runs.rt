@@ -70,7 +70,8 @@ impl<'a> ColumnRuns<'a> {
         self.stop_of(i as u64) as i64
     }
 
-    fn stop_of(&self, i: u64) -> u64
+    /// The same of numbers without a sign.
+    pub(crate) fn stop_of(&self, i: u64) -> u64
         requires { i < length (values_in self.now) }
         ensures above { i < result }
         ensures within { result ≤ length (values_in self.now) }
@@ -89,7 +90,8 @@ impl<'a> ColumnRuns<'a> {
         count
     }
 
-    fn count(&self) -> u64
+    /// The number of items, without a sign.
+    pub(crate) fn count(&self) -> u64
         ensures count { result ≡ length (values_in self.now) }
         ensures few { result ≤ 2 ^ 40 }
     {
