@@ -7,7 +7,7 @@ use Rattle.std.specs.Prelude.{if◌then◌else◌, is_some}
 use Rattle.data_types.specs.ColumnForms.{HasForm}
 use Rattle.data_types.specs.FieldText.{Form, form_of}
 use Rattle.data_types.specs.declared.kind.DataType.TheVariants as kinds
-use Rattle.tree_model.specs.Tree.{Depth, Released, Live, no_trees, more_trees, absent, present, trees, maybe_tree, children_of, dictionary_of}
+use Rattle.tree_model.specs.Tree.{Depth, Released, Live, IsLive, no_trees, more_trees, absent, present, trees, maybe_tree, children_of, dictionary_of}
 use Rattle.tree_model.proofs.Lists.{tree_list-trees}
 use Rattle.arr_import.proofs.Reading.{kid-tree}
 use Rattle.arr_move.proofs.Filled.{Depth-child_at}
@@ -77,6 +77,9 @@ flat-list (Live _ kids dict) ok e = absurd (false≢true e)
 
 abbrev pub IsLevel : Typed → Type 0
 IsLevel t = typed_of t ≡ Live (kind_of t) (trees (kids_of t)) (maybe_tree (dict_in (out-Typed t).dict))
+
+pub level-live : (t : Typed) → IsLevel t → IsLive (typed_of t)
+level-live t level = subst IsLive (sym level) tt
 
 pub kids-are : (t : Typed) → IsLevel t → children_of (typed_of t) ≡ kids_of t
 kids-are t level = ap children_of level ∙ tree_list-trees (kids_of t)

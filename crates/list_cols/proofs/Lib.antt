@@ -7,3 +7,10 @@ pub mod Kids
 pub mod ListItems
 pub mod FieldTypes
 pub mod OneField
+pub mod Chunks
+pub mod ChunkItems
+pub mod Counted
+pub mod Fitting
+pub mod NewColumns
+pub mod TooLong
+pub mod ListFields

@@ -1,11 +1,9 @@
--- How many bytes values have, and how many rows runs are.
+-- How many bytes values have.
 use Rattle.std.proofs.Common.{◌≡◌, ◌≤◌, ◌<◌, ◌+◌, ◌*◌, ℕ, zero, suc, List, [], ◌∷◌, ◌++◌, length, map, take, replicate, get_or, arith}
 use Rattle.std.proofs.Math.Nat.{suc-mul}
 use Rattle.std.proofs.lemmas.List.{length-append}
 use Rattle.std.specs.List.{concat, flat_map}
 use Rattle.data_types.specs.Value.{Value, byte_total, bytes_of}
-use Rattle.column_gather.specs.declared.runs.Run.{Run}
-use Rattle.list_cols.specs.Listed.{run_total}
 
 -- ---- bytes
 
@@ -49,16 +47,3 @@ total-next f (x ∷ xs) (suc k) d lt =
       total-append (f x) (flat_map f (take (suc k) xs)),
       total-next f xs k d (omega (arith, lt)),
     )
-
--- ---- rows
-
-pub rows-prefix : (runs : List Run) (k : ℕ) → run_total (take k runs) ≤ run_total runs
-rows-prefix [] zero = omega arith
-rows-prefix [] (suc k) = omega arith
-rows-prefix (run ∷ runs) zero = omega arith
-rows-prefix (run ∷ runs) (suc k) = omega (arith, rows-prefix runs k)
-
-pub rows-next : (runs : List Run) (k : ℕ) (d : Run) → k < length runs → run_total (take (suc k) runs) ≡ run_total (take k runs) + (get_or runs k d).times
-rows-next [] k d lt = absurd (omega (arith, lt))
-rows-next (run ∷ runs) zero d lt = omega arith
-rows-next (run ∷ runs) (suc k) d lt = omega (arith, rows-next runs k d (omega (arith, lt)))

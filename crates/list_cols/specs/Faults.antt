@@ -1,5 +1,5 @@
 -- Which chunks aren't grouped, and of which the lists aren't spread out.
-use Rattle.std.specs.Prelude.{◌≡◌, ℕ, suc, ◌==◌, ◌^◌, ◌-◌, nat_lt, Bool, true, false, not, ◌||◌, if◌then◌else◌, List, [], ◌∷◌, length, Option, None, Some}
+use Rattle.std.specs.Prelude.{◌≡◌, ◌≤◌, ◌<◌, ℕ, suc, ◌==◌, ◌^◌, ◌-◌, nat_lt, Bool, true, false, not, ◌||◌, if◌then◌else◌, List, [], ◌∷◌, length, Option, None, Some}
 use Rattle.std.specs.List.{list_any}
 use Rattle.data_types.specs.FieldText.{form_of}
 use Rattle.data_types.specs.Kinds.{is_flat}
@@ -67,6 +67,11 @@ explode_fault column typed rows =
     fault_of (first_wrong (explodes column) 0 (children_of typed)) (is_too_long (exploded_kinds column typed) (Explode column rows))
 
 -- ---- what an answer says of it
+
+-- a number, where it is one that is named
+abbrev pub IsNamed : ℕ → Option ℕ → Type 0
+IsNamed total (Some count) = (count ≡ total) × (total ≤ most_named)
+IsNamed total None = most_named < total
 
 -- the answer's fault is this one, or memory ran out
 abbrev pub IsRefusedBy : Option ListFault → ListFault → Type 0

@@ -5,3 +5,5 @@ pub mod Exploded
 pub mod Faults
 pub mod Fields
 pub mod Listed
+pub mod Spreading
+pub mod Reaching

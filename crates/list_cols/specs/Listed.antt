@@ -1,10 +1,20 @@
--- How often each row stands once the lists of a column are spread out.
-use Rattle.std.specs.Prelude.{◌≡◌, ◌+◌, ◌<◌, ◌≤◌, ℕ, List, [], ◌∷◌, length, Option, None, Some}
+-- The items of lists, one list behind the other, and how often each row stands once they are spread out.
+use Rattle.std.specs.Prelude.{◌≡◌, ◌+◌, ◌<◌, ◌≤◌, ◌^◌, ℕ, List, ◌++◌, length, Option, None, Some}
+use Rattle.std.specs.List.{flat_map}
+use Rattle.data_types.specs.Storage.{storage_of}
 use Rattle.data_types.specs.Value.{Value}
+use Rattle.data_types.specs.declared.kind.DataType.{DataType}
+use Rattle.data_types.specs.declared.storage.Storage.{Storage}
+use Rattle.col_build.specs.Encoding.{Fits}
+use Rattle.col_build.specs.Holding.{Holds}
+use Rattle.col_build.specs.declared.builder.Builder.{Builder}
 use Rattle.layout_rules.specs.Values.{each}
 use Rattle.column_gather.specs.declared.runs.Run.{Run}
-use Rattle.list_cols.specs.Faults.{most_named}
 use Rattle.list_cols.specs.Nested.{items_in}
+
+-- the items of so many lists
+abbrev pub listed : (ℕ → Value) → ℕ → List Value
+listed lists count = flat_map items_in (each lists 0 count)
 
 -- an item that stands as often as a list has items
 abbrev pub run_of : ℕ → Value → Run
@@ -14,12 +24,20 @@ run_of item list = record { item = item; times = length (items_in list) }
 abbrev pub list_runs : ℕ → (ℕ → Value) → ℕ → List Run
 list_runs first lists count = each (λ i. run_of (first + i) (lists i)) 0 count
 
--- how many rows runs are
-abbrev pub run_total : List Run → ℕ
-run_total [] = 0
-run_total (run ∷ runs) = run.times + run_total runs
+-- a number of bytes, and where it is not told, 2^63 at least
+abbrev pub HasTotal : ℕ → Option ℕ → Type 0
+HasTotal bytes (Some total) = (total ≡ bytes) × (bytes < 2 ^ 63)
+HasTotal bytes None = 2 ^ 63 ≤ bytes
 
--- so many rows, and where it is not told, more than are named
-abbrev pub CountsRows : List Run → Option ℕ → Type 0
-CountsRows runs (Some total) = (total ≡ run_total runs) × (total ≤ most_named)
-CountsRows runs None = most_named < run_total runs
+-- the builder takes these values: it holds those before them, and with others behind them they have an encoding
+pub record TakesAll (builder : Builder) (storage : Storage) (values : List Value) : Type 0 where
+  pub kind : DataType
+  pub before : List Value
+  pub after : List Value
+  pub holds : Holds builder kind before
+  pub stored : storage ≡ storage_of kind
+  pub items : Fits kind (before ++ (values ++ after))
+
+-- what the old builder held the new one holds, and these values behind it
+abbrev pub AddsAll : List Value → Builder → Builder → Type 0
+AddsAll more old new = (kind : DataType) (values : List Value) → Holds old kind values → Holds new kind (values ++ more)

@@ -2,7 +2,7 @@
 ghost use Rattle.std.specs.Prelude.{◌≡◌, ◌+◌, ◌-◌, ◌<◌, ◌≤◌, ◌++◌, ◌∷◌, None, IfOk, IfErr, OnOk, MatchResult, if◌then◌else◌, is_ok, length, replicate, vec_len, vec_capacity};
 ghost use Rattle.tree_model.specs.Tree.{IsLive, Released, child_at, children_of, dictionary_of};
 ghost use Rattle.arr_import.specs.Lent.{lent_bytes};
-ghost use Rattle.raw_schema.specs.Members.{Nodes, members_of};
+ghost use Rattle.raw_schema.specs.Members.{Nodes};
 ghost use Rattle.raw_schema.specs.View.{bytes_of};
 ghost use Rattle.unit_pass.specs.Tally.{risen};
 ghost use Rattle.unit_pass.specs.declared.pass.TheConstants.{SUPPLY};
@@ -95,6 +95,7 @@ fn item_field(alloc: Global, list: &RawSchema, pass: &mut Pass) -> Result<RawSch
     ensures made { IfOk result (λ made. made ≡ item_field list.now) }
     ensures units { pass.new.units + (if is_ok result then 1 else 0) ≡ pass.old.units }
     ensures blocks { pass.new.blocks ≡ pass.old.blocks }
+    ensures nodes { OnOk result (pass.new.nodes ≡ risen pass.old.nodes 1) }
 {
     renamed_field(alloc, list.name(), list.child(0), pass)
 }
@@ -115,6 +116,7 @@ fn item_fields(
         ≡ replicate column Released ++ item_field (child_at schema.now column) ∷ replicate (length (children_of schema.now) - (column + 1)) Released) }
     ensures units { pass.new.units + (if is_ok result then 1 else 0) ≡ pass.old.units }
     ensures blocks { pass.new.blocks ≡ pass.old.blocks }
+    ensures nodes { OnOk result (pass.new.nodes ≡ risen pass.old.nodes 1) }
 {
     let count = schema.n_children() as usize;
     let field = item_field(alloc, schema.child(column), pass)?;
@@ -141,6 +143,7 @@ pub(crate) fn spread_schema(
         (λ made. pass.new.units + Nodes made ≡ pass.old.units + Nodes schema)
         (λ _. pass.new.units ≡ pass.old.units) }
     ensures blocks { pass.new.blocks ≡ pass.old.blocks }
+    ensures nodes { OnOk result (pass.new.nodes ≡ risen pass.old.nodes 2) }
 {
     match item_fields(alloc, &schema, column, pass) {
         Ok(fields) => with_fields(alloc, schema, fields, pass),

@@ -2,20 +2,32 @@
 //!
 //! What this crate owns: the definitions of both ([`Nested`](../specs/Nested.antt)), of the schema and the array of rows whose lists are
 //! spread out ([`Fields`](../specs/Fields.antt), [`Exploded`](../specs/Exploded.antt)) and of their faults
-//! ([`Faults`](../specs/Faults.antt)); the schema of such rows, with the list's field replaced and all others moved whole; which column
-//! is at fault; and how often each row stands.
+//! ([`Faults`](../specs/Faults.antt)); [`explode`], which spreads out the lists in a column of a chunk, and [`exploded_rows`], which says
+//! how many rows there would be.
 //!
-//! What it promises: grouped and spread out again, rows of two columns come key by key, in order ([`keys_come_together`]), and a table
-//! of flat columns that is made of rows is a chunk with these rows ([`flat_tables_have_their_rows`]).
+//! What it promises: the new schema and the new array, exactly, and exactly which fault it is. Grouped and spread out again, rows of two
+//! columns come key by key, in order ([`keys_come_together`]), and a table of flat columns that is made of rows is a chunk with these
+//! rows ([`flat_tables_have_their_rows`]).
 //!
-//! What it leaves to others: whether a chunk is lawful, and the columns of the new rows.
+//! What it leaves to others: whether a chunk is lawful.
 #![tactic(auto)]
 
+mod columns;
+mod exploded;
 mod fault;
 mod fields;
+mod kinds;
 mod laws;
+mod lists;
+mod long;
+mod rows;
 mod runs;
+mod table;
+mod totals;
+mod trees;
 mod wrong;
 
+pub use exploded::explode;
 pub use fault::ListFault;
 pub use laws::{flat_tables_have_their_rows, keys_come_together};
+pub use rows::exploded_rows;

@@ -1,8 +1,8 @@
 //! How often each row stands once the lists of a column are spread out.
-ghost use Rattle.std.specs.Prelude.{◌≡◌, ◌+◌, ◌^◌, ◌<◌, ◌≤◌, IfOk, length};
+ghost use Rattle.std.specs.Prelude.{◌≡◌, ◌+◌, ◌^◌, ◌<◌, ◌≤◌, [], IfNone, IfOk, IfSome, length};
 ghost use Rattle.arr_import.specs.Cols.{window_of};
-ghost use Rattle.arr_import.specs.Window.{item_at};
-ghost use Rattle.list_cols.specs.Listed.{CountsRows, list_runs};
+ghost use Rattle.arr_import.specs.Window.{item_at, items_of};
+ghost use Rattle.list_cols.specs.Listed.{list_runs};
 ghost use Rattle.list_cols.specs.Nested.{items_in};
 
 use arr_import::{Col, ValueRef};
@@ -10,7 +10,7 @@ use column_gather::Run;
 use std::alloc::Global;
 use unit_pass::NoMemory;
 
-/// So many rows, or bytes of a column of narrow texts, are named at most.
+/// So many rows, or bytes between offsets of 32 bits, are named at most.
 pub(crate) const MOST_NAMED: u64 = (1 << 31) - 1;
 
 /// The number of items.
@@ -21,16 +21,29 @@ pub(crate) fn count_items(items: &Col<'_>) -> u64
     items.len() as u64
 }
 
+/// The items of a list; a null has none.
+pub(crate) fn list_at<'a>(lists: &Col<'a>, i: u64) -> Option<Col<'a>>
+    requires inside { i < (window_of lists.now).count }
+    requires small { i < 2 ^ 63 }
+    ensures some { IfSome result (λ items. items_in (item_at (window_of lists.now) i) ≡ items_of (window_of items)) }
+    ensures none { IfNone result (items_in (item_at (window_of lists.now) i) ≡ []) }
+{
+    match lists.value(i as i64) {
+        ValueRef::Items(items) => Some(items),
+        _ => None,
+    }
+}
+
 /// The number of items of a list, and 0 of a null.
-fn list_length(lists: &Col<'_>, i: u64) -> u64
+pub(crate) fn list_length(lists: &Col<'_>, i: u64) -> u64
     requires inside { i < (window_of lists.now).count }
     requires small { i < 2 ^ 63 }
     ensures length { result ≡ length (items_in (item_at (window_of lists.now) i)) }
     ensures few { result < 2 ^ 63 }
 {
-    match lists.value(i as i64) {
-        ValueRef::Items(items) => count_items(&items),
-        _ => 0,
+    match list_at(lists, i) {
+        Some(items) => count_items(&items),
+        None => 0,
     }
 }
 
@@ -48,18 +61,4 @@ pub(crate) fn list_runs(alloc: Global, lists: &Col<'_>, first: u64) -> Result<Ve
         });
     }
     Ok(runs)
-}
-
-/// How many rows runs are, where there aren't more than are named.
-pub(crate) fn count_rows(runs: &[Run]) -> Option<u64>
-    ensures { CountsRows runs.now result }
-{
-    let mut total = 0u64;
-    for run in runs {
-        if run.times > MOST_NAMED - total {
-            return None;
-        }
-        total += run.times;
-    }
-    Some(total)
 }

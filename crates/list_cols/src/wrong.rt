@@ -1,5 +1,5 @@
 //! Which column is at fault.
-ghost use Rattle.std.specs.Prelude.{◌≡◌, ◌<◌, ◌^◌, ℕ, if◌then◌else◌, ◌==◌, length, map};
+ghost use Rattle.std.specs.Prelude.{◌≡◌, ◌<◌, ◌^◌, length};
 ghost use Rattle.tree_model.specs.Tree.{children_of};
 ghost use Rattle.kind_tree.specs.TypedView.{typed_of, kids_of};
 ghost use Rattle.list_cols.specs.Faults.{explodes, first_wrong, is_flat_column, is_flat_list};

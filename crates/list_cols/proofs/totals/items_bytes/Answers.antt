@@ -1,0 +1,44 @@
+use Rattle.std.proofs.Common.{◌+◌, ◌≤◌, arith}
+use Rattle.arr_import.specs.Cols.{window_of}
+use Rattle.arr_import.specs.Window.{item_at}
+use Rattle.data_types.specs.Value.{byte_total}
+use Rattle.layout_rules.specs.Values.{value_at}
+use Rattle.list_cols.proofs.Counted.{item-next, item-within}
+use Rattle.list_cols.proofs.Sums.{total-append, total-one}
+use Rattle.list_cols.proofs.totals.items_bytes.Goals as goal
+
+pub returns-in-None : goal.returns-in-None
+returns-in-None c =
+    let w = window_of c.args.items.now in
+    let f = value_at w.typed w.array in
+    let i = c.loop-i.i in
+    let within : i + 1 ≤ w.count = omega (arith, c.loop-i-test.true, c.count_items-i-end.ensures.count) in
+    omega (
+      arith,
+      c.in-None.ensures,
+      c.loop-i.invariant.is,
+      c.from.ensures,
+      c.item_bytes.ensures.bytes,
+      total-one (item_at w i),
+      item-next byte_total total-append f w.start i,
+      item-within byte_total total-append f w.start (i + 1) w.count within,
+    )
+
+pub loop-i-preserved : goal.loop-i-preserved
+loop-i-preserved c =
+    let w = window_of c.args.items.now in
+    let f = value_at w.typed w.array in
+    let i = c.loop-i.i in
+    let sum = c.in-Some.ensures in
+    record {
+      is = omega (
+        arith,
+        sum.0,
+        c.loop-i.invariant.is,
+        c.from.ensures,
+        c.item_bytes.ensures.bytes,
+        total-one (item_at w i),
+        item-next byte_total total-append f w.start i,
+      );
+      few = omega (arith, sum.0, sum.1);
+    }
