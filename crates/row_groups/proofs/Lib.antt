@@ -1,0 +1,11 @@
+pub mod Alike
+pub mod Counted
+pub mod Eaches
+pub mod Final
+pub mod ItemKeys
+pub mod Keys
+pub mod Ordered
+pub mod Places
+pub mod Steps
+pub mod StoredKeys
+pub mod Sums

@@ -1,0 +1,6 @@
+pub mod Groups
+pub mod Items
+pub mod Chains
+pub mod Numbering
+pub mod ItemKeys
+pub mod Walk

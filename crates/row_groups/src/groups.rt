@@ -1,0 +1,74 @@
+//! The items of a column, grouped by value.
+ghost use Rattle.std.specs.Prelude.{◌≡◌, ◌+◌, ◌<◌, ◌≤◌, ◌^◌, IfOk, All, length, map};
+ghost use Rattle.data_types.specs.ColumnForms.{HasForm};
+ghost use Rattle.data_types.specs.FieldText.{form_of};
+ghost use Rattle.data_types.specs.Table.{Flat};
+ghost use Rattle.kind_tree.specs.ColumnKinds.{type_of_kind};
+ghost use Rattle.kind_tree.specs.Kinds.{TypedOk, kind_in};
+ghost use Rattle.kind_tree.specs.TypedView.{typed_of};
+ghost use Rattle.layout_rules.specs.Values.{tree_items, value_at};
+ghost use Rattle.layout_rules.specs.Walk.{LayoutOk};
+ghost use Rattle.lawful_values.specs.Items.{AreApart};
+ghost use Rattle.row_groups.specs.Groups.{distinct, firsts_of, offsets_of, order_of};
+ghost use Rattle.row_groups.specs.Items.{items_from};
+
+use crate::column::Column;
+use crate::numbers::{ItemNumbers, numbered};
+use crate::order::{Order, ordered};
+use kind_tree::Typed;
+use layout_rules::lawful_root;
+use raw_array::RawArray;
+use std::alloc::Global;
+use unit_pass::NoMemory;
+
+/// The items of a column by their values, each by its number.
+#[derive(Drop)]
+pub struct Groups {
+    /// For each distinct value, in order of first appearance, the first item that has it.
+    pub firsts: Vec<u32>,
+    /// For each distinct value the items that have it, in order; one value's behind another's.
+    pub order: Vec<u32>,
+    /// Where each value's items begin in `order`, and where the last one's end.
+    pub offsets: Vec<u32>,
+}
+
+/// The items of a column, grouped by value. `count` items of the array are looked at, from item `start` on; the numbers are counted
+/// from `start`. A null is a value, and floats are by their bits.
+///
+/// # Errors
+///
+/// `NoMemory` where there is no memory for the groups.
+pub fn grouped(
+    alloc: Global,
+    typed: &Typed,
+    array: &RawArray,
+    start: u64,
+    count: u32,
+) -> Result<Groups, NoMemory>
+    requires types { TypedOk (typed_of typed.now) }
+    requires typed { typed_of typed.now ≡ type_of_kind (Flat (kind_in (typed_of typed.now))) }
+    requires flat { HasForm (form_of (kind_in (typed_of typed.now))) }
+    requires lawful { LayoutOk (typed_of typed.now) array.now }
+    requires inside { start + count ≤ tree_items array.now }
+    requires few { count < 2 ^ 31 }
+    ensures firsts { IfOk result (λ groups. groups.firsts.items ≡ firsts_of (items_from (typed_of typed.now) array.now start count)) }
+    ensures order { IfOk result (λ groups. groups.order.items ≡ order_of (items_from (typed_of typed.now) array.now start count)) }
+    ensures offsets { IfOk result (λ groups. groups.offsets.items ≡ offsets_of (items_from (typed_of typed.now) array.now start count)) }
+    ensures values { IfOk result (λ groups. map (λ i. value_at (typed_of typed.now) array.now (start + i)) groups.firsts.items
+        ≡ distinct (items_from (typed_of typed.now) array.now start count)) }
+    ensures firsts_inside { IfOk result (λ groups. All (λ i. i < count) groups.firsts.items) }
+    ensures firsts_apart { IfOk result (λ groups. AreApart groups.firsts.items) }
+    ensures inside { IfOk result (λ groups. All (λ i. i < count) groups.order.items) }
+    ensures apart { IfOk result (λ groups. AreApart groups.order.items) }
+    ensures all { IfOk result (λ groups. length groups.order.items ≡ count) }
+{
+    lawful_root(typed, array);
+    let column = Column::of(typed, array);
+    let ItemNumbers { numbers, firsts } = numbered(alloc, &column, start, count)?;
+    let Order { places, offsets } = ordered(alloc, &numbers, firsts.len() as u32)?;
+    Ok(Groups {
+        firsts,
+        order: places,
+        offsets,
+    })
+}
