@@ -14,3 +14,9 @@ pub mod Fitting
 pub mod NewColumns
 pub mod TooLong
 pub mod ListFields
+pub mod ListEnds
+pub mod ListTreeLaw
+pub mod NestedLaw
+pub mod NestedRows
+pub mod NestedChunks
+pub mod NestedPlaces

@@ -7,3 +7,8 @@ pub mod Fields
 pub mod Listed
 pub mod Spreading
 pub mod Reaching
+pub mod ListTrees
+pub mod NestedTables
+pub mod NestedFields
+pub mod NestFaults
+pub mod NestedGroups

@@ -1,31 +1,12 @@
 -- Rows that are grouped by the values of a column, and rows whose lists are spread out.
-use Rattle.std.specs.Prelude.{ℕ, ◌==◌, Bool, true, false, if◌then◌else◌, not, nat_eq, List, [], ◌∷◌, get_or, map}
-use Rattle.std.specs.List.{filter, flat_map, list_any}
-use Rattle.std.specs.Ordering.{int_eq}
-use Rattle.std.specs.Str.{bytes_eq}
+use Rattle.std.specs.Prelude.{ℕ, ◌==◌, if◌then◌else◌, List, [], get_or, map}
+use Rattle.std.specs.List.{filter, flat_map}
 use Rattle.data_types.specs.Parts.{column_values, replaced, value_list}
 use Rattle.data_types.specs.Table.{Row}
-use Rattle.data_types.specs.Value.{Value, Null, Truth, Whole, Bits, Bytes, Items, values}
+use Rattle.data_types.specs.Value.{Value, Null, Items, values}
 use Rattle.layout_rules.specs.Values.{each}
-
--- whether two values of a flat type are the same: floats by their bits, and a null is a null
-abbrev pub same : Value → Value → Bool
-same Null Null = true
-same (Truth a) (Truth b) = if a then b else not b
-same (Whole m) (Whole n) = int_eq m n
-same (Bits m) (Bits n) = nat_eq m n
-same (Bytes a) (Bytes b) = bytes_eq a b
-same _ _ = false
-
--- the values that are the same as none of those before them
-abbrev pub distinct_behind : List Value → List Value → List Value
-distinct_behind before [] = []
-distinct_behind before (v ∷ vs) =
-    if list_any (λ b. same b v) before then distinct_behind before vs else v ∷ distinct_behind (v ∷ before) vs
-
--- the distinct values, in order of first appearance; a null is one
-abbrev pub distinct : List Value → List Value
-distinct vs = distinct_behind [] vs
+-- which values are the same, and the distinct ones in order of first appearance
+pub use Rattle.row_groups.specs.Groups.{same, distinct}
 
 -- the rows with this value in a column, in order
 abbrev pub rows_with : ℕ → Value → List Row → List Row

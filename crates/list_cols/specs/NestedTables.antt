@@ -1,0 +1,62 @@
+-- The table of rows that are grouped by the values of a column: a column of its distinct values, and a list column for each other one.
+use Rattle.std.specs.Prelude.{◌≡◌, ◌≢◌, ◌<◌, ◌≤◌, ◌^◌, ℕ, ◌==◌, if◌then◌else◌, List, get_or, length, map, None}
+use Rattle.data_types.specs.declared.kind.DataType.{DataType}
+use Rattle.data_types.specs.declared.kind.DataType.TheVariants as kinds
+use Rattle.data_types.specs.Parts.{column_values}
+use Rattle.data_types.specs.Table.{Row}
+use Rattle.data_types.specs.Value.{Value}
+use Rattle.tree_model.specs.Tree.{children_of}
+use Rattle.raw_array.specs.Members.{ArrayTree}
+use Rattle.col_build.specs.Encoding.{Fits}
+use Rattle.kind_tree.specs.ColumnKinds.{table_type}
+use Rattle.kind_tree.specs.Kinds.{KindTree, kind_in}
+use Rattle.layout_rules.specs.Values.{each, rows_of}
+use Rattle.arr_export.specs.ArrayTrees.{column_tree, flat_type, table_tree}
+use Rattle.list_cols.specs.ListTrees.{FitLists, list_kind, list_tree}
+use Rattle.list_cols.specs.Nested.{distinct, rows_with}
+
+-- the distinct values of a column
+abbrev pub keys_of : ℕ → List Row → List Value
+keys_of column rows = distinct (column_values column rows)
+
+-- for each of them, the values of its rows in another column
+abbrev pub lists_of : ℕ → List Row → ℕ → List (List Value)
+lists_of column rows k = map (λ key. column_values k (rows_with column key rows)) (keys_of column rows)
+
+-- ---- a column of the table, and its kinds
+
+abbrev pub kind_at : List DataType → ℕ → DataType
+kind_at types k = get_or types k kinds.Null
+
+abbrev pub nested_kind : ℕ → List DataType → ℕ → KindTree
+nested_kind column types k = if k == column then flat_type (kind_at types k) None else list_kind (kind_at types k)
+
+abbrev pub nested_column : ℕ → List DataType → List Row → ℕ → ArrayTree
+nested_column column types rows k =
+    if k == column then column_tree (kind_at types k) (keys_of column rows) None else list_tree (kind_at types k) (lists_of column rows k)
+
+-- ---- the table of rows with columns of these types
+
+abbrev pub nested_table_type : ℕ → List DataType → KindTree
+nested_table_type column types = table_type (each (nested_kind column types) 0 (length types))
+
+abbrev pub nested_table : ℕ → List DataType → List Row → ArrayTree
+nested_table column types rows = table_tree (length (keys_of column rows)) (each (nested_column column types rows) 0 (length types))
+
+-- a column has an encoding
+pub record FitColumn (column : ℕ) (types : List DataType) (rows : List Row) (k : ℕ) : Type 0 where
+  pub keys : k ≡ column → Fits (kind_at types k) (keys_of column rows)
+  pub lists : k ≢ column → FitLists (kind_at types k) (lists_of column rows k)
+
+-- and so have all
+pub record FitNested (column : ℕ) (types : List DataType) (rows : List Row) : Type 0 where
+  pub columns : (k : ℕ) → k < length types → FitColumn column types rows k
+  pub few : length (keys_of column rows) ≤ 2 ^ 40
+
+-- ---- of a chunk
+
+abbrev pub nested_type : ℕ → KindTree → KindTree
+nested_type column typed = nested_table_type column (map kind_in (children_of typed))
+
+abbrev pub nested_array : ℕ → KindTree → ArrayTree → ArrayTree
+nested_array column typed array = nested_table column (map kind_in (children_of typed)) (rows_of typed array)

@@ -1,0 +1,26 @@
+//! What list columns are, and the table of rows that are grouped.
+ghost use Rattle.std.specs.Prelude.{◌≡◌, ℕ, List, length, map};
+ghost use Rattle.data_types.specs.Table.{Row};
+ghost use Rattle.data_types.specs.Value.{Value};
+ghost use Rattle.data_types.specs.declared.kind.DataType.{DataType};
+ghost use Rattle.layout_rules.specs.Values.{rows_of, values_of};
+ghost use Rattle.layout_rules.specs.Walk.{ChunkOk, LayoutOk};
+ghost use Rattle.list_cols.specs.ListTrees.{FitLists, list_kind, list_tree, list_value};
+ghost use Rattle.list_cols.specs.Nested.{Nest};
+ghost use Rattle.list_cols.specs.NestedTables.{FitNested, nested_table, nested_table_type};
+
+/// A law: the tree of lists of values that have an encoding meets the layout rules, and its values are these lists ("Arrow Columnar
+/// Format", "Variable-size List Layout").
+pub fn list_trees_are_lawful()
+    ensures lawful { (kind : DataType) (lists : List (List Value)) → FitLists kind lists → LayoutOk (list_kind kind) (list_tree kind lists) }
+    ensures values { (kind : DataType) (lists : List (List Value)) → FitLists kind lists → values_of (list_kind kind) (list_tree kind lists) ≡ map list_value lists }
+{}
+
+/// A law: the table of rows that are grouped is a chunk, where its columns have an encoding, and its rows are a row for each distinct
+/// value, with the lists of the others.
+pub fn nested_tables_have_their_rows()
+    ensures chunk { (column : ℕ) (types : List DataType) (rows : List Row) → FitNested column types rows
+        → ChunkOk (nested_table_type column types) (nested_table column types rows) }
+    ensures rows { (column : ℕ) (types : List DataType) (rows : List Row) → FitNested column types rows
+        → rows_of (nested_table_type column types) (nested_table column types rows) ≡ Nest (length types) column rows }
+{}
