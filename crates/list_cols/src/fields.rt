@@ -14,9 +14,9 @@ use std::alloc::Global;
 use unit_pass::{NoMemory, Pass, SUPPLY};
 
 /// The flag of columns that may have nulls.
-const NULLABLE: i64 = 2;
+pub(crate) const NULLABLE: i64 = 2;
 
-fn copied(alloc: Global, text: Option<&[u8]>) -> Result<Option<Vec<u8>>, NoMemory>
+pub(crate) fn copied(alloc: Global, text: Option<&[u8]>) -> Result<Option<Vec<u8>>, NoMemory>
     ensures { IfOk result (λ copy. bytes_of copy ≡ lent_bytes text.entry) }
 {
     match text {
@@ -26,7 +26,7 @@ fn copied(alloc: Global, text: Option<&[u8]>) -> Result<Option<Vec<u8>>, NoMemor
 }
 
 /// A column that may have nulls, of another one's format and metadata, under this name.
-fn renamed_field(
+pub(crate) fn renamed_field(
     alloc: Global,
     name: Option<&[u8]>,
     field: &RawSchema,
@@ -63,7 +63,7 @@ fn push_vacant(fields: &mut Vec<RawSchema>, count: usize)
 }
 
 /// So many fields, which stand released but for one. On want of memory that one is released.
-fn one_field(
+pub(crate) fn one_field(
     alloc: Global,
     count: usize,
     place: usize,

@@ -22,6 +22,8 @@ mod lists;
 mod long;
 mod rows;
 mod nest_laws;
+mod nest_schema;
+mod nest_wrong;
 mod runs;
 mod table;
 mod totals;

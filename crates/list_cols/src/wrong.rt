@@ -8,7 +8,7 @@ use data_types::{DataType, is_flat};
 use kind_tree::{Typed, kinds_of_typed};
 
 /// Whether values are of a flat column kind, without a dictionary.
-fn is_flat_column(typed: &Typed) -> bool
+pub(crate) fn is_flat_column(typed: &Typed) -> bool
     ensures { result ≡ is_flat_column (typed_of typed.now) }
 {
     kinds_of_typed(typed);

@@ -1,0 +1,23 @@
+//! Which column is at fault where rows are grouped.
+ghost use Rattle.std.specs.Prelude.{◌≡◌, ◌<◌, ◌^◌, length};
+ghost use Rattle.tree_model.specs.Tree.{children_of};
+ghost use Rattle.kind_tree.specs.TypedView.{kids_of, typed_of};
+ghost use Rattle.list_cols.specs.Faults.{first_wrong};
+ghost use Rattle.list_cols.specs.NestFaults.{nests};
+
+use crate::wrong::is_flat_column;
+use kind_tree::{Typed, kinds_of_typed};
+
+/// The first column that isn't of a flat column kind, or has a dictionary.
+pub(crate) fn wrong_to_nest(typed: &Typed) -> Option<u32>
+    requires few { length (kids_of typed.now) < 2 ^ 32 }
+    ensures { result ≡ first_wrong nests 0 (children_of (typed_of typed.now)) }
+{
+    kinds_of_typed(typed);
+    for k in 0..typed.kids.len() {
+        if !is_flat_column(&typed.kids[k]) {
+            return Some(k as u32);
+        }
+    }
+    None
+}
