@@ -18,5 +18,8 @@ pub mod ListEnds
 pub mod ListTreeLaw
 pub mod NestedLaw
 pub mod NestedRows
+pub mod NestedGather
+pub mod NestedKids
 pub mod NestedChunks
 pub mod NestedPlaces
+pub mod NestedTypes

@@ -21,7 +21,9 @@ mod laws;
 mod lists;
 mod long;
 mod rows;
+mod nest_columns;
 mod nest_laws;
+mod nest_lists;
 mod nest_schema;
 mod nest_wrong;
 mod runs;
@@ -35,3 +37,6 @@ pub use fault::ListFault;
 pub use laws::{flat_tables_have_their_rows, keys_come_together};
 pub use rows::exploded_rows;
 pub use nest_laws::{list_trees_are_lawful, nested_tables_have_their_rows};
+pub use nest_laws::{
+    list_trees_are_lawful, nested_schemas_have_their_kinds, nested_tables_have_their_rows,
+};

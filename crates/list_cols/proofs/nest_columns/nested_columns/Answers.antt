@@ -1,0 +1,32 @@
+use Rattle.std.proofs.Common.{◌≡◌, ◌∙◌, ◌+◌, ◌++◌, [], ◌∷◌, map, ap, sym, arith}
+use Rattle.tree_model.specs.Tree.{children_of, trees}
+use Rattle.raw_array.specs.Members.{cost_of_all}
+use Rattle.kind_tree.specs.Kinds.{kind_in}
+use Rattle.kind_tree.specs.TypedView.{typed_of}
+use Rattle.layout_rules.specs.Values.{each, rows_of}
+use Rattle.arr_move.proofs.MovedChildren.{cost-push}
+use Rattle.list_cols.specs.NestedTables.{FitColumn, nested_column}
+use Rattle.list_cols.proofs.ListItems.{each-next}
+use Rattle.list_cols.proofs.NestedKids.{fits-next}
+use Rattle.list_cols.proofs.nest_columns.nested_columns.Goals as goal
+
+pub loop-k-preserved : goal.loop-k-preserved
+loop-k-preserved c =
+    let types = map kind_in (children_of (typed_of c.args.typed.now)) in
+    let rows = rows_of (typed_of c.args.typed.now) c.args.array.now in
+    let f = nested_column c.args.column types rows in
+    let k = c.loop-k.k in
+    let start : k ≡ 0 + k = omega arith in
+    let before = each f 0 k in
+    let cost = ap (λ fs. cost_of_all (trees fs)) c.push_reserved.ensures.items in
+    let more = cost-push c.loop-k.columns.items c.in-Ok-nested_column.made in
+    record {
+      columns = c.push_reserved.ensures.items
+          ∙ (λ t. c.loop-k.invariant.columns t ++ c.in-Ok-nested_column.ensures.made t ∷ [])
+          ∙ ap (λ n. before ++ f n ∷ []) start ∙ sym (each-next f 0 k);
+      fits = fits-next (FitColumn c.args.column types rows) k c.loop-k.invariant.fits c.in-Ok-nested_column.ensures.fits;
+      count = omega (arith, c.push_reserved.ensures.len, c.loop-k.invariant.count);
+      room = omega (arith, c.push_reserved.ensures.capacity, c.loop-k.invariant.room);
+      units = omega (arith, cost, more, c.in-Ok-nested_column.ensures.units, c.loop-k.invariant.units);
+      left = omega (arith, c.in-Ok-nested_column.ensures.left, c.loop-k.invariant.left);
+    }

@@ -1,0 +1,19 @@
+use Rattle.std.proofs.Common.{◌≡◌, ◌≤◌, ◌<◌, ◌+◌, ◌*◌, ℕ, length, map, vec_len, vec_capacity}
+use Rattle.tree_model.specs.Tree.{children_of, trees}
+use Rattle.raw_array.specs.Members.{cost_of_all}
+use Rattle.kind_tree.specs.Kinds.{kind_in}
+use Rattle.kind_tree.specs.TypedView.{kids_of, typed_of}
+use Rattle.layout_rules.specs.Values.{each, rows_of}
+use Rattle.list_cols.specs.NestedTables.{FitColumn, nested_column}
+use Rattle.list_cols.proofs.nest_columns.nested_columns.Given as goal
+
+-- the columns so far, and room for the others
+abbrev pub invariant-loop-k : goal.invariant-loop-k
+invariant-loop-k l = record {
+  columns : l.columns.items ≡ each (nested_column l.column (map kind_in (children_of (typed_of l.typed))) (rows_of (typed_of l.typed) l.array)) 0 l.k;
+  fits : (j : ℕ) → j < l.k → FitColumn l.column (map kind_in (children_of (typed_of l.typed))) (rows_of (typed_of l.typed) l.array) j;
+  count : vec_len l.columns ≡ l.k;
+  room : length (kids_of l.typed) ≤ vec_capacity l.columns;
+  units : l.pass.units + cost_of_all (trees l.columns.items) ≡ l.initial.pass.units;
+  left : l.initial.pass.units ≤ l.pass.units + 6 * l.k;
+}
