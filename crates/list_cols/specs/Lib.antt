@@ -3,6 +3,7 @@ pub mod Law
 pub mod FlatTables
 pub mod Exploded
 pub mod Faults
+pub mod FaultTexts
 pub mod Fields
 pub mod Listed
 pub mod Spreading

@@ -15,6 +15,7 @@
 mod columns;
 mod exploded;
 mod fault;
+mod fault_text;
 mod fields;
 mod kinds;
 mod laws;
@@ -40,3 +41,4 @@ pub use nest_laws::{list_trees_are_lawful, nested_tables_have_their_rows};
 pub use nest_laws::{
     list_trees_are_lawful, nested_schemas_have_their_kinds, nested_tables_have_their_rows,
 };
+pub use wrong::wrong_to_explode;

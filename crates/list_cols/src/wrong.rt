@@ -38,7 +38,7 @@ fn explodes(column: usize, k: usize, typed: &Typed) -> bool
 }
 
 /// The first column that isn't what it must be where the lists of `column` are spread out.
-pub(crate) fn wrong_to_explode(typed: &Typed, column: usize) -> Option<u32>
+pub fn wrong_to_explode(typed: &Typed, column: usize) -> Option<u32>
     requires few { length (kids_of typed.now) < 2 ^ 32 }
     ensures { result ≡ first_wrong (explodes column) 0 (children_of (typed_of typed.now)) }
 {
