@@ -1,5 +1,5 @@
 -- What a run comes to, by how it ends.
-use Rattle.std.proofs.Common.{Bool, ◌≡◌, ◌∙◌, ◌≤◌, ◌<◌, ◌+◌, ◌⊎◌, inl, inr, ℕ, true, false, nat_lt, List, [], length, take, Option, Some, None, IfSome, Result, Ok, Err}
+use Rattle.std.proofs.Common.{if◌then◌else◌, Bool, ◌≡◌, ◌∙◌, ◌≤◌, ◌<◌, ◌+◌, ◌⊎◌, inl, inr, ℕ, true, false, nat_lt, List, [], length, take, Option, Some, None, IfSome, Result, Ok, Err}
 use Rattle.std.proofs.Common.{IfErr, IsErrAnd, OnOk, ap, arith, refl, subst, sym}
 use Rattle.std.proofs.lemmas.Bool.Decides.{nat_tests}
 use Rattle.std.proofs.lemmas.List.{length-append}
@@ -13,22 +13,29 @@ use Rattle.schema_check.specs.SchemaAnswers.{FirstFault}
 use Rattle.tree_check.specs.Checks.{array_fault, schema_fault}
 use Rattle.tree_check.specs.declared.fault.TreeFault.{TreeFault}
 use Rattle.tree_check.specs.declared.fault.TreeFault.TheVariants as trees
+use Rattle.tree_model.specs.Tree.{children_of}
 use Rattle.tree_text.specs.declared.fault.TextFault.{TextFault}
 use Rattle.tree_task.specs.Answer.{Answer, AnswerWithin, AreBytes, CountsCommand, Fault, IsAnswerTo, IsTooLong, ReadAnswer, Text, TextAnswer}
 use Rattle.tree_task.specs.Answer.{TreesAnswer, input_limit}
 use Rattle.tree_task.specs.Faults.{AtWriteFault, AtWriting, Cause, Memory, OfLength, OfTrees, OfWords, Reading, Writing}
 use Rattle.tree_task.specs.Faults.{cause_of, fault_in, is_decided, is_write_fault, is_writing}
+use Rattle.data_types.specs.Table.{Row}
+use Rattle.layout_rules.specs.Values.{rows_of}
+use Rattle.list_cols.specs.Nested.{Explode}
+use Rattle.list_cols.specs.declared.fault.ListFault.{ListFault}
 use Rattle.run_ends.specs.RunRules.{RunsFound, runs_fault}
 use Rattle.run_ends.specs.RunSchemas.{SchemaFound as RunsSchemaFound}
 use Rattle.run_ends.specs.Runs.{RunTree}
 use Rattle.run_ends.specs.declared.code_fault.CodeFault.{CodeFault}
+use Rattle.tree_task.specs.ChunkAnswer.{Said, said_of_chunk, said_of_kinds}
 use Rattle.tree_task.specs.FlatAnswer.{flat_of_schema, flat_unless}
 use Rattle.tree_task.specs.ForeignAnswer.{chunk_of_kinds, chunk_unless}
+use Rattle.tree_task.specs.ListsAnswer.{exploded, lines_unless, rows_unless as new_rows_unless, said_of_column}
 use Rattle.tree_task.specs.Over.{RanOver}
 use Rattle.tree_task.specs.Refusals.{fault_of_tree}
 use Rattle.tree_task.specs.RowsAnswer.{rows_of_kinds, rows_unless}
 use Rattle.tree_task.specs.RunsAnswer.{runs_of_array, runs_of_kinds, runs_unless}
-use Rattle.tree_task.specs.TagAnswer.{tags_of_chunk, tags_of_kinds, tags_unless}
+use Rattle.tree_task.specs.TagAnswer.{tags_of_columns, tags_unless}
 use Rattle.tree_task.specs.UnionAnswer.{union_of_schema, union_unless}
 use Rattle.union_cols.specs.declared.tag_fault.TagFault.{TagFault}
 use Rattle.union_cols.specs.UnionRules.{UnionFound, union_fault}
@@ -111,6 +118,9 @@ fault-cases (run.Tag fault) = inl refl
 fault-cases (run.RunsSchema fault) = inl refl
 fault-cases (run.Runs fault) = inl refl
 fault-cases (run.Code fault) = inl refl
+fault-cases (run.TooManyColumns count) = inl refl
+fault-cases (run.Column column) = inl refl
+fault-cases (run.Lists fault) = inl refl
 fault-cases run.NoMemory = inr (inr (inr refl))
 
 pub not-writing : (P : ℕ → Type 0) (cause : Cause) → is_writing cause ≡ false → AtWriting cause P
@@ -162,13 +172,29 @@ in-columns : (typed : KindTree) (array : ArrayTree) (fault : Option TagFault) �
 in-columns typed array None = tt
 in-columns typed array (Some fault) = tt
 
-in-tagged : (dense : Bool) (typed : KindTree) (array : ArrayTree) (fault : Option ArrayFault) → TextFaultIn (tags_of_chunk dense typed array fault)
-in-tagged dense typed array None = in-columns typed array _
-in-tagged dense typed array (Some fault) = in-tree (array_fault fault)
+module _ (said : Said) (is-said : (typed : KindTree) (array : ArrayTree) → TextFaultIn (said typed array)) where
+  in-said_chunk : (typed : KindTree) (array : ArrayTree) (fault : Option ArrayFault) → TextFaultIn (said_of_chunk said typed array fault)
+  in-said_chunk typed array None = is-said typed array
+  in-said_chunk typed array (Some fault) = in-tree (array_fault fault)
 
-in-tags : (dense : Bool) (read : Result KindTree FirstFault) (array : ArrayTree) → TextFaultIn (tags_of_kinds dense read array)
-in-tags dense (Ok typed) array = in-tagged dense typed array (first_chunk_fault typed array)
-in-tags dense (Err first) array = in-tree (schema_fault first)
+  in-said : (read : Result KindTree FirstFault) (array : ArrayTree) → TextFaultIn (said_of_kinds said read array)
+  in-said (Ok typed) array = in-said_chunk typed array (first_chunk_fault typed array)
+  in-said (Err first) array = in-tree (schema_fault first)
+
+in-lines : (rows : List Row) (fault : Option ListFault) → TextFaultIn (lines_unless rows fault)
+in-lines rows None = tt
+in-lines rows (Some fault) = tt
+
+module _ (said : KindTree → List Row → Answer) (is-said : (typed : KindTree) (rows : List Row) → TextFaultIn (said typed rows)) where
+  in-new_rows : (typed : KindTree) (array : ArrayTree) (many there : Bool) (count column : ℕ)
+      → TextFaultIn (new_rows_unless said typed array (if many then Some (run.TooManyColumns count) else if there then None else Some (run.Column column)))
+  in-new_rows typed array true there count column = tt
+  in-new_rows typed array false true count column = is-said typed (rows_of typed array)
+  in-new_rows typed array false false count column = tt
+
+in-exploded : (column : ℕ) (typed : KindTree) (array : ArrayTree) → TextFaultIn (said_of_column column (exploded column) typed array)
+in-exploded column typed array =
+    in-new_rows (exploded column) (λ typed rows. in-lines (Explode column rows) _) typed array _ _ (length (children_of typed)) column
 
 in-union : (u : UnionTree) (array : ArrayTree) (fault : Option UnionFound) → TextFaultIn (union_unless u array fault)
 in-union u array None = tt
@@ -201,10 +227,12 @@ in-flat (Err fault) array = tt
 in-trees : (command : Command) (schema : SchemaTree) (array : ArrayTree) (answer : Answer) → TreesAnswer command schema array answer → TextFaultIn answer
 in-trees commands.Rows schema array answer is = subst TextFaultIn (sym is.2) (in-kinds is.0 array)
 in-trees commands.Union schema array answer is = subst TextFaultIn (sym is.2) (in-union_schema is.0 array)
-in-trees (commands.Tag dense) schema array answer is = subst TextFaultIn (sym is.2) (in-tags dense is.0 array)
+in-trees (commands.Tag dense) schema array answer is = subst TextFaultIn (sym is.2) (in-said (tags_of_columns dense) (λ typed array. in-columns typed array _) is.0 array)
 in-trees commands.Foreign schema array answer is = subst TextFaultIn (sym is.2) (in-chunk_kinds is.0 array)
 in-trees commands.Runs schema array answer is = subst TextFaultIn (sym is.2) (in-runs is.0 array)
 in-trees commands.Flat schema array answer is = subst TextFaultIn (sym is.2) (in-flat is.0 array)
+in-trees (commands.Explode column) schema array answer is =
+    subst TextFaultIn (sym is.2) (in-said (said_of_column column (exploded column)) (in-exploded column) is.0 array)
 
 in-read : (command : Command) (read : Result (SchemaTree × ArrayTree) TextFault) (answer : Answer) → ReadAnswer command read answer → TextFaultIn answer
 in-read command (Ok read) answer is = in-trees command read.0 read.1 answer is

@@ -5,7 +5,7 @@ use Rattle.raw_schema.specs.Members.{Nodes, SchemaTree, no_holds}
 use Rattle.tree_text.specs.Answers.{Reads, most_lines}
 use Rattle.tree_text.specs.TreeText.{array_lines, array_node_lines, buffer_line, released_array, released_schema, schema_lines, schema_node_lines}
 use Rattle.tree_text.proofs.TreeLaws.{cost_le_lines}
-use Rattle.unit_pass.specs.declared.pass.TheConstants.{ROOM}
+use Rattle.unit_pass.specs.declared.pass.TheConstants.{CHUNK, ROOM}
 
 buffers-some : (buffers : List (Option Buffer)) → holds_of buffers ≤ length (map buffer_line buffers)
 buffers-some [] = omega arith
@@ -23,5 +23,5 @@ module _ (bytes : List ℕ) (schema : SchemaTree) (array : ArrayTree) (reads : R
       omega (arith, s, a, ap length reads.1.spelled, length-append (schema_lines schema) (array_lines array), reads.0)
 
   -- so some are left
-  pub units-left : (old new : ℕ) → ROOM ≤ old → new + (Nodes schema + Cost array) ≡ old → 4 ≤ new
+  pub units-left : (old new : ℕ) → ROOM ≤ old → new + (Nodes schema + Cost array) ≡ old → CHUNK ≤ new
   units-left old new room drawn = omega (arith, few-units, room, drawn)

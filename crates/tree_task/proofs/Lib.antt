@@ -8,5 +8,8 @@ pub mod Lines
 pub mod FewUnits
 pub mod ForeignRows
 pub mod UnionLines
+pub mod Chunks
 pub mod Tagging
+pub mod NewRows
+pub mod ColumnNumbers
 pub mod Running

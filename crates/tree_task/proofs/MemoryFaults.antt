@@ -19,6 +19,10 @@ use Rattle.tree_text.specs.declared.fault.TextFault.TheVariants as texts
 use Rattle.root_check.specs.Schemas.{OwnSchemaReads}
 use Rattle.root_check.specs.declared.own_schema.OwnSchemaFault.{OwnSchemaFault}
 use Rattle.root_check.specs.declared.own_schema.OwnSchemaFault.TheVariants as parts
+use Rattle.data_types.specs.Table.{Row}
+use Rattle.layout_rules.specs.Values.{rows_of}
+use Rattle.list_cols.specs.Nested.{Explode}
+use Rattle.list_cols.specs.Faults as lists
 use Rattle.run_ends.specs.declared.code_fault.CodeFault.TheVariants as codings
 use Rattle.run_ends.specs.RunRules.{RunsFound, runs_fault}
 use Rattle.run_ends.specs.RunSchemas as runs
@@ -31,13 +35,15 @@ use Rattle.union_cols.specs.UnionSchemas as found
 use Rattle.union_cols.specs.UnionSchemas.{SchemaFound, UnionReads, UnionSchemaFails}
 use Rattle.union_cols.specs.Unions.{UnionTree}
 use Rattle.tree_task.specs.Answer.{Answer, AnswerWithin, Fault, IsAnswerTo, ReadAnswer, Text, TreesAnswer, is_too_long}
+use Rattle.tree_task.specs.ChunkAnswer.{Said, said_of_chunk, said_of_kinds}
 use Rattle.tree_task.specs.FlatAnswer.{flat_of_schema, flat_unless}
 use Rattle.tree_task.specs.ForeignAnswer.{chunk_of_kinds, chunk_unless}
+use Rattle.tree_task.specs.ListsAnswer.{exploded, lines_unless, rows_unless as new_rows_unless, said_of_column}
 use Rattle.tree_task.specs.Refusals.{own_part_fault, union_schema_fault}
 use Rattle.tree_task.specs.RowsAnswer.{rows_of_kinds, rows_unless}
 use Rattle.tree_task.specs.RunRefusals.{runs_part_fault, runs_schema_fault}
 use Rattle.tree_task.specs.RunsAnswer.{runs_of_array, runs_of_kinds, runs_unless}
-use Rattle.tree_task.specs.TagAnswer.{tags_of_chunk, tags_of_kinds, tags_unless}
+use Rattle.tree_task.specs.TagAnswer.{tags_of_columns, tags_unless}
 use Rattle.tree_task.specs.UnionAnswer.{union_of_schema, union_unless}
 use Rattle.tree_task.specs.Faults.{has_memory_inside, is_decided, is_meta_memory, is_text_memory, rule_has_memory, runs_has_memory, union_has_memory}
 use Rattle.tree_task.specs.declared.command.Command.{Command}
@@ -109,6 +115,16 @@ of-chunk_kinds : (schema : SchemaTree) (array : ArrayTree) (read : Result KindTr
 of-chunk_kinds schema array (Ok typed) reads = of-chunk typed array (first_chunk_fault typed array)
 of-chunk_kinds schema array (Err first) reads = fault-from 1 schema first.path first.rule reads
 
+module _ (said : Said) (faultless : (typed : KindTree) (array : ArrayTree) → within (said typed array) ≡ false) where
+  of-said_chunk : (typed : KindTree) (array : ArrayTree) (fault : Option ArrayFault) → within (said_of_chunk said typed array fault) ≡ false
+  of-said_chunk typed array None = faultless typed array
+  of-said_chunk typed array (Some fault) = refl
+
+  of-said : (schema : SchemaTree) (array : ArrayTree) (read : Result KindTree FirstFault) → SchemaReads schema read
+      → within (said_of_kinds said read array) ≡ false
+  of-said schema array (Ok typed) reads = of-said_chunk typed array (first_chunk_fault typed array)
+  of-said schema array (Err first) reads = fault-from 1 schema first.path first.rule reads
+
 -- ---- tagged columns
 
 of-columns : (typed : KindTree) (array : ArrayTree) (wrong long : Bool) (count : ℕ)
@@ -117,14 +133,26 @@ of-columns typed array true long count = refl
 of-columns typed array false true count = refl
 of-columns typed array false false count = refl
 
-of-tagged : (dense : Bool) (typed : KindTree) (array : ArrayTree) (fault : Option ArrayFault) → within (tags_of_chunk dense typed array fault) ≡ false
-of-tagged dense typed array None = of-columns typed array _ _ (length (children_of array))
-of-tagged dense typed array (Some fault) = refl
+of-tags : (dense : Bool) (typed : KindTree) (array : ArrayTree) → within (tags_of_columns dense typed array) ≡ false
+of-tags dense typed array = of-columns typed array _ _ (length (children_of array))
 
-of-tags : (dense : Bool) (schema : SchemaTree) (array : ArrayTree) (read : Result KindTree FirstFault) → SchemaReads schema read
-    → within (tags_of_kinds dense read array) ≡ false
-of-tags dense schema array (Ok typed) reads = of-tagged dense typed array (first_chunk_fault typed array)
-of-tags dense schema array (Err first) reads = fault-from 1 schema first.path first.rule reads
+-- ---- rows made anew
+
+of-lines : (rows : List Row) (wrong : Option ℕ) (long : Bool) → within (lines_unless rows (lists.fault_of wrong long)) ≡ false
+of-lines rows (Some column) long = refl
+of-lines rows None true = refl
+of-lines rows None false = refl
+
+module _ (said : KindTree → List Row → Answer) (faultless : (typed : KindTree) (rows : List Row) → within (said typed rows) ≡ false) where
+  of-rows : (typed : KindTree) (array : ArrayTree) (many there : Bool) (count column : ℕ)
+      → within (new_rows_unless said typed array (if many then Some (run.TooManyColumns count) else if there then None else Some (run.Column column))) ≡ false
+  of-rows typed array true there count column = refl
+  of-rows typed array false true count column = faultless typed (rows_of typed array)
+  of-rows typed array false false count column = refl
+
+of-exploded : (column : ℕ) (typed : KindTree) (array : ArrayTree) → within (said_of_column column (exploded column) typed array) ≡ false
+of-exploded column typed array =
+    of-rows (exploded column) (λ typed rows. of-lines (Explode column rows) _ _) typed array _ _ (length (children_of typed)) column
 
 -- ---- unions
 
@@ -204,10 +232,12 @@ of-trees : (command : Command) (schema : SchemaTree) (array : ArrayTree) (answer
     → within answer ≡ false
 of-trees commands.Rows schema array answer is = ap within is.2 ∙ of-kinds schema array is.0 is.1
 of-trees commands.Union schema array answer is = ap within is.2 ∙ of-union schema array is.0 is.1
-of-trees (commands.Tag dense) schema array answer is = ap within is.2 ∙ of-tags dense schema array is.0 is.1
+of-trees (commands.Tag dense) schema array answer is = ap within is.2 ∙ of-said (tags_of_columns dense) (of-tags dense) schema array is.0 is.1
 of-trees commands.Foreign schema array answer is = ap within is.2 ∙ of-chunk_kinds schema array is.0 is.1
 of-trees commands.Runs schema array answer is = ap within is.2 ∙ of-runs schema array is.0 is.1
 of-trees commands.Flat schema array answer is = ap within is.2 ∙ of-flat schema array is.0 is.1
+of-trees (commands.Explode column) schema array answer is =
+    ap within is.2 ∙ of-said (said_of_column column (exploded column)) (of-exploded column) schema array is.0 is.1
 
 of-read : (command : Command) (bytes : List ℕ) (read : Result (SchemaTree × ArrayTree) TextFault) (answer : Answer) → Reads bytes read
     → ReadAnswer command read answer → within answer ≡ false
@@ -232,4 +262,5 @@ of-fault command bytes (run.UnionSchema fault) answer = of-answer command bytes 
 of-fault command bytes (run.Tag fault) answer = of-answer command bytes (Fault (run.Tag fault)) (answer refl)
 of-fault command bytes (run.RunsSchema fault) answer = of-answer command bytes (Fault (run.RunsSchema fault)) (answer refl)
 of-fault command bytes (run.Code fault) answer = of-answer command bytes (Fault (run.Code fault)) (answer refl)
+of-fault command bytes (run.Lists fault) answer = of-answer command bytes (Fault (run.Lists fault)) (answer refl)
 of-fault command bytes _ answer = refl

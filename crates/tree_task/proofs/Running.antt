@@ -7,7 +7,6 @@ use Rattle.data_types.specs.Value.Value.{Null}
 use Rattle.kind_tree.specs.Kinds.{KindTree}
 use Rattle.kind_tree.specs.Ways.{steps_of}
 use Rattle.layout_rules.specs.Found.{fault_of}
-use Rattle.layout_rules.specs.Layout.{items}
 use Rattle.layout_rules.specs.Walk.{first_fault}
 use Rattle.layout_rules.specs.declared.rule.LayoutFault.{LayoutFault}
 use Rattle.raw_array.specs.Members.{ArrayTree}

@@ -11,8 +11,10 @@ use Rattle.tree_text.specs.Answers.{Reads}
 use Rattle.tree_text.specs.TreeText.{TreeIs}
 use Rattle.tree_text.specs.declared.fault.TextFault.{TextFault}
 use Rattle.union_cols.specs.Tags.{tag_blocks}
+use Rattle.tree_task.specs.Columns.{column_number}
 use Rattle.tree_task.specs.FlatAnswer.{FlatAnswer}
 use Rattle.tree_task.specs.ForeignAnswer.{ForeignAnswer}
+use Rattle.tree_task.specs.ListsAnswer.{ExplodeAnswer}
 use Rattle.tree_task.specs.RowsAnswer.{RowsAnswer}
 use Rattle.tree_task.specs.RunsAnswer.{RunsAnswer}
 use Rattle.tree_task.specs.TagAnswer.{TagAnswer}
@@ -34,11 +36,21 @@ command_named word =
     else if bytes_eq word (codes "flat") then Some commands.Flat
     else None
 
+-- a command of a column with a number
+abbrev pub column_command : List ℕ → ℕ → Option Command
+column_command word column = if bytes_eq word (codes "explode") then Some (commands.Explode column) else None
+
+-- where the second word may be a column's number
+abbrev pub command_of_column : List ℕ → Option ℕ → Option Command
+command_of_column word (Some column) = column_command word column
+command_of_column word None = None
+
 -- the command that the words are, if they are one: no words are that of the rows
 abbrev pub command_of : List (List ℕ) → Option Command
 command_of [] = Some commands.Rows
 command_of (word ∷ []) = command_named word
-command_of (word ∷ next ∷ more) = None
+command_of (word ∷ number ∷ []) = command_of_column word (column_number number)
+command_of (word ∷ number ∷ next ∷ more) = None
 
 abbrev pub texts_of : List (String Global) → List (List ℕ)
 texts_of words = map (λ s. string_bytes s) words
@@ -53,6 +65,7 @@ TreesAnswer (commands.Tag dense) schema array answer = TagAnswer dense schema ar
 TreesAnswer commands.Foreign schema array answer = ForeignAnswer schema array answer
 TreesAnswer commands.Runs schema array answer = RunsAnswer schema array answer
 TreesAnswer commands.Flat schema array answer = FlatAnswer schema array answer
+TreesAnswer (commands.Explode column) schema array answer = ExplodeAnswer column schema array answer
 
 -- to what was read of a text
 abbrev pub ReadAnswer : Command → Result (SchemaTree × ArrayTree) TextFault → Answer → Type 0
@@ -108,9 +121,10 @@ Makes commands.Union array old_blocks old_nodes blocks nodes = (blocks ≡ old_b
 Makes (commands.Tag dense) array old_blocks old_nodes blocks nodes = (blocks ≡ risen old_blocks (tag_blocks dense array)) × (nodes ≡ risen old_nodes 2)
 -- the producer's own block
 Makes commands.Foreign array old_blocks old_nodes blocks nodes = (blocks ≡ risen old_blocks 1) × (nodes ≡ old_nodes)
--- of run ends nothing is said
+-- of run ends and of new columns nothing is said
 Makes commands.Runs array old_blocks old_nodes blocks nodes = Unit {0}
 Makes commands.Flat array old_blocks old_nodes blocks nodes = Unit {0}
+Makes (commands.Explode column) array old_blocks old_nodes blocks nodes = Unit {0}
 
 -- The counts rise by the trees of a text, a block for each buffer that is there and a node for each live node of the schema and of
 -- the array, and then by what the command makes.

@@ -10,6 +10,8 @@ use Rattle.schema_meta.specs.declared.fault.MetaFault.{MetaFault}
 use Rattle.schema_meta.specs.declared.fault.MetaFault.TheVariants as meta
 use Rattle.tree_text.specs.declared.fault.TextFault.{TextFault}
 use Rattle.tree_text.specs.declared.fault.TextFault.TheVariants as texts
+use Rattle.list_cols.specs.declared.fault.ListFault.{ListFault}
+use Rattle.list_cols.specs.declared.fault.ListFault.TheVariants as lists
 use Rattle.run_ends.specs.declared.code_fault.CodeFault.{CodeFault}
 use Rattle.run_ends.specs.declared.code_fault.CodeFault.TheVariants as codings
 use Rattle.run_ends.specs.declared.schema_fault.RunsSchemaFault.{RunsSchemaFault}
@@ -48,6 +50,9 @@ cause_of (run.Tag fault) = OfTrees
 cause_of (run.RunsSchema fault) = OfTrees
 cause_of (run.Runs fault) = OfTrees
 cause_of (run.Code fault) = OfTrees
+cause_of (run.TooManyColumns count) = OfTrees
+cause_of (run.Column column) = OfTrees
+cause_of (run.Lists fault) = OfTrees
 cause_of run.NoMemory = Memory
 
 abbrev pub status_by : Cause → ℕ
@@ -138,6 +143,10 @@ abbrev pub is_code_memory : CodeFault → Bool
 is_code_memory codings.NoMemory = true
 is_code_memory _ = false
 
+abbrev pub is_list_memory : ListFault → Bool
+is_list_memory lists.NoMemory = true
+is_list_memory _ = false
+
 -- the types of all other faults have no such value
 abbrev pub has_memory_inside : TreeRunFault → Bool
 has_memory_inside (run.Text fault) = is_text_memory fault
@@ -146,4 +155,5 @@ has_memory_inside (run.UnionSchema fault) = union_has_memory fault
 has_memory_inside (run.Tag fault) = is_tag_memory fault
 has_memory_inside (run.RunsSchema fault) = runs_has_memory fault
 has_memory_inside (run.Code fault) = is_code_memory fault
+has_memory_inside (run.Lists fault) = is_list_memory fault
 has_memory_inside _ = false

@@ -2,10 +2,13 @@ pub mod Answer
 pub mod TextOrFault
 pub mod RowsAnswer
 pub mod UnionAnswer
+pub mod Columns
+pub mod ChunkAnswer
 pub mod TagAnswer
 pub mod ForeignAnswer
 pub mod RunsAnswer
 pub mod FlatAnswer
+pub mod ListsAnswer
 pub mod Faults
 pub mod Over
 pub mod Told

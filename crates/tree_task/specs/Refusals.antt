@@ -2,6 +2,8 @@
 use Rattle.kind_tree.specs.Ways.{path_of, steps_of}
 use Rattle.layout_rules.specs.Walk.{Fault as ArrayFault}
 use Rattle.layout_rules.specs.declared.rule.LayoutFault.{LayoutFault}
+use Rattle.list_cols.specs.declared.fault.ListFault.{ListFault}
+use Rattle.list_cols.specs.declared.fault.ListFault.TheVariants as lists
 use Rattle.root_check.specs.Schemas.{KidFault}
 use Rattle.root_check.specs.declared.own.OwnRule.{OwnRule}
 use Rattle.root_check.specs.declared.own.OwnRule.TheVariants as own
@@ -69,6 +71,13 @@ abbrev pub fault_of_tag : TagFault → TreeRunFault
 fault_of_tag (tags.Columns count) = run.Tag (tags.Columns count)
 fault_of_tag tags.TooLong = run.Tag tags.TooLong
 fault_of_tag tags.NoMemory = run.NoMemory
+
+-- ---- rows that aren't made anew
+
+abbrev pub fault_of_list : ListFault → TreeRunFault
+fault_of_list (lists.WrongKind column) = run.Lists (lists.WrongKind column)
+fault_of_list lists.TooLong = run.Lists lists.TooLong
+fault_of_list lists.NoMemory = run.NoMemory
 
 -- ---- a union's array
 

@@ -1,17 +1,14 @@
 -- A line for each row of a chunk: the number of its first column that isn't null, and the value there; or the first fault of the schema,
 -- of the chunk, and of the number of its columns and rows. It is told by the rows alone, whatever union they are made.
-use Rattle.std.specs.Prelude.{◌≡◌, Bool, length, Option, None, Some, Result, Ok, Err}
+use Rattle.std.specs.Prelude.{Bool, length, Option, None, Some}
 use Rattle.kind_tree.specs.Kinds.{KindTree}
 use Rattle.layout_rules.specs.Values.{rows_of, tree_items}
-use Rattle.layout_rules.specs.Walk.{Fault as ArrayFault, first_chunk_fault}
 use Rattle.raw_array.specs.Members.{ArrayTree}
 use Rattle.raw_schema.specs.Members.{SchemaTree}
-use Rattle.schema_check.specs.SchemaAnswers.{FirstFault, SchemaReads}
-use Rattle.tree_check.specs.Checks.{array_fault, schema_fault}
 use Rattle.tree_model.specs.Tree.{children_of}
 use Rattle.union_cols.specs.Tags.{tag_fault, tagged_items}
 use Rattle.union_cols.specs.declared.tag_fault.TagFault.{TagFault}
-use Rattle.tree_task.specs.Refusals.{fault_of_tree}
+use Rattle.tree_task.specs.ChunkAnswer.{ChunkAnswer}
 use Rattle.tree_task.specs.TextOrFault.{Answer, Fault, Text}
 use Rattle.tree_task.specs.UnionAnswer.{items_text}
 use Rattle.tree_task.specs.declared.fault.TreeRunFault.TheVariants as run
@@ -24,15 +21,5 @@ tags_unless typed array (Some fault) = Fault (run.Tag fault)
 abbrev pub tags_of_columns : Bool → KindTree → ArrayTree → Answer
 tags_of_columns dense typed array = tags_unless typed array (tag_fault dense (length (children_of array)) (tree_items array))
 
--- the array is asked to be a lawful table without null rows first
-abbrev pub tags_of_chunk : Bool → KindTree → ArrayTree → Option ArrayFault → Answer
-tags_of_chunk dense typed array None = tags_of_columns dense typed array
-tags_of_chunk dense typed array (Some fault) = Fault (fault_of_tree (array_fault fault))
-
--- and before it the schema
-abbrev pub tags_of_kinds : Bool → Result KindTree FirstFault → ArrayTree → Answer
-tags_of_kinds dense (Ok typed) array = tags_of_chunk dense typed array (first_chunk_fault typed array)
-tags_of_kinds dense (Err first) array = Fault (fault_of_tree (schema_fault first))
-
 abbrev pub TagAnswer : Bool → SchemaTree → ArrayTree → Answer → Type 0
-TagAnswer dense schema array answer = (read : Result KindTree FirstFault) × SchemaReads schema read × (answer ≡ tags_of_kinds dense read array)
+TagAnswer dense schema array answer = ChunkAnswer (tags_of_columns dense) schema array answer

@@ -2,13 +2,14 @@
 ghost use Rattle.std.specs.Prelude.{◌≡◌, ◌+◌, ◌⊎◌, ◌≤◌, IfOk, IfErr, OnOk};
 ghost use Rattle.raw_array.specs.Members.{Cost};
 ghost use Rattle.raw_schema.specs.Members.{Nodes};
-ghost use Rattle.unit_pass.specs.declared.pass.TheConstants.{ROOM, SUPPLY};
+ghost use Rattle.unit_pass.specs.declared.pass.TheConstants.{CHUNK, ROOM, SUPPLY};
 ghost use Rattle.tree_task.specs.Answer.{CountsCommand, Fault, Makes, Text, TextAnswer, TreesAnswer};
 
 use crate::command::Command;
 use crate::fault::TreeRunFault;
 use crate::flat::flat_text;
 use crate::foreign::foreign_text;
+use crate::lists::explode_text;
 use crate::rows::rows_text;
 use crate::runs::runs_text;
 use crate::tags::tag_text;
@@ -18,7 +19,7 @@ use raw_schema::RawSchema;
 use std::alloc::Global;
 use tree_check::CheckFault;
 use tree_text::read_tree;
-use unit_pass::{Pass, ROOM, SUPPLY};
+use unit_pass::{CHUNK, Pass, ROOM, SUPPLY};
 
 /// The text of a command over two trees, or the first fault: of the schema ("The Arrow C Data Interface", "The ArrowSchema
 /// structure"), of the array ("Arrow Columnar Format", "Physical memory layout"), of the command. Both are released.
@@ -29,7 +30,7 @@ fn trees_text(
     array: RawArray,
     pass: &mut Pass,
 ) -> Result<Vec<u8>, TreeRunFault>
-    requires some { 4 ≤ pass.old.units }
+    requires some { CHUNK ≤ pass.old.units }
     requires room { pass.old.units + (Nodes schema + Cost array) ≤ SUPPLY }
     ensures text { IfOk result (λ text. TreesAnswer command schema array (Text text.items)) }
     ensures fault { IfErr result (λ fault. (fault ≡ TreeRunFault.NoMemory) ⊎ TreesAnswer command schema array (Fault fault)) }
@@ -43,6 +44,7 @@ fn trees_text(
         Command::Foreign => return foreign_text(alloc, schema, array, pass),
         Command::Runs => runs_text(alloc, &schema, &array),
         Command::Flat => flat_text(alloc, &schema, &array),
+        Command::Explode { column } => return explode_text(alloc, schema, array, column, pass),
     };
     schema.end(pass);
     array.end(pass);

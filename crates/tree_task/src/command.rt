@@ -1,7 +1,10 @@
 //! Commands.
 ghost use Rattle.std.specs.Prelude.{◌≡◌, string_bytes};
 ghost use Rattle.std.specs.Str.{bytes_eq};
-ghost use Rattle.tree_task.specs.Answer.{command_named, command_of, texts_of};
+ghost use Rattle.tree_task.specs.Answer.{command_named, command_of, command_of_column, texts_of};
+ghost use Rattle.tree_task.specs.Columns.{column_number};
+
+use crate::column_number::column_number;
 
 /// What is asked for.
 #[derive(Clone, Copy, Debug, PartialEq, Eq)]
@@ -19,6 +22,8 @@ pub enum Command {
     Runs,
     /// A line for each item of a run-end encoded array.
     Flat,
+    /// A line for each row of a chunk of which the lists in a column are spread out. Columns are counted from 0.
+    Explode { column: u32 },
 }
 
 /// The command that the words after the program's name are, if they are one.
@@ -28,6 +33,7 @@ pub fn read_command(words: &[String]) -> Option<Command>
     match words {
         [] => Some(Command::Rows),
         [word] => named(word),
+        [word, number] => of_column(word, number),
         _ => None,
     }
 }
@@ -54,6 +60,17 @@ fn named(word: &String) -> Option<Command>
     }
     if is_word(word, b"flat") {
         return Some(Command::Flat);
+    }
+    None
+}
+
+/// The command of a column, by its name and by the column's number.
+fn of_column(word: &String, number: &String) -> Option<Command>
+    ensures { result ≡ command_of_column (string_bytes word.now) (column_number (string_bytes number.now)) }
+{
+    let column = column_number(number.as_str())?;
+    if is_word(word.as_bytes(), b"explode") {
+        return Some(Command::Explode { column });
     }
     None
 }

@@ -7,6 +7,7 @@ ghost use Rattle.union_cols.specs.declared.schema_fault.UnionSchemaFault.TheVari
 use edge_face::WriteFault;
 use kind_tree::Path;
 use layout_rules::LayoutFault;
+use list_cols::ListFault;
 use run_ends::{CodeFault, RunsFault, RunsSchemaFault};
 use schema_check::{SchemaFault, SchemaRule};
 use tree_check::{CheckFault, TreeFault};
@@ -47,6 +48,13 @@ pub enum TreeRunFault {
     Runs(RunsFault),
     /// A column isn't made into runs: it isn't flat, or is too long. It is never want of memory.
     Code(CodeFault),
+    /// There are more than 1,024 columns, of which the lists in one are to be spread out: their number.
+    TooManyColumns { count: u64 },
+    /// There is no column of this number, counted from 0.
+    Column { column: u32 },
+    /// The lists of a column aren't spread out: a column is of another kind, or there would be too many rows or bytes. It is never want of
+    /// memory.
+    Lists(ListFault),
     /// Memory ran out, or the text would have more than 2^31 bytes.
     NoMemory,
 }
@@ -180,6 +188,23 @@ impl From<TagFault> for TreeRunFault {
             TagFault::Columns { count } => TreeRunFault::Tag(TagFault::Columns { count }),
             TagFault::TooLong => TreeRunFault::Tag(TagFault::TooLong),
             TagFault::NoMemory => TreeRunFault::NoMemory,
+        }
+    }
+}
+
+impl From<ListFault> for TreeRunFault {
+    ghost use Rattle.std.specs.Prelude.{◌≡◌};
+    ghost use Rattle.tree_task.specs.Refusals.{fault_of_list};
+
+    ghost from_gives = { λ fault given. given ≡ fault_of_list fault };
+
+    fn from(fault: ListFault) -> TreeRunFault {
+        match fault {
+            ListFault::WrongKind { column } => {
+                TreeRunFault::Lists(ListFault::WrongKind { column })
+            }
+            ListFault::TooLong => TreeRunFault::Lists(ListFault::TooLong),
+            ListFault::NoMemory => TreeRunFault::NoMemory,
         }
     }
 }

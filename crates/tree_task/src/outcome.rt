@@ -54,6 +54,9 @@ fn status(fault: TreeRunFault) -> u8
         TreeRunFault::RunsSchema(_) => 8,
         TreeRunFault::Runs(_) => 8,
         TreeRunFault::Code(_) => 8,
+        TreeRunFault::TooManyColumns { count: _ } => 8,
+        TreeRunFault::Column { column: _ } => 8,
+        TreeRunFault::Lists(_) => 8,
         TreeRunFault::NoMemory => 9,
     }
 }

@@ -1,8 +1,8 @@
 //! The columns of a chunk, tagged: the children of a union.
-ghost use Rattle.std.specs.Prelude.{◌≡◌, ◌+◌, ◌⊎◌, ◌≤◌, ◌≤ℤ◌, pos, Bool, None, IfOk, IfErr, OnOk};
+ghost use Rattle.std.specs.Prelude.{◌≡◌, ◌+◌, ◌⊎◌, ◌≤◌, ◌≤ℤ◌, pos, IfOk, IfErr, OnOk};
 ghost use Rattle.kind_tree.specs.Kinds.{TypedOk};
 ghost use Rattle.kind_tree.specs.TypedView.{typed_of};
-ghost use Rattle.layout_rules.specs.Walk.{ChunkOk, first_chunk_fault};
+ghost use Rattle.layout_rules.specs.Walk.{ChunkOk};
 ghost use Rattle.raw_array.specs.Members.{Cost, members_of};
 ghost use Rattle.tree_model.specs.Tree.{IsLive};
 ghost use Rattle.raw_schema.specs.Members.{Nodes};
@@ -13,16 +13,14 @@ ghost use Rattle.unit_pass.specs.declared.pass.TheConstants.{SUPPLY};
 ghost use Rattle.tree_task.specs.TagAnswer.{TagAnswer, tags_of_columns};
 ghost use Rattle.tree_task.specs.TextOrFault.{Fault, Text};
 
+use crate::chunk::chunk_kinds;
 use crate::fault::TreeRunFault;
 use crate::union::union_text;
 use kind_tree::Typed;
-use layout_check::check_chunk;
 use layout_rules::lawful_root;
 use raw_array::RawArray;
 use raw_schema::RawSchema;
-use schema_check::check_schema;
 use std::alloc::Global;
-use tree_check::CheckFault;
 use union_cols::{one_union_answer, tag};
 use unit_pass::{Pass, SUPPLY};
 use value_text::BoundedText;
@@ -57,24 +55,6 @@ pub(crate) fn tag_text(
             array.end(pass);
             Err(fault)
         }
-    }
-}
-
-/// The kinds of a chunk, or the first fault: of its schema, and then of the chunk.
-fn chunk_kinds(alloc: Global, schema: &RawSchema, array: &RawArray) -> Result<Typed, TreeRunFault>
-    ensures found { IfOk result (λ typed. TypedOf schema.now (typed_of typed)) }
-    ensures valid { IfOk result (λ typed. TypedOk (typed_of typed)) }
-    ensures chunk { IfOk result (λ typed. ChunkOk (typed_of typed) array.now) }
-    ensures passed { IfOk result (λ typed. first_chunk_fault (typed_of typed) array.now ≡ None) }
-    ensures fault { IfErr result (λ fault. (fault ≡ TreeRunFault.NoMemory) ⊎ ((dense : Bool) → TagAnswer dense schema.now array.now (Fault fault))) }
-{
-    let typed = match check_schema(alloc, schema) {
-        Ok(typed) => typed,
-        Err(fault) => return Err(TreeRunFault::from(CheckFault::from(fault))),
-    };
-    match check_chunk(&typed, array) {
-        Ok(()) => Ok(typed),
-        Err(fault) => Err(TreeRunFault::from(CheckFault::from(fault))),
     }
 }
 

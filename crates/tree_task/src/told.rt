@@ -33,6 +33,9 @@ fn line_of(fault: TreeRunFault) -> &'static [u8]
         TreeRunFault::RunsSchema(_) => b"arrowtree: status 8\n",
         TreeRunFault::Runs(_) => b"arrowtree: status 8\n",
         TreeRunFault::Code(_) => b"arrowtree: status 8\n",
+        TreeRunFault::TooManyColumns { count: _ } => b"arrowtree: status 8\n",
+        TreeRunFault::Column { column: _ } => b"arrowtree: status 8\n",
+        TreeRunFault::Lists(_) => b"arrowtree: status 8\n",
         TreeRunFault::NoMemory => b"arrowtree: status 9\n",
     }
 }

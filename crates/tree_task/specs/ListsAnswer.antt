@@ -1,0 +1,53 @@
+-- A line for each row of a chunk of which the lists in a column are spread out ("Arrow Columnar Format", "Variable-size List Layout"); or
+-- the first fault: of the schema, of the chunk, of the number of its columns, of the number of that column, of the kinds of the columns,
+-- and of how many rows and bytes there would be. It is told by the rows alone, whatever columns they are made.
+use Rattle.std.specs.Prelude.{ℕ, if◌then◌else◌, List, length, map, nat_lt, Option, None, Some}
+use Rattle.data_types.specs.Table.{Row}
+use Rattle.kind_tree.specs.Kinds.{KindTree}
+use Rattle.layout_rules.specs.Values.{rows_of}
+use Rattle.list_cols.specs.Faults.{explode_fault}
+use Rattle.list_cols.specs.Nested.{Explode}
+use Rattle.list_cols.specs.declared.fault.ListFault.{ListFault}
+use Rattle.raw_array.specs.Members.{ArrayTree}
+use Rattle.raw_schema.specs.Members.{SchemaTree}
+use Rattle.tree_model.specs.Tree.{children_of}
+use Rattle.value_text.specs.ValueTexts.{lines_text}
+use Rattle.tree_task.specs.ChunkAnswer.{ChunkAnswer}
+use Rattle.tree_task.specs.ForeignAnswer.{row_value}
+use Rattle.tree_task.specs.TextOrFault.{Answer, Fault, Text}
+use Rattle.tree_task.specs.declared.fault.TreeRunFault.{TreeRunFault}
+use Rattle.tree_task.specs.declared.fault.TreeRunFault.TheVariants as run
+
+-- ---- the column
+
+-- the most columns of a chunk whose rows are made anew
+abbrev pub most_columns : ℕ
+most_columns = 1024
+
+-- why such a chunk of so many columns has none of this number
+abbrev pub column_fault : ℕ → ℕ → Option TreeRunFault
+column_fault column count =
+    if nat_lt most_columns count then Some (run.TooManyColumns count) else if nat_lt column count then None else Some (run.Column column)
+
+-- ---- the rows
+
+-- a line for each of the new rows, where there is no fault
+abbrev pub lines_unless : List Row → Option ListFault → Answer
+lines_unless rows None = Text (lines_text (map row_value rows))
+lines_unless rows (Some fault) = Fault (run.Lists fault)
+
+-- what a command says of rows of these kinds, where there is the column
+abbrev pub rows_unless : (KindTree → List Row → Answer) → KindTree → ArrayTree → Option TreeRunFault → Answer
+rows_unless said typed array None = said typed (rows_of typed array)
+rows_unless said typed array (Some fault) = Fault fault
+
+abbrev pub said_of_column : ℕ → (KindTree → List Row → Answer) → KindTree → ArrayTree → Answer
+said_of_column column said typed array = rows_unless said typed array (column_fault column (length (children_of typed)))
+
+-- ---- spread out
+
+abbrev pub exploded : ℕ → KindTree → List Row → Answer
+exploded column typed rows = lines_unless (Explode column rows) (explode_fault column typed rows)
+
+abbrev pub ExplodeAnswer : ℕ → SchemaTree → ArrayTree → Answer → Type 0
+ExplodeAnswer column schema array answer = ChunkAnswer (said_of_column column (exploded column)) schema array answer
