@@ -34,6 +34,9 @@ fn fault_text(alloc: Global, fault: TreeRunFault) -> Result<String, AllocError> 
         TreeRunFault::RunsSchema(fault) => format!(in alloc; "runs schema: {fault}"),
         TreeRunFault::Runs(fault) => format!(in alloc; "runs: {fault}"),
         TreeRunFault::Code(fault) => format!(in alloc; "code: {fault}"),
+        TreeRunFault::TooManyColumns { count } => { format!(in alloc; "too many columns: {count}") }
+        TreeRunFault::Column { column } => format!(in alloc; "no column {column}"),
+        TreeRunFault::Lists(fault) => format!(in alloc; "lists: {fault}"),
         TreeRunFault::NoMemory => String::from_str(alloc, "out of memory"),
     }
 }
