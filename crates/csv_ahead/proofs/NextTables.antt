@@ -1,5 +1,5 @@
 -- The chunk of the next piece is that of the next table.
-use Rattle.std.proofs.Common.{◌≡◌, ◌≤◌, ◌+◌, ◌*◌, ◌<◌, ◌^◌, ◌∙◌, ℕ, List, [], ◌∷◌, length, map, All, Option, None, Some, refl, sym, ap, subst, arith}
+use Rattle.std.proofs.Common.{◌≡◌, ◌≤◌, ◌+◌, ◌*◌, ◌<◌, ◌^◌, ◌∙◌, ℕ, List, [], ◌∷◌, length, map, All, None, sym, ap, subst}
 use Rattle.std.proofs.lemmas.List.{length-map}
 use Rattle.csv_chunks.proofs.Blocks.{blocks-are}
 use Rattle.csv_chunks.proofs.ChunkFacts.{is-chunk, live-chunk, nodes-are}
@@ -7,7 +7,6 @@ use Rattle.csv_chunks.proofs.PlainKinds.{IsPlain}
 use Rattle.csv_chunks.proofs.Streams.{end-counts, made-counts}
 use Rattle.csv_chunks.proofs.Tables.{left-lawful}
 use Rattle.csv_chunks.specs.SourceStreams.{AreShort, chunks_traffic}
-use Rattle.csv_read.specs.BatchesLeft.{columns_in}
 use Rattle.csv_read.specs.Chunks.{chunk_blocks, chunk_of}
 use Rattle.data_types.specs.ColumnView.{column_of}
 use Rattle.data_types.specs.Table.{Column, Row}

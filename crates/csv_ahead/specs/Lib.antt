@@ -1,2 +1,3 @@
 pub mod Pieces
 pub mod NextPieces
+pub mod Sources
