@@ -135,7 +135,7 @@ chain_stages =
     codes "totals=id,amount" ∷
     []
 
--- the options of this chain: the batch as taken, and no mark
+-- the options of this chain: the numbers as taken, and no mark
 abbrev pub chain_of : Options → Options
 chain_of options = record options { schema = Some chain_schema; null = None; stages = chain_stages }
 

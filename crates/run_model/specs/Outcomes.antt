@@ -54,7 +54,7 @@ abbrev pub entries_asked : Result (Vec TypeEntry Global) RunFault → Result (Li
 entries_asked (Ok entries) = Ok entries.items
 entries_asked (Err fault) = Err fault
 
--- the number of workers changes no answer
+-- neither the number of workers nor that of the batches ahead changes an answer
 abbrev pub request_of : AsksFor → Request
 request_of asked = record { entries = asked.entries.items; stages = asked.stages.items; batch = asked.batch; mark = asked.mark }
 

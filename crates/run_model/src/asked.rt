@@ -30,7 +30,7 @@ const CHAIN_STAGES: [&str; 6] = [
 ];
 
 /// What is asked for of a table: types of columns by name, stages, the most rows of a batch, how many workers share the rows
-/// of a chunk, and the mark for null.
+/// of a chunk, the mark for null, and how many batches a round reads in a thread ahead of the stages, where one is to.
 #[derive(Drop)]
 pub struct Request {
     pub entries: Vec<TypeEntry>,
@@ -38,6 +38,7 @@ pub struct Request {
     pub batch: u32,
     pub workers: u32,
     pub mark: Name,
+    pub ahead: Option<u32>,
 }
 
 /// What is asked for: a table by stages, or a tree to check.
@@ -69,7 +70,9 @@ pub fn read_asked(alloc: Global, words: &[String]) -> Asked
     ensures few { IfOk result.task (λ t. IfTable t (λ r. length r.stages.items ≤ 16)) }
     ensures batch { IfOk result.task (λ t. IfTable t (λ r. (1 ≤ r.batch) × (r.batch ≤ 1000000))) }
     ensures workers { IfOk result.task (λ t. IfTable t (λ r. (1 ≤ r.workers) × (r.workers ≤ 64))) }
+    ensures ahead { IfOk result.task (λ t. IfTable t (λ r. IfSome r.ahead (λ n. (1 ≤ n) × (n ≤ 64)))) }
     ensures as_asked { IfOk result.task (λ t. IfTable t (λ r. IfOk (words_of (texts_of words.now)) (λ options. r.workers ≡ options.workers))) }
+    ensures ahead_as_asked { IfOk result.task (λ t. IfTable t (λ r. IfOk (words_of (texts_of words.now)) (λ options. r.ahead ≡ options.ahead))) }
     ensures audit { (result.task ≡ Err RunFault.NoMemory) × (result.audit ≡ false) ⊎ (result.audit ≡ audit_of (texts_of words.now)) }
     ensures made { (result.task ≡ Err RunFault.NoMemory) ⊎ (result.made ≡ made_of (texts_of words.now)) }
     ensures few_rows { IfSome result.made (λ rows. rows ≤ 1000000) }
@@ -103,6 +106,7 @@ fn read_task(alloc: Global, options: &Words<'_>) -> Result<Task, RunFault>
     requires few { length options.now.stages.items ≤ 16 }
     requires batch { (1 ≤ options.now.batch) × (options.now.batch ≤ 1000000) }
     requires workers { (1 ≤ options.now.workers) × (options.now.workers ≤ 64) }
+    requires ahead { IfSome options.now.ahead (λ n. (1 ≤ n) × (n ≤ 64)) }
     ensures asks { (result ≡ Err RunFault.NoMemory)
         ⊎ TaskIs options.now.check (meant_by options.now.selftest (options_of options.now)) (asked_of result) }
     ensures only { (result ≡ Err RunFault.NoMemory)
@@ -114,7 +118,9 @@ fn read_task(alloc: Global, options: &Words<'_>) -> Result<Task, RunFault>
     ensures few { IfOk result (λ t. IfTable t (λ r. length r.stages.items ≤ 16)) }
     ensures batch { IfOk result (λ t. IfTable t (λ r. (1 ≤ r.batch) × (r.batch ≤ 1000000))) }
     ensures workers { IfOk result (λ t. IfTable t (λ r. (1 ≤ r.workers) × (r.workers ≤ 64))) }
+    ensures ahead { IfOk result (λ t. IfTable t (λ r. IfSome r.ahead (λ n. (1 ≤ n) × (n ≤ 64)))) }
     ensures as_asked { IfOk result (λ t. IfTable t (λ r. r.workers ≡ options.now.workers)) }
+    ensures ahead_as_asked { IfOk result (λ t. IfTable t (λ r. r.ahead ≡ options.now.ahead)) }
 {
     if options.check {
         return Ok(Task::Tree);
@@ -128,12 +134,14 @@ fn read_task(alloc: Global, options: &Words<'_>) -> Result<Task, RunFault>
     }
 }
 
-/// The options of a run made from a number: the chain over the columns that are made, with the batch and the workers as taken.
+/// The options of a run made from a number: the chain over the columns that are made, with the batch, the workers and the
+/// batches ahead as taken.
 fn chain_options(alloc: Global, options: &Words<'_>) -> Result<Words<'static>, NoMemory>
     ensures chain { IfOk result (λ chain. options_of chain ≡ chain_of (options_of options.now)) }
     ensures few { IfOk result (λ chain. length chain.stages.items ≤ 16) }
     ensures batch { IfOk result (λ chain. chain.batch ≡ options.now.batch) }
     ensures workers { IfOk result (λ chain. chain.workers ≡ options.now.workers) }
+    ensures ahead { IfOk result (λ chain. chain.ahead ≡ options.now.ahead) }
 {
     let stages = Vec::from_slice(alloc, &CHAIN_STAGES)?;
     Ok(Words {
@@ -144,6 +152,7 @@ fn chain_options(alloc: Global, options: &Words<'_>) -> Result<Words<'static>, N
         check: options.check,
         selftest: options.selftest,
         null: None,
+        ahead: options.ahead,
         stages,
     })
 }
@@ -153,6 +162,7 @@ fn read_table(alloc: Global, options: &Words<'_>) -> Result<Task, RunFault>
     requires few { length options.now.stages.items ≤ 16 }
     requires batch { (1 ≤ options.now.batch) × (options.now.batch ≤ 1000000) }
     requires workers { (1 ≤ options.now.workers) × (options.now.workers ≤ 64) }
+    requires ahead { IfSome options.now.ahead (λ n. (1 ≤ n) × (n ≤ 64)) }
     ensures asks { (result ≡ Err RunFault.NoMemory) ⊎ TaskIs false (options_of options.now) (asked_of result) }
     ensures only { (result ≡ Err RunFault.NoMemory)
         ⊎ ((asked : Result ATask AFault) → TaskIs false (options_of options.now) asked → asked ≡ asked_of result) }
@@ -162,7 +172,9 @@ fn read_table(alloc: Global, options: &Words<'_>) -> Result<Task, RunFault>
     ensures few { IfOk result (λ t. IfTable t (λ r. length r.stages.items ≤ 16)) }
     ensures batch { IfOk result (λ t. IfTable t (λ r. (1 ≤ r.batch) × (r.batch ≤ 1000000))) }
     ensures workers { IfOk result (λ t. IfTable t (λ r. (1 ≤ r.workers) × (r.workers ≤ 64))) }
+    ensures ahead { IfOk result (λ t. IfTable t (λ r. IfSome r.ahead (λ n. (1 ≤ n) × (n ≤ 64)))) }
     ensures as_asked { IfOk result (λ t. IfTable t (λ r. r.workers ≡ options.now.workers)) }
+    ensures ahead_as_asked { IfOk result (λ t. IfTable t (λ r. r.ahead ≡ options.now.ahead)) }
 {
     match read_request(alloc, options) {
         Ok(request) => Ok(Task::Table(request)),
@@ -182,6 +194,7 @@ fn read_request(alloc: Global, options: &Words<'_>) -> Result<Request, RunFault>
     ensures few { IfOk result (λ r. length r.stages.items ≡ length options.now.stages.items) }
     ensures batch { IfOk result (λ r. r.batch ≡ options.now.batch) }
     ensures workers { IfOk result (λ r. r.workers ≡ options.now.workers) }
+    ensures ahead { IfOk result (λ r. r.ahead ≡ options.now.ahead) }
 {
     match read_stages(alloc, options.stages.as_slice()) {
         Ok(stages) => read_others(alloc, options, stages),
@@ -204,6 +217,7 @@ fn read_others(
     ensures stages { IfOk result (λ r. r.stages.items ≡ stages.items) }
     ensures batch { IfOk result (λ r. r.batch ≡ options.now.batch) }
     ensures workers { IfOk result (λ r. r.workers ≡ options.now.workers) }
+    ensures ahead { IfOk result (λ r. r.ahead ≡ options.now.ahead) }
 {
     match read_entries(alloc, options.schema) {
         Ok(entries) => {
@@ -214,6 +228,7 @@ fn read_others(
                 batch: options.batch,
                 workers: options.workers,
                 mark,
+                ahead: options.ahead,
             })
         }
         Err(fault) => Err(fault),

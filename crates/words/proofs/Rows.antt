@@ -9,7 +9,7 @@ use Rattle.clap.proofs.WalkLemmas.{first_value-rows, raw_values-rows}
 use Rattle.words.specs.declared.WordsFault.TheVariants.{Refused}
 use Rattle.words.specs.declared.WordsError.{WordsError}
 use Rattle.words.specs.declared.WordsError.TheVariants as error
-use Rattle.words.specs.Words.{Explains, Options, asks_audit, batch_if, flag_in, given_in, number_if}
+use Rattle.words.specs.Words.{Explains, Options, ahead_if, asks_audit, batch_if, choice_if, flag_in, given_in, number_if}
 use Rattle.words.specs.Words.{options_if, options_with, rows_if, ruled, texts_in, with_numbers, workers_if}
 
 -- the text that `get_str` gave
@@ -47,10 +47,11 @@ pub number_is : (usual most : ℕ) (name : Text) (f : Found) (o : Option (Bor Te
     → number_if usual most (first_of name (rows_of f)) ≡ asked
 number_is usual most name f o result asked given read is = ap (number_if usual most) (sym (given_text f name o given)) ∙ sym read ∙ is
 
--- the number of rows, by the text that `get_str` gave
-pub rows_are : (f : Found) (o : Option (Bor Text)) (result asked : Option (Option ℕ)) → option_map (λ s. s.now) o ≡ first_value f (codes "selftest")
-    → result ≡ rows_if (option_map (λ s. s.now) o) → result ≡ asked → rows_if (first_of (codes "selftest") (rows_of f)) ≡ asked
-rows_are f o result asked given read is = ap rows_if (sym (given_text f (codes "selftest") o given)) ∙ sym read ∙ is
+-- the number of an option that has no usual one, by the text that `get_str` gave
+pub choice_is : (most : ℕ) (name : Text) (f : Found) (o : Option (Bor Text)) (result asked : Option (Option ℕ))
+    → option_map (λ s. s.now) o ≡ first_value f name → result ≡ choice_if most (option_map (λ s. s.now) o) → result ≡ asked
+    → choice_if most (first_of name (rows_of f)) ≡ asked
+choice_is most name f o result asked given read is = ap (choice_if most) (sym (given_text f name o given)) ∙ sym read ∙ is
 
 module _ (rows : List Row) where
   abbrev pub batch_asked : Option ℕ
@@ -62,43 +63,55 @@ module _ (rows : List Row) where
   abbrev pub rows_asked : Option (Option ℕ)
   rows_asked = rows_if (first_of (codes "selftest") rows)
 
+  abbrev pub ahead_asked : Option (Option ℕ)
+  ahead_asked = ahead_if (first_of (codes "ahead") rows)
+
   pub no_batch : batch_asked ≡ None → options_if (given_in rows) ≡ None
-  no_batch none = ap (λ b. with_numbers (given_in rows) b workers_asked rows_asked) none
+  no_batch none = ap (λ b. with_numbers (given_in rows) b workers_asked rows_asked ahead_asked) none
 
   module _ (batch : ℕ) (size : batch_asked ≡ Some batch) where
     pub no_workers : workers_asked ≡ None → options_if (given_in rows) ≡ None
     no_workers none =
-        ap (λ b. with_numbers (given_in rows) b workers_asked rows_asked) size
-        ∙ ap (λ w. with_numbers (given_in rows) (Some batch) w rows_asked) none
+        ap (λ b. with_numbers (given_in rows) b workers_asked rows_asked ahead_asked) size
+        ∙ ap (λ w. with_numbers (given_in rows) (Some batch) w rows_asked ahead_asked) none
 
     module _ (workers : ℕ) (count : workers_asked ≡ Some workers) where
       -- what is left to the third number
-      two : options_if (given_in rows) ≡ with_numbers (given_in rows) (Some batch) (Some workers) rows_asked
+      two : options_if (given_in rows) ≡ with_numbers (given_in rows) (Some batch) (Some workers) rows_asked ahead_asked
       two =
-          ap (λ b. with_numbers (given_in rows) b workers_asked rows_asked) size
-          ∙ ap (λ w. with_numbers (given_in rows) (Some batch) w rows_asked) count
+          ap (λ b. with_numbers (given_in rows) b workers_asked rows_asked ahead_asked) size
+          ∙ ap (λ w. with_numbers (given_in rows) (Some batch) w rows_asked ahead_asked) count
 
       pub no_rows : rows_asked ≡ None → options_if (given_in rows) ≡ None
-      no_rows none = two ∙ ap (with_numbers (given_in rows) (Some batch) (Some workers)) none
+      no_rows none = two ∙ ap (λ r. with_numbers (given_in rows) (Some batch) (Some workers) r ahead_asked) none
 
-      -- options whose fields are those of the rows
-      pub options_are : (selftest : Option ℕ) → rows_asked ≡ Some selftest → (o : Options) → o.schema ≡ first_of (codes "schema") rows
-          → o.batch ≡ batch → o.workers ≡ workers → o.audit ≡ flag_in (codes "audit") rows → o.check ≡ flag_in (codes "check") rows
-          → o.selftest ≡ selftest → o.null ≡ first_of (codes "null") rows → o.stages ≡ texts_in (codes "stage") rows
-          → options_if (given_in rows) ≡ Some o
-      options_are selftest made o schema batches many audit check rows_same null stages =
-          let same : ◌≡◌ {A = Options} o (options_with (given_in rows) batch workers selftest) =
-          λ i. record {
-            schema = schema i;
-            batch = batches i;
-            workers = many i;
-            audit = audit i;
-            check = check i;
-            selftest = rows_same i;
-            null = null i;
-            stages = stages i;
-          } in
-          two ∙ ap (with_numbers (given_in rows) (Some batch) (Some workers)) made ∙ ap (λ (x : Options). Some x) (sym same)
+      module _ (selftest : Option ℕ) (made : rows_asked ≡ Some selftest) where
+        -- what is left to the fourth number
+        three : options_if (given_in rows) ≡ with_numbers (given_in rows) (Some batch) (Some workers) (Some selftest) ahead_asked
+        three = two ∙ ap (λ r. with_numbers (given_in rows) (Some batch) (Some workers) r ahead_asked) made
+
+        pub no_ahead : ahead_asked ≡ None → options_if (given_in rows) ≡ None
+        no_ahead none = three ∙ ap (with_numbers (given_in rows) (Some batch) (Some workers) (Some selftest)) none
+
+        -- options whose fields are those of the rows
+        pub options_are : (ahead : Option ℕ) → ahead_asked ≡ Some ahead → (o : Options) → o.schema ≡ first_of (codes "schema") rows
+            → o.batch ≡ batch → o.workers ≡ workers → o.audit ≡ flag_in (codes "audit") rows → o.check ≡ flag_in (codes "check") rows
+            → o.selftest ≡ selftest → o.null ≡ first_of (codes "null") rows → o.ahead ≡ ahead → o.stages ≡ texts_in (codes "stage") rows
+            → options_if (given_in rows) ≡ Some o
+        options_are ahead rounds o schema batches many audit check rows_same null ahead_same stages =
+            let same : ◌≡◌ {A = Options} o (options_with (given_in rows) batch workers selftest ahead) =
+            λ i. record {
+              schema = schema i;
+              batch = batches i;
+              workers = many i;
+              audit = audit i;
+              check = check i;
+              selftest = rows_same i;
+              null = null i;
+              ahead = ahead_same i;
+              stages = stages i;
+            } in
+            three ∙ ap (with_numbers (given_in rows) (Some batch) (Some workers) (Some selftest)) rounds ∙ ap (λ (x : Options). Some x) (sym same)
 
 -- without options the words are refused, and ask for no audit
 pub refused-without : (taken : Option Options) (x : WordsError) → x ≡ error.Words Refused false → taken ≡ None → Explains taken x

@@ -7,7 +7,7 @@ use Rattle.words.specs.declared.WordsFault.TheVariants.{Refused, TooManyStages, 
 
 -- ---- the schema, and the audit
 abbrev plain : Options
-plain = record { schema = None; batch = 1024; workers = 1; audit = false; check = false; selftest = None; null = None; stages = [] }
+plain = record { schema = None; batch = 1024; workers = 1; audit = false; check = false; selftest = None; null = None; ahead = None; stages = [] }
 
 none_is : words_of [] ≡ Ok plain
 unfolding taken_of clap_on_literals
@@ -243,6 +243,44 @@ check_stage_selftest_is = refl
 selftest_number_stage_is : words_of (codes "--selftest" ∷ codes "0" ∷ codes "dict=a" ∷ []) ≡ Err Refused
 unfolding taken_of clap_on_literals
 selftest_number_stage_is = refl
+
+-- ---- batches that are read ahead
+ahead_is : words_of (codes "--ahead" ∷ codes "5" ∷ []) ≡ Ok (record plain { ahead = Some 5 })
+unfolding taken_of clap_on_literals
+ahead_is = refl
+
+most_ahead_is : words_of (codes "--ahead=64" ∷ []) ≡ Ok (record plain { ahead = Some 64 })
+unfolding taken_of clap_on_literals
+most_ahead_is = refl
+
+past_ahead_is : words_of (codes "--ahead" ∷ codes "65" ∷ []) ≡ Err Refused
+unfolding taken_of clap_on_literals
+past_ahead_is = refl
+
+no_ahead_is : words_of (codes "--ahead" ∷ codes "0" ∷ []) ≡ Err Refused
+unfolding taken_of clap_on_literals
+no_ahead_is = refl
+
+plus_ahead_is : words_of (codes "--ahead" ∷ codes "+5" ∷ []) ≡ Err Refused
+unfolding taken_of clap_on_literals
+plus_ahead_is = refl
+
+zero_first_ahead_is : words_of (codes "--ahead" ∷ codes "07" ∷ []) ≡ Err Refused
+unfolding taken_of clap_on_literals
+zero_first_ahead_is = refl
+
+repeated_ahead_is : words_of (codes "--ahead" ∷ codes "1" ∷ codes "--ahead" ∷ codes "1" ∷ []) ≡ Err Refused
+unfolding taken_of clap_on_literals
+repeated_ahead_is = refl
+
+-- it stands beside rows that are made and beside a tree to check
+selftest_ahead_is : words_of (codes "--selftest" ∷ codes "5" ∷ codes "--ahead" ∷ codes "2" ∷ []) ≡ Ok (record plain { selftest = Some 5; ahead = Some 2 })
+unfolding taken_of clap_on_literals
+selftest_ahead_is = refl
+
+check_ahead_is : words_of (codes "--check" ∷ codes "--ahead" ∷ codes "2" ∷ []) ≡ Ok (record plain { check = true; ahead = Some 2 })
+unfolding taken_of clap_on_literals
+check_ahead_is = refl
 
 -- ---- stages, and other words
 stage_is : words_of (codes "select=a" ∷ []) ≡ Ok (record plain { stages = codes "select=a" ∷ [] })

@@ -49,6 +49,7 @@ arrowpipe =
     flag_rule (codes "check") ∷
     text_rule (codes "selftest") ∷
     text_rule (codes "null") ∷
+    text_rule (codes "ahead") ∷
     words_rule (codes "stage") ∷
     [])
 
@@ -63,6 +64,7 @@ pub record Given : Type 0 where
   pub check : Bool
   pub selftest : Option Text
   pub null : Option Text
+  pub ahead : Option Text
   pub stages : List Text
 
 abbrev pub flag_in : Text → List Row → Bool
@@ -80,6 +82,7 @@ given_in rows = record {
   check = flag_in (codes "check") rows;
   selftest = first_of (codes "selftest") rows;
   null = first_of (codes "null") rows;
+  ahead = first_of (codes "ahead") rows;
   stages = texts_in (codes "stage") rows;
 }
 
@@ -115,6 +118,8 @@ pub record Options : Type 0 where
   pub selftest : Option ℕ
   -- the text of `--null`
   pub null : Option Text
+  -- how many batches a round reads in a thread ahead of the stages, where that is asked for
+  pub ahead : Option ℕ
   -- the texts of the stages, in order
   pub stages : List Text
 
@@ -137,6 +142,9 @@ most_workers = 64
 abbrev pub most_rows : ℕ
 most_rows = 1000000
 
+abbrev pub most_ahead : ℕ
+most_ahead = 64
+
 abbrev pub most_stages : ℕ
 most_stages = 16
 
@@ -153,10 +161,18 @@ batch_if text = number_if default_batch most_batch text
 abbrev pub workers_if : Option Text → Option ℕ
 workers_if text = number_if default_workers most_workers text
 
--- the number of `--selftest`, from 1 to the most, where its text is one; without a text there is none, and no rows are made
+-- the number of an option, from 1 to the most, where its text is one; none where the option isn't given
+abbrev pub choice_if : ℕ → Option Text → Option (Option ℕ)
+choice_if most None = Some None
+choice_if most (Some text) = option_map (λ n. Some n) (number_between 1 most text)
+
+-- the number of `--selftest`; without a text no rows are made
 abbrev pub rows_if : Option Text → Option (Option ℕ)
-rows_if None = Some None
-rows_if (Some text) = option_map (λ n. Some n) (number_between 1 most_rows text)
+rows_if text = choice_if most_rows text
+
+-- the number of `--ahead`; without a text no thread reads ahead
+abbrev pub ahead_if : Option Text → Option (Option ℕ)
+ahead_if text = choice_if most_ahead text
 
 -- a stage or a schema is asked for
 abbrev pub asks_of_table : Options → Bool
@@ -179,9 +195,9 @@ abbrev pub ruled : Option Options → Result Options WordsFault
 ruled None = Err Refused
 ruled (Some options) = few_stages options
 
--- what is given, with the three numbers
-abbrev pub options_with : Given → ℕ → ℕ → Option ℕ → Options
-options_with given batch workers selftest = record {
+-- what is given, with the four numbers
+abbrev pub options_with : Given → ℕ → ℕ → Option ℕ → Option ℕ → Options
+options_with given batch workers selftest ahead = record {
   schema = given.schema;
   batch = batch;
   workers = workers;
@@ -189,18 +205,20 @@ options_with given batch workers selftest = record {
   check = given.check;
   selftest = selftest;
   null = given.null;
+  ahead = ahead;
   stages = given.stages;
 }
 
-abbrev pub with_numbers : Given → Option ℕ → Option ℕ → Option (Option ℕ) → Option Options
-with_numbers given None workers selftest = None
-with_numbers given (Some batch) None selftest = None
-with_numbers given (Some batch) (Some workers) None = None
-with_numbers given (Some batch) (Some workers) (Some selftest) = Some (options_with given batch workers selftest)
+abbrev pub with_numbers : Given → Option ℕ → Option ℕ → Option (Option ℕ) → Option (Option ℕ) → Option Options
+with_numbers given None workers selftest ahead = None
+with_numbers given (Some batch) None selftest ahead = None
+with_numbers given (Some batch) (Some workers) None ahead = None
+with_numbers given (Some batch) (Some workers) (Some selftest) None = None
+with_numbers given (Some batch) (Some workers) (Some selftest) (Some ahead) = Some (options_with given batch workers selftest ahead)
 
 -- the options, where each number is one
 abbrev pub options_if : Given → Option Options
-options_if given = with_numbers given (batch_if given.batch) (workers_if given.workers) (rows_if given.selftest)
+options_if given = with_numbers given (batch_if given.batch) (workers_if given.workers) (rows_if given.selftest) (ahead_if given.ahead)
 
 -- ---- the words
 
@@ -238,6 +256,7 @@ options_of w = record {
   check = w.check;
   selftest = w.selftest;
   null = option_map (λ s. s.now) w.null;
+  ahead = w.ahead;
   stages = map (λ s. s.now) w.stages.items;
 }
 

@@ -1,19 +1,21 @@
 //! The words of the command line:
-//! `arrowpipe [--schema TEXT] [--batch N] [--workers W] [--audit] [--check] [--selftest N] [--null MARK] [STAGE ...]`.
+//! `arrowpipe [--schema TEXT] [--batch N] [--workers W] [--audit] [--check] [--selftest N] [--null MARK] [--ahead N]
+//! [STAGE ...]`.
 //!
 //! The command is a simple one of `clap`, without help and version flags, and its words are those after the program's
 //! name. This crate owns what the words mean: the options that `clap` promises for them and the words that stand alone,
 //! which are the stages' texts, in order. Words are refused where `clap` doesn't take them, and then where `--batch`
 //! isn't decimal digits, without sign or leading zero, of a number from 1 to 1,000,000, or `--workers` of one from 1 to 64,
-//! or `--selftest` of one from 1 to 1,000,000; more than 16 stages are a fault of their own, then `--check` beside a stage or
-//! `--schema`, and then `--selftest` beside a stage, `--schema` or `--check`. What the text of a schema or of a stage means is
-//! left to the crates above. Words are strings, so one that isn't UTF-8 never comes here.
+//! or `--selftest` of one from 1 to 1,000,000, or `--ahead` of one from 1 to 64; more than 16 stages are a fault of their
+//! own, then `--check` beside a stage or `--schema`, and then `--selftest` beside a stage, `--schema` or `--check`. What the
+//! text of a schema or of a stage means is left to the crates above. Words are strings, so one that isn't UTF-8 never comes
+//! here.
 #![tactic(auto)]
 
 ghost use Rattle.std.specs.Prelude.{◌≡◌, ◌≤◌, false, [], length, map, option_map, None, Some, Ok, IfOk, IfErr, IfSome};
 ghost use Rattle.clap.specs.Words.{rule_of, app_of, found_of, rows_of};
 ghost use Rattle.words.specs.Words.{bare_command, flag_rule, text_rule, words_rule, ErrorOf, Explains, arrowpipe, flag_in, given_in};
-ghost use Rattle.words.specs.Words.{begins_number, asks_of_table, number_between, number_if, options_if, options_of, rows_if, ruled};
+ghost use Rattle.words.specs.Words.{begins_number, asks_of_table, choice_if, number_between, number_if, options_if, options_of, ruled};
 ghost use Rattle.words.specs.Words.{taken_of, texts_in, texts_of, words_of};
 ghost use Rattle.words.specs.declared.WordsError.TheVariants as error;
 ghost use Rattle.words.specs.declared.WordsFault.TheVariants.{Refused};
@@ -38,6 +40,9 @@ const MOST_WORKERS: u32 = 64;
 /// The largest number of `--selftest`.
 const MOST_ROWS: u32 = 1_000_000;
 
+/// The largest number of `--ahead`.
+const MOST_AHEAD: u32 = 64;
+
 /// The most words that may stand alone.
 const MOST_STAGES: usize = 16;
 
@@ -59,6 +64,8 @@ pub struct Words<'a> {
     pub selftest: Option<u32>,
     /// The text of `--null`, which may be empty.
     pub null: Option<&'a str>,
+    /// The number of `--ahead`, how many batches a round reads in a thread ahead of the stages: 1 to 64.
+    pub ahead: Option<u32>,
     /// The words that stand alone, each a text as it stands, in order: at most 16.
     pub stages: Vec<&'a str>,
 }
@@ -67,7 +74,7 @@ pub struct Words<'a> {
 #[derive(Clone, Copy, Debug, PartialEq, Eq)]
 pub enum WordsFault {
     /// `clap` doesn't take them: an unknown option, an option twice, or one without its text. Or the text of `--batch`,
-    /// of `--workers` or of `--selftest` is no number that may be.
+    /// of `--workers`, of `--selftest` or of `--ahead` is no number that may be.
     Refused,
     /// More than 16 words stand alone.
     TooManyStages,
@@ -131,6 +138,7 @@ pub fn read_words<'a>(alloc: Global, words: &'a [String]) -> Result<Words<'a>, W
     ensures batch { IfOk result (λ w. (1 ≤ w.batch) × (w.batch ≤ 1000000)) }
     ensures workers { IfOk result (λ w. (1 ≤ w.workers) × (w.workers ≤ 64)) }
     ensures rows { IfOk result (λ w. IfSome w.selftest (λ n. (1 ≤ n) × (n ≤ 1000000))) }
+    ensures ahead { IfOk result (λ w. IfSome w.ahead (λ n. (1 ≤ n) × (n ≤ 64))) }
     ensures few { IfOk result (λ w. length w.stages.items ≤ 16) }
     ensures fits { IfOk result (λ w. IfSome w.selftest (λ n. (w.check ≡ false) × (w.schema ≡ None) × (w.stages.items ≡ []))) }
 {
@@ -156,6 +164,7 @@ fn command<'a>(alloc: Global) -> Result<Command<'a>, AllocError>
         .arg(flag_option(alloc, "check"))?
         .arg(text_option(alloc, "selftest"))?
         .arg(text_option(alloc, "null"))?
+        .arg(text_option(alloc, "ahead"))?
         .arg(lone_words(alloc, "stage"))?;
     Ok(command)
 }
@@ -221,6 +230,7 @@ fn options<'a>(alloc: Global, matches: &ArgMatches<'a>) -> Result<Words<'a>, Wor
     ensures batch { IfOk result (λ w. (1 ≤ w.batch) × (w.batch ≤ 1000000)) }
     ensures workers { IfOk result (λ w. (1 ≤ w.workers) × (w.workers ≤ 64)) }
     ensures rows { IfOk result (λ w. IfSome w.selftest (λ n. (1 ≤ n) × (n ≤ 1000000))) }
+    ensures ahead { IfOk result (λ w. IfSome w.ahead (λ n. (1 ≤ n) × (n ≤ 64))) }
     ensures few { IfOk result (λ w. length w.stages.items ≤ 16) }
     ensures fits { IfOk result (λ w. IfSome w.selftest (λ n. (w.check ≡ false) × (w.schema ≡ None) × (w.stages.items ≡ []))) }
 {
@@ -231,7 +241,10 @@ fn options<'a>(alloc: Global, matches: &ArgMatches<'a>) -> Result<Words<'a>, Wor
     else {
         return Err(refused());
     };
-    let Some(selftest) = rows_given(matches.get_str("selftest")) else {
+    let Some(selftest) = choice_given(matches.get_str("selftest"), MOST_ROWS) else {
+        return Err(refused());
+    };
+    let Some(ahead) = choice_given(matches.get_str("ahead"), MOST_AHEAD) else {
         return Err(refused());
     };
     let stages = match lone_texts(alloc, matches, "stage") {
@@ -246,6 +259,7 @@ fn options<'a>(alloc: Global, matches: &ArgMatches<'a>) -> Result<Words<'a>, Wor
         check: flag(matches, "check"),
         selftest,
         null: matches.get_str("null"),
+        ahead,
         stages,
     })
 }
@@ -259,6 +273,7 @@ fn fitting<'a>(words: Words<'a>) -> Result<Words<'a>, WordsError>
     ensures batch { IfOk result (λ w. w.batch ≡ words.entry.batch) }
     ensures workers { IfOk result (λ w. w.workers ≡ words.entry.workers) }
     ensures rows { IfOk result (λ w. w.selftest ≡ words.entry.selftest) }
+    ensures ahead { IfOk result (λ w. w.ahead ≡ words.entry.ahead) }
     ensures few { IfOk result (λ w. length w.stages.items ≤ 16) }
     ensures fits { IfOk result (λ w. IfSome w.selftest (λ n. (w.check ≡ false) × (w.schema ≡ None) × (w.stages.items ≡ []))) }
 {
@@ -301,12 +316,12 @@ fn number_given(text: Option<&str>, usual: u32, most: u32) -> Option<u32>
     }
 }
 
-/// How many rows the text of an option asks for, where it is a number from 1 to the most; without a text none are made.
-fn rows_given(text: Option<&str>) -> Option<Option<u32>>
-    ensures { result ≡ rows_if (option_map (λ s. s.now) text.entry) }
+/// The number that the text of an option spells, where it is one from 1 to the most; no number without a text.
+fn choice_given(text: Option<&str>, most: u32) -> Option<Option<u32>>
+    ensures { result ≡ choice_if most (option_map (λ s. s.now) text.entry) }
 {
     match text {
-        Some(text) => number(text, 1, MOST_ROWS).map(Some),
+        Some(text) => number(text, 1, most).map(Some),
         None => Some(None),
     }
 }

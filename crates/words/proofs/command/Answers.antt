@@ -11,4 +11,5 @@ returns c =
     let check = c.in_ok-arg-5.ensures.shape c.flag_option-2.ensures.local ∙ ap₂ with_rule audit c.flag_option-2.ensures.rule in
     let selftest = c.in_ok-arg-6.ensures.shape c.text_option-4.ensures.local ∙ ap₂ with_rule check c.text_option-4.ensures.rule in
     let null = c.in_ok-arg-7.ensures.shape c.text_option-5.ensures.local ∙ ap₂ with_rule selftest c.text_option-5.ensures.rule in
-    c.in_ok-command.ensures.shape c.lone_words.ensures.local ∙ ap₂ with_rule null c.lone_words.ensures.rule
+    let ahead = c.in_ok-arg-8.ensures.shape c.text_option-6.ensures.local ∙ ap₂ with_rule null c.text_option-6.ensures.rule in
+    c.in_ok-command.ensures.shape c.lone_words.ensures.local ∙ ap₂ with_rule ahead c.lone_words.ensures.rule

@@ -17,6 +17,7 @@ returns-in-Ok-try_get_matches_from c =
       batch = c.options.ensures.batch;
       workers = c.options.ensures.workers;
       rows = c.options.ensures.rows;
+      ahead = c.options.ensures.ahead;
       few = c.options.ensures.few;
       fits = c.options.ensures.fits;
     }
@@ -34,6 +35,7 @@ returns-in-Err-try_get_matches_from c =
       batch = tt;
       workers = tt;
       rows = tt;
+      ahead = tt;
       few = tt;
       fits = tt;
     }

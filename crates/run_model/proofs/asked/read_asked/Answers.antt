@@ -24,8 +24,16 @@ workers-asked : (words : List (List ℕ)) (options : Options) (r : Result AsksTa
     → IfOk r (λ t. IfTable t (λ q. q.workers ≡ options.workers)) → IfOk r (λ t. IfTable t (λ q. IfOk (words_of words) (λ o. q.workers ≡ o.workers)))
 workers-asked words options r is same = subst (λ w. IfOk r (λ t. IfTable t (λ q. IfOk w (λ o. q.workers ≡ o.workers)))) (sym is) same
 
+-- so it is with the batches ahead
+ahead-asked : (words : List (List ℕ)) (options : Options) (r : Result AsksTask RunFault) → words_of words ≡ Ok options
+    → IfOk r (λ t. IfTable t (λ q. q.ahead ≡ options.ahead)) → IfOk r (λ t. IfTable t (λ q. IfOk (words_of words) (λ o. q.ahead ≡ o.ahead)))
+ahead-asked words options r is same = subst (λ w. IfOk r (λ t. IfTable t (λ q. IfOk w (λ o. q.ahead ≡ o.ahead)))) (sym is) same
+
 pub returns-in-Ok-clause-as_asked : goal.returns-in-Ok-clause-as_asked
 returns-in-Ok-clause-as_asked c = workers-asked _ _ c.read_task.result c.in-Ok.ensures.taken c.read_task.ensures.as_asked
+
+pub returns-in-Ok-clause-ahead_as_asked : goal.returns-in-Ok-clause-ahead_as_asked
+returns-in-Ok-clause-ahead_as_asked c = ahead-asked _ _ c.read_task.result c.in-Ok.ensures.taken c.read_task.ensures.ahead_as_asked
 
 pub returns-in-Ok-clause-asks : goal.returns-in-Ok-clause-asks
 returns-in-Ok-clause-asks c = all-asked _ _ c.read_task.result c.in-Ok.ensures.taken c.read_task.ensures.asks

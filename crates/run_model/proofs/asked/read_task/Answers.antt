@@ -20,3 +20,8 @@ returns-in_ok-chain-in-Some-clause-only c =
 pub returns-in_ok-chain-in-Some-clause-as_asked : goal.returns-in_ok-chain-in-Some-clause-as_asked
 returns-in_ok-chain-in-Some-clause-as_asked c =
     subst (λ n. IfOk c.read_table-in-Some.result (λ t. IfTable t (λ r. r.workers ≡ n))) c.in_ok-chain-in-Some.ensures.workers c.read_table-in-Some.ensures.as_asked
+
+pub returns-in_ok-chain-in-Some-clause-ahead_as_asked : goal.returns-in_ok-chain-in-Some-clause-ahead_as_asked
+returns-in_ok-chain-in-Some-clause-ahead_as_asked c =
+    subst (λ n. IfOk c.read_table-in-Some.result (λ t. IfTable t (λ r. r.ahead ≡ n))) c.in_ok-chain-in-Some.ensures.ahead
+    c.read_table-in-Some.ensures.ahead_as_asked
