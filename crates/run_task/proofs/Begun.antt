@@ -16,7 +16,7 @@ use Rattle.stage_model.specs.Typing.{plan_of}
 use Rattle.stage_model.specs.declared.stage.StageText.{StageText}
 use Rattle.stage_plan.specs.PlanWords.{IsPlan}
 use Rattle.stage_plan.specs.declared.typing.Plan.{Plan}
-use Rattle.stream_face.specs.Streams.{Stream}
+use Rattle.stream_face.specs.Streams.{Stream, kept}
 use Rattle.stream_text.specs.Faults.{IfRow}
 use Rattle.stream_text.specs.Runs.{Counted}
 use Rattle.stream_text.specs.declared.fault.DriveFault.{DriveFault}
@@ -44,6 +44,9 @@ module _ (request : Request) (records : List Record) (s : Stream) (plan : Plan) 
 
   pub begun-flat : column_structs s.columns ≡ 0
   begun-flat = ap (λ (m : Stream). column_structs m.columns) begun.source_is ∙ proper-flat begun.columns begun.proper
+
+  pub begun-kept : kept s ≡ 0
+  begun-kept = ap kept begun.source_is
 
   pub begun-plan : (texts : List StageText) × IsPlan s.columns texts plan
   begun-plan = (request.stages, subst (λ (m : Stream). IsPlan m.columns request.stages plan) (sym begun.source_is) begun.plan_is)

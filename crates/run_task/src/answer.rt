@@ -1,5 +1,5 @@
 //! The text of a table, made of the bytes of an input.
-ghost use Rattle.std.specs.Prelude.{◌≡◌, ◌⊎◌, ◌≤◌, ◌*◌, ◌^◌, vec_len, length, ℕ, List, IfErr, IfOk, OnErr, OnOk, All, Ok, map, get_or, []};
+ghost use Rattle.std.specs.Prelude.{◌≡◌, ◌⊎◌, ◌≤◌, ◌*◌, ◌^◌, vec_len, length, ℕ, List, IfErr, IfOk, IfSome, OnErr, OnOk, All, Ok, map, get_or, []};
 ghost use Rattle.csv_model.specs.Batches.{batches_in};
 ghost use Rattle.csv_model.specs.Header.{header_of, most_columns};
 ghost use Rattle.csv_model.specs.Reading.{behind_header, records_of};
@@ -20,6 +20,7 @@ ghost use Rattle.run_task.specs.Answer.{answer_of_plan, answer_of_records, fault
 ghost use Rattle.run_task.specs.Begun.{IsBegun};
 ghost use Rattle.run_task.specs.Traffic.{LinksTraffic, links_of};
 
+use crate::ahead::begin_ahead;
 use csv_read::{Records, read_header};
 use csv_source::CsvSource;
 use data_types::{ColumnType, RowFault, clone_columns};
@@ -28,14 +29,15 @@ use run_model::{Request, RunFault};
 use stage_chain::{DriveFault, StepOf, drive_by};
 use stage_plan::{Plan, StageText, TypeEntry, type_plan};
 use std::alloc::Global;
+use std::io::Read;
 use std::thread::Threads;
-use stream_face::Tap;
+use stream_face::{ArrayStream, Tap};
 use unit_pass::{NoMemory, Pass, ROOM, SUPPLY};
 
 /// The columns that the header of a text names, or why it is refused. The records behind it are left.
-fn header_columns(
+pub(crate) fn header_columns<B: Read>(
     alloc: Global,
-    records: &mut Records<&[u8]>,
+    records: &mut Records<B>,
     entries: &[TypeEntry],
 ) -> Result<Vec<ColumnType>, RunFault>
     requires proper { All (λ e. KindOk e.kind) entries.now }
@@ -59,7 +61,7 @@ fn header_columns(
 }
 
 /// What stages are over columns, or why they don't fit.
-fn plan_stages(
+pub(crate) fn plan_stages(
     alloc: Global,
     columns: Vec<ColumnType>,
     stages: &[StageText],
@@ -81,7 +83,7 @@ fn plan_stages(
 }
 
 /// The columns that a plan reads.
-fn read_columns(plan: &Plan) -> &[ColumnType]
+pub(crate) fn read_columns(plan: &Plan) -> &[ColumnType]
     requires { 1 ≤ vec_len plan.now.links }
     ensures { columns_in result.now ≡ get_or (plan_links plan.now) 0 [] }
 {
@@ -151,18 +153,55 @@ fn begin<'a>(
     Ok((source, plan))
 }
 
-/// The text of the table that stages make, by these steps, of the table that a text spells, or the first fault: of the header,
-/// of the stages over its columns, of the records.
-pub(crate) fn answer_input<W: StepOf, R: Threads + Sync, T: Tap>(
+/// The text of the table that stages make, by these steps, of the records that a source has, or the first record at fault.
+fn answer_begun<W: StepOf, S: ArrayStream, R: Threads + Sync, T: Tap>(
     rt: &R,
     alloc: Global,
-    bytes: &[u8],
+    source: S,
+    plan: Plan,
     request: &Request,
     pass: &mut Pass,
     tap: &mut T,
     gate: &(dyn Gate + Sync),
 ) -> Result<Vec<u8>, RunFault>
-    requires short { length bytes.now ≤ input_limit }
+    requires begun { (records : List (List (List ℕ))) × IsBegun (request_of request.now) records (S.state source) plan }
+    requires few { length plan.steps.items ≤ 16 }
+    requires units { 2 * ROOM ≤ pass.old.units }
+    requires some_workers { 1 ≤ request.now.workers }
+    requires few_workers { request.now.workers ≤ 64 }
+    ensures text { (records : List (List (List ℕ))) → IsBegun (request_of request.now) records (S.state source) plan
+        → IfOk result (λ text. answer_of_records (request_of request.now) records ≡ Text text.items) }
+    ensures fault { (records : List (List (List ℕ))) → IsBegun (request_of request.now) records (S.state source) plan
+        → IfErr result (λ fault. (fault ≡ RunFault.NoMemory) ⊎ (answer_of_records (request_of request.now) records ≡ Fault fault)) }
+    ensures units { pass.new.units ≡ pass.old.units }
+    ensures counts { (records : List (List (List ℕ))) → IsBegun (request_of request.now) records (S.state source) plan
+        → OnOk result (LinksTraffic (links_of (request_of request.now) records) pass.old.blocks pass.old.nodes pass.new.blocks pass.new.nodes) }
+    ensures shows { (records : List (List (List ℕ))) → IsBegun (request_of request.now) records (S.state source) plan
+        → OnOk result (ShowsAll (link_shows (links_of (request_of request.now) records)) (T.seen tap.old) (T.seen tap.new)) }
+    ensures shows_some { (records : List (List (List ℕ))) → IsBegun (request_of request.now) records (S.state source) plan
+        → OnErr result (ShowsSome (link_shows (links_of (request_of request.now) records)) (T.seen tap.old) (T.seen tap.new)) }
+{
+    stage_model::batches_give_the_whole();
+    let mark = request.mark.as_slice();
+    let workers = request.workers;
+    match drive_by::<W, _, _, _>(rt, alloc, source, plan, mark, workers, pass, tap, gate) {
+        Ok(text) => Ok(text),
+        Err(fault) => Err(run_fault(fault)),
+    }
+}
+
+/// The text of the table that stages make, by these steps, of the table that a text spells, or the first fault: of the header,
+/// of the stages over its columns, of the records. The records are read ahead where that is asked for.
+pub(crate) fn answer_input<W: StepOf, R: Threads + Sync, T: Tap>(
+    rt: &R,
+    alloc: Global,
+    bytes: Vec<u8>,
+    request: &Request,
+    pass: &mut Pass,
+    tap: &mut T,
+    gate: &(dyn Gate + Sync),
+) -> Result<Vec<u8>, RunFault>
+    requires short { length bytes.items ≤ input_limit }
     requires units { 2 * ROOM ≤ pass.old.units }
     requires proper { All (λ e. KindOk e.kind) request.now.entries.items }
     requires allowed { All (λ e. IsAllowed e.kind) request.now.entries.items }
@@ -171,21 +210,25 @@ pub(crate) fn answer_input<W: StepOf, R: Threads + Sync, T: Tap>(
     requires few_rows { request.now.batch ≤ 1000000 }
     requires some_workers { 1 ≤ request.now.workers }
     requires few_workers { request.now.workers ≤ 64 }
-    ensures text { IfOk result (λ text. answer_of_records (request_of request.now) (records_of bytes.now) ≡ Text text.items) }
+    requires ahead { IfSome request.now.ahead (λ n. (1 ≤ n) × (n ≤ 64)) }
+    ensures text { IfOk result (λ text. answer_of_records (request_of request.now) (records_of bytes.items) ≡ Text text.items) }
     ensures fault { IfErr result
-        (λ fault. (fault ≡ RunFault.NoMemory) ⊎ (answer_of_records (request_of request.now) (records_of bytes.now) ≡ Fault fault)) }
+        (λ fault. (fault ≡ RunFault.NoMemory) ⊎ (answer_of_records (request_of request.now) (records_of bytes.items) ≡ Fault fault)) }
     ensures units { pass.new.units ≡ pass.old.units }
     ensures counts { OnOk result (LinksTraffic (links_of (request_of request.now)
-        (records_of bytes.now)) pass.old.blocks pass.old.nodes pass.new.blocks pass.new.nodes) }
-    ensures shows { OnOk result (ShowsAll (link_shows (links_of (request_of request.now) (records_of bytes.now))) (T.seen tap.old) (T.seen tap.new)) }
-    ensures shows_some { OnErr result (ShowsSome (link_shows (links_of (request_of request.now) (records_of bytes.now))) (T.seen tap.old) (T.seen tap.new)) }
+        (records_of bytes.items)) pass.old.blocks pass.old.nodes pass.new.blocks pass.new.nodes) }
+    ensures shows { OnOk result (ShowsAll (link_shows (links_of (request_of request.now) (records_of bytes.items))) (T.seen tap.old) (T.seen tap.new)) }
+    ensures shows_some { OnErr result (ShowsSome (link_shows (links_of (request_of request.now)
+        (records_of bytes.items))) (T.seen tap.old) (T.seen tap.new)) }
 {
-    stage_model::batches_give_the_whole();
-    let (source, plan) = begin(alloc, bytes, request)?;
-    let mark = request.mark.as_slice();
-    let workers = request.workers;
-    match drive_by::<W, _, _, _>(rt, alloc, source, plan, mark, workers, pass, tap, gate) {
-        Ok(text) => Ok(text),
-        Err(fault) => Err(run_fault(fault)),
+    match request.ahead {
+        None => {
+            let (source, plan) = begin(alloc, &bytes, request)?;
+            answer_begun::<W, _, _, _>(rt, alloc, source, plan, request, pass, tap, gate)
+        }
+        Some(ahead) => {
+            let (source, plan) = begin_ahead(rt, alloc, bytes, request, ahead)?;
+            answer_begun::<W, _, _, _>(rt, alloc, source, plan, request, pass, tap, gate)
+        }
     }
 }

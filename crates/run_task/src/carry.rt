@@ -84,29 +84,30 @@ fn read_source<S: Source>(alloc: Global, source: &mut S) -> Result<Vec<u8>, RunF
 fn answer_task<W: StepOf, R: Threads + Sync, T: Tap>(
     rt: &R,
     alloc: Global,
-    bytes: &[u8],
+    bytes: Vec<u8>,
     task: &Task,
     pass: &mut Pass,
     tap: &mut T,
     gate: &(dyn Gate + Sync),
 ) -> Result<Vec<u8>, RunFault>
-    requires short { length bytes.now ≤ input_limit }
+    requires short { length bytes.items ≤ input_limit }
     requires units { 2 * ROOM ≤ pass.old.units }
     requires proper { IfTable task.now (λ r. All (λ e. KindOk e.kind) r.entries.items) }
     requires allowed { IfTable task.now (λ r. All (λ e. IsAllowed e.kind) r.entries.items) }
     requires few { IfTable task.now (λ r. length r.stages.items ≤ 16) }
     requires batch { IfTable task.now (λ r. (1 ≤ r.batch) × (r.batch ≤ 1000000)) }
     requires workers { IfTable task.now (λ r. (1 ≤ r.workers) × (r.workers ≤ 64)) }
-    ensures text { IfOk result (λ text. AnswersBytes (task_of task.now) bytes.now (Text text.items)) }
-    ensures fault { IfErr result (λ fault. (fault ≡ RunFault.NoMemory) ⊎ AnswersBytes (task_of task.now) bytes.now (Fault fault)) }
+    requires ahead { IfTable task.now (λ r. IfSome r.ahead (λ n. (1 ≤ n) × (n ≤ 64))) }
+    ensures text { IfOk result (λ text. AnswersBytes (task_of task.now) bytes.items (Text text.items)) }
+    ensures fault { IfErr result (λ fault. (fault ≡ RunFault.NoMemory) ⊎ AnswersBytes (task_of task.now) bytes.items (Fault fault)) }
     ensures units { pass.new.units ≡ pass.old.units }
-    ensures counts { OnOk result (CountsTask (task_of task.now) bytes.now pass.old.blocks pass.old.nodes pass.new.blocks pass.new.nodes) }
-    ensures shows { OnOk result (ShowsTask (task_of task.now) bytes.now (T.seen tap.old) (T.seen tap.new)) }
-    ensures shows_some { OnErr result (ShowsAsked (Ok (task_of task.now)) bytes.now (T.seen tap.old) (T.seen tap.new)) }
+    ensures counts { OnOk result (CountsTask (task_of task.now) bytes.items pass.old.blocks pass.old.nodes pass.new.blocks pass.new.nodes) }
+    ensures shows { OnOk result (ShowsTask (task_of task.now) bytes.items (T.seen tap.old) (T.seen tap.new)) }
+    ensures shows_some { OnErr result (ShowsAsked (Ok (task_of task.now)) bytes.items (T.seen tap.old) (T.seen tap.new)) }
 {
     match task {
         Task::Table(request) => answer_input::<W, _, _>(rt, alloc, bytes, request, pass, tap, gate),
-        Task::Tree => match check_tree(alloc, bytes, pass) {
+        Task::Tree => match check_tree(alloc, &bytes, pass) {
             Ok(report) => Ok(report),
             Err(fault) => Err(RunFault::from(fault)),
         },
@@ -133,6 +134,7 @@ pub fn carry_out<W: StepOf, R: Threads + Sync, S: Source, K: Sink, T: Tap>(
     requires few { IfOk task (λ t. IfTable t (λ r. length r.stages.items ≤ 16)) }
     requires batch { IfOk task (λ t. IfTable t (λ r. (1 ≤ r.batch) × (r.batch ≤ 1000000))) }
     requires workers { IfOk task (λ t. IfTable t (λ r. (1 ≤ r.workers) × (r.workers ≤ 64))) }
+    requires ahead { IfOk task (λ t. IfTable t (λ r. IfSome r.ahead (λ n. (1 ≤ n) × (n ≤ 64)))) }
     requires early { IfErr task (λ fault. (is_early fault ≡ true) ⊎ (fault ≡ RunFault.NoMemory)) }
     // Of the bytes of one input all of this is so: those that are made or that the source tells; where it tells none, some bytes.
     ensures over { (bytes : List ℕ) × AreBytes (input_by rows (S.left source.old)) bytes
@@ -154,7 +156,7 @@ pub fn carry_out<W: StepOf, R: Threads + Sync, S: Source, K: Sink, T: Tap>(
 {
     let task = task?;
     let bytes = read_input(alloc, rows, source)?;
-    let text = answer_task::<W, _, _>(rt, alloc, &bytes, &task, pass, tap, gate)?;
+    let text = answer_task::<W, _, _>(rt, alloc, bytes, &task, pass, tap, gate)?;
     match write_all(sink, &text) {
         Ok(()) => Ok(()),
         Err(WriteFault::Failed { taken }) => Err(RunFault::WriteFault { taken }),

@@ -15,6 +15,7 @@ ghost use Rattle.run_model.specs.Answer.{Fault, Table, Text, asking};
 ghost use Rattle.run_model.specs.declared.fault.RunFault.TheVariants as run;
 ghost use Rattle.run_task.specs.Answer.{AnswersBytes};
 
+mod ahead;
 mod answer;
 mod carry;
 mod laws;

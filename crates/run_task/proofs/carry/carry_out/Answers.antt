@@ -4,7 +4,7 @@ use Rattle.edge_face.specs.Edge.{Rose, taken_by}
 use Rattle.run_model.specs.Answer.{Fault, cause_of}
 use Rattle.run_model.specs.Outcomes.{asked_of, is_early, task_of}
 use Rattle.run_model.specs.declared.fault.RunFault.TheVariants as run
-use Rattle.run_task.specs.Answer.{AreBytes, IsAnswerTo, input_by, input_limit}
+use Rattle.run_task.specs.Answer.{IsAnswerTo, input_by}
 use Rattle.run_task.proofs.Carried.{all-asked, at-err, at-ok, early-not_reading, early-not_writing, if-some}
 use Rattle.run_task.proofs.Carried.{keeps-same, late, late-not_early, late-not_writing, no-write}
 use Rattle.run_task.proofs.Carried.{late-not_reading, loses-nothing, no-err, no-ok, of-err, one-error, over-fault, refused-with, the-error}
@@ -90,11 +90,11 @@ returns-in_err-text g c =
     let input = input_by c.args.rows (g.S.Source.left c.args.source.now) in
     let asked = asked_of c.args.task in
     let task = task_of c.in_ok-task.task in
-    let bytes = c.deref.result.now in
+    let bytes = c.in_ok-bytes.bytes.items in
     let fault = c.in_err-text.field-0.0 in
     let was = c.in_ok-task.was in
     let same = the-error c.from_residual-in_err-text.result fault c.from_residual-in_err-text.ensures.1 in
-    let read = subst (AreBytes input) (sym c.deref.ensures.value) c.in_ok-bytes.ensures.bytes in
+    let read = c.in_ok-bytes.ensures.bytes in
     let seen = g.T.Tap.seen c.args.tap.now in
     let shown = g.T.Tap.seen c.answer_task.new.tap in
     let late_one = late task bytes fault c.in_err-text.ensures.fault in
@@ -127,12 +127,12 @@ returns-in-Ok g c =
     let input = input_by c.args.rows (g.S.Source.left c.args.source.now) in
     let asked = asked_of c.args.task in
     let task = task_of c.in_ok-task.task in
-    let bytes = c.deref.result.now in
+    let bytes = c.in_ok-bytes.bytes.items in
     let was = c.in_ok-task.was in
-    let read = subst (AreBytes input) (sym c.deref.ensures.value) c.in_ok-bytes.ensures.bytes in
+    let read = c.in_ok-bytes.ensures.bytes in
     let old = g.K.Sink.taken c.args.sink.now in
     let new = g.K.Sink.taken c.write_all.new.sink in
-    let wrote = subst (Appends old new) c.deref-2.ensures.value c.in-Ok.ensures.all in
+    let wrote = subst (Appends old new) c.deref.ensures.value c.in-Ok.ensures.all in
     record {
       over = (
         bytes,
@@ -167,16 +167,16 @@ returns g c =
     let input = input_by c.args.rows (g.S.Source.left c.args.source.now) in
     let asked = asked_of c.args.task in
     let task = task_of c.in_ok-task.task in
-    let bytes = c.deref.result.now in
+    let bytes = c.in_ok-bytes.bytes.items in
     let was = c.in_ok-task.was in
-    let read = subst (AreBytes input) (sym c.deref.ensures.value) c.in_ok-bytes.ensures.bytes in
+    let read = c.in_ok-bytes.ensures.bytes in
     let old = g.K.Sink.taken c.args.sink.now in
     let new = g.K.Sink.taken c.write_all.new.sink in
     let text = c.in_ok-text.text.items in
     let taken = taken_by c.in-Err-Failed.field-0 in
-    let wrote = subst (λ t. Appends old new (take taken t)) c.deref-2.ensures.value c.in-Err-Failed.ensures.prefix in
-    let within = subst (λ t. taken ≤ length t) c.deref-2.ensures.value c.in-Err-Failed.ensures.within in
-    let fits = subst (λ b. length b ≤ input_limit) (sym c.deref.ensures.value) c.in_ok-bytes.ensures.fits in
+    let wrote = subst (λ t. Appends old new (take taken t)) c.deref.ensures.value c.in-Err-Failed.ensures.prefix in
+    let within = subst (λ t. taken ≤ length t) c.deref.ensures.value c.in-Err-Failed.ensures.within in
+    let fits = c.in_ok-bytes.ensures.fits in
     let seen = g.T.Tap.seen c.args.tap.now in
     let shown = g.T.Tap.seen c.answer_task.new.tap in
     let got = first-written asked task bytes (ap asked_of was) old new text taken c.in_ok-text.ensures.text within wrote in
