@@ -1,6 +1,7 @@
 //! Tests of the source: its schema, its chunks behind a checked joint, how it ends, and what it says then.
 ghost use Rattle.std.specs.Prelude.{◌≡◌, ◌≤◌, ◌<◌, ◌^◌, IsTrue, length};
 ghost use Rattle.csv_source.specs.Sources.{source_state};
+ghost use Rattle.stream_face.specs.Streams.{kept};
 ghost use Rattle.unit_pass.specs.declared.pass.TheConstants.{ROOM};
 
 use csv_read::{Records, read_header};
@@ -54,15 +55,15 @@ fn source_of<'a>(
 }
 
 /// The code of the next call, and how many rows its chunk has, where there is one.
-fn pull<R: Threads + Sync>(
+fn pull<R: Threads + Sync, S: ArrayStream>(
     rt: &R,
     alloc: Global,
-    source: &mut CsvSource<'_>,
+    source: &mut S,
     pass: &mut Pass,
 ) -> (i32, Option<i64>)
-    requires live { IsTrue (source_state source.old).live }
+    requires live { IsTrue (S.state source.old).live }
     requires room { ROOM ≤ pass.old.units }
-    ensures live { IsTrue (source_state source.new).live }
+    ensures live { IsTrue (S.state source.new).live }
     ensures units { pass.new.units ≡ pass.old.units }
 {
     let _supply = pass.units();
@@ -77,8 +78,10 @@ fn pull<R: Threads + Sync>(
     (code, rows)
 }
 
-/// Releases a source and gives it up.
-fn end(rt: &impl Abort, source: CsvSource<'_>, pass: &mut Pass) {
+/// Releases a source, which keeps no unit, and gives it up.
+pub(crate) fn end<S: ArrayStream>(rt: &impl Abort, source: S, pass: &mut Pass)
+    requires { kept (S.state source) ≡ 0 }
+{
     let mut source = source;
     let _supply = pass.units();
     let first = source.release(pass);
@@ -89,7 +92,7 @@ fn end(rt: &impl Abort, source: CsvSource<'_>, pass: &mut Pass) {
 }
 
 /// Closes the desk, to whose pass all units of this row are back.
-fn closed(rt: &impl Abort, row: u32, desk: Desk, pass: Pass) -> Audit {
+pub(crate) fn closed(rt: &impl Abort, row: u32, desk: Desk, pass: Pass) -> Audit {
     assert!(rt; pass.units() == SUPPLY, "units under {row}");
     desk.close(pass)
 }
@@ -97,9 +100,9 @@ fn closed(rt: &impl Abort, row: u32, desk: Desk, pass: Pass) -> Audit {
 // ---- the ends
 
 /// A text, the size of a batch, how many rows the chunks have, and the record at fault with what is said of it.
-type Case<'c> = (&'c [u8], u32, &'c [i64], Option<(RowFault, &'c str)>);
+pub(crate) type Case<'c> = (&'c [u8], u32, &'c [i64], Option<(RowFault, &'c str)>);
 
-static CASES: [Case<'static>; 7] = [
+pub(crate) static CASES: [Case<'static>; 7] = [
     (b"a,b\n1,x\n2,y\n3,z\n4,\n5,v\n", 5, &[5], None),
     (b"a,b\n1,x\n2,y\n3,z\n4,\n5,v\n", 1000000, &[5], None),
     (b"a,b\n", 2, &[], None),
@@ -131,10 +134,10 @@ static CASES: [Case<'static>; 7] = [
 type Reply<'r> = (i32, Option<i64>, Option<&'r str>, Option<RowFault>);
 
 /// Expects this of the next call.
-fn expect_reply<R: Abort + Threads + Sync>(
+fn expect_reply<R: Abort + Threads + Sync, S: ArrayStream>(
     rt: &R,
     alloc: Global,
-    source: &mut CsvSource<'_>,
+    source: &mut S,
     pass: &mut Pass,
     wanted: Reply<'_>,
 ) {
@@ -145,10 +148,10 @@ fn expect_reply<R: Abort + Threads + Sync>(
 }
 
 /// Expects chunks of so many rows.
-fn expect_chunks<R: Abort + Threads + Sync>(
+pub(crate) fn expect_chunks<R: Abort + Threads + Sync, S: ArrayStream>(
     rt: &R,
     alloc: Global,
-    source: &mut CsvSource<'_>,
+    source: &mut S,
     pass: &mut Pass,
     lengths: &[i64],
 ) {
@@ -158,10 +161,10 @@ fn expect_chunks<R: Abort + Threads + Sync>(
 }
 
 /// Expects the end of the stream, twice.
-fn expect_end<R: Abort + Threads + Sync>(
+pub(crate) fn expect_end<R: Abort + Threads + Sync, S: ArrayStream>(
     rt: &R,
     alloc: Global,
-    source: &mut CsvSource<'_>,
+    source: &mut S,
     pass: &mut Pass,
     wanted: Option<(RowFault, &str)>,
 ) {
