@@ -20,6 +20,7 @@ pub mod NestedLaw
 pub mod NestedRows
 pub mod NestedGather
 pub mod NestedKids
+pub mod NestedWhole
 pub mod NestedChunks
 pub mod NestedPlaces
 pub mod NestedTypes

@@ -1,7 +1,9 @@
 -- A column of a chunk, as the code keeps it.
-use Rattle.std.proofs.Common.{◌≡◌, ◌≢◌, ◌∙◌, ◌≤◌, ◌<◌, ◌+◌, ℕ, List, true, false, length, map, get_or, None, refl, ap, sym, subst, arith}
+use Rattle.std.proofs.Common.{◌≡◌, ◌≢◌, ◌∙◌, ◌≤◌, ◌<◌, ◌+◌, ◌^◌, ℕ, List, [], ◌∷◌, All, true, false, length, map, get_or, None, refl, ap, sym, subst, arith}
 use Rattle.std.proofs.lemmas.Bool.{eq-eqb, eqb-false, eqb-true, ltb-false, ltb-true, ne_eqb}
 use Rattle.std.proofs.lemmas.List.{length-map}
+use Rattle.std.proofs.lemmas.List.Elements.{All-map, All-weaker}
+use Rattle.std.specs.List.{position_or_len}
 use Rattle.std.specs.Prelude.{if◌then◌else◌, nat_lt, ◌==◌, Bool}
 use Rattle.data_types.specs.ColumnForms.{HasForm}
 use Rattle.data_types.specs.FieldText.{form_of}
@@ -16,18 +18,28 @@ use Rattle.kind_tree.specs.Kinds.{KindTree, TypedOk, kind_in}
 use Rattle.kind_tree.specs.TypedView.{kids_of, kind_of, typed_of}
 use Rattle.kind_tree.specs.declared.typed.Typed.{Typed, out-Typed}
 use Rattle.layout_rules.specs.Layout.{first}
-use Rattle.layout_rules.specs.Values.{row_items, rows_of, tree_items}
+use Rattle.layout_rules.specs.Values.{row_items, rows_of, tree_items, value_at}
 use Rattle.layout_rules.specs.Walk.{LayoutOk}
 use Rattle.arr_export.specs.ArrayTrees.{column_tree}
 use Rattle.arr_export.proofs.Each.{length-each}
-use Rattle.column_gather.specs.Gathered.{CanGather, values_at}
+use Rattle.lawful_values.specs.Items.{AreApart}
+use Rattle.column_gather.specs.Gathered.{CanGather, CanGatherRuns, values_at, values_of_runs}
+use Rattle.column_gather.specs.declared.runs.Run.{Run}
+use Rattle.row_groups.specs.Groups.{distinct, firsts_of, offsets_of, order_of, same as same_as}
+use Rattle.row_groups.specs.Items.{items_from}
 use Rattle.row_groups.specs.declared.groups.Groups.{Groups}
 use Rattle.list_cols.specs.ListTrees.{FitLists, list_tree}
-use Rattle.list_cols.specs.NestedGroups.{AreFirsts, AreRowGroups, CanNest, HasItems, grouped_lists, row_keys}
+use Rattle.list_cols.specs.NestedGroups.{AreFirsts, AreGroups, AreRowGroups, CanNest, HasItems, grouped_lists, row_keys, run_at}
 use Rattle.list_cols.specs.NestedTables.{FitColumn, keys_of, kind_at, lists_of, nested_column}
 use Rattle.list_cols.proofs.Kids.{IsLevel, kid-is, kid-ok, kids-are}
-use Rattle.list_cols.proofs.NestedChunks.{FlatLaw, IsFlatKid, ItemsLaw, PartsLaw, RootLaw, TopLaw, flat-kid, kid-lists, lists-fit}
+use Rattle.list_cols.proofs.NestedChunks.{FlatLaw, IsFlatKid, ItemsLaw, PartsLaw, RootLaw, TopLaw, flat-kid, kid-lists, kid-values, lists-fit}
 use Rattle.list_cols.proofs.NestedGather.{OnceLaw, can-pick, once-fit}
+
+-- an item once of each
+pub runs-values : (typed : KindTree) (array : ArrayTree) (start : ℕ) (kept : List ℕ)
+    → values_of_runs typed array (map (run_at start) kept) ≡ values_at typed array start kept
+runs-values typed array start [] = refl
+runs-values typed array start (i ∷ kept) = ap (λ vs. value_at typed array (start + i) ∷ vs) (runs-values typed array start kept)
 
 pub record KidIs (t kid : Typed) (array child : ArrayTree) (k : ℕ) : Type 0 where
   pub ok : TypedOk (typed_of kid)
@@ -37,6 +49,7 @@ pub record KidIs (t kid : Typed) (array child : ArrayTree) (k : ℕ) : Type 0 wh
   pub kind : kind_in (child_at (typed_of t) k) ≡ kind_of kid
   pub typed : typed_of kid ≡ type_of_kind (Flat (kind_of kid))
   pub form : HasForm (form_of (kind_of kid))
+  pub inner : kind_in (typed_of kid) ≡ kind_of kid
   pub lawful : LayoutOk (typed_of kid) child
 
 pub level-live : (t : Typed) → IsLevel t → IsLive (typed_of t)
@@ -62,6 +75,7 @@ kid-here t kid array child column k level own ok lt is child_is roots parts item
       kind = kind;
       typed = typed;
       form = form;
+      inner = ap kind_in own;
       lawful = subst (LayoutOk (typed_of kid)) (sym child_is) (subst (λ (u : KindTree). LayoutOk u (child_at array k)) here flat.lawful);
     }
 
@@ -156,6 +170,68 @@ module _ (t kid : Typed) (array child : ArrayTree) (k : ℕ) (is : KidIs t kid a
       (λ j. list_tree (kid-kind j) (own-lists column j))
       ∙ sym (ap (λ (b : Bool). if b then column_tree (kind_at types k) (keys_of column rows) None else list_tree (kind_at types k) (lists_of column rows k))
       (ne_eqb k column other))
+
+  -- ---- of the only column
+
+  -- by the kind that its own tree names
+  pub kid-typed : typed_of kid ≡ type_of_kind (Flat (kind_in (typed_of kid)))
+  kid-typed = is.typed ∙ ap (λ (d : DataType). type_of_kind (Flat d)) (sym is.inner)
+
+  pub kid-form : HasForm (form_of (kind_in (typed_of kid)))
+  kid-form = subst (λ (d : DataType). HasForm (form_of d)) (sym is.inner) is.form
+
+  pub kid-reach : (start count : ℕ) → start ≡ first (members_of array) → count ≡ tree_items array → start + count ≤ tree_items child
+  kid-reach start count place many = omega (arith, kid-long, place, many)
+
+  -- the values by which rows are grouped are the items of the column
+  pub keys-are : (start count : ℕ) → start ≡ first (members_of array) → count ≡ tree_items array
+      → items_from (typed_of kid) child start count ≡ row_keys k (typed_of t) array
+  keys-are start count place many =
+      (λ j. items_from (sym is.same j) (is.is_child j) (place j) (many j)) ∙ sym (kid-values (typed_of t) array k is.flat)
+
+  pub are-firsts : (start count : ℕ) (kept : List ℕ) → start ≡ first (members_of array) → count ≡ tree_items array
+      → map (λ i. value_at (typed_of kid) child (start + i)) kept ≡ distinct (items_from (typed_of kid) child start count)
+      → All (λ i. i < count) kept → AreApart kept → AreFirsts k (typed_of t) array kept
+  are-firsts start count kept place many values inside apart = record {
+    keys = (λ j. values_at (is.same j) (sym is.is_child j) (sym place j) kept) ∙ values ∙ ap distinct (keys-are start count place many);
+    inside = subst (λ n. All (λ i. i < n) kept) many inside;
+    apart = apart;
+  }
+
+  pub are-groups : (start count : ℕ) (groups : Groups) → start ≡ first (members_of array) → count ≡ tree_items array
+      → groups.firsts.items ≡ firsts_of (items_from (typed_of kid) child start count)
+      → groups.order.items ≡ order_of (items_from (typed_of kid) child start count)
+      → groups.offsets.items ≡ offsets_of (items_from (typed_of kid) child start count)
+      → All (λ i. i < count) groups.order.items → AreApart groups.order.items → length groups.order.items ≡ count
+      → AreGroups groups (row_keys k (typed_of t) array)
+  are-groups start count groups place many firsts order offsets inside apart all =
+      let same = keys-are start count place many in
+      let size = many-keys k (typed_of t) array in
+      record {
+        firsts = ap length (firsts ∙ ap firsts_of same)
+            ∙ length-map (distinct (row_keys k (typed_of t) array)) (λ (key : Value). position_or_len (same_as key) (row_keys k (typed_of t) array));
+        order = order ∙ ap order_of same;
+        offsets = offsets ∙ ap offsets_of same;
+        inside = subst (λ n. All (λ i. i < n) groups.order.items) (many ∙ sym size) inside;
+        apart = apart;
+        all = all ∙ many ∙ sym size;
+      }
+
+  -- each of them once
+  pub can-runs : (kept : List ℕ) (start : ℕ) → start ≡ first (members_of array) → OnceLaw (typed_of kid) child → AreFirsts k (typed_of t) array kept
+      → CanGatherRuns (kind_of kid) child (map (run_at start) kept)
+  can-runs kept start place once firsts =
+      let can = subst (λ n. CanGather (kind_of kid) child n kept) (sym place) (can-first kept once firsts) in
+      record {
+        ok = can.ok;
+        inside = All-map (λ (run : Run). run.item < tree_items child) (run_at start) kept can.inside;
+        items = subst (Fits (kind_of kid)) (sym (runs-values (type_of_kind (Flat (kind_of kid))) child start kept)) can.items;
+      }
+
+  pub near-firsts : (kept : List ℕ) (start : ℕ) → start ≡ first (members_of array) → AreFirsts k (typed_of t) array kept
+      → All (λ i. start + i < 2 ^ 40) kept
+  near-firsts kept start place firsts =
+      All-weaker (λ (i : ℕ). i < tree_items array) (λ (i : ℕ). start + i < 2 ^ 40) (λ i lt. omega (arith, lt, place, is.flat.near)) kept firsts.inside
 
 -- ---- of all numbers below the next one
 
