@@ -24,3 +24,4 @@ pub mod NestedWhole
 pub mod NestedChunks
 pub mod NestedPlaces
 pub mod NestedTypes
+pub mod NestedSchemas
