@@ -25,18 +25,19 @@ use unit_pass::open_desk;
 /// of the tree that it tells of.
 ///
 /// `words` are those after the program's name:
-/// `[--schema TEXT] [--batch N] [--workers W] [--audit] [--check] [--selftest N] [--null MARK] [STAGE ...]`. A column
-/// holds values of the type that the schema text asks for, and UTF-8 text where it asks for none; a field that equals the
-/// mark is a null, by default the empty one, and a null is written as the mark. The header's names are UTF-8 and differ,
+/// `[--schema TEXT] [--batch N] [--workers W] [--audit] [--check] [--selftest N] [--null MARK] [--ahead A] [STAGE ...]`. A
+/// column holds values of the type that the schema text asks for, and UTF-8 text where it asks for none; a field that equals
+/// the mark is a null, by default the empty one, and a null is written as the mark. The header's names are UTF-8 and differ,
 /// there are at most 1,024 of them, and each entry of the schema text names one of them. There are at most 16 stages, each
-/// over the chunks of the one before it; the rows are read in chunks of at most `N` of them, 1,024 by default.
+/// over the chunks of the one before it; the rows are read in chunks of at most `N` of them, 1,024 by default, and with
+/// `--ahead A` ahead of the stages, in a thread beside them, so many chunks a round.
 ///
 /// The first of these faults is told: of the words, of the stage texts, of the schema text, of reading, of the header, of the
 /// stages over its columns, of the records.
 ///
 /// With `--check`, which takes no stage and no schema text, the source is a schema tree and an array tree as lines of text. They
 /// are checked as a stranger's would be, and the text is the report of the array. The first of these faults is told: of the
-/// words, of reading, of the text, of the schema, of the array. The tap sees nothing, and `N`, `W` and the mark change nothing.
+/// words, of reading, of the text, of the schema, of the array. The tap sees nothing, and `N`, `W`, `A` and the mark change nothing.
 ///
 /// With `--selftest N`, which takes no stage, no schema text and no `--check`, the source is left alone: so many rows are made in
 /// its place (`made_table`), and go through a chain of stages of their own (`chain_of` in `run_model`). The mark changes nothing.
