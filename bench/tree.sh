@@ -5,6 +5,10 @@
 #   pairs: a column without rows whose metadata has so many empty pairs, of 24 bytes of text each
 #   lists: lists of three indices of a byte each into a dictionary of 200 texts of 7 bytes
 #   union: a dense union of whole numbers, texts of 6 bytes and wide whole numbers, in turn
+#   numbers: a column of whole numbers, each another one than that before it
+#   runs:  run ends of 100 items each over such numbers; decoded: a column of the same items
+#   keys:  a struct of a column of whole numbers that all differ and one of wide ones; ten: the same with ten different ones
+#   rows:  a struct of a column of whole numbers and one of lists of three of them; spread: the same rows with the lists spread out
 bytes=${1:?bytes}
 kind=${2:-text}
 exec awk -v size="$bytes" -v kind="$kind" '
@@ -60,6 +64,61 @@ BEGIN {
     for (i = 0; i < n; i++) printf "6974656d30%02x", 48 + i % 10
     printf "\nA " n " 0 0 2 0 0\nB ~\nB ="
     for (i = 0; i < n; i++) printf "%s", le(1000 * i, 8)
+    print ""
+    exit
+  }
+  if (kind == "numbers") {
+    n = int(size / 8)
+    printf "S =i ~ 0 0 0 ~\nA " n " 0 0 2 0 0\nB ~\nB ="
+    for (i = 0; i < n; i++) printf "%s", le(7 * i % 1000, 4)
+    print ""
+    exit
+  }
+  if (kind == "runs") {
+    n = int(size / 16)
+    printf "S =+r ~ 0 2 0 ~\nS =i =run_ends 0 0 0 ~\nS =i =values 2 0 0 ~\nA " 100 * n " 0 0 0 2 0\nA " n " 0 0 2 0 0\nB ~\nB ="
+    for (i = 1; i <= n; i++) printf "%s", le(100 * i, 4)
+    printf "\nA " n " 0 0 2 0 0\nB ~\nB ="
+    for (i = 0; i < n; i++) printf "%s", le(7 * i % 1000, 4)
+    print ""
+    exit
+  }
+  if (kind == "decoded") {
+    n = int(size / 16)
+    printf "S =i ~ 0 0 0 ~\nA " 100 * n " 0 0 2 0 0\nB ~\nB ="
+    for (i = 0; i < n; i++) { v = le(7 * i % 1000, 4); for (k = 0; k < 100; k++) printf "%s", v }
+    print ""
+    exit
+  }
+  if (kind == "keys" || kind == "ten") {
+    n = int(size / 24)
+    print "S =+s ~ 0 2 0 ~\nS =i =k 2 0 0 ~\nS =l =v 2 0 0 ~\nA " n " 0 0 1 2 0\nB ~\nA " n " 0 0 2 0 0\nB ~"
+    printf "B ="
+    for (i = 0; i < n; i++) printf "%s", le(kind == "keys" ? i : 7 * i % 10, 4)
+    printf "\nA " n " 0 0 2 0 0\nB ~\nB ="
+    for (i = 0; i < n; i++) printf "%s", le(i, 8)
+    print ""
+    exit
+  }
+  if (kind == "rows") {
+    n = int(size / 40)
+    print "S =+s ~ 0 2 0 ~\nS =i =k 2 0 0 ~\nS =+l =v 2 1 0 ~\nS =i =item 2 0 0 ~\nA " n " 0 0 1 2 0\nB ~\nA " n " 0 0 2 0 0\nB ~"
+    printf "B ="
+    for (i = 0; i < n; i++) printf "%s", le(i, 4)
+    printf "\nA " n " 0 0 2 1 0\nB ~\nB ="
+    for (i = 0; i <= n; i++) printf "%s", le(3 * i, 4)
+    printf "\nA " 3 * n " 0 0 2 0 0\nB ~\nB ="
+    for (i = 0; i < 3 * n; i++) printf "%s", le(i, 4)
+    print ""
+    exit
+  }
+  if (kind == "spread") {
+    n = int(size / 40)
+    print "S =+s ~ 0 2 0 ~\nS =i =k 2 0 0 ~\nS =i =v 2 0 0 ~\nA " 3 * n " 0 0 1 2 0\nB ~\nA " 3 * n " 0 0 2 0 0\nB ~"
+    printf "B ="
+    for (i = 0; i < n; i++) { v = le(i, 4); printf "%s", v v v }
+    printf "\nA " 3 * n " 0 0 2 0 0\nB ~\nB ="
+    for (i = 0; i < 3 * n; i++) printf "%s", le(i, 4)
     print ""
     exit
   }
