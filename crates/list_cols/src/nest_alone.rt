@@ -1,5 +1,5 @@
 //! The array of the distinct values of a column alone.
-ghost use Rattle.std.specs.Prelude.{◌≡◌, ◌⊎◌, ◌+◌, ◌<◌, ◌≤◌, ◌^◌, ◌∷◌, [], All, true, false, None, IfOk, IfErr, OnOk, MatchResult, length, map};
+ghost use Rattle.std.specs.Prelude.{◌≡◌, ◌≢◌, ◌⊎◌, ◌+◌, ◌<◌, ◌≤◌, ◌^◌, ◌∷◌, [], All, true, false, None, IfOk, IfErr, OnOk, MatchResult, length, map};
 ghost use Rattle.arr_export.specs.ArrayTrees.{IsColumn, column_tree, table_tree};
 ghost use Rattle.column_gather.specs.Gathered.{CanGatherRuns, values_at};
 ghost use Rattle.data_types.specs.Table.{Flat};
@@ -184,6 +184,7 @@ pub(crate) fn lone_table(
     ensures short { OnOk result (is_nest_too_long (length (children_of (typed_of typed.now))) column (rows_of (typed_of typed.now) array.now) ≡ false) }
     ensures fault { IfErr result (λ fault. (fault ≡ ListFault.NoMemory) ⊎ ((fault ≡ ListFault.TooLong)
         × (is_nest_too_long (length (children_of (typed_of typed.now))) column (rows_of (typed_of typed.now) array.now) ≡ true))) }
+    ensures untouched { IfErr result (λ fault. fault ≢ ListFault.NoMemory → pass.new ≡ pass.old) }
     ensures units { MatchResult result (λ made. pass.new.units + Cost made ≡ pass.old.units) (λ _. pass.new.units ≡ pass.old.units) }
     ensures left { OnOk result (pass.old.units ≤ pass.new.units + 5) }
 {

@@ -1,5 +1,5 @@
 //! The array of grouped rows.
-ghost use Rattle.std.specs.Prelude.{◌≡◌, ◌⊎◌, ◌+◌, ◌<◌, ◌≤◌, ◌≤ℤ◌, ◌^◌, true, false, pos, IfOk, IfErr, OnOk, MatchResult, length, map};
+ghost use Rattle.std.specs.Prelude.{◌≡◌, ◌≢◌, ◌⊎◌, ◌+◌, ◌<◌, ◌≤◌, ◌≤ℤ◌, ◌^◌, true, false, pos, IfOk, IfErr, OnOk, MatchResult, length, map};
 ghost use Rattle.kind_tree.specs.Kinds.{TypedOk, kind_in};
 ghost use Rattle.kind_tree.specs.TypedView.{kids_of, typed_of};
 ghost use Rattle.layout_rules.specs.Values.{rows_of, tree_items};
@@ -7,6 +7,7 @@ ghost use Rattle.raw_array.specs.Members.{Cost, members_of};
 ghost use Rattle.tree_model.specs.Tree.{IsLive, children_of};
 ghost use Rattle.row_groups.specs.Groups.{distinct};
 ghost use Rattle.unit_pass.specs.declared.pass.TheConstants.{CHUNK};
+ghost use Rattle.list_cols.specs.Faults.{most_named};
 ghost use Rattle.list_cols.specs.NestFaults.{is_nest_too_long};
 ghost use Rattle.list_cols.specs.NestedGroups.{AreRowGroups, CanNest};
 ghost use Rattle.list_cols.specs.NestedTables.{FitNested, nested_array};
@@ -112,6 +113,8 @@ pub(crate) fn nested_table(
     ensures short { OnOk result (is_nest_too_long (length (children_of (typed_of typed.now))) column (rows_of (typed_of typed.now) array.now) ≡ false) }
     ensures fault { IfErr result (λ fault. (fault ≡ ListFault.NoMemory) ⊎ ((fault ≡ ListFault.TooLong)
         × (is_nest_too_long (length (children_of (typed_of typed.now))) column (rows_of (typed_of typed.now) array.now) ≡ true))) }
+    ensures many { 1 < length (kids_of typed.now) → most_named < tree_items array.now → MatchResult result (λ _. ⊥) (λ fault. fault ≡ ListFault.TooLong) }
+    ensures untouched { IfErr result (λ fault. fault ≢ ListFault.NoMemory → pass.new ≡ pass.old) }
     ensures units { MatchResult result (λ made. pass.new.units + Cost made ≡ pass.old.units) (λ _. pass.new.units ≡ pass.old.units) }
     ensures left { OnOk result (pass.old.units ≤ pass.new.units + 6145) }
 {

@@ -1,5 +1,5 @@
 //! Rows that are grouped by the values of a column.
-ghost use Rattle.std.specs.Prelude.{◌≡◌, ◌+◌, ◌<◌, ◌≤◌, ℕ, None, Some, IfOk, IfErr, OnOk, MatchResult, length};
+ghost use Rattle.std.specs.Prelude.{◌≡◌, ◌≢◌, ◌+◌, ◌<◌, ◌≤◌, ℕ, None, Some, IfOk, IfErr, OnOk, MatchResult, length};
 ghost use Rattle.tree_model.specs.Tree.{children_of};
 ghost use Rattle.kind_tree.specs.Kinds.{TypedOk};
 ghost use Rattle.kind_tree.specs.TypedView.{typed_of};
@@ -9,12 +9,11 @@ ghost use Rattle.raw_array.specs.Members.{Cost};
 ghost use Rattle.raw_schema.specs.Members.{Nodes};
 ghost use Rattle.schema_check.specs.Schemas.{TypedOf};
 ghost use Rattle.unit_pass.specs.declared.pass.TheConstants.{CHUNK, SUPPLY};
-ghost use Rattle.list_cols.specs.Faults.{IsRefusedBy, first_wrong};
+ghost use Rattle.list_cols.specs.Faults.{IsRefusedBy, first_wrong, most_named};
 ghost use Rattle.list_cols.specs.NestFaults.{nest_fault, nests};
 ghost use Rattle.list_cols.specs.Nested.{Nest};
 ghost use Rattle.list_cols.specs.NestedFields.{nested_schema};
 ghost use Rattle.list_cols.specs.NestedTables.{nested_array, nested_type};
-ghost use Rattle.list_cols.specs.declared.fault.ListFault.TheVariants.{WrongKind};
 
 use crate::fault::ListFault;
 use crate::nest_laws::{nested_schemas_have_their_kinds, nested_tables_have_their_rows};
@@ -62,14 +61,19 @@ pub fn nest(
         ≡ Nest (length (children_of (typed_of typed.now))) column (rows_of (typed_of typed.now) array)) }
     // What was handed in comes back.
     ensures back { IfErr result (λ refused. (refused.0 ≡ schema) × (refused.1 ≡ array)) }
-    // Which fault it is, or want of memory; a column of another kind is told whatever memory there is.
+    // Which fault it is, or want of memory.
     ensures free { OnOk result (nest_fault column (typed_of typed.now) (rows_of (typed_of typed.now) array) ≡ None) }
     ensures fault { IfErr result (λ refused. IsRefusedBy (nest_fault column (typed_of typed.now) (rows_of (typed_of typed.now) array)) refused.2) }
+    // A column at fault, and more rows than a list column has items, are told whatever memory there is.
     ensures wrong { (k : ℕ) → first_wrong nests 0 (children_of (typed_of typed.now)) ≡ Some k
-        → MatchResult result (λ _. ⊥) (λ refused. refused.2 ≡ WrongKind k) }
+        → MatchResult result (λ _. ⊥) (λ refused. refused.2 ≡ ListFault.WrongKind k) }
+    ensures many { first_wrong nests 0 (children_of (typed_of typed.now)) ≡ None → 1 < length (children_of (typed_of typed.now))
+        → most_named < length (rows_of (typed_of typed.now) array) → MatchResult result (λ _. ⊥) (λ refused. refused.2 ≡ ListFault.TooLong) }
     ensures units { MatchResult result
         (λ made. pass.new.units + (Nodes made.0 + Cost made.1) ≡ pass.old.units + (Nodes schema + Cost array))
         (λ _. pass.new.units ≡ pass.old.units) }
+    // Nothing is made where one of the two faults is found.
+    ensures untouched { IfErr result (λ refused. refused.2 ≢ ListFault.NoMemory → pass.new ≡ pass.old) }
 {
     kinds_of_typed(typed);
     chunks_are_tables();

@@ -12,6 +12,7 @@ use Rattle.list_cols.specs.NestedTables.{nested_type}
 use Rattle.list_cols.proofs.Kids.{kids-are}
 use Rattle.list_cols.proofs.NestedKids.{level-live}
 use Rattle.list_cols.proofs.NestedSchemas.{all-flat, live-fields, many-fields}
+use Rattle.list_cols.proofs.NestedWhole.{many-rows}
 use Rattle.list_cols.proofs.nesting.nest.Goals as goal
 
 pub wrong_to_nest-requires : goal.wrong_to_nest-requires
@@ -39,3 +40,8 @@ returns-in-Ok-nested_schema-clause-chunk c =
     let types = map kind_in (children_of typed) in
     subst (ChunkOk (nested_type c.args.column typed)) (sym c.in-Ok.ensures.made)
     (c.nested_tables_have_their_rows.ensures.chunk c.args.column types (rows_of typed c.args.array) c.in-Ok.ensures.fits)
+
+pub returns-in-Err-clause-many : goal.returns-in-Err-clause-many
+returns-in-Err-clause-many c none wide more =
+    c.in-Err.ensures.many (omega (arith, ap length (kids-are c.args.typed.now c.kinds_of_typed.ensures), wide))
+    (omega (arith, many-rows (typed_of c.args.typed.now) c.args.array, more))
