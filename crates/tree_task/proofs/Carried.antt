@@ -21,7 +21,7 @@ use Rattle.tree_task.specs.Faults.{AtWriteFault, AtWriting, Cause, Memory, OfLen
 use Rattle.tree_task.specs.Faults.{cause_of, fault_in, is_decided, is_write_fault, is_writing}
 use Rattle.data_types.specs.Table.{Row}
 use Rattle.layout_rules.specs.Values.{rows_of}
-use Rattle.list_cols.specs.Nested.{Explode}
+use Rattle.list_cols.specs.Nested.{Explode, Nest}
 use Rattle.list_cols.specs.declared.fault.ListFault.{ListFault}
 use Rattle.run_ends.specs.RunRules.{RunsFound, runs_fault}
 use Rattle.run_ends.specs.RunSchemas.{SchemaFound as RunsSchemaFound}
@@ -30,7 +30,7 @@ use Rattle.run_ends.specs.declared.code_fault.CodeFault.{CodeFault}
 use Rattle.tree_task.specs.ChunkAnswer.{Said, said_of_chunk, said_of_kinds}
 use Rattle.tree_task.specs.FlatAnswer.{flat_of_schema, flat_unless}
 use Rattle.tree_task.specs.ForeignAnswer.{chunk_of_kinds, chunk_unless}
-use Rattle.tree_task.specs.ListsAnswer.{exploded, lines_unless, rows_unless as new_rows_unless, said_of_column}
+use Rattle.tree_task.specs.ListsAnswer.{exploded, lines_unless, nested, rows_unless as new_rows_unless, said_of_column}
 use Rattle.tree_task.specs.Over.{RanOver}
 use Rattle.tree_task.specs.Refusals.{fault_of_tree}
 use Rattle.tree_task.specs.RowsAnswer.{rows_of_kinds, rows_unless}
@@ -196,6 +196,11 @@ in-exploded : (column : ℕ) (typed : KindTree) (array : ArrayTree) → TextFaul
 in-exploded column typed array =
     in-new_rows (exploded column) (λ typed rows. in-lines (Explode column rows) _) typed array _ _ (length (children_of typed)) column
 
+in-nested : (column : ℕ) (typed : KindTree) (array : ArrayTree) → TextFaultIn (said_of_column column (nested column) typed array)
+in-nested column typed array =
+    in-new_rows (nested column) (λ typed rows. in-lines (Nest (length (children_of typed)) column rows) _) typed array _ _ (length (children_of typed))
+    column
+
 in-union : (u : UnionTree) (array : ArrayTree) (fault : Option UnionFound) → TextFaultIn (union_unless u array fault)
 in-union u array None = tt
 in-union u array (Some fault) = tt
@@ -233,6 +238,8 @@ in-trees commands.Runs schema array answer is = subst TextFaultIn (sym is.2) (in
 in-trees commands.Flat schema array answer is = subst TextFaultIn (sym is.2) (in-flat is.0 array)
 in-trees (commands.Explode column) schema array answer is =
     subst TextFaultIn (sym is.2) (in-said (said_of_column column (exploded column)) (in-exploded column) is.0 array)
+in-trees (commands.Nest column) schema array answer is =
+    subst TextFaultIn (sym is.2) (in-said (said_of_column column (nested column)) (in-nested column) is.0 array)
 
 in-read : (command : Command) (read : Result (SchemaTree × ArrayTree) TextFault) (answer : Answer) → ReadAnswer command read answer → TextFaultIn answer
 in-read command (Ok read) answer is = in-trees command read.0 read.1 answer is

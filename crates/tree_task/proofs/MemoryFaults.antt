@@ -21,7 +21,7 @@ use Rattle.root_check.specs.declared.own_schema.OwnSchemaFault.{OwnSchemaFault}
 use Rattle.root_check.specs.declared.own_schema.OwnSchemaFault.TheVariants as parts
 use Rattle.data_types.specs.Table.{Row}
 use Rattle.layout_rules.specs.Values.{rows_of}
-use Rattle.list_cols.specs.Nested.{Explode}
+use Rattle.list_cols.specs.Nested.{Explode, Nest}
 use Rattle.list_cols.specs.Faults as lists
 use Rattle.run_ends.specs.declared.code_fault.CodeFault.TheVariants as codings
 use Rattle.run_ends.specs.RunRules.{RunsFound, runs_fault}
@@ -38,7 +38,7 @@ use Rattle.tree_task.specs.Answer.{Answer, AnswerWithin, Fault, IsAnswerTo, Read
 use Rattle.tree_task.specs.ChunkAnswer.{Said, said_of_chunk, said_of_kinds}
 use Rattle.tree_task.specs.FlatAnswer.{flat_of_schema, flat_unless}
 use Rattle.tree_task.specs.ForeignAnswer.{chunk_of_kinds, chunk_unless}
-use Rattle.tree_task.specs.ListsAnswer.{exploded, lines_unless, rows_unless as new_rows_unless, said_of_column}
+use Rattle.tree_task.specs.ListsAnswer.{exploded, lines_unless, nested, rows_unless as new_rows_unless, said_of_column}
 use Rattle.tree_task.specs.Refusals.{own_part_fault, union_schema_fault}
 use Rattle.tree_task.specs.RowsAnswer.{rows_of_kinds, rows_unless}
 use Rattle.tree_task.specs.RunRefusals.{runs_part_fault, runs_schema_fault}
@@ -154,6 +154,10 @@ of-exploded : (column : ℕ) (typed : KindTree) (array : ArrayTree) → within (
 of-exploded column typed array =
     of-rows (exploded column) (λ typed rows. of-lines (Explode column rows) _ _) typed array _ _ (length (children_of typed)) column
 
+of-nested : (column : ℕ) (typed : KindTree) (array : ArrayTree) → within (said_of_column column (nested column) typed array) ≡ false
+of-nested column typed array =
+    of-rows (nested column) (λ typed rows. of-lines (Nest (length (children_of typed)) column rows) _ _) typed array _ _ (length (children_of typed)) column
+
 -- ---- unions
 
 of-meta : (metadata : Option (List ℕ)) (fault : MetaFault) → MetaRefused metadata fault → is_meta_memory fault ≡ false
@@ -238,6 +242,8 @@ of-trees commands.Runs schema array answer is = ap within is.2 ∙ of-runs schem
 of-trees commands.Flat schema array answer is = ap within is.2 ∙ of-flat schema array is.0 is.1
 of-trees (commands.Explode column) schema array answer is =
     ap within is.2 ∙ of-said (said_of_column column (exploded column)) (of-exploded column) schema array is.0 is.1
+of-trees (commands.Nest column) schema array answer is =
+    ap within is.2 ∙ of-said (said_of_column column (nested column)) (of-nested column) schema array is.0 is.1
 
 of-read : (command : Command) (bytes : List ℕ) (read : Result (SchemaTree × ArrayTree) TextFault) (answer : Answer) → Reads bytes read
     → ReadAnswer command read answer → within answer ≡ false

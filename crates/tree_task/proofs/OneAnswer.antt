@@ -16,7 +16,7 @@ use Rattle.run_ends.specs.Runs.{RunTree}
 use Rattle.tree_task.specs.ChunkAnswer.{ChunkAnswer, Said, said_of_kinds}
 use Rattle.tree_task.specs.FlatAnswer.{FlatAnswer, flat_of_schema}
 use Rattle.tree_task.specs.ForeignAnswer.{ForeignAnswer, chunk_of_kinds}
-use Rattle.tree_task.specs.ListsAnswer.{exploded, said_of_column}
+use Rattle.tree_task.specs.ListsAnswer.{exploded, nested, said_of_column}
 use Rattle.tree_task.specs.RowsAnswer.{RowsAnswer, rows_of_kinds}
 use Rattle.tree_task.specs.RunsAnswer.{RunsAnswer, runs_of_kinds}
 use Rattle.tree_task.specs.TagAnswer.{tags_of_columns}
@@ -57,6 +57,7 @@ module _ (some-reading : (bytes : List ℕ) → (read : Texts) × Reads bytes re
       let read = some-runs some-kinds some-metadata 1 schema fits in
       (flat_of_schema read.0 array, (read.0, read.1, refl))
   some-trees (commands.Explode column) schema array fits = some-chunk (said_of_column column (exploded column)) schema array fits
+  some-trees (commands.Nest column) schema array fits = some-chunk (said_of_column column (nested column)) schema array fits
 
   some-read : (command : Command) (bytes : List ℕ) (read : Texts) → Reads bytes read → (answer : Answer) × ReadAnswer command read answer
   some-read command bytes (Ok read) reads = some-trees command read.0 read.1 reads.1.schema_fits
@@ -113,6 +114,7 @@ module _ (one-text : (bytes : List ℕ) (first second : Texts) → Reads bytes f
   one-trees commands.Runs schema array one other is also = one-runs-answer schema array one other is also
   one-trees commands.Flat schema array one other is also = one-flat schema array one other is also
   one-trees (commands.Explode column) schema array one other is also = one-chunk (said_of_column column (exploded column)) schema array one other is also
+  one-trees (commands.Nest column) schema array one other is also = one-chunk (said_of_column column (nested column)) schema array one other is also
 
   one-read : (command : Command) (read : Texts) (one other : Answer) → ReadAnswer command read one → ReadAnswer command read other → one ≡ other
   one-read command (Ok read) one other is also = one-trees command read.0 read.1 one other is also

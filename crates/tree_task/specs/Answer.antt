@@ -14,7 +14,7 @@ use Rattle.union_cols.specs.Tags.{tag_blocks}
 use Rattle.tree_task.specs.Columns.{column_number}
 use Rattle.tree_task.specs.FlatAnswer.{FlatAnswer}
 use Rattle.tree_task.specs.ForeignAnswer.{ForeignAnswer}
-use Rattle.tree_task.specs.ListsAnswer.{ExplodeAnswer}
+use Rattle.tree_task.specs.ListsAnswer.{ExplodeAnswer, NestAnswer}
 use Rattle.tree_task.specs.RowsAnswer.{RowsAnswer}
 use Rattle.tree_task.specs.RunsAnswer.{RunsAnswer}
 use Rattle.tree_task.specs.TagAnswer.{TagAnswer}
@@ -38,7 +38,10 @@ command_named word =
 
 -- a command of a column with a number
 abbrev pub column_command : List ℕ → ℕ → Option Command
-column_command word column = if bytes_eq word (codes "explode") then Some (commands.Explode column) else None
+column_command word column =
+    if bytes_eq word (codes "explode") then Some (commands.Explode column)
+    else if bytes_eq word (codes "nest") then Some (commands.Nest column)
+    else None
 
 -- where the second word may be a column's number
 abbrev pub command_of_column : List ℕ → Option ℕ → Option Command
@@ -66,6 +69,7 @@ TreesAnswer commands.Foreign schema array answer = ForeignAnswer schema array an
 TreesAnswer commands.Runs schema array answer = RunsAnswer schema array answer
 TreesAnswer commands.Flat schema array answer = FlatAnswer schema array answer
 TreesAnswer (commands.Explode column) schema array answer = ExplodeAnswer column schema array answer
+TreesAnswer (commands.Nest column) schema array answer = NestAnswer column schema array answer
 
 -- to what was read of a text
 abbrev pub ReadAnswer : Command → Result (SchemaTree × ArrayTree) TextFault → Answer → Type 0
@@ -125,6 +129,7 @@ Makes commands.Foreign array old_blocks old_nodes blocks nodes = (blocks ≡ ris
 Makes commands.Runs array old_blocks old_nodes blocks nodes = Unit {0}
 Makes commands.Flat array old_blocks old_nodes blocks nodes = Unit {0}
 Makes (commands.Explode column) array old_blocks old_nodes blocks nodes = Unit {0}
+Makes (commands.Nest column) array old_blocks old_nodes blocks nodes = Unit {0}
 
 -- The counts rise by the trees of a text, a block for each buffer that is there and a node for each live node of the schema and of
 -- the array, and then by what the command makes.

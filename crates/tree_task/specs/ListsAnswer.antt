@@ -1,12 +1,14 @@
--- A line for each row of a chunk of which the lists in a column are spread out ("Arrow Columnar Format", "Variable-size List Layout"); or
--- the first fault: of the schema, of the chunk, of the number of its columns, of the number of that column, of the kinds of the columns,
--- and of how many rows and bytes there would be. It is told by the rows alone, whatever columns they are made.
+-- A line for each row of a chunk of which the lists in a column are spread out, or the rows grouped by a column ("Arrow Columnar Format",
+-- "Variable-size List Layout"); or the first fault: of the schema, of the chunk, of the number of its columns, of the number of that
+-- column, of the kinds of the columns, and of how many rows, items and bytes there would be. It is told by the rows alone, whatever columns
+-- they are made.
 use Rattle.std.specs.Prelude.{ℕ, if◌then◌else◌, List, length, map, nat_lt, Option, None, Some}
 use Rattle.data_types.specs.Table.{Row}
 use Rattle.kind_tree.specs.Kinds.{KindTree}
 use Rattle.layout_rules.specs.Values.{rows_of}
 use Rattle.list_cols.specs.Faults.{explode_fault}
-use Rattle.list_cols.specs.Nested.{Explode}
+use Rattle.list_cols.specs.NestFaults.{nest_fault}
+use Rattle.list_cols.specs.Nested.{Explode, Nest}
 use Rattle.list_cols.specs.declared.fault.ListFault.{ListFault}
 use Rattle.raw_array.specs.Members.{ArrayTree}
 use Rattle.raw_schema.specs.Members.{SchemaTree}
@@ -51,3 +53,11 @@ exploded column typed rows = lines_unless (Explode column rows) (explode_fault c
 
 abbrev pub ExplodeAnswer : ℕ → SchemaTree → ArrayTree → Answer → Type 0
 ExplodeAnswer column schema array answer = ChunkAnswer (said_of_column column (exploded column)) schema array answer
+
+-- ---- grouped
+
+abbrev pub nested : ℕ → KindTree → List Row → Answer
+nested column typed rows = lines_unless (Nest (length (children_of typed)) column rows) (nest_fault column typed rows)
+
+abbrev pub NestAnswer : ℕ → SchemaTree → ArrayTree → Answer → Type 0
+NestAnswer column schema array answer = ChunkAnswer (said_of_column column (nested column)) schema array answer

@@ -10,6 +10,7 @@ use crate::fault::TreeRunFault;
 use crate::flat::flat_text;
 use crate::foreign::foreign_text;
 use crate::lists::explode_text;
+use crate::nested::nest_text;
 use crate::rows::rows_text;
 use crate::runs::runs_text;
 use crate::tags::tag_text;
@@ -45,6 +46,7 @@ fn trees_text(
         Command::Runs => runs_text(alloc, &schema, &array),
         Command::Flat => flat_text(alloc, &schema, &array),
         Command::Explode { column } => return explode_text(alloc, schema, array, column, pass),
+        Command::Nest { column } => return nest_text(alloc, schema, array, column, pass),
     };
     schema.end(pass);
     array.end(pass);

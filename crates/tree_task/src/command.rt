@@ -24,6 +24,9 @@ pub enum Command {
     Flat,
     /// A line for each row of a chunk of which the lists in a column are spread out. Columns are counted from 0.
     Explode { column: u32 },
+    /// A line for each distinct value of a column of a chunk: the value, and of each other column the list of its values in the rows with
+    /// it.
+    Nest { column: u32 },
 }
 
 /// The command that the words after the program's name are, if they are one.
@@ -71,6 +74,9 @@ fn of_column(word: &String, number: &String) -> Option<Command>
     let column = column_number(number.as_str())?;
     if is_word(word.as_bytes(), b"explode") {
         return Some(Command::Explode { column });
+    }
+    if is_word(word.as_bytes(), b"nest") {
+        return Some(Command::Nest { column });
     }
     None
 }

@@ -48,12 +48,13 @@ pub enum TreeRunFault {
     Runs(RunsFault),
     /// A column isn't made into runs: it isn't flat, or is too long. It is never want of memory.
     Code(CodeFault),
-    /// There are more than 1,024 columns, of which the lists in one are to be spread out: their number.
+    /// There are more than 1,024 columns, by one of which rows are to be grouped or of which the lists in one are to be spread out: their
+    /// number.
     TooManyColumns { count: u64 },
     /// There is no column of this number, counted from 0.
     Column { column: u32 },
-    /// The lists of a column aren't spread out: a column is of another kind, or there would be too many rows or bytes. It is never want of
-    /// memory.
+    /// Rows aren't grouped, or the lists of a column aren't spread out: a column is of another kind, or there would be too many rows, items
+    /// or bytes. It is never want of memory.
     Lists(ListFault),
     /// Memory ran out, or the text would have more than 2^31 bytes.
     NoMemory,

@@ -11,7 +11,7 @@
 //! The answer to words and bytes stands in `specs/Answer.antt`, that of each command to two trees in a file of its own
 //! (`RowsAnswer`, `UnionAnswer`, `TagAnswer`, `ForeignAnswer`, `RunsAnswer`, `FlatAnswer`, `ListsAnswer`), what a run comes to in `specs/Over.antt`, causes and statuses in
 //! `specs/Faults.antt`. Left to others: the lines of trees (`tree_text`), the rules of schemas and arrays (`schema_check`,
-//! `layout_check`), unions (`union_cols`), runs (`run_ends`), the chunks of foreign producers (`foreign_array`), the rows whose lists are spread out (`list_cols`), the texts of values (`value_text`).
+//! `layout_check`), unions (`union_cols`), runs (`run_ends`), the chunks of foreign producers (`foreign_array`), the rows that are grouped or whose lists are spread out (`list_cols`), the texts of values (`value_text`).
 #![tactic(auto)]
 
 mod answer;
@@ -25,6 +25,7 @@ mod foreign;
 mod gathered;
 mod laws;
 mod lists;
+mod nested;
 mod outcome;
 mod rows;
 mod run_faults;
