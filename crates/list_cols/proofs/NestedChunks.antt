@@ -1,5 +1,5 @@
 -- The columns of a lawful chunk that are all of flat types.
-use Rattle.std.proofs.Common.{◌≡◌, ◌≤◌, ◌<◌, ◌+◌, ◌^◌, ℕ, zero, suc, List, [], ◌∷◌, length, map, get_or, None, refl, ap, sym, subst, arith}
+use Rattle.std.proofs.Common.{◌≡◌, ◌≤◌, ◌<◌, ◌+◌, ◌^◌, ℕ, List, length, map, get_or, None, ap, sym, subst, arith}
 use Rattle.std.proofs.lemmas.List.{get_or-map, length-map}
 use Rattle.data_types.specs.ColumnForms.{HasForm}
 use Rattle.data_types.specs.FieldText.{form_of}
@@ -8,16 +8,14 @@ use Rattle.data_types.specs.Table.{Flat}
 use Rattle.data_types.specs.Value.{Value, Null}
 use Rattle.data_types.specs.declared.kind.DataType.{DataType}
 use Rattle.data_types.specs.declared.kind.DataType.TheVariants as kinds
-use Rattle.tree_model.specs.Tree.{Released, Live, IsLive, Trees, no_trees, more_trees, tree_list, child_at, children_of, dictionary_of}
+use Rattle.tree_model.specs.Tree.{Released, IsLive, child_at, children_of, dictionary_of}
 use Rattle.raw_array.specs.Members.{ArrayTree, members_of}
 use Rattle.col_build.specs.Encoding.{Fits}
 use Rattle.kind_tree.specs.ColumnKinds.{type_of_kind}
 use Rattle.kind_tree.specs.Kinds.{KindTree, TypedOk, kind_in}
-use Rattle.layout_rules.specs.Layout.{first, layout_of}
-use Rattle.layout_rules.specs.Lawful.{ChunkHolds, ItemsHold, PartsHold, RootHolds}
-use Rattle.layout_rules.specs.Rules.{items_need}
-use Rattle.layout_rules.specs.Values.{field_items, readers, row_items, rows_of, tree_items, value_at}
-use Rattle.layout_rules.specs.Walk.{ChunkOk, LayoutOk}
+use Rattle.layout_rules.specs.Layout.{first}
+use Rattle.layout_rules.specs.Values.{row_items, rows_of, tree_items, value_at}
+use Rattle.layout_rules.specs.Walk.{LayoutOk}
 use Rattle.column_gather.specs.Gathered.{values_at}
 use Rattle.row_groups.specs.Groups.{distinct, order_of}
 use Rattle.row_groups.specs.Items.{items_from}
@@ -25,39 +23,11 @@ use Rattle.list_cols.specs.ListTrees.{FitLists}
 use Rattle.list_cols.specs.NestFaults.{nests}
 use Rattle.list_cols.specs.NestedGroups.{CanNest, grouped_lists, row_keys}
 use Rattle.list_cols.specs.NestedTables.{kind_at, lists_of}
+use Rattle.list_cols.proofs.Chunks.{ItemsLaw, PartsLaw, RootLaw, TopLaw, chunk-is, near, reaches, row-item}
 use Rattle.list_cols.proofs.Kids.{flat-dictionary, flat-form, none-wrong}
 use Rattle.list_cols.proofs.NestedRows.{all-lists, column-each, few-distinct, key-values, many-lists}
 
--- ---- the items of a row
-
-field-at : (kids : Trees DataType) (cs : List ArrayTree) (i k : ℕ) → length cs ≡ length (tree_list kids) → k < length (tree_list kids)
-    → get_or (field_items (readers kids) cs i) k Null ≡ value_at (get_or (tree_list kids) k Released) (get_or cs k Released) i
-field-at no_trees cs i k e lt = absurd (omega (arith, lt))
-field-at (more_trees kid kids) [] i k e lt = absurd (omega (arith, e))
-field-at (more_trees kid kids) (c ∷ cs) i zero e lt = refl
-field-at (more_trees kid kids) (c ∷ cs) i (suc k) e lt = field-at kids cs i k (omega (arith, e)) (omega (arith, lt))
-
-item-of : (typed : KindTree) (array : ArrayTree) → IsLive typed → IsLive array → length (children_of array) ≡ length (children_of typed) → (k i : ℕ)
-    → k < length (children_of typed)
-    → get_or (row_items typed array i) k Null ≡ value_at (child_at typed k) (child_at array k) (first (members_of array) + i)
-item-of Released array l a e k i lt = absurd l
-item-of (Live kind kids d) Released l a e k i lt = absurd a
-item-of (Live kind kids d) (Live m children dict) l a e k i lt = field-at kids (tree_list children) (first m + i) k e lt
-
--- ---- what laws there are
-
-abbrev pub RootLaw : Type 0
-RootLaw = (typed : KindTree) (array : ArrayTree) → IsLive typed → LayoutOk typed array → RootHolds typed array
-
-abbrev pub PartsLaw : Type 0
-PartsLaw = (typed : KindTree) (array : ArrayTree) → IsLive typed → LayoutOk typed array → PartsHold typed array
-
-abbrev pub ItemsLaw : Type 0
-ItemsLaw = (typed : KindTree) (array : ArrayTree) → IsLive typed → LayoutOk typed array → ItemsHold typed array
-
-abbrev pub TopLaw : Type 0
-TopLaw = (typed : KindTree) (array : ArrayTree) → IsLive typed → ChunkOk typed array → ChunkHolds typed array
-
+-- a flat type has no children
 abbrev pub FlatLaw : Type 0
 FlatLaw = (typed : KindTree) → TypedOk typed → HasForm (form_of (kind_in typed)) → dictionary_of typed ≡ None → typed ≡ type_of_kind (Flat (kind_in typed))
 
@@ -78,23 +48,18 @@ flat-live typed e = subst IsLive (sym e) tt
 pub flat-kid : RootLaw → PartsLaw → ItemsLaw → TopLaw → FlatLaw → (column : ℕ) (typed : KindTree) (array : ArrayTree) → IsLive typed
     → CanNest column typed array → (k : ℕ) → k < length (children_of typed) → TypedOk (child_at typed k) → IsFlatKid typed array k
 flat-kid roots parts items tops flats column typed array live can k lt ok =
-    let root = roots typed array live can.chunk.0 in
-    let part = parts typed array live can.chunk.0 in
-    let item = items typed array live can.chunk.0 in
-    let top = tops typed array live can.chunk in
+    let is = chunk-is roots parts items tops typed array live can.chunk in
     let good = none-wrong nests 0 (children_of typed) can.fitting k lt in
     let form = flat-form (child_at typed k) good in
     let type = flats (child_at typed k) ok form (flat-dictionary (child_at typed k) good) in
-    let there = flat-live (child_at typed k) type in
-    let need = ap (λ (kind : DataType). items_need (layout_of kind) (members_of array)) top.kind in
     record {
       type = type;
       form = form;
       kind = get_or-map kind_in (children_of typed) k Released kinds.Null lt;
-      lawful = part.kids k lt;
-      long = omega (arith, need, item.needed k there, root.many);
-      near = omega (arith, root.many, root.near);
-      item = λ i. item-of typed array live root.live root.kids k i lt;
+      lawful = is.parts.kids k lt;
+      long = reaches column typed array is can.inside k (flat-live (child_at typed k) type);
+      near = near column typed array is can.inside;
+      item = λ i. row-item column typed array is can.inside k i lt;
     }
 
 -- ---- its values, and the lists of groups

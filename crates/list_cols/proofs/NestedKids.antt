@@ -10,7 +10,7 @@ use Rattle.data_types.specs.FieldText.{form_of}
 use Rattle.data_types.specs.Table.{Flat}
 use Rattle.data_types.specs.Value.{Value, Null}
 use Rattle.data_types.specs.declared.kind.DataType.{DataType}
-use Rattle.tree_model.specs.Tree.{Released, IsLive, child_at, children_of}
+use Rattle.tree_model.specs.Tree.{Released, child_at, children_of}
 use Rattle.raw_array.specs.Members.{ArrayTree, members_of}
 use Rattle.col_build.specs.Encoding.{Fits}
 use Rattle.kind_tree.specs.ColumnKinds.{type_of_kind}
@@ -31,8 +31,9 @@ use Rattle.row_groups.specs.declared.groups.Groups.{Groups}
 use Rattle.list_cols.specs.ListTrees.{FitLists, list_tree}
 use Rattle.list_cols.specs.NestedGroups.{AreFirsts, AreGroups, AreRowGroups, CanNest, HasItems, grouped_lists, row_keys, run_at}
 use Rattle.list_cols.specs.NestedTables.{FitColumn, keys_of, kind_at, lists_of, nested_column}
-use Rattle.list_cols.proofs.Kids.{IsLevel, kid-is, kid-ok, kids-are}
-use Rattle.list_cols.proofs.NestedChunks.{FlatLaw, IsFlatKid, ItemsLaw, PartsLaw, RootLaw, TopLaw, flat-kid, kid-lists, kid-values, lists-fit}
+use Rattle.list_cols.proofs.Kids.{IsLevel, kid-is, kid-ok, kids-are, level-live}
+use Rattle.list_cols.proofs.Chunks.{ItemsLaw, PartsLaw, RootLaw, TopLaw}
+use Rattle.list_cols.proofs.NestedChunks.{FlatLaw, IsFlatKid, flat-kid, kid-lists, kid-values, lists-fit}
 use Rattle.list_cols.proofs.NestedGather.{OnceLaw, can-pick, once-fit}
 
 -- an item once of each
@@ -51,9 +52,6 @@ pub record KidIs (t kid : Typed) (array child : ArrayTree) (k : ℕ) : Type 0 wh
   pub form : HasForm (form_of (kind_of kid))
   pub inner : kind_in (typed_of kid) ≡ kind_of kid
   pub lawful : LayoutOk (typed_of kid) child
-
-pub level-live : (t : Typed) → IsLevel t → IsLive (typed_of t)
-level-live t level = subst IsLive (sym level) tt
 
 pub kid-here : (t kid : Typed) (array child : ArrayTree) (column k : ℕ) → IsLevel t → IsLevel kid → TypedOk (typed_of t) → k < length (kids_of t)
     → kid ≡ get_or (out-Typed t).kids.items k kid → child ≡ child_at array k → RootLaw → PartsLaw → ItemsLaw → TopLaw → FlatLaw

@@ -9,8 +9,7 @@ use Rattle.schema_check.specs.Schemas.{TypedOf}
 use Rattle.list_cols.specs.Faults.{first_wrong}
 use Rattle.list_cols.specs.NestFaults.{nests}
 use Rattle.list_cols.specs.NestedTables.{nested_type}
-use Rattle.list_cols.proofs.Kids.{kids-are}
-use Rattle.list_cols.proofs.NestedKids.{level-live}
+use Rattle.list_cols.proofs.Kids.{kids-are, level-live}
 use Rattle.list_cols.proofs.NestedSchemas.{all-flat, live-fields, many-fields}
 use Rattle.list_cols.proofs.NestedWhole.{many-rows}
 use Rattle.list_cols.proofs.nesting.nest.Goals as goal
