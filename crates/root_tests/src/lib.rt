@@ -6,6 +6,8 @@
 #[cfg(test)]
 mod made;
 #[cfg(test)]
+mod run_codes;
+#[cfg(test)]
 mod run_rules;
 #[cfg(test)]
 mod run_schemas;
