@@ -1,30 +1,22 @@
 -- The chunk of the next batch.
-use Rattle.std.proofs.Common.{◌≡◌, ◌≤◌, ◌+◌, ◌*◌, ◌∙◌, ℕ, ℤ, pos, zero, suc, List, [], ◌∷◌, length, drop, All, Option, None, Some, refl, sym, ap, subst, arith}
+use Rattle.std.proofs.Common.{◌≡◌, ◌≤◌, ◌+◌, ◌*◌, ◌∙◌, ℕ, zero, suc, List, [], ◌∷◌, length, drop, All, Option, None, Some, sym, ap, subst, arith}
 use Rattle.std.proofs.lemmas.List.{length-map}
-use Rattle.std.proofs.lemmas.List.Sums.{sum_by-cons}
-use Rattle.std.specs.List.{sum_by}
-use Rattle.col_build.specs.Holding.{Holds}
 use Rattle.col_build.specs.declared.builder.Builder.{Builder}
 use Rattle.csv_model.specs.Batches.{Chunks}
 use Rattle.csv_model.specs.Reading.{Record}
 use Rattle.csv_read.specs.BatchesLeft.{BatchesLeft, IsNextBatch, IsNextFault, at_end, batches_left, behind, columns_in}
-use Rattle.csv_read.specs.Body.{HoldsKind}
 use Rattle.csv_read.specs.Chunks.{chunk_blocks, chunk_of}
 use Rattle.csv_read.specs.RecordReader.{field_bytes}
 use Rattle.csv_read.specs.declared.body.BodyFault.{BodyFault}
 use Rattle.csv_read.specs.declared.body.BodyFault.TheVariants as faults
 use Rattle.data_types.specs.ColumnView.{column_of}
-use Rattle.data_types.specs.Table.{Column, Kind, Flat, Dict, Columns, Row}
-use Rattle.data_types.specs.Value.{Value}
-use Rattle.data_types.specs.declared.kind.DataType.{DataType}
+use Rattle.data_types.specs.Table.{Row}
 use Rattle.data_types.specs.declared.row_fault.RowFault.{RowFault}
 use Rattle.kind_tree.specs.ColumnKinds.{type_of_columns}
 use Rattle.layout_rules.specs.Values.{rows_of}
 use Rattle.layout_rules.specs.Walk.{ChunkOk}
 use Rattle.raw_array.specs.Members.{ArrayTree, Cost}
-use Rattle.stage_model.specs.Traffic.{Made, kind_nodes, made_nodes}
-use Rattle.stream_face.specs.Lawful.{DictsAreFull, IsChunkOf, IsTable}
-use Rattle.tree_model.specs.Tree.{IsLive, child_at}
+use Rattle.stream_face.specs.Lawful.{IsTable}
 use Rattle.unit_pass.specs.Tally.{Tally, risen}
 use Rattle.csv_chunks.specs.SourceStreams.{AreShort, no_batches}
 use Rattle.csv_source.specs.NextChunks.{EndsAt, IsNextChunk}

@@ -1,5 +1,6 @@
 -- What the source means as a stream.
 use Rattle.std.specs.Prelude.{true, not, None}
+use Rattle.std.specs.declared.io.traits.Read.{Ghosts}
 use Rattle.csv_read.specs.BatchesLeft.{batches_left, columns_in}
 use Rattle.stream_face.specs.Streams.{Stream}
 use Rattle.csv_chunks.specs.Refusals.{refusal_in, row_in, said_by}
@@ -7,7 +8,7 @@ pub use Rattle.csv_chunks.specs.SourceStreams.{chunks_traffic, no_joints, stream
 use Rattle.csv_source.specs.declared.source.CsvSource.{CsvSource}
 
 -- the batches that are left are ahead, and they end as the whole of them did at the start; a refusal stays
-abbrev pub source_state : CsvSource → Stream
+abbrev pub source_state : {B : Type 0} {row : Ghosts B} → CsvSource B row → Stream
 source_state s = record {
   columns = columns_in s.batches;
   ahead = (batches_left s.batch s.batches).chunks;

@@ -17,12 +17,13 @@ use csv_read::{
 };
 use raw_array::RawArray;
 use std::alloc::Global;
+use std::io::Read;
 use unit_pass::{CHUNK, NoMemory, Pass};
 
 /// Puts the chunk of the next `batch` records out, or of all that are left where they are fewer; none where no record is
 /// left; or tells why there is none.
-pub(crate) fn next_chunk(
-    batches: &mut BatchReader<&[u8]>,
+pub(crate) fn next_chunk<B: Read>(
+    batches: &mut BatchReader<B>,
     alloc: Global,
     batch: u64,
     spares: &mut Spares,

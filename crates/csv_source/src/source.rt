@@ -21,6 +21,7 @@ use edge_face::Gate;
 use raw_array::{Acted, RawArray};
 use raw_schema::RawSchema;
 use std::alloc::Global;
+use std::io::Read;
 use std::snapshot::Snapshot;
 use std::thread::Threads;
 use stream_face::{ArrayStream, Tap};
@@ -28,11 +29,11 @@ use unit_pass::{NoMemory, Pass};
 
 /// The records of a text behind its header, as a stream of chunks of at most so many rows. It keeps no structure between two
 /// calls. It can't be dropped.
-pub struct CsvSource<'a> {
-    batches: BatchReader<&'a [u8]>,
+pub struct CsvSource<B: Read + Drop> {
+    batches: BatchReader<B>,
     // What was to be read at the start. It has no bytes: clauses tell of it how the stream ends, also where memory ran out
     // in the middle of the text.
-    whole: Snapshot<BatchReader<&'a [u8]>>,
+    whole: Snapshot<BatchReader<B>>,
     batch: u32,
     // Room that serves for all chunks.
     spares: Spares,
@@ -47,18 +48,18 @@ pub struct CsvSource<'a> {
     ghost row: { (row : RowValue) → row_in refused ≡ Some row → ending_of batch whole.value ≡ Some row } by { Prim.hlevel (codes, faults.the_row.coded) },
 }
 
-impl<'a> CsvSource<'a> {
+impl<B: Read + Drop> CsvSource<B> {
     ghost use Rattle.csv_source.specs.Sources.{source_state, stream_of};
 
     /// Stands before the first chunk of the records that are left, which stand behind the header. A field that equals the
     /// mark is null. Each chunk has `batch` rows, and the last one those that are left.
     pub fn start(
         alloc: Global,
-        records: Records<&'a [u8]>,
+        records: Records<B>,
         columns: Vec<ColumnType>,
         mark: &[u8],
         batch: u32,
-    ) -> Result<CsvSource<'a>, NoMemory>
+    ) -> Result<CsvSource<B>, NoMemory>
         requires short { records.size ≤ 2 ^ 30 }
         // The columns are such as a header names: at least one and at most 1,024 of plain values, of types that may be asked
         // for, under names that differ.
@@ -71,7 +72,7 @@ impl<'a> CsvSource<'a> {
         requires few_rows { batch ≤ 1000000 }
         // The stream has the batches of the records.
         ensures { IfOk result (λ source. source_state source
-            ≡ stream_of (map column_of columns.items) (batches_in mark.now (map column_of columns.items) records.entry.records batch)) }
+            ≡ stream_of (map column_of columns.items) (batches_in mark.now (map column_of columns.items) records.records batch)) }
     {
         records.are_short();
         let batches = BatchReader::start(alloc, records, columns, mark)?;
@@ -88,7 +89,7 @@ impl<'a> CsvSource<'a> {
     }
 }
 
-impl<'a> ArrayStream for CsvSource<'a> {
+impl<B: Read + Drop> ArrayStream for CsvSource<B> {
     ghost use Rattle.csv_source.specs.Sources.{source_state};
 
     ghost state = { source_state };

@@ -33,7 +33,7 @@ fn source_of<'a>(
     text: &'a [u8],
     asked: &str,
     batch: u32,
-) -> CsvSource<'a>
+) -> CsvSource<&'a [u8]>
     requires short { length text.now ≤ 2 ^ 30 }
     requires some { 1 ≤ batch }
     requires few { batch ≤ 1000000 }
@@ -205,7 +205,12 @@ fn expect_column(rt: &impl Abort, column: &RawSchema, name: &[u8], format: &[u8]
 }
 
 /// Expects the schema of a column of whole numbers and one of texts.
-fn expect_schema(rt: &impl Abort, alloc: Global, source: &mut CsvSource<'_>, pass: &mut Pass) {
+fn expect_schema(
+    rt: &impl Abort,
+    alloc: Global,
+    source: &mut CsvSource<&'_ [u8]>,
+    pass: &mut Pass,
+) {
     assert!(rt; !source.is_released() && pass.units() >= ROOM);
     let _supply = pass.units();
     let mut schema = RawSchema::released();
@@ -407,10 +412,10 @@ static BATCHES: [(u32, &[Wanted<'static>]); 3] = [
 fn joint<'a>(
     rt: &impl Abort,
     alloc: Global,
-    source: CsvSource<'a>,
+    source: CsvSource<&'a [u8]>,
     link: u32,
     pass: &mut Pass,
-) -> RawStream<CsvSource<'a>>
+) -> RawStream<CsvSource<&'a [u8]>>
     requires { IsTrue (source_state source).live }
 {
     assert!(rt; pass.units() >= ROOM);
@@ -424,7 +429,7 @@ fn joint<'a>(
 fn expect_next<R: Abort + Threads + Sync>(
     rt: &R,
     alloc: Global,
-    stream: &mut RawStream<CsvSource<'_>>,
+    stream: &mut RawStream<CsvSource<&'_ [u8]>>,
     pass: &mut Pass,
     sights: &mut Sights,
     (batch, wanted): (u32, Option<i64>),
@@ -443,7 +448,7 @@ fn expect_next<R: Abort + Threads + Sync>(
 }
 
 /// Releases the stream, which keeps the schema of two columns alone, and gives it up.
-fn ended(rt: &impl Abort, stream: RawStream<CsvSource<'_>>, pass: &mut Pass) {
+fn ended(rt: &impl Abort, stream: RawStream<CsvSource<&'_ [u8]>>, pass: &mut Pass) {
     let mut stream = stream;
     assert!(rt; stream.schema().cost() == 3 && pass.units() == SUPPLY - 3);
     let first = stream.release(pass);
@@ -488,7 +493,7 @@ fn shows(rt: &impl Abort, sights: &[Sight], wanted: &[Wanted<'_>]) {
 fn expect_shown<R: Abort + Threads + Sync>(
     rt: &R,
     alloc: Global,
-    stream: &mut RawStream<CsvSource<'_>>,
+    stream: &mut RawStream<CsvSource<&'_ [u8]>>,
     pass: &mut Pass,
     batch: u32,
     wanted: &[Wanted<'_>],

@@ -46,6 +46,7 @@ pub use laws::{flat_tables_have_their_rows, keys_come_together};
 pub use nest_laws::{
     list_trees_are_lawful, nested_schemas_have_their_kinds, nested_tables_have_their_rows,
 };
+pub use nest_wrong::wrong_to_nest;
 pub use nesting::nest;
 pub use rows::exploded_rows;
 pub use wrong::wrong_to_explode;

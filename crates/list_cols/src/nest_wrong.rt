@@ -9,7 +9,7 @@ use crate::wrong::is_flat_column;
 use kind_tree::{Typed, kinds_of_typed};
 
 /// The first column that isn't of a flat column kind, or has a dictionary.
-pub(crate) fn wrong_to_nest(typed: &Typed) -> Option<u32>
+pub fn wrong_to_nest(typed: &Typed) -> Option<u32>
     requires few { length (kids_of typed.now) < 2 ^ 32 }
     ensures { result ≡ first_wrong nests 0 (children_of (typed_of typed.now)) }
 {

@@ -13,25 +13,15 @@ ghost use Rattle.run_model.specs.Outcomes.{request_of};
 ghost use Rattle.run_task.specs.Answer.{answer_of_records, input_limit};
 ghost use Rattle.run_task.specs.Begun.{IsBegun};
 
-use crate::answer::{header_columns, plan_stages, read_columns};
+use crate::answer::{header_columns, plan_stages, read_columns, shared_records};
 use csv_ahead::CsvAhead;
 use csv_read::{Records, SharedText};
 use data_types::{ColumnType, clone_columns};
 use run_model::{Request, RunFault};
 use stage_plan::Plan;
 use std::alloc::Global;
-use std::sync::Arc;
 use std::thread::Threads;
 use unit_pass::NoMemory;
-
-/// The records of a text, which goes along with them.
-fn shared_records(alloc: Global, bytes: Vec<u8>) -> Result<Records<SharedText>, NoMemory>
-    ensures records { IfOk result (λ records. records.records ≡ records_of bytes.items) }
-    ensures size { IfOk result (λ records. records.size ≤ length bytes.items) }
-{
-    let bytes = Arc::new(alloc, bytes)?;
-    Records::start_shared(alloc, bytes)
-}
 
 /// The records behind a header as a stream of chunks of the columns that a plan reads, so many of which a round reads ahead.
 fn source_ahead<'a, R: Threads>(

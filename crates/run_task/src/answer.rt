@@ -21,7 +21,7 @@ ghost use Rattle.run_task.specs.Begun.{IsBegun};
 ghost use Rattle.run_task.specs.Traffic.{LinksTraffic, links_of};
 
 use crate::ahead::begin_ahead;
-use csv_read::{Records, read_header};
+use csv_read::{Records, SharedText, read_header};
 use csv_source::CsvSource;
 use data_types::{ColumnType, RowFault, clone_columns};
 use edge_face::Gate;
@@ -29,15 +29,24 @@ use run_model::{Request, RunFault};
 use stage_chain::{DriveFault, StepOf, drive_by};
 use stage_plan::{Plan, StageText, TypeEntry, type_plan};
 use std::alloc::Global;
-use std::io::Read;
+use std::sync::Arc;
 use std::thread::Threads;
 use stream_face::{ArrayStream, Tap};
 use unit_pass::{NoMemory, Pass, ROOM, SUPPLY};
 
+/// The records of a text, which goes along with them.
+pub(crate) fn shared_records(alloc: Global, bytes: Vec<u8>) -> Result<Records<SharedText>, NoMemory>
+    ensures records { IfOk result (λ records. records.records ≡ records_of bytes.items) }
+    ensures size { IfOk result (λ records. records.size ≤ length bytes.items) }
+{
+    let bytes = Arc::new(alloc, bytes)?;
+    Records::start_shared(alloc, bytes)
+}
+
 /// The columns that the header of a text names, or why it is refused. The records behind it are left.
-pub(crate) fn header_columns<B: Read>(
+pub(crate) fn header_columns(
     alloc: Global,
-    records: &mut Records<B>,
+    records: &mut Records<SharedText>,
     entries: &[TypeEntry],
 ) -> Result<Vec<ColumnType>, RunFault>
     requires proper { All (λ e. KindOk e.kind) entries.now }
@@ -91,13 +100,13 @@ pub(crate) fn read_columns(plan: &Plan) -> &[ColumnType]
 }
 
 /// The records behind a header as a stream of chunks of the columns that a plan reads.
-fn source_of<'a>(
+fn source_of(
     alloc: Global,
-    records: Records<&'a [u8]>,
+    records: Records<SharedText>,
     columns: &[ColumnType],
     batch: u32,
     mark: &[u8],
-) -> Result<CsvSource<'a>, NoMemory>
+) -> Result<CsvSource<SharedText>, NoMemory>
     requires short { records.size ≤ 2 ^ 30 }
     requires some { 1 ≤ length columns.now }
     requires few { length columns.now ≤ most_columns }
@@ -107,7 +116,7 @@ fn source_of<'a>(
     requires some_rows { 1 ≤ batch }
     requires few_rows { batch ≤ 1000000 }
     ensures { IfOk result (λ source. source_state source
-        ≡ stream_of (map column_of columns.now) (batches_in mark.now (map column_of columns.now) records.entry.records batch)) }
+        ≡ stream_of (map column_of columns.now) (batches_in mark.now (map column_of columns.now) records.records batch)) }
 {
     let columns = clone_columns(alloc, columns)?;
     CsvSource::start(alloc, records, columns, mark, batch)
@@ -126,24 +135,24 @@ fn run_fault(fault: DriveFault) -> RunFault
 
 /// The records behind the header of a text as a stream, and what the stages are over its columns; or the first fault: of the
 /// header, of the stages.
-fn begin<'a>(
+fn begin(
     alloc: Global,
-    bytes: &'a [u8],
+    bytes: Vec<u8>,
     request: &Request,
-) -> Result<(CsvSource<'a>, Plan), RunFault>
-    requires short { length bytes.now ≤ input_limit }
+) -> Result<(CsvSource<SharedText>, Plan), RunFault>
+    requires short { length bytes.items ≤ input_limit }
     requires proper { All (λ e. KindOk e.kind) request.now.entries.items }
     requires allowed { All (λ e. IsAllowed e.kind) request.now.entries.items }
     requires few { length request.now.stages.items ≤ 16 }
     requires some_rows { 1 ≤ request.now.batch }
     requires few_rows { request.now.batch ≤ 1000000 }
-    ensures begun { IfOk result (λ made. IsBegun (request_of request.now) (records_of bytes.now) (source_state made.0) made.1) }
+    ensures begun { IfOk result (λ made. IsBegun (request_of request.now) (records_of bytes.items) (source_state made.0) made.1) }
     ensures few { IfOk result (λ made. length made.1.steps.items ≤ 16) }
     ensures fault { IfErr result
-        (λ fault. (fault ≡ RunFault.NoMemory) ⊎ (answer_of_records (request_of request.now) (records_of bytes.now) ≡ Fault fault)) }
+        (λ fault. (fault ≡ RunFault.NoMemory) ⊎ (answer_of_records (request_of request.now) (records_of bytes.items) ≡ Fault fault)) }
 {
     let mark = request.mark.as_slice();
-    let mut records = Records::start(alloc, bytes)?;
+    let mut records = shared_records(alloc, bytes)?;
     let columns = match header_columns(alloc, &mut records, request.entries.as_slice()) {
         Ok(columns) => columns,
         Err(fault) => return Err(fault),
@@ -223,7 +232,7 @@ pub(crate) fn answer_input<W: StepOf, R: Threads + Sync, T: Tap>(
 {
     match request.ahead {
         None => {
-            let (source, plan) = begin(alloc, &bytes, request)?;
+            let (source, plan) = begin(alloc, bytes, request)?;
             answer_begun::<W, _, _, _>(rt, alloc, source, plan, request, pass, tap, gate)
         }
         Some(ahead) => {

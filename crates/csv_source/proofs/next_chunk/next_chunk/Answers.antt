@@ -1,5 +1,5 @@
 use Rattle.std.proofs.lemmas.Grind.{common_steps}
-use Rattle.std.proofs.Common.{Ok, ◌≡◌, ◌≤◌, ◌+◌, ◌*◌, ◌∙◌, ℕ, List, length, map, ap, arith, refl, sym, subst}
+use Rattle.std.proofs.Common.{Ok, ◌≡◌, ◌≤◌, ◌+◌, ◌*◌, ◌∙◌, List, length, map, ap, arith, refl, sym, subst}
 use Rattle.std.proofs.lemmas.Int.{ints}
 use Rattle.csv_model.specs.Batches.{Chunks}
 use Rattle.col_build.specs.declared.builder.Builder.{Builder}
@@ -17,7 +17,7 @@ use Rattle.csv_chunks.proofs.PlainKinds.{plain-columns}
 use Rattle.csv_source.proofs.next_chunk.next_chunk.Goals as goal
 
 pub returns-in-Ok : goal.returns-in-Ok
-returns-in-Ok c =
+returns-in-Ok g c =
     let batches = c.args.batches.now in
     let read = c.next.new.self in
     let new = c.export.new.self in
@@ -64,7 +64,7 @@ returns-in-Ok c =
     }
 
 pub returns-in-Err-export : goal.returns-in-Err-export
-returns-in-Err-export c =
+returns-in-Err-export g c =
     let read = c.next.new.self in
     let found : IsNextBatch c.args.batch read.builders c.args.batches.now read = c.next.ensures.batch (c.in-Ok-true.is ∙ ap Ok c.in-Ok-true.field-0-test) in
     record {
@@ -83,7 +83,7 @@ returns-in-Err-export c =
     }
 
 pub returns-in-Ok-false : goal.returns-in-Ok-false
-returns-in-Ok-false c =
+returns-in-Ok-false g c =
     record {
       columns = c.next.ensures.columns;
       chunk = grind (arith, common_steps);
@@ -99,7 +99,7 @@ returns-in-Ok-false c =
     }
 
 pub returns-in-Err : goal.returns-in-Err
-returns-in-Err c =
+returns-in-Err g c =
     record {
       columns = c.next.ensures.columns;
       chunk = tt;
@@ -115,14 +115,14 @@ returns-in-Err c =
     }
 
 pub count_rows-rows-requires : goal.count_rows-rows-requires
-count_rows-rows-requires c =
+count_rows-rows-requires g c =
     record {
       some = grind (arith, common_steps);
       held = grind (arith, common_steps);
     }
 
 pub export-requires : goal.export-requires
-export-requires c =
+export-requires g c =
     record {
       held = grind (arith, common_steps);
       few = grind (arith, common_steps);

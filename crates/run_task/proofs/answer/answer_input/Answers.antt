@@ -1,9 +1,5 @@
-use Rattle.std.proofs.Common.{subst}
 use Rattle.csv_model.specs.Reading.{records_of}
-use Rattle.csv_source.specs.Sources.{source_state}
-use Rattle.run_model.specs.Outcomes.{request_of}
 use Rattle.stage_chain.proofs.Chaining.{shows-nothing, whatever}
-use Rattle.run_task.specs.Begun.{IsBegun}
 use Rattle.run_task.proofs.answer.answer_input.Goals as goal
 
 -- ---- without a thread
@@ -11,14 +7,12 @@ pub returns-in_err-source-in-None-clause-shows_some : goal.returns-in_err-source
 returns-in_err-source-in-None-clause-shows_some g c = whatever c.from_residual.result (shows-nothing _ _)
 
 pub answer_begun-requires-clause-begun : goal.answer_begun-requires-clause-begun
-answer_begun-requires-clause-begun g c = λ _ _. (records_of c.deref.result.now, c.in_ok-source-in-None.ensures.begun)
+answer_begun-requires-clause-begun g c = λ _ _. (records_of c.args.bytes.items, c.in_ok-source-in-None.ensures.begun)
 
 pub returns-in_ok-source-in-None : goal.returns-in_ok-source-in-None
 returns-in_ok-source-in-None g c =
     let records = records_of c.args.bytes.items in
-    let begun =
-    subst (λ bytes. IsBegun (request_of c.args.request.now) (records_of bytes) (source_state c.in_ok-source-in-None.source) c.in_ok-source-in-None.plan)
-    c.deref.ensures.value c.in_ok-source-in-None.ensures.begun in
+    let begun = c.in_ok-source-in-None.ensures.begun in
     record {
       text = c.answer_begun.ensures.text records begun;
       fault = c.answer_begun.ensures.fault records begun;

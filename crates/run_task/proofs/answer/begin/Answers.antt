@@ -13,7 +13,7 @@ use Rattle.run_task.proofs.answer.begin.Goals as goal
 -- ---- the header
 pub returns-in-Err-clause-fault : goal.returns-in-Err-clause-fault
 returns-in-Err-clause-fault c =
-    told-here c.in-Err.fault (request_of c.args.request.now) c.as_slice.result.now c.in_ok-records.records.records (records_of c.args.bytes.now)
+    told-here c.in-Err.fault (request_of c.args.request.now) c.as_slice.result.now c.in_ok-records.records.records (records_of c.args.bytes.items)
     c.in-Err.ensures.fault c.as_slice.ensures.value c.in_ok-records.ensures.records
 
 -- ---- what the source asks for
@@ -27,7 +27,7 @@ source_of-requires-clause-allowed c = subst AreAllowed (sym (c.read_columns.ensu
 pub returns-clause-begun : goal.returns-clause-begun
 returns-clause-begun c =
     let request = request_of c.args.request.now in
-    let records = records_of c.args.bytes.now in
+    let records = records_of c.args.bytes.items in
     let cols = map column_of c.in-Ok.columns.items in
     record {
       columns = cols;

@@ -8,7 +8,7 @@ use Rattle.csv_chunks.proofs.Tables.{left-lawful}
 use Rattle.csv_source.proofs.source.CsvSourceArrayStream.lawful_facts.Goals as goal
 
 pub returns-clause-columns : goal.returns-clause-columns
-returns-clause-columns c = λ _.
+returns-clause-columns g c = λ _.
     let source = c.args.self.now in
     let columns = map column_of source.batches.columns in
     let plain = plain-columns columns c.columns-columns.ensures.proper c.columns-columns.ensures.allowed in
@@ -25,7 +25,7 @@ returns-clause-columns c = λ _.
     }
 
 pub returns-clause-tables : goal.returns-clause-tables
-returns-clause-tables c = λ _.
+returns-clause-tables g c = λ _.
     let source = c.args.self.now in
     let columns = map column_of source.batches.columns in
     left-lawful source.batch source.batches (plain-columns columns c.columns-columns.ensures.proper c.columns-columns.ensures.allowed) source.short
