@@ -1,4 +1,4 @@
-//! Columns of many items, each added by the call for its form, or every eighth by that for any.
+//! Columns of many items, each added by the call for its form, or every eighth by that for any; or many times by one call.
 ghost use Rattle.std.specs.Prelude.{◌≡◌, ◌≤◌, ◌<◌, ◌^◌, [], List, length, OnOk};
 ghost use Rattle.data_types.specs.FieldText.{form_of};
 ghost use Rattle.data_types.specs.Kinds.{KindOk};
@@ -10,6 +10,7 @@ ghost use Rattle.unit_pass.specs.declared.pass.TheConstants.{SUPPLY};
 
 use crate::columns::{item_of, tell_finished};
 use crate::subject::{no_memory, text_of};
+use crate::times::take_words;
 use crate::told::Told;
 use col_build::{Builder, Item, PushFault};
 use data_types::{DataType, Storage, clone_kind, is_flat, storage_of};
@@ -71,7 +72,7 @@ fn add_item(
 }
 
 /// A case whose items aren't all taken.
-fn no_case() -> Error {
+pub(crate) fn no_case() -> Error {
     Error::from(ErrorKind::InvalidInput)
 }
 
@@ -174,6 +175,56 @@ pub(crate) fn tell_added(alloc: Global, words: &[Vec<u8>], told: &mut Told) -> i
     let (room, count) = (number_of(room.as_slice()), number_of(count.as_slice()));
     let (desk, mut pass) = open_desk();
     let came = tell_round(alloc, kind, room, count, items, told, &mut pass);
+    let audit = desk.close(pass);
+    came?;
+    Ok(told.made(alloc, &audit)?)
+}
+
+/// Tells a column of items that are each added so many times.
+fn tell_repeated(
+    alloc: Global,
+    kind: DataType,
+    times: usize,
+    words: &[Vec<u8>],
+    told: &mut Told,
+    pass: &mut Pass,
+) -> io::Result<()>
+    requires kind { KindOk kind }
+    requires flat { HasForm (form_of kind) }
+    requires words { length words.now ≤ 1000 }
+    requires few { times ≤ 100000 }
+    requires units { pass.old.units ≡ SUPPLY }
+    ensures { pass.new.units ≡ SUPPLY }
+{
+    let Ok(second) = clone_kind(alloc, &kind) else {
+        return Err(no_memory());
+    };
+    let mut pushed = Builder::new(alloc, kind);
+    let mut added = Builder::new(alloc, second);
+    match take_words(&mut pushed, &mut added, words, times) {
+        Ok(()) => tell_finished(alloc, added, true, told, pass),
+        Err(error) if error.kind() == ErrorKind::InvalidInput => {
+            Ok(told.fault(alloc, "an item isn't taken")?)
+        }
+        Err(error) => Err(error),
+    }
+}
+
+/// `times FORMAT COUNT ITEM..`: a column to which each of these items is added so many times by one call.
+pub(crate) fn tell_times(alloc: Global, words: &[Vec<u8>], told: &mut Told) -> io::Result<()> {
+    let [format, count, items @ ..] = words else {
+        return Ok(told.fault(alloc, "a format, a count and items")?);
+    };
+    let kind = match read_format(alloc, format.as_slice()) {
+        Ok(kind) => kind,
+        Err(fault) => return Ok(told.fault(alloc, fault.to_string(alloc)?.as_str())?),
+    };
+    if !is_flat(&kind) || items.len() > 1000 {
+        return Ok(told.fault(alloc, "not flat, or too many items")?);
+    }
+    let times = number_of(count.as_slice());
+    let (desk, mut pass) = open_desk();
+    let came = tell_repeated(alloc, kind, times, items, told, &mut pass);
     let audit = desk.close(pass);
     came?;
     Ok(told.made(alloc, &audit)?)

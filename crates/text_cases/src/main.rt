@@ -17,6 +17,7 @@ mod metadata;
 mod spellings;
 mod stages;
 mod subject;
+mod times;
 mod told;
 mod trees;
 mod ways;

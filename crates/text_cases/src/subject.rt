@@ -1,5 +1,5 @@
 //! What a case calls, by the first word of its `$` line.
-use crate::added::tell_added;
+use crate::added::{tell_added, tell_times};
 use crate::columns::{tell_column_of, tell_made, tell_utf8};
 use crate::commands::tell_words;
 use crate::formats::{tell_flat, tell_format, tell_hex, tell_storage, tell_type};
@@ -50,6 +50,7 @@ pub(crate) fn run_subject(
         "words" => tell_words(alloc, words, told),
         "column" => tell_column_of(alloc, first, words.get(1..).unwrap_or(&[]), told),
         "added" => tell_added(alloc, words, told),
+        "times" => tell_times(alloc, words, told),
         "utf8" => tell_utf8(alloc, first, told),
         "made" => tell_made(alloc, first, told),
         "tree" => tell_tree(alloc, input, Asked::Report, told),
