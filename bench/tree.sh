@@ -15,7 +15,14 @@ exec awk -v size="$bytes" -v kind="$kind" '
 function le(n, k,   i, s) { s = ""; for (i = 0; i < k; i++) { s = s sprintf("%02x", n % 256); n = int(n / 256) } return s }
 function token(b) { return b > 32 && b < 127 && b != 37 ? sprintf("%c", b) : sprintf("%%%02X", b) }
 function escaped(n, k,   i, s) { s = ""; for (i = 0; i < k; i++) { s = s token(n % 256); n = int(n / 256) } return s }
+# A column without nulls: so many numbers of k bytes, each so often, from the first on, a step apart, modulo a number.
+function wholes(n, k, times, first, step, modulus,   i, j, v) {
+  printf "A " n * times " 0 0 2 0 0\nB ~\nB ="
+  for (i = 0; i < n; i++) { v = le((first + step * i) % modulus, k); for (j = 0; j < times; j++) printf "%s", v }
+  print ""
+}
 BEGIN {
+  all = 2 ^ 40
   print "tree 1"
   if (kind == "text") {
     n = int(size / 20)
@@ -68,58 +75,45 @@ BEGIN {
     exit
   }
   if (kind == "numbers") {
-    n = int(size / 8)
-    printf "S =i ~ 0 0 0 ~\nA " n " 0 0 2 0 0\nB ~\nB ="
-    for (i = 0; i < n; i++) printf "%s", le(7 * i % 1000, 4)
-    print ""
+    print "S =i ~ 0 0 0 ~"
+    wholes(int(size / 8), 4, 1, 0, 7, 1000)
     exit
   }
   if (kind == "runs") {
     n = int(size / 16)
-    printf "S =+r ~ 0 2 0 ~\nS =i =run_ends 0 0 0 ~\nS =i =values 2 0 0 ~\nA " 100 * n " 0 0 0 2 0\nA " n " 0 0 2 0 0\nB ~\nB ="
-    for (i = 1; i <= n; i++) printf "%s", le(100 * i, 4)
-    printf "\nA " n " 0 0 2 0 0\nB ~\nB ="
-    for (i = 0; i < n; i++) printf "%s", le(7 * i % 1000, 4)
-    print ""
+    print "S =+r ~ 0 2 0 ~\nS =i =run_ends 0 0 0 ~\nS =i =values 2 0 0 ~\nA " 100 * n " 0 0 0 2 0"
+    wholes(n, 4, 1, 100, 100, all)
+    wholes(n, 4, 1, 0, 7, 1000)
     exit
   }
   if (kind == "decoded") {
-    n = int(size / 16)
-    printf "S =i ~ 0 0 0 ~\nA " 100 * n " 0 0 2 0 0\nB ~\nB ="
-    for (i = 0; i < n; i++) { v = le(7 * i % 1000, 4); for (k = 0; k < 100; k++) printf "%s", v }
-    print ""
+    print "S =i ~ 0 0 0 ~"
+    wholes(int(size / 16), 4, 100, 0, 7, 1000)
     exit
   }
   if (kind == "keys" || kind == "ten") {
     n = int(size / 24)
-    print "S =+s ~ 0 2 0 ~\nS =i =k 2 0 0 ~\nS =l =v 2 0 0 ~\nA " n " 0 0 1 2 0\nB ~\nA " n " 0 0 2 0 0\nB ~"
-    printf "B ="
-    for (i = 0; i < n; i++) printf "%s", le(kind == "keys" ? i : 7 * i % 10, 4)
-    printf "\nA " n " 0 0 2 0 0\nB ~\nB ="
-    for (i = 0; i < n; i++) printf "%s", le(i, 8)
-    print ""
+    print "S =+s ~ 0 2 0 ~\nS =i =k 2 0 0 ~\nS =l =v 2 0 0 ~\nA " n " 0 0 1 2 0\nB ~"
+    if (kind == "keys") wholes(n, 4, 1, 0, 1, all)
+    else wholes(n, 4, 1, 0, 7, 10)
+    wholes(n, 8, 1, 0, 1, all)
     exit
   }
   if (kind == "rows") {
     n = int(size / 40)
-    print "S =+s ~ 0 2 0 ~\nS =i =k 2 0 0 ~\nS =+l =v 2 1 0 ~\nS =i =item 2 0 0 ~\nA " n " 0 0 1 2 0\nB ~\nA " n " 0 0 2 0 0\nB ~"
-    printf "B ="
-    for (i = 0; i < n; i++) printf "%s", le(i, 4)
-    printf "\nA " n " 0 0 2 1 0\nB ~\nB ="
+    print "S =+s ~ 0 2 0 ~\nS =i =k 2 0 0 ~\nS =+l =v 2 1 0 ~\nS =i =item 2 0 0 ~\nA " n " 0 0 1 2 0\nB ~"
+    wholes(n, 4, 1, 0, 1, all)
+    printf "A " n " 0 0 2 1 0\nB ~\nB ="
     for (i = 0; i <= n; i++) printf "%s", le(3 * i, 4)
-    printf "\nA " 3 * n " 0 0 2 0 0\nB ~\nB ="
-    for (i = 0; i < 3 * n; i++) printf "%s", le(i, 4)
     print ""
+    wholes(3 * n, 4, 1, 0, 1, all)
     exit
   }
   if (kind == "spread") {
     n = int(size / 40)
-    print "S =+s ~ 0 2 0 ~\nS =i =k 2 0 0 ~\nS =i =v 2 0 0 ~\nA " 3 * n " 0 0 1 2 0\nB ~\nA " 3 * n " 0 0 2 0 0\nB ~"
-    printf "B ="
-    for (i = 0; i < n; i++) { v = le(i, 4); printf "%s", v v v }
-    printf "\nA " 3 * n " 0 0 2 0 0\nB ~\nB ="
-    for (i = 0; i < 3 * n; i++) printf "%s", le(i, 4)
-    print ""
+    print "S =+s ~ 0 2 0 ~\nS =i =k 2 0 0 ~\nS =i =v 2 0 0 ~\nA " 3 * n " 0 0 1 2 0\nB ~"
+    wholes(n, 4, 3, 0, 1, all)
+    wholes(3 * n, 4, 1, 0, 1, all)
     exit
   }
   if (kind != "pairs") exit 2
