@@ -32,7 +32,7 @@ module _ {I : Type 0} where
   round_done n most coming sent before sent' after r less none =
       record { pushed = r.pushed; left = r.left; from = r.from; goes = r.goes; few = omega (arith, r.few, less); ends = r.ends.1 ∙ none }
 
-  -- memory was wanting
+  -- memory ran out
   pub round_refused : (n most : ℕ) (coming sent before sent' after : List I) → IsRound n ending.Full coming sent before sent' → n ≤ most
       → IsRound most ending.NoMemory coming sent after sent'
   round_refused n most coming sent before sent' after r less =

@@ -10,24 +10,24 @@ use Rattle.ahead_ring.specs.declared.round.Ending.{Ending}
 use Rattle.ahead_ring.specs.declared.round.Ending.TheVariants as ending
 
 -- what a maker answers, by what was to come before the call and is to come after it: the first item, which leaves; or that there
--- is none. Where memory is wanting nothing is said
+-- is none. Where memory runs out nothing is said
 abbrev pub Makes : {I : Type 0} → Given I → List I → List I → Type 0
 Makes (given.Item x) before after = before ≡ x ∷ after
 Makes given.Done before after = (before ≡ []) × (after ≡ [])
 Makes given.NoMemory before after = Unit {0}
 
--- what contracts see of an `Ahead`: the items that are still to come, and whether a want of memory is all that it will answer
+-- what contracts see of an `Ahead`: the items that are still to come, and whether out of memory is all that it will answer
 pub record Coming (I : Type 0) : Type 0 where
   pub coming : List I
   pub refused : Bool
 
--- what an `Ahead` answers: the first item that is to come, which leaves; that there is none; or a want of memory, which stays
+-- what an `Ahead` answers: the first item that is to come, which leaves; that there is none; or that memory ran out, which stays
 abbrev pub Gives : {I : Type 0} → Given I → Coming I → Coming I → Type 0
 Gives (given.Item x) before after = before.coming ≡ x ∷ after.coming
 Gives given.Done before after = (before.coming ≡ []) × (after.coming ≡ [])
 Gives given.NoMemory before after = after.refused ≡ true
 
--- no item is known, and memory was wanting for the next
+-- no item is known, and memory ran out for the next
 abbrev pub is_refused : {I : Type 0} → List I → Ending → Bool
 is_refused [] ending.NoMemory = true
 is_refused [] ending.Done = false

@@ -22,7 +22,7 @@ where
     rt: R,
     consumer: Consumer<M::Item>,
     rounds: Rounds<M>,
-    // The maker as it was at the start. It has no bytes: clauses tell by it which items are to come, also where memory was wanting.
+    // The maker as it was at the start. It has no bytes: clauses tell by it which items are to come, also where memory ran out.
     whole: Snapshot<M>,
     // How many items a round has at most.
     most: usize,
@@ -59,10 +59,10 @@ where
     M::Item: Send + 'static,
 {
     /// Makes the ring, with places for twice `ahead` items, and keeps the runtime. Nothing is made yet: the first call of
-    /// [`next`](Ahead::next) runs the first round in its caller's thread. `NoMemory` comes for want of memory alone, and the maker is
-    /// dropped then.
+    /// [`next`](Ahead::next) runs the first round in its caller's thread. `NoMemory` comes only where memory runs out, and the maker
+    /// is dropped then.
     pub fn start(alloc: Global, rt: R, maker: M, ahead: u32) -> Result<Ahead<R, M>, NoMemory>
-        requires { (1 ≤ ahead) × (ahead ≤ 64) }
+        requires { 1 ≤ ahead }
         ensures { IfOk result (λ made. made.coming ≡ M.coming maker) }
     {
         let most = ahead as usize;
@@ -83,7 +83,7 @@ where
     }
 
     /// The first of the items that are to come, which leaves them, or `Done` exactly where none is. `NoMemory` comes where the maker
-    /// wanted memory, behind all items that it made before, and stays.
+    /// ran out of memory, behind all items that it made before, and stays.
     ///
     /// It takes an item that is known to be in the ring. Where none is, it waits for the end of the round that runs, and starts the
     /// next one, unless the maker has answered `Done` or `NoMemory`. Where no thread can be started it runs the round itself.

@@ -12,13 +12,13 @@ use std::thread::{Promise, PromisedHandle, Threads};
 
 /// What the thread of a round promises of what it gives back. It has no bytes but the number.
 #[derive(Drop)]
-pub(crate) struct Pushed<M: Maker + Drop> {
+pub(crate) struct RoundPromise<M: Maker + Drop> {
     pub(crate) maker: Snapshot<M>,
     pub(crate) producer: Snapshot<Producer<M::Item>>,
     pub(crate) most: usize,
 }
 
-impl<M: Maker + Drop> Promise<Back<M>> for Pushed<M> {
+impl<M: Maker + Drop> Promise<Back<M>> for RoundPromise<M> {
     ghost kept_by = { λ p b. IsRound p.most b.ending (M.coming p.maker.value) (sent p.producer.value) (M.coming b.maker) (sent b.producer)
         × SameProducer p.producer.value b.producer };
 }
@@ -29,7 +29,7 @@ pub(crate) struct Flight<M: Maker + Send + Drop + 'static>
 where
     M::Item: Send + 'static,
 {
-    pub(crate) child: PromisedHandle<Back<M>, Pushed<M>>,
+    pub(crate) child: PromisedHandle<Back<M>, RoundPromise<M>>,
 }
 
 impl<M: Maker + Send + Drop + 'static> Flight<M>
@@ -50,7 +50,7 @@ where
         ensures pushed { IfErr result (λ b. IsRound most b.ending (M.coming maker) (sent producer) (M.coming b.maker) (sent b.producer)) }
         ensures ring { IfErr result (λ b. SameProducer producer b.producer) }
     {
-        let promise = Pushed {
+        let promise = RoundPromise {
             maker: Snapshot::of(&maker),
             producer: Snapshot::of(&producer),
             most,

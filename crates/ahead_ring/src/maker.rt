@@ -9,7 +9,7 @@ pub enum Given<I> {
     Item(I),
     /// No item is left.
     Done,
-    /// Memory was wanting.
+    /// Memory ran out.
     NoMemory,
 }
 
@@ -21,8 +21,8 @@ pub trait Maker {
     /// The items that are still to come.
     ghost coming: { Self → List Self.Item };
 
-    /// Gives the first of the items that are to come, which leaves them, or `Done` exactly where none is. `NoMemory` comes for want
-    /// of memory alone, and says nothing of what is to come then: no item of a call behind it counts.
+    /// Gives the first of the items that are to come, which leaves them, or `Done` exactly where none is. `NoMemory` comes only
+    /// where memory runs out, and says nothing of what is to come then: no item of a call behind it counts.
     fn make(&mut self) -> Given<Self::Item>
         ensures { Makes result (coming self.old) (coming self.new) };
 }

@@ -1,4 +1,4 @@
-//! A round: at most so many items made and pushed.
+//! A round: at most this many items made and pushed.
 ghost use Rattle.std.specs.Prelude.{◌≤◌};
 ghost use Rattle.rtrb.specs.Ring.{sent, known_free, SameProducer};
 ghost use Rattle.ahead_ring.specs.Coming.{IsRound};
@@ -6,7 +6,7 @@ ghost use Rattle.ahead_ring.specs.Coming.{IsRound};
 use crate::maker::{Given, Maker};
 use rtrb::Producer;
 
-/// Why a round ended: it was full, no item was left, or memory was wanting.
+/// Why a round ended: it was full, no item was left, or memory ran out.
 #[derive(Clone, Copy)]
 pub(crate) enum Ending {
     Full,

@@ -17,7 +17,7 @@ struct Signals {
     seen: AtomicU64,
 }
 
-/// Whether this is raised at one of so many looks.
+/// Whether this is raised at one of this many looks.
 fn is_raised(signal: &AtomicU64) -> bool {
     for _ in 0..1_000_000 {
         if signal.load(Ordering::SeqCst) == 1 {
@@ -76,7 +76,7 @@ fn new_signals(alloc: Global) -> Result<Arc<Signals>, Fail> {
     )?)
 }
 
-/// An item as a number; 0 where none is left, 1 where memory was wanting.
+/// An item as a number; 0 where none is left, 1 where memory ran out.
 fn number_of(given: Given<u64>) -> u64 {
     match given {
         Given::Item(number) => number,
@@ -131,7 +131,7 @@ fn an_ahead_may_be_closed_at_any_item(rt: HostRuntime) -> Result<(), Fail> {
     Ok(())
 }
 
-/// Gives so many sevens, and wants memory for one more.
+/// Gives this many sevens, and runs out of memory for one more.
 #[derive(Drop)]
 struct Sevens {
     left: u64,

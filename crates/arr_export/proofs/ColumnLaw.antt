@@ -8,10 +8,10 @@ use Rattle.tree_model.specs.Tree.{Live, absent, no_trees}
 use Rattle.data_types.specs.Value.{Value, Null, Truth}
 use Rattle.data_types.specs.declared.kind.DataType.{DataType}
 use Rattle.col_build.specs.Encoding.{Fits, is_null, null_total}
-use Rattle.kind_tree.specs.Kinds.{KindTree}
+use Rattle.data_types.specs.KindTrees.{KindTree}
 use Rattle.layout_rules.specs.Rules.{count_wrong, indices_wrong, length_if, one_if}
 use Rattle.layout_rules.specs.Values.{item, value_at, values_of}
-use Rattle.kind_tree.specs.Ways.{Steps}
+use Rattle.data_types.specs.Ways.{Steps}
 use Rattle.layout_rules.specs.Walk.{LayoutOk, node_fault, visit_fault}
 use Rattle.arr_export.specs.ArrayTrees.{column_members, column_tree, flat_type}
 use Rattle.arr_export.proofs.ColumnReads.{Reads, reads}

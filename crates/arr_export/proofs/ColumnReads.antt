@@ -6,18 +6,21 @@ use Rattle.std.specs.List.{All, concat}
 use Rattle.std.specs.Str.{is_utf8}
 use Rattle.std.specs.Str.Lossy.{utf8_valid_len}
 use Rattle.raw_array.specs.Members.{ArrayMembers, Buffer}
-use Rattle.bit_pack.specs.Packed.{IsWidth}
-use Rattle.data_types.specs.FieldText.{Form, Truths, Wholes, FloatBits, Text, HexBytes, SizedHex, Decimals, form_of, places}
+use Rattle.data_types.specs.Packed.{IsWidth}
+use Rattle.data_types.specs.FieldText.{Form, Truths, Wholes, FloatBits, Text, HexBytes, SizedHex, Decimals, form_of, places, stored_form}
 use Rattle.std.proofs.lemmas.Bool.{ltb-true}
 use Rattle.data_types.specs.Value.{Value, Null, Truth, Whole, Bytes}
 use Rattle.data_types.specs.declared.kind.DataType.{DataType}
 use Rattle.data_types.specs.declared.kind.DataType.TheVariants as kinds
-use Rattle.data_types.specs.declared.kind.Tick.TheVariants as ticks
-use Rattle.col_build.specs.Encoding.{Fits, buffers_if, bytes_of, encoded, fault_if, in_place as in_place_bytes, is_null, is_by_offsets, is_wide, is_within}
+use Rattle.data_types.specs.declared.storage.Storage.{Storage}
+use Rattle.data_types.specs.declared.storage.Storage.TheVariants as stored
+use Rattle.data_types.specs.Storage.{storage_of}
+use Rattle.col_build.proofs.ShapeFacts.{FormOk, form-ok}
+use Rattle.col_build.specs.Encoding.{Fits, HasForm, buffers_if, bytes_of, encoded, fault_if, in_place as in_place_bytes, is_null, is_by_offsets, is_wide, is_within}
 use Rattle.col_build.specs.Encoding.{stored_item}
-use Rattle.layout_rules.specs.Layout.{bytes, data_of, is_valid, layout_of, stored_number}
+use Rattle.layout_rules.specs.Layout.{bytes, data_of, is_valid, laid_out, layout_of, stored_number}
 use Rattle.layout_rules.specs.Rules.{not_text, texts_wrong}
-use Rattle.layout_rules.specs.Values.{item}
+use Rattle.layout_rules.specs.Values.{item, stored_item as stored_value}
 use Rattle.layout_rules.specs.declared.layout.Layout.{Layout}
 use Rattle.layout_rules.specs.declared.layout.Layout.TheVariants.{FixedWidth}
 use Rattle.arr_export.specs.ArrayTrees.{made_buffers, made_if}
@@ -66,17 +69,25 @@ module _ (kind : DataType) (bits width : ℕ) (signed : Bool) (values : List Val
         valid) (λ number. number-stored width values sized i number lt);
   }
 
-int-width : (bits : ℕ) → (bits ≡ 8) ⊎ (bits ≡ 16) ⊎ (bits ≡ 32) ⊎ (bits ≡ 64) → IsWidth (bits / 8) × (bits ≡ 8 * (bits / 8))
-int-width bits (inl e) = (inl (omega (arith, e)), omega (arith, e))
-int-width bits (inr (inl e)) = (inr (inl (omega (arith, e))), omega (arith, e))
-int-width bits (inr (inr (inl e))) = (inr (inr (inl (omega (arith, e)))), omega (arith, e))
-int-width bits (inr (inr (inr e))) = (inr (inr (inr (inl (omega (arith, e))))), omega (arith, e))
+-- whole numbers, or what has no form
+abbrev AreWholes : Storage → Type 0
+AreWholes stored.Truths = ⊥
+AreWholes (stored.Floats bits) = ⊥
+AreWholes (stored.Sized size) = ⊥
+AreWholes (stored.Between wide text) = ⊥
+AreWholes _ = Unit {0}
 
-four : IsWidth 4
-four = inr (inr (inl refl))
-
-eight : IsWidth 8
-eight = inr (inr (inr (inl refl)))
+wholes-read : (kind : DataType) (values : List Value) (storage : Storage) → storage_of kind ≡ storage → form_of kind ≡ stored_form storage → AreWholes storage
+    → ((members : ArrayMembers) → texts_wrong kind members ≡ None) → Fits kind values → Reads kind values
+wholes-read kind values (stored.Wholes bits signed) is form wholes plain fits =
+    let ok : FormOk (Some (Wholes bits signed)) = subst FormOk form (form-ok kind fits.kind_ok) in
+    whole-reads kind bits (bits / 8) signed values form (ap laid_out is) (sym ok.0) ok.1
+    (λ members i. ap (λ (s : Storage). stored_value s [] members [] i) is) plain fits
+wholes-read kind values stored.Truths is form wholes plain fits = absurd wholes
+wholes-read kind values (stored.Floats bits) is form wholes plain fits = absurd wholes
+wholes-read kind values (stored.Sized size) is form wholes plain fits = absurd wholes
+wholes-read kind values (stored.Between wide text) is form wholes plain fits = absurd wholes
+wholes-read kind values storage is form wholes plain fits = absurd (subst HasForm form fits.flat)
 
 -- ---- floats, decimals, bytes of one size
 
@@ -192,32 +203,14 @@ module _ (precision : ℕ) (scale : ℤ) (values : List Value) (fits : Fits (kin
 -- ---- each type
 
 pub reads : (kind : DataType) (values : List Value) → Fits kind values → Reads kind values
-reads kinds.Null values fits = absurd fits.flat
 reads kinds.Bool values fits = truth-reads values fits
-reads (kinds.Int bits signed) values fits =
-    let width = int-width bits fits.kind_ok in
-    whole-reads (kinds.Int bits signed) bits (bits / 8) signed values refl refl width.1 width.0 (λ _ _. refl) (λ _. refl) fits
 reads (kinds.Float bits) values fits = float-reads bits values fits
 reads (kinds.Binary wide) values fits = binary-reads wide values fits
 reads (kinds.Utf8 wide) values fits = texts-reads wide values fits
 reads (kinds.FixedBinary size) values fits = fixed-reads size values fits
 reads (kinds.Decimal precision scale false) values fits = decimal-reads precision scale values fits
 reads (kinds.Decimal precision scale true) values fits = absurd fits.flat
-reads kinds.DateDay values fits = whole-reads kinds.DateDay 32 4 true values refl refl refl four (λ _ _. refl) (λ _. refl) fits
-reads kinds.DateMilli values fits = whole-reads kinds.DateMilli 64 8 true values refl refl refl eight (λ _ _. refl) (λ _. refl) fits
-reads (kinds.TimeOfDay ticks.Second) values fits =
-    whole-reads (kinds.TimeOfDay ticks.Second) 32 4 true values refl refl refl four (λ _ _. refl) (λ _. refl) fits
-reads (kinds.TimeOfDay ticks.Milli) values fits = whole-reads (kinds.TimeOfDay ticks.Milli) 32 4 true values refl refl refl four (λ _ _. refl) (λ _. refl) fits
-reads (kinds.TimeOfDay ticks.Micro) values fits = whole-reads (kinds.TimeOfDay ticks.Micro) 64 8 true values refl refl refl eight (λ _ _. refl) (λ _. refl) fits
-reads (kinds.TimeOfDay ticks.Nano) values fits = whole-reads (kinds.TimeOfDay ticks.Nano) 64 8 true values refl refl refl eight (λ _ _. refl) (λ _. refl) fits
-reads (kinds.Timestamp tick zone) values fits = whole-reads (kinds.Timestamp tick zone) 64 8 true values refl refl refl eight (λ _ _. refl) (λ _. refl) fits
-reads (kinds.Duration tick) values fits = whole-reads (kinds.Duration tick) 64 8 true values refl refl refl eight (λ _ _. refl) (λ _. refl) fits
-reads kinds.IntervalMonths values fits = whole-reads kinds.IntervalMonths 32 4 true values refl refl refl four (λ _ _. refl) (λ _. refl) fits
 reads kinds.IntervalDayTime values fits = absurd fits.flat
 reads kinds.IntervalMonthDayNano values fits = absurd fits.flat
-reads (kinds.List wide) values fits = absurd fits.flat
-reads (kinds.FixedList size) values fits = absurd fits.flat
-reads kinds.Struct values fits = absurd fits.flat
-reads kinds.Map values fits = absurd fits.flat
-reads kinds.BinaryView values fits = absurd fits.flat
 reads kinds.Utf8View values fits = absurd fits.flat
+reads kind values fits = wholes-read kind values (storage_of kind) refl refl tt (λ _. refl) fits

@@ -11,11 +11,11 @@ use Rattle.data_types.specs.Value.{Value, Null, Truth, Whole}
 use Rattle.data_types.specs.declared.kind.DataType.{DataType}
 use Rattle.data_types.specs.declared.kind.DataType.TheVariants as kinds
 use Rattle.col_build.specs.Encoding.{Fits, is_null}
-use Rattle.kind_tree.specs.Kinds.{KindTree}
+use Rattle.data_types.specs.KindTrees.{KindTree}
 use Rattle.layout_rules.specs.Layout.{is_valid, natural, stored_number}
 use Rattle.layout_rules.specs.Rules.{index_wrong, indices_wrong, is_outside, live_length}
 use Rattle.layout_rules.specs.Values.{each, tree_items, value_at, values_of}
-use Rattle.kind_tree.specs.Ways.{dictionary_step}
+use Rattle.data_types.specs.Ways.{dictionary_step}
 use Rattle.layout_rules.specs.Walk.{LayoutOk, first_some, node_fault, visit_fault, visits}
 use Rattle.layout_rules.proofs.Lawful.{first_fault-lawful, lawful-first_fault}
 use Rattle.arr_export.specs.ArrayTrees.{AreIndices, IsPlaceOf, column_members, column_tree, flat_type, looked_up}
@@ -27,7 +27,7 @@ use Rattle.arr_export.proofs.Nulls.{own, valid-at}
 use Rattle.arr_export.proofs.Steady.{steady}
 
 -- ---- an index, and the item that it looks up
--- an index that is a place of so many items is none outside of them
+-- an index that is a place of this many items is none outside of them
 inside : (total index : ℤ) → IsPlaceOf (natural total) (Whole index) → is_outside total index ≡ false
 inside (pos n) (pos place) is = ap not (lt-ltb place n is)
 inside (pos n) (negsuc place) is = absurd is

@@ -6,7 +6,7 @@ use Rattle.std.proofs.lemmas.List.{get_or-map, length-map}
 use Rattle.std.specs.List.{All, concat, flat_map}
 use Rattle.raw_array.specs.Members.{Buffer}
 use Rattle.data_types.specs.Value.{Value, Null}
-use Rattle.bit_pack.specs.Packed.{bit, le_bytes, le_number, number_at, offset_width}
+use Rattle.data_types.specs.Packed.{bit, le_bytes, le_number, number_at, offset_width}
 use Rattle.col_build.specs.Encoding.{bit_bytes, bit_value, bytes_of, if_some, is_set, offset_bytes, stored_item}
 use Rattle.layout_rules.specs.Layout.{bytes, data_of, end, natural, offset_in, offsets_need, stored_bytes}
 use Rattle.layout_rules.specs.Rules.{buffer_short, fault, first_below, is_negative, offset_falls, offsets_fall}

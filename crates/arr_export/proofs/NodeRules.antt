@@ -10,17 +10,17 @@ use Rattle.raw_array.specs.Members.{Buffer, ArrayMembers, ArrayTree, bytes_in}
 use Rattle.data_types.specs.Value.{Value}
 use Rattle.data_types.specs.declared.kind.DataType.{DataType}
 use Rattle.col_build.specs.Encoding.{if_some, null_total, validity_of}
-use Rattle.kind_tree.specs.Kinds.{KindTree}
+use Rattle.data_types.specs.KindTrees.{KindTree}
 use Rattle.layout_rules.specs.Layout.{bits_need, buffer, buffer_count, bytes, bytes_or_none, end, layout_of, need}
-use Rattle.layout_rules.specs.Rules.{Node, buffer_absent, buffer_short, count_wrong, fails, fault_if, first_below, in_order, indices_wrong, is_behind_offsets}
+use Rattle.layout_rules.specs.Rules.{Node, buffer_absent, buffer_short, count_wrong, fault_if, first_below, in_order, indices_wrong, is_behind_offsets}
 use Rattle.layout_rules.specs.Rules.{length_if, null_count_wrong, null_count_wrong_in, offsets_fall_if, one_if, prefixes_wrong, texts_wrong, views_misplaced}
 use Rattle.layout_rules.specs.Rules.{null_total as null_items}
-use Rattle.kind_tree.specs.Ways.{Steps}
-use Rattle.layout_rules.specs.Walk.{fault_at, fault_by, first_some, node_fault}
+use Rattle.data_types.specs.Ways.{Steps}
+use Rattle.layout_rules.specs.Walk.{node_fault}
 use Rattle.layout_rules.specs.declared.layout.Layout.{Layout}
-use Rattle.layout_rules.specs.declared.rule.LayoutRule.{LayoutRule}
 use Rattle.layout_rules.specs.declared.rule.LayoutRule.TheVariants as rules
 use Rattle.layout_rules.specs.declared.rule.Numbers.{Numbers}
+use Rattle.layout_rules.proofs.NamedRules.{AreMet, none-fails}
 use Rattle.arr_export.specs.ArrayTrees.{made_if}
 use Rattle.arr_export.proofs.Nulls.{nulls-are, own, validity-long}
 
@@ -91,34 +91,29 @@ pub record BuffersOk (layout : Layout) (members : ArrayMembers) : Type 0 where
 abbrev pub node : DataType → Option KindTree → List Value → List (Option Buffer) → Option ArrayTree → Node
 node kind dict values rest dictionary = record { kind = kind; kids = []; dict = dict; own = own values rest; children = []; dictionary = dictionary }
 
-abbrev pub Passes : Node → List LayoutRule → Type 0
-Passes n [] = Unit {0}
-Passes n (rule ∷ others) = (fails rule n ≡ None) × Passes n others
-
-pub passes : (path : Steps) (n : Node) (others : List LayoutRule) → Passes n others → first_some (fault_by path n) others ≡ None
-passes path n [] all = refl
-passes path n (rule ∷ others) all =
-    both-none (fault_by path n rule) (first_some (fault_by path n) others) (ap (fault_at path rule) all.0) (passes path n others all.1)
-
 pub node-ok : (kind : DataType) (dict : Option KindTree) (values : List Value) (rest : List (Option Buffer)) (dictionary : Option ArrayTree)
     → length values ≤ 2 ^ 40
     → BuffersOk (layout_of kind) (own values rest) → texts_wrong kind (own values rest) ≡ None
     → count_wrong (one_if dictionary) (one_if dict) ≡ None → indices_wrong kind (own values rest) (length_if dictionary) ≡ None
     → (path : Steps) → node_fault path (Some (node kind dict values rest dictionary)) ≡ None
-node-ok kind dict values rest dictionary few ok texts same indices path =
-    let short : nat_lt (2 ^ 40) (end (own values rest)) ≡ false = le-ltb (2 ^ 40) (end (own values rest)) (omega arith) in
-    let window : fails rules.WindowTooLong (node kind dict values rest dictionary) ≡ None =
-    no-fault (nat_lt (2 ^ 40) (end (own values rest))) 0 (pos (end (own values rest))) (pos (2 ^ 40)) short in
-    passes path (node kind dict values rest dictionary) in_order (
-      refl,
-      (
-        refl,
-        (
-          ok.count,
-          (refl, (same, (ok.there, (ok.long, (ok.rise, (refl, (ok.nulls, (ok.views, (ok.prefixes, (texts, (indices, (window, tt)))))))))))),
-        ),
-      ),
-    )
+node-ok kind dict values rest dictionary few ok texts same indices path = none-fails path (node kind dict values rest dictionary) in_order met
+  where
+    short : nat_lt (2 ^ 40) (end (own values rest)) ≡ false
+    short = le-ltb (2 ^ 40) (end (own values rest)) (omega (arith, few))
+
+    met : AreMet (node kind dict values rest dictionary)
+    met rules.BufferCount = ok.count
+    met rules.Dictionary = same
+    met rules.BufferAbsent = ok.there
+    met rules.BufferShort = ok.long
+    met rules.OffsetsFall = ok.rise
+    met rules.NullCount = ok.nulls
+    met rules.ViewPlace = ok.views
+    met rules.ViewPrefix = ok.prefixes
+    met rules.NotText = texts
+    met rules.IndexRange = indices
+    met rules.WindowTooLong = no-fault (nat_lt (2 ^ 40) (end (own values rest))) 0 (pos (end (own values rest))) (pos (2 ^ 40)) short
+    met _ = refl
 
 -- ---- the rules of one buffer
 

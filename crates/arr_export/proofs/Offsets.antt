@@ -4,13 +4,13 @@ use Rattle.std.proofs.Common.{refl, ap, arith, length-append, append_assoc}
 use Rattle.std.proofs.lemmas.Bool.{le-ltb, lt-ltb}
 use Rattle.std.proofs.Math.Seq.{drop-append_seam, take-append_seam}
 use Rattle.std.specs.List.{All, concat}
-use Rattle.bit_pack.specs.Packed.{le_bytes, meant, number_at, offset_width}
+use Rattle.data_types.specs.Packed.{le_bytes, meant, number_at, offset_width}
 use Rattle.col_build.specs.Encoding.{ends, offset_bytes}
 use Rattle.layout_rules.specs.Layout.{natural, offset_in}
 use Rattle.std.specs.Prelude.{int_lt}
 use Rattle.arr_export.proofs.Pieces.{length-le_bytes, length-pieces, number-there}
 
--- so many bytes do offsets reach
+-- this many bytes do offsets reach
 abbrev pub limit : Bool → ℕ
 limit wide = 2 ^ (8 * offset_width wide - 1)
 

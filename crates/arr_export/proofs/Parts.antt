@@ -13,8 +13,8 @@ use Rattle.data_types.specs.FieldText.{Form, Truths, Wholes, form_of}
 use Rattle.data_types.specs.Value.{Value}
 use Rattle.data_types.specs.declared.kind.DataType.{DataType}
 use Rattle.col_build.specs.Encoding.{buffers_by, buffers_if, encoded, is_wide, null_total}
-use Rattle.col_build.specs.Finished.{AreMade, IsLaidOut, IsMade, IsWhole}
-use Rattle.col_build.specs.declared.built.Laid.{Laid}
+use Rattle.col_build.specs.Finished.{AreMade, IsEncoded, IsMade, IsWhole}
+use Rattle.col_build.specs.declared.column.FinishedColumn.{FinishedColumn}
 use Rattle.arr_export.specs.ArrayTrees.{AreIndicesIf, IsColumn, column_tree, made, made_buffers, made_if}
 
 -- ---- finished buffers
@@ -86,22 +86,22 @@ columns-depth rows (column ∷ columns) all =
     omega (arith, here.not_deep, columns-depth rows columns (All-tail (IsColumn rows) column columns all))
 
 -- the parts of a finished column are those of its tree
-pub column-made : (laid : Laid) (kind : DataType) (values : List Value) (children : List ArrayTree) (dictionary : Option ArrayTree) → children ≡ []
-    → IsLaidOut laid kind values
-    → Live (record { length = laid.length; null_count = laid.null_count; offset = pos 0; buffers = buffers_of laid.buffers.items; kind = Exported })
+pub column-made : (column : FinishedColumn) (kind : DataType) (values : List Value) (children : List ArrayTree) (dictionary : Option ArrayTree) → children ≡ []
+    → IsEncoded column kind values
+    → Live (record { length = column.length; null_count = column.null_count; offset = pos 0; buffers = buffers_of column.buffers.items; kind = Exported })
     (trees children) (maybe_tree dictionary) ≡ column_tree kind values dictionary
-column-made laid kind values children dictionary none is =
-    let made = all-made laid.buffers.items (encoded kind values).buffers is.buffers in
+column-made column kind values children dictionary none is =
+    let made = all-made column.buffers.items (encoded kind values).buffers is.buffers in
     ap (λ (ts : List ArrayTree). Live (record {
-      length = laid.length;
-      null_count = laid.null_count;
+      length = column.length;
+      null_count = column.null_count;
       offset = pos 0;
-      buffers = buffers_of laid.buffers.items;
+      buffers = buffers_of column.buffers.items;
       kind = Exported;
     }) (trees ts) (maybe_tree dictionary)) none
-    ∙ ap (λ (n : ℤ). Live (record { length = n; null_count = laid.null_count; offset = pos 0; buffers = buffers_of laid.buffers.items; kind = Exported })
+    ∙ ap (λ (n : ℤ). Live (record { length = n; null_count = column.null_count; offset = pos 0; buffers = buffers_of column.buffers.items; kind = Exported })
     no_trees (maybe_tree dictionary)) is.length
-    ∙ ap (λ (n : ℤ). Live (record { length = pos (length values); null_count = n; offset = pos 0; buffers = buffers_of laid.buffers.items; kind = Exported })
+    ∙ ap (λ (n : ℤ). Live (record { length = pos (length values); null_count = n; offset = pos 0; buffers = buffers_of column.buffers.items; kind = Exported })
     no_trees (maybe_tree dictionary)) is.null_count
     ∙ ap (λ (bs : List (Option Buffer)). Live (record {
       length = pos (length values);

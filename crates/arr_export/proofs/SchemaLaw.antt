@@ -11,7 +11,7 @@ use Rattle.tree_model.specs.Tree.{Live, no_trees, absent, trees, Depth, depth_of
 use Rattle.col_build.specs.Encoding.{HasForm}
 use Rattle.schema_check.specs.Schemas.{ChildrenFit, MapFits, TypedFrom, KidsTyped, TypedOf}
 use Rattle.schema_check.specs.ColumnSchema.{SchemaOf, column_schema, member_schemas, schema_of_column, values_schema}
-use Rattle.kind_tree.specs.ColumnKinds.{type_of_columns, type_of_kind, types_of_columns, types_of_members}
+use Rattle.data_types.specs.ColumnKinds.{type_of_columns, type_of_kind, types_of_columns, types_of_members}
 use Rattle.data_types.specs.ColumnForms.{AreColumnKinds, IsColumnKind, MembersAreColumns}
 
 -- ---- the schema of a column

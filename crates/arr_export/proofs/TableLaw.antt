@@ -11,20 +11,21 @@ use Rattle.tree_model.proofs.Lists.{tree_list-trees}
 use Rattle.raw_array.specs.Members.{ArrayTree}
 use Rattle.data_types.specs.Value.{Value, Null}
 use Rattle.data_types.specs.declared.kind.DataType.TheVariants as kinds
-use Rattle.kind_tree.specs.Kinds.{KindTree}
+use Rattle.data_types.specs.KindTrees.{KindTree}
 use Rattle.layout_rules.specs.Layout.{natural}
-use Rattle.layout_rules.specs.Rules.{child_short, count_wrong, fault_if, in_order, is_negative, live_length, null_count_wrong, null_total, short_child}
+use Rattle.layout_rules.specs.Rules.{Node, child_short, fault_if, in_order, is_negative, live_length, null_total, short_child}
 use Rattle.layout_rules.specs.Values.{field_items, readers, row_items, rows_of, tree_items, value_at}
-use Rattle.kind_tree.specs.Ways.{Steps}
+use Rattle.data_types.specs.Ways.{Steps}
 use Rattle.layout_rules.specs.Walk.{ChunkOk, LayoutOk, fault_at, first_some, node_fault, node_of, top_fault, visit_fault, visits, walk_below}
 use Rattle.layout_rules.specs.Walk.{walk_children, walk_of, walks_of}
 use Rattle.layout_rules.specs.declared.rule.LayoutRule.TheVariants as rules
 use Rattle.layout_rules.specs.declared.rule.Numbers.{Numbers}
 use Rattle.layout_rules.proofs.Lawful.{first_fault-lawful, lawful-first_fault, left-none}
-use Rattle.kind_tree.specs.ColumnKinds.{table_type}
+use Rattle.layout_rules.proofs.NamedRules.{AreMet, none-fails}
+use Rattle.data_types.specs.ColumnKinds.{table_type}
 use Rattle.arr_export.specs.ArrayTrees.{AreLawful, HaveValues, rows_of_columns, rows_of_values, table_members, table_tree}
 use Rattle.arr_export.proofs.Each.{each-same, length-each, value-there}
-use Rattle.arr_export.proofs.NodeRules.{both-none, no-fault, passes}
+use Rattle.arr_export.proofs.NodeRules.{both-none, no-fault}
 use Rattle.arr_export.proofs.Steady.{first_some-append, steady}
 
 -- ---- a child is long enough
@@ -79,29 +80,31 @@ null-count n e = ap (λ (m : ℕ). fault_if (not (int_eq (pos 0) (negsuc 0)) && 
 
 module _ (types : List KindTree) (columns : List ArrayTree) (rows : ℕ) (are : AreLawful types columns) (long : All (λ column. rows ≤ tree_items column) columns)
     (few : rows ≤ 2 ^ 40) where
-  node-passes : (path : Steps) → node_fault path (node_of kinds.Struct (trees types) absent (table_tree rows columns)) ≡ None
-  node-passes path =
-      let kids = tree_list-trees types in
-      let children = tree_list-trees columns in
-      let count : count_wrong (length (tree_list (trees columns))) (length (tree_list (trees types))) ≡ None =
+  abbrev root : Node
+  root = record {
+    kind = kinds.Struct;
+    kids = tree_list (trees types);
+    dict = None;
+    own = table_members rows;
+    children = tree_list (trees columns);
+    dictionary = None;
+  }
+
+  met : AreMet root
+  met rules.ChildCount =
       no-fault (not (length (tree_list (trees columns)) == length (tree_list (trees types)))) 0 (pos (length (tree_list (trees columns))))
       (pos (length (tree_list (trees types))))
-      (ap not (eq-eqb _ _ (ap length children ∙ same-number types columns are ∙ sym (ap length kids)))) in
+      (ap not (eq-eqb _ _ (ap length (tree_list-trees columns) ∙ same-number types columns are ∙ sym (ap length (tree_list-trees types)))))
+  met rules.ChildShort =
       let start : 0 + rows ≡ rows = omega arith in
-      let short : child_short (0 + rows) 0 (tree_list (trees columns)) ≡ None =
-      ap (λ (n : ℕ). child_short n 0 (tree_list (trees columns))) start ∙ ap (child_short rows 0) children ∙ all-long types columns rows 0 are long in
-      let nulls : null_count_wrong (table_members rows) ≡ None = null-count (null_total (table_members rows) rows) (no-nulls rows rows) in
-      let window : fault_if (nat_lt (2 ^ 40) (0 + rows)) 0 (pos (0 + rows)) (pos (2 ^ 40)) ≡ None =
-      no-fault (nat_lt (2 ^ 40) (0 + rows)) 0 (pos (0 + rows)) (pos (2 ^ 40)) (le-ltb (2 ^ 40) (0 + rows) (omega arith)) in
-      passes path (record {
-        kind = kinds.Struct;
-        kids = tree_list (trees types);
-        dict = None;
-        own = table_members rows;
-        children = tree_list (trees columns);
-        dictionary = None;
-      }) in_order
-      (refl, (refl, (refl, (count, (refl, (refl, (refl, (refl, (short, (nulls, (refl, (refl, (refl, (refl, (window, tt)))))))))))))))
+      ap (λ (n : ℕ). child_short n 0 (tree_list (trees columns))) start
+      ∙ ap (child_short rows 0) (tree_list-trees columns) ∙ all-long types columns rows 0 are long
+  met rules.NullCount = null-count (null_total (table_members rows) rows) (no-nulls rows rows)
+  met rules.WindowTooLong = no-fault (nat_lt (2 ^ 40) (0 + rows)) 0 (pos (0 + rows)) (pos (2 ^ 40)) (le-ltb (2 ^ 40) (0 + rows) (omega (arith, few)))
+  met _ = refl
+
+  node-passes : (path : Steps) → node_fault path (node_of kinds.Struct (trees types) absent (table_tree rows columns)) ≡ None
+  node-passes path = none-fails path root in_order met
 
 children-pass : (types : List KindTree) (columns : List ArrayTree) → AreLawful types columns → (k : ℕ) (path : Steps)
     → first_some visit_fault (walk_children (walks_of (trees types)) k path (tree_list (trees columns))) ≡ None

@@ -5,7 +5,7 @@ use Rattle.std.specs.Prelude.{if◌then◌else◌, ◌==◌}
 use Rattle.std.proofs.lemmas.Bool.{and_parts, eqb-true, false≢true, ltb-true, true≢false}
 use Rattle.std.proofs.lemmas.List.{length-replicate}
 use Rattle.std.proofs.lemmas.Nat.{pow-add}
-use Rattle.bit_pack.specs.Packed.{IsWidth, le_bytes, meant, stored}
+use Rattle.data_types.specs.Packed.{IsWidth, le_bytes, meant, stored}
 use Rattle.bit_pack.proofs.NumberFacts.{meant_back}
 use Rattle.data_types.specs.FieldText.{Form, Truths, Wholes, FloatBits, Text, HexBytes, SizedHex, Decimals, in_range}
 use Rattle.data_types.specs.Value.{Value, Null, Truth, Whole, Bits, Bytes}

@@ -7,7 +7,7 @@ use Rattle.data_types.specs.Value.{Value}
 use Rattle.layout_rules.specs.Values.{rows_of, tree_items, values_of}
 use Rattle.layout_rules.specs.Walk.{ChunkOk, LayoutOk}
 use Rattle.col_build.specs.Encoding.{Fits}
-use Rattle.kind_tree.specs.ColumnKinds.{table_type}
+use Rattle.data_types.specs.ColumnKinds.{table_type}
 use Rattle.arr_export.specs.ArrayTrees.{AreIndices, AreLawful, HaveValues, looked_up, rows_of_values, table_tree}
 use Rattle.arr_export.specs.ValueColumns.{HasEntries, IsValueColumn, TypedValues, ValueColumn, items_of, plain_tree, plain_type, tree_of, type_of, values_by}
 use Rattle.arr_export.proofs.ColumnLaw.{column-lawful, column-values}

@@ -10,8 +10,8 @@ use Rattle.raw_array.specs.Members.{Buffer, ArrayMembers, ArrayTree, whole}
 use Rattle.raw_array.specs.declared.array.ReleaseKind.TheVariants.{Exported, Assembled}
 use Rattle.col_build.specs.Encoding.{Fits, encoded}
 use Rattle.col_build.specs.Finished.{IsEncoded}
-use Rattle.col_build.specs.declared.built.Built.{Built}
-use Rattle.kind_tree.specs.Kinds.{KindTree}
+use Rattle.col_build.specs.declared.column.FinishedColumn.{FinishedColumn}
+use Rattle.data_types.specs.KindTrees.{KindTree}
 use Rattle.layout_rules.specs.Values.{each, field_items, tree_items, value_at, values_of}
 use Rattle.layout_rules.specs.Walk.{LayoutOk}
 
@@ -52,7 +52,7 @@ abbrev pub IsIndexKind : DataType → Type 0
 IsIndexKind (kinds.Int bits signed) = Unit {0}
 IsIndexKind _ = ⊥
 
--- null, or one of so many places
+-- null, or one of this many places
 abbrev pub IsPlaceOf : ℕ → Value → Type 0
 IsPlaceOf total Null = Unit {0}
 IsPlaceOf total (Whole (pos place)) = place < total
@@ -70,8 +70,8 @@ AreIndicesIf kind values None = Unit {0}
 AreIndicesIf kind values (Some dictionary) = AreIndices kind values dictionary
 
 -- the finished column has these values, which are indices where there is a dictionary
-pub record HasValues (built : Built) (dictionary : Option ArrayTree) (kind : DataType) (values : List Value) : Type 0 where
-  pub is_encoded : IsEncoded built kind values
+pub record HasValues (column : FinishedColumn) (dictionary : Option ArrayTree) (kind : DataType) (values : List Value) : Type 0 where
+  pub is_encoded : IsEncoded column kind values
   pub fits : Fits kind values
   pub indices : AreIndicesIf kind values dictionary
 
@@ -89,7 +89,7 @@ table_members rows = record { length = pos rows; null_count = pos 0; offset = po
 abbrev pub table_tree : ℕ → List ArrayTree → ArrayTree
 table_tree rows columns = Live (table_members rows) (trees columns) absent
 
--- a column that a table of so many rows may have
+-- a column that a table of this many rows may have
 pub record IsColumn (rows : ℕ) (column : ArrayTree) : Type 0 where
   pub live : IsLive column
   pub not_deep : Depth column ≤ 127

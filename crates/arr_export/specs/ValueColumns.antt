@@ -5,7 +5,7 @@ use Rattle.data_types.specs.declared.kind.DataType.{DataType}
 use Rattle.data_types.specs.Value.{Value}
 use Rattle.raw_array.specs.Members.{ArrayTree}
 use Rattle.col_build.specs.Encoding.{Fits}
-use Rattle.kind_tree.specs.Kinds.{KindTree}
+use Rattle.data_types.specs.KindTrees.{KindTree}
 use Rattle.arr_export.specs.ArrayTrees.{IsIndexKind, IsPlaceOf, column_tree, flat_type, looked_up}
 
 -- a type, and values of it

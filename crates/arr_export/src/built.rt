@@ -1,30 +1,32 @@
-//! Structures that are made of their parts, or of which nothing is left.
+//! Arrays that are made of their parts, or of which nothing is left.
 ghost use Rattle.std.specs.Prelude.{◌≡◌, ◌+◌, ◌-◌, ◌^◌, ◌<◌, ◌≤◌, length, if◌then◌else◌, is_ok, IfOk, OnOk};
 ghost use Rattle.unit_pass.specs.Tally.{risen};
 ghost use Rattle.unit_pass.specs.declared.pass.TheConstants.{SUPPLY};
 ghost use Rattle.tree_model.specs.Tree.{Depth};
-ghost use Rattle.raw_schema.specs.Members.{Nodes};
-ghost use Rattle.raw_schema.specs.Parts.{tree_of_parts};
+ghost use Rattle.raw_array.specs.Members.{Cost};
+ghost use Rattle.raw_array.specs.Parts.{tree_of_parts};
 
-use raw_schema::{RawSchema, SchemaParts, release_all};
+use buf_block::let_go_all;
+use raw_array::{ArrayParts, RawArray, release_all};
 use std::alloc::Global;
 use unit_pass::{NoMemory, Pass, SUPPLY};
 
-/// Releases what a structure was to be made of.
-fn release_parts(parts: SchemaParts, pass: &mut Pass)
-    requires { pass.old.units + Nodes (tree_of_parts parts) ≤ SUPPLY + 1 }
-    ensures units { pass.new.units + 1 ≡ pass.old.units + Nodes (tree_of_parts parts) }
+/// Releases what an array was to be made of.
+fn end_parts(parts: ArrayParts, pass: &mut Pass)
+    requires { pass.old.units + Cost (tree_of_parts parts) ≤ SUPPLY + 1 }
+    ensures units { pass.new.units + 1 ≡ pass.old.units + Cost (tree_of_parts parts) }
     ensures blocks { pass.new.blocks ≡ pass.old.blocks }
-    ensures nodes { pass.new.nodes ≡ pass.old.nodes }
 {
-    let SchemaParts {
-        format: _,
-        name: _,
-        metadata: _,
-        flags: _,
+    let ArrayParts {
+        length: _,
+        null_count: _,
+        offset: _,
+        buffers,
         children,
         dictionary,
+        kind: _,
     } = parts;
+    let_go_all(buffers, pass);
     release_all(children, pass);
     match dictionary {
         None => {}
@@ -32,25 +34,22 @@ fn release_parts(parts: SchemaParts, pass: &mut Pass)
     }
 }
 
-/// A live structure of these parts, or nothing that is left of them.
-pub(crate) fn built(
-    alloc: Global,
-    parts: SchemaParts,
-    pass: &mut Pass,
-) -> Result<RawSchema, NoMemory>
-    requires some { 1 ≤ pass.old.units }
-    requires units { pass.old.units + Nodes (tree_of_parts parts) ≤ SUPPLY + 1 }
+/// A live array of these parts, which draws a unit and counts a node. Where memory runs out the parts are released.
+pub fn built_array(alloc: Global, parts: ArrayParts, pass: &mut Pass) -> Result<RawArray, NoMemory>
+    requires unit { 1 ≤ pass.old.units }
+    requires room { pass.old.units + Cost (tree_of_parts parts) ≤ SUPPLY + 1 }
+    requires few_buffers { length parts.buffers.items < 2 ^ 32 - 1 }
     requires few_children { length parts.children.items < 2 ^ 32 - 1 }
     requires not_deep { Depth (tree_of_parts parts) ≤ 128 }
     ensures tree { IfOk result (λ tree. tree ≡ tree_of_parts parts) }
-    ensures units { pass.new.units + 1 ≡ pass.old.units + (if is_ok result then 0 else Nodes (tree_of_parts parts)) }
+    ensures units { pass.new.units + 1 ≡ pass.old.units + (if is_ok result then 0 else Cost (tree_of_parts parts)) }
     ensures blocks { pass.new.blocks ≡ pass.old.blocks }
     ensures nodes { OnOk result (pass.new.nodes ≡ risen pass.old.nodes 1) }
 {
-    match RawSchema::build(alloc, parts, pass) {
+    match RawArray::build(alloc, parts, pass) {
         Ok(tree) => Ok(tree),
         Err((parts, NoMemory)) => {
-            release_parts(parts, pass);
+            end_parts(parts, pass);
             Err(NoMemory)
         }
     }

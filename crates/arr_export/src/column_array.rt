@@ -1,44 +1,47 @@
 //! The array of a column.
-ghost use Rattle.std.specs.Prelude.{◌≡◌, ◌+◌, ◌-◌, ◌^◌, ◌<◌, ◌≤◌, List, None, length, if◌then◌else◌, is_ok, IfOk, IfErr};
+ghost use Rattle.std.specs.Prelude.{◌≡◌, ◌+◌, ◌≤◌, List, if◌then◌else◌, count_by, is_ok, is_some, IfOk, IfErr};
 ghost use Rattle.unit_pass.specs.Tally.{risen};
+ghost use Rattle.unit_pass.specs.declared.pass.TheConstants.{SUPPLY};
 ghost use Rattle.data_types.specs.Value.{Value};
 ghost use Rattle.data_types.specs.declared.kind.DataType.{DataType};
-ghost use Rattle.tree_model.specs.Tree.{cost_of_maybe, depth_of_maybe, maybe_tree};
-ghost use Rattle.raw_array.specs.Members.{Cost, holds};
-ghost use Rattle.col_build.specs.Finished.{IsEncoded, IsLaidOut};
+ghost use Rattle.tree_model.specs.Tree.{maybe_tree};
+ghost use Rattle.raw_array.specs.Members.{Cost, cost_of_maybe};
+ghost use Rattle.col_build.specs.Finished.{IsEncoded};
 ghost use Rattle.arr_export.specs.ArrayTrees.{HasValues, column_tree};
 
-use col_build::{Built, Laid};
+use buf_block::let_go_all;
+use col_build::FinishedColumn;
 use raw_array::{ArrayParts, RawArray, ReleaseKind};
 use std::alloc::Global;
-use unit_pass::{NoMemory, Pass};
+use unit_pass::{NoMemory, Pass, SUPPLY};
 
-/// Buffers and a dictionary, where there is one, as a live array. On want of memory they come back.
+/// A finished column as a live array, which owns its buffers and the dictionary, where there is one ("The Arrow C Data
+/// Interface", "The ArrowArray structure"; "Arrow Columnar Format", "Dictionary-encoded Layout"). No byte is copied. It
+/// draws one unit and counts one node. Where memory runs out the column and the dictionary come back.
 #[inline(always)]
-fn live_column(
+pub fn export_column(
     alloc: Global,
-    laid: Laid,
+    column: FinishedColumn,
     dictionary: Option<RawArray>,
     pass: &mut Pass,
-) -> Result<RawArray, (Laid, Option<RawArray>, NoMemory)>
+) -> Result<RawArray, (FinishedColumn, Option<RawArray>, NoMemory)>
     requires units { 1 ≤ pass.old.units }
-    requires holds { (kind : DataType) × (values : List Value) × IsLaidOut laid kind values }
-    requires not_deep { depth_of_maybe (maybe_tree dictionary) ≤ 127 }
-    ensures tree { IfOk result (λ tree. (kind : DataType) (values : List Value) → IsLaidOut laid kind values → tree ≡ column_tree kind values dictionary) }
-    ensures cost { IfOk result (λ tree. Cost tree ≤ 4 + cost_of_maybe holds (maybe_tree dictionary)) }
-    ensures length_back { IfErr result (λ back. back.0.length ≡ laid.length) }
-    ensures null_count_back { IfErr result (λ back. back.0.null_count ≡ laid.null_count) }
-    ensures buffers_back { IfErr result (λ back. back.0.buffers.items ≡ laid.buffers.items) }
+    requires holds { (kind : DataType) × (values : List Value) × HasValues column dictionary kind values }
+    ensures tree { IfOk result (λ tree. (kind : DataType) (values : List Value) → IsEncoded column kind values → tree ≡ column_tree kind values dictionary) }
+    ensures cost { IfOk result (λ tree. Cost tree ≤ 4 + cost_of_maybe (maybe_tree dictionary)) }
+    ensures length_back { IfErr result (λ back. back.0.length ≡ column.length) }
+    ensures null_count_back { IfErr result (λ back. back.0.null_count ≡ column.null_count) }
+    ensures buffers_back { IfErr result (λ back. back.0.buffers.items ≡ column.buffers.items) }
     ensures dictionary_back { IfErr result (λ back. back.1 ≡ dictionary) }
     ensures units { pass.new.units + (if is_ok result then 1 else 0) ≡ pass.old.units }
     ensures nodes { pass.new.nodes ≡ (if is_ok result then risen pass.old.nodes 1 else pass.old.nodes) }
     ensures blocks { pass.new.blocks ≡ pass.old.blocks }
 {
-    let Laid {
+    let FinishedColumn {
         length,
         null_count,
         buffers,
-    } = laid;
+    } = column;
     let parts = ArrayParts {
         length,
         null_count,
@@ -61,89 +64,32 @@ fn live_column(
                 kind: _,
             } = parts;
             children.destroy_empty();
-            let laid = Laid {
+            let column = FinishedColumn {
                 length,
                 null_count,
                 buffers,
             };
-            Err((laid, dictionary, NoMemory))
+            Err((column, dictionary, NoMemory))
         }
     }
 }
 
-/// A finished column as a live array, which owns its buffers and the dictionary, where there is one ("The Arrow C Data
-/// Interface", "The ArrowArray structure"; "Arrow Columnar Format", "Dictionary-encoded Layout"). No byte is copied. It
-/// draws one unit and counts one node. On want of memory the column and the dictionary come back.
-pub fn export_column(
-    alloc: Global,
-    built: Built,
-    dictionary: Option<RawArray>,
-    pass: &mut Pass,
-) -> Result<RawArray, (Built, Option<RawArray>, NoMemory)>
-    requires units { 1 ≤ pass.old.units }
-    requires holds { (kind : DataType) × (values : List Value) × HasValues built dictionary kind values }
-    ensures tree { IfOk result (λ tree. (kind : DataType) (values : List Value) → IsEncoded built kind values → tree ≡ column_tree kind values dictionary) }
-    ensures cost { IfOk result (λ tree. Cost tree ≤ 4 + cost_of_maybe holds (maybe_tree dictionary)) }
-    ensures kind_back { IfErr result (λ back. back.0.kind ≡ built.kind) }
-    ensures length_back { IfErr result (λ back. back.0.length ≡ built.length) }
-    ensures null_count_back { IfErr result (λ back. back.0.null_count ≡ built.null_count) }
-    ensures buffers_back { IfErr result (λ back. back.0.buffers.items ≡ built.buffers.items) }
-    ensures dictionary_back { IfErr result (λ back. back.1 ≡ dictionary) }
-    ensures units { pass.new.units + (if is_ok result then 1 else 0) ≡ pass.old.units }
-    ensures nodes { pass.new.nodes ≡ (if is_ok result then risen pass.old.nodes 1 else pass.old.nodes) }
+/// Lets the buffers of a finished column go, and releases its dictionary, where there is one: what is owed for a column that
+/// [`export_column`] gave back.
+#[inline(never)]
+pub fn let_go_column(column: FinishedColumn, dictionary: Option<RawArray>, pass: &mut Pass)
+    requires { pass.old.units + cost_of_maybe (maybe_tree dictionary) + count_by is_some column.buffers.items ≤ SUPPLY }
+    ensures units { pass.new.units ≡ pass.old.units + cost_of_maybe (maybe_tree dictionary) + count_by is_some column.buffers.items }
     ensures blocks { pass.new.blocks ≡ pass.old.blocks }
+    ensures nodes { pass.new.nodes ≡ pass.old.nodes }
 {
-    let Built {
-        kind,
-        length,
-        null_count,
+    let FinishedColumn {
+        length: _,
+        null_count: _,
         buffers,
-    } = built;
-    let laid = Laid {
-        length,
-        null_count,
-        buffers,
-    };
-    match live_column(alloc, laid, dictionary, pass) {
-        Ok(tree) => Ok(tree),
-        Err((laid, dictionary, NoMemory)) => {
-            let Laid {
-                length,
-                null_count,
-                buffers,
-            } = laid;
-            let built = Built {
-                kind,
-                length,
-                null_count,
-                buffers,
-            };
-            Err((built, dictionary, NoMemory))
-        }
-    }
-}
-
-/// The same of buffers without a type and without a dictionary. On want of memory they come back.
-pub fn export_laid(alloc: Global, laid: Laid, pass: &mut Pass) -> Result<RawArray, (Laid, NoMemory)>
-    requires units { 1 ≤ pass.old.units }
-    requires holds { (kind : DataType) × (values : List Value) × IsLaidOut laid kind values }
-    ensures tree { IfOk result (λ tree. (kind : DataType) (values : List Value) → IsLaidOut laid kind values → tree ≡ column_tree kind values None) }
-    ensures cost { IfOk result (λ tree. Cost tree ≤ 4) }
-    ensures length_back { IfErr result (λ back. back.0.length ≡ laid.length) }
-    ensures null_count_back { IfErr result (λ back. back.0.null_count ≡ laid.null_count) }
-    ensures buffers_back { IfErr result (λ back. back.0.buffers.items ≡ laid.buffers.items) }
-    ensures units { pass.new.units + (if is_ok result then 1 else 0) ≡ pass.old.units }
-    ensures nodes { pass.new.nodes ≡ (if is_ok result then risen pass.old.nodes 1 else pass.old.nodes) }
-    ensures blocks { pass.new.blocks ≡ pass.old.blocks }
-{
-    match live_column(alloc, laid, None, pass) {
-        Ok(tree) => Ok(tree),
-        Err((laid, dictionary, NoMemory)) => {
-            match dictionary {
-                None => {}
-                Some(_tree) => unreachable!(),
-            }
-            Err((laid, NoMemory))
-        }
+    } = column;
+    let_go_all(buffers, pass);
+    if let Some(dictionary) = dictionary {
+        dictionary.end(pass);
     }
 }

@@ -10,7 +10,7 @@ ghost use Rattle.raw_schema.specs.Members.{Nodes, nodes_of_all};
 ghost use Rattle.schema_check.specs.ColumnSchema.{KindsOk, column_schema, node, struct_format, values_schema};
 ghost use Rattle.arr_export.specs.CodeSchema.{ColumnsOk, code_schema, code_schemas};
 
-use crate::built::built;
+use arr_move::built_schema;
 use data_types::{ColKind, ColumnType, DataType};
 use fmt_string::write_format;
 use raw_schema::{RawSchema, SchemaParts, release_all};
@@ -37,7 +37,7 @@ fn values_schema(alloc: Global, kind: &DataType, pass: &mut Pass) -> Result<RawS
         children: Vec::new(alloc),
         dictionary: None,
     };
-    built(alloc, parts, pass)
+    built_schema(alloc, parts, pass)
 }
 
 /// Indices of 32 bits into a dictionary of values of a type.
@@ -65,7 +65,7 @@ fn dictionary_schema(
         children: Vec::new(alloc),
         dictionary: Some(values),
     };
-    Ok(built(alloc, parts, pass)?.named(name))
+    Ok(built_schema(alloc, parts, pass)?.named(name))
 }
 
 /// The schema of a column.
@@ -126,7 +126,7 @@ pub(crate) fn struct_schema(
         children,
         dictionary: None,
     };
-    Ok(built(alloc, parts, pass)?.named(name))
+    Ok(built_schema(alloc, parts, pass)?.named(name))
 }
 
 /// The schemas of columns, one after the other.

@@ -1,16 +1,17 @@
 //! What the trees that are handed out mean.
-ghost use Rattle.std.specs.Prelude.{◌≡◌, ◌^◌, ◌≤◌, ℕ, List, map, length, None, Some, All};
+ghost use Rattle.std.specs.Prelude.{◌≡◌, ◌≤◌, ℕ, List, map, length, None, Some, All};
 ghost use Rattle.data_types.specs.Value.{Value};
 ghost use Rattle.data_types.specs.declared.kind.DataType.{DataType};
 ghost use Rattle.raw_array.specs.Members.{ArrayTree};
 ghost use Rattle.col_build.specs.Encoding.{Fits};
-ghost use Rattle.kind_tree.specs.Kinds.{KindTree};
+ghost use Rattle.data_types.specs.KindTrees.{KindTree};
 ghost use Rattle.layout_rules.specs.Values.{rows_of, tree_items, values_of};
 ghost use Rattle.layout_rules.specs.Walk.{ChunkOk, LayoutOk};
-ghost use Rattle.kind_tree.specs.ColumnKinds.{table_type};
+ghost use Rattle.data_types.specs.ColumnKinds.{table_type};
 ghost use Rattle.arr_export.specs.ArrayTrees.{AreIndices, AreLawful, HaveValues, column_tree, flat_type, looked_up, rows_of_columns, rows_of_values};
 ghost use Rattle.arr_export.specs.ArrayTrees.{table_tree};
 ghost use Rattle.arr_export.specs.ValueColumns.{IsValueColumn, ValueColumn, items_of, tree_of, type_of};
+ghost use Rattle.layout_rules.specs.Rules.{window_limit};
 
 /// A law: a column's tree meets the layout rules, and its items are the values that it was made of ("Arrow Columnar
 /// Format", "Physical memory layout").
@@ -33,7 +34,7 @@ pub fn indexed_columns_are_lawful()
 /// the columns ("Arrow Columnar Format", "Struct Layout").
 pub fn lawful_columns_make_a_chunk()
     ensures chunk { (types : List KindTree) (columns : List ArrayTree) (rows : ℕ) → AreLawful types columns
-        → All (λ column. rows ≤ tree_items column) columns → rows ≤ 2 ^ 40
+        → All (λ column. rows ≤ tree_items column) columns → rows ≤ window_limit
         → ChunkOk (table_type types) (table_tree rows columns) }
     ensures rows { (types : List KindTree) (columns : List ArrayTree) (rows : ℕ)
         → rows_of (table_type types) (table_tree rows columns) ≡ rows_of_columns types columns rows }
@@ -45,7 +46,7 @@ pub fn lawful_columns_make_a_chunk()
 /// A law: a table of columns that are made of values, some through dictionaries, is a chunk, and its rows are these
 /// values.
 pub fn columns_of_values_make_a_chunk()
-    ensures chunk { (columns : List ValueColumn) (rows : ℕ) → All (IsValueColumn rows) columns → rows ≤ 2 ^ 40
+    ensures chunk { (columns : List ValueColumn) (rows : ℕ) → All (IsValueColumn rows) columns → rows ≤ window_limit
         → ChunkOk (table_type (map type_of columns)) (table_tree rows (map tree_of columns)) }
     ensures rows { (columns : List ValueColumn) (rows : ℕ) → All (IsValueColumn rows) columns
         → rows_of (table_type (map type_of columns)) (table_tree rows (map tree_of columns)) ≡ rows_of_values (map items_of columns) rows }

@@ -3,7 +3,10 @@
 //! [`export_schema`] gives a live schema tree ("The Arrow C Data Interface", "The ArrowSchema structure") whose formats are
 //! the canonical spellings of `fmt_string`. [`export_column`] makes a finished column of `col_build` an array, with a
 //! dictionary or without, and [`export_table`] a struct of such columns ("The ArrowArray structure"); neither copies a
-//! byte. The trees belong to the caller, who releases them; their units and nodes are counted in the pass.
+//! byte. A column that came back where memory runs out is let go by [`let_go_column`]. The trees belong to the caller, who releases them; their units and nodes are counted in the
+//! pass.
+//!
+//! [`built_array`] makes any array of its parts, and releases them where memory runs out.
 //!
 //! The laws say what the arrays mean to `layout_check`: a column is lawful and has the values that it was made of
 //! ([`encoded_columns_are_lawful`]), also through a dictionary ([`indexed_columns_are_lawful`]), and a table of lawful
@@ -23,7 +26,8 @@ mod table_array;
 mod types;
 mod worked;
 
-pub use column_array::{export_column, export_laid};
+pub use built::built_array;
+pub use column_array::{export_column, let_go_column};
 pub use laws::{
     columns_of_values_make_a_chunk, encoded_columns_are_lawful, indexed_columns_are_lawful,
     lawful_columns_make_a_chunk,

@@ -5,6 +5,7 @@ ghost use Rattle.tree_model.specs.Tree.{trees};
 ghost use Rattle.raw_array.specs.Members.{Cost, cost_of_all};
 ghost use Rattle.layout_rules.specs.Layout.{natural};
 ghost use Rattle.arr_export.specs.ArrayTrees.{IsColumn, table_tree};
+ghost use Rattle.layout_rules.specs.Rules.{window_limit};
 
 use buf_block::BufView;
 use raw_array::{ArrayParts, RawArray, ReleaseKind};
@@ -33,8 +34,8 @@ fn end_no_validity(mut buffers: Vec<Option<BufView>>)
     buffers.destroy_empty();
 }
 
-/// A table: a live struct of these columns with so many rows, none of them null ("Arrow Columnar Format", "Struct
-/// Layout"). Columns that are longer stand in it as they are. It draws one unit and counts one node. On want of memory the
+/// A table: a live struct of these columns with this many rows, none of them null ("Arrow Columnar Format", "Struct
+/// Layout"). Columns that are longer stand in it as they are. It draws one unit and counts one node. Where memory runs out the
 /// columns come back.
 #[inline(always)]
 pub fn export_table(
@@ -45,7 +46,7 @@ pub fn export_table(
 ) -> Result<RawArray, (Vec<RawArray>, NoMemory)>
     requires units { 1 ≤ pass.old.units }
     requires some { pos 0 ≤ℤ rows }
-    requires few_rows { rows ≤ℤ pos (2 ^ 40) }
+    requires few_rows { rows ≤ℤ pos window_limit }
     requires few_columns { length columns.items < 2 ^ 32 - 1 }
     requires columns { All (IsColumn (natural rows)) columns.items }
     ensures tree { IfOk result (λ tree. tree ≡ table_tree (natural rows) columns.items) }

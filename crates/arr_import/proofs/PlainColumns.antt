@@ -7,7 +7,7 @@ use Rattle.data_types.specs.Value.Value.{Null}
 use Rattle.tree_model.specs.Tree.{children_of, trees}
 use Rattle.raw_array.specs.Members.{ArrayMembers, ArrayTree, members_of}
 use Rattle.layout_rules.specs.Layout.{IsLong, buffer, bytes, first, is_valid, is_valid_by}
-use Rattle.kind_tree.specs.TypedView.{kids_of}
+use Rattle.data_types.specs.TypedView.{kids_of}
 use Rattle.layout_rules.specs.Values.{Reader, readers}
 use Rattle.arr_import.specs.declared.col.Col.{Col}
 use Rattle.arr_import.specs.declared.plain.Plain.{Plain}

@@ -1,61 +1,35 @@
 -- The items of an array by how its type is stored.
-use Rattle.std.proofs.Common.{◌≡◌, ℕ, zero, suc, ◌+◌, ◌*◌, ◌/◌, ◌<◌, ◌≤◌, Bool, true, false, List, [], ◌∷◌, length, get_or, map}
+use Rattle.std.proofs.Common.{◌≡◌, ℕ, zero, suc, ◌+◌, ◌/◌, ◌<◌, Bool, true, false, List, [], ◌∷◌, length, get_or, map}
 use Rattle.std.proofs.Common.{Option, None, Some, inl, inr, refl, ap, ◌∙◌, sym, subst, true≢false, arith}
-use Rattle.std.specs.Prelude.{◌⊎◌, IsTrue, if◌then◌else◌}
+use Rattle.std.specs.Prelude.{◌⊎◌, ◌==◌, ◌||◌, IsTrue, if◌then◌else◌}
 use Rattle.std.specs.Global.{Box}
 use Rattle.std.proofs.lemmas.Bool.{cases_eq}
+use Rattle.std.proofs.lemmas.Bool.Decides.{nat_tests}
 use Rattle.std.proofs.lemmas.List.{get_or-map, length-map}
 use Rattle.std.proofs.Math.Logic.{∥∥₁_elim, ∥∥₁_map}
 use Rattle.std.proofs.Props.{props}
 use Rattle.data_types.specs.declared.kind.DataType.{DataType}
 use Rattle.data_types.specs.declared.kind.DataType.TheVariants as kinds
+use Rattle.data_types.specs.declared.kind.Tick.{Tick}
 use Rattle.data_types.specs.declared.kind.Tick.TheVariants as ticks
 use Rattle.data_types.specs.Kinds.{KindOk}
 use Rattle.data_types.specs.Storage.{storage_of}
 use Rattle.data_types.specs.Value.{values}
 use Rattle.data_types.specs.Value.Value.{Null, Fields}
-use Rattle.bit_pack.specs.Packed.{IsWidth}
+use Rattle.data_types.specs.Packed.{IsWidth}
 use Rattle.tree_model.specs.Tree.{Released, Live, IsLive, absent, present, trees, maybe_tree, tree_list, children_of, child_at, dictionary_of, Depth}
 use Rattle.raw_array.specs.Members.{ArrayMembers, ArrayTree, members_of}
-use Rattle.kind_tree.specs.declared.typed.Typed.{Typed, out-Typed}
+use Rattle.data_types.specs.declared.typed.Typed.{Typed, out-Typed}
 use Rattle.layout_rules.specs.declared.layout.Layout.TheVariants.{ByChildren}
-use Rattle.kind_tree.specs.Kinds.{KindTree, NodesOk, AllNodesOk, DictNodesOk, KidsOk, DictOk, IsOneChild, IsPairOfColumns}
-use Rattle.kind_tree.specs.TypedView.{typed_of, kind_of, kids_of, dict_in}
-use Rattle.layout_rules.specs.Layout.{layout_of, bytes, first, is_valid}
+use Rattle.data_types.specs.KindTrees.{KindTree, NodesOk, AllNodesOk, DictNodesOk, KidsOk, DictOk, IsOneChild, IsPairOfColumns}
+use Rattle.data_types.specs.TypedView.{typed_of, kind_of, kids_of, dict_in}
+use Rattle.layout_rules.specs.Layout.{laid_out, layout_of, bytes, first, is_valid}
 use Rattle.layout_rules.specs.Values.{Reader, each, child_item, field_items, row_items, item, item_or_entry, value_at, readers, reader_of, tree_items}
 use Rattle.layout_rules.specs.Within.{StoredWithin, ItemsWithin, IndexWithin, ViewWithin, DataWithin}
 use Rattle.data_types.specs.declared.storage.Storage.{Storage}
-use Rattle.arr_import.specs.StoredItems.{stored_item, IsThere, NumberThere, IsListStorage, IsViewStorage, AreItemsThere, IsIndexThere, IsOwn}
+use Rattle.data_types.specs.declared.storage.Storage.TheVariants as storages
+use Rattle.arr_import.specs.StoredItems.{stored_item, IsThere, IsListStorage, IsViewStorage, AreItemsThere, IsIndexThere, IsOwn}
 use Rattle.arr_import.specs.Window.{Window, Home, IsDictionary, IsStruct, IsStructValue, index_at, home_from, home_of}
-
-pub item-stored : (kind : DataType) (kids : List Reader) (own : ArrayMembers) (children : List ArrayTree) (i : ℕ)
-    → item kind kids own children i ≡ stored_item (storage_of kind) kids own children i
-item-stored kinds.Null kids own children i = refl
-item-stored kinds.Bool kids own children i = refl
-item-stored (kinds.Int width signed) kids own children i = refl
-item-stored (kinds.Float width) kids own children i = refl
-item-stored (kinds.Binary wide) kids own children i = refl
-item-stored (kinds.Utf8 wide) kids own children i = refl
-item-stored (kinds.FixedBinary size) kids own children i = refl
-item-stored (kinds.Decimal precision scale false) kids own children i = refl
-item-stored (kinds.Decimal precision scale true) kids own children i = refl
-item-stored kinds.DateDay kids own children i = refl
-item-stored kinds.DateMilli kids own children i = refl
-item-stored (kinds.TimeOfDay ticks.Second) kids own children i = refl
-item-stored (kinds.TimeOfDay ticks.Milli) kids own children i = refl
-item-stored (kinds.TimeOfDay ticks.Micro) kids own children i = refl
-item-stored (kinds.TimeOfDay ticks.Nano) kids own children i = refl
-item-stored (kinds.Timestamp tick zone) kids own children i = refl
-item-stored (kinds.Duration tick) kids own children i = refl
-item-stored kinds.IntervalMonths kids own children i = refl
-item-stored kinds.IntervalDayTime kids own children i = refl
-item-stored kinds.IntervalMonthDayNano kids own children i = refl
-item-stored (kinds.List wide) kids own children i = refl
-item-stored (kinds.FixedList size) kids own children i = refl
-item-stored kinds.Struct kids own children i = refl
-item-stored kinds.Map kids own children i = refl
-item-stored kinds.BinaryView kids own children i = refl
-item-stored kinds.Utf8View kids own children i = refl
 
 -- ---- the widths of numbers
 
@@ -83,41 +57,49 @@ float_width bits h =
 narrow : (width : ℕ) (signed : Bool) → width < 16 → width ≡ 16 → IsTrue signed
 narrow width signed h e = absurd (omega (arith, h, e))
 
-four-there : (stored : List ℕ) (place : ℕ) → (place + 1) * 4 ≤ length stored → NumberThere 4 true stored place
-four-there stored place h = record { width_is = inr (inr (inl refl)); widest = λ e. refl; there = h }
+-- the numbers that are stored are of whole bytes
+abbrev AreWhole : Storage → Type 0
+AreWhole (storages.Wholes bits signed) = IsWidth (bits / 8) × (bits / 8 ≡ 16 → IsTrue signed)
+AreWhole (storages.Floats bits) = IsWidth (bits / 8) × (bits / 8 ≡ 16 → IsTrue false)
+AreWhole _ = Unit {0}
 
-eight-there : (stored : List ℕ) (place : ℕ) → (place + 1) * 8 ≤ length stored → NumberThere 8 true stored place
-eight-there stored place h = record { width_is = inr (inr (inr (inl refl))); widest = λ e. refl; there = h }
+-- whole numbers of these many bits are
+abbrev is_common : Storage → Bool
+is_common (storages.Wholes bits signed) = (bits == 32) || (bits == 64)
+is_common (storages.Floats bits) = false
+is_common _ = true
 
--- what a lawful array's buffers have of an item, by how the type is stored
-there : (kind : DataType) (own : ArrayMembers) (place : ℕ) → ∥ KindOk kind ∥₁ → StoredWithin (layout_of kind) own place
-    → IsThere (storage_of kind) (bytes own 1) (bytes own 2) place
-there kinds.Null own place ok h = tt
-there kinds.Bool own place ok h = h
-there (kinds.Int bits signed) own place ok h = record { width_is = (int_width bits ok).0; widest = narrow (bits / 8) signed (int_width bits ok).1; there = h }
-there (kinds.Float bits) own place ok h = record { width_is = (float_width bits ok).0; widest = narrow (bits / 8) false (float_width bits ok).1; there = h }
-there (kinds.Binary wide) own place ok h = h
-there (kinds.Utf8 wide) own place ok h = h
-there (kinds.FixedBinary size) own place ok h = h
-there (kinds.Decimal precision scale false) own place ok h = record { width_is = inr (inr (inr (inr refl))); widest = λ e. refl; there = h }
-there (kinds.Decimal precision scale true) own place ok h = h
-there kinds.DateDay own place ok h = four-there (bytes own 1) place h
-there kinds.DateMilli own place ok h = eight-there (bytes own 1) place h
-there (kinds.TimeOfDay ticks.Second) own place ok h = four-there (bytes own 1) place h
-there (kinds.TimeOfDay ticks.Milli) own place ok h = four-there (bytes own 1) place h
-there (kinds.TimeOfDay ticks.Micro) own place ok h = eight-there (bytes own 1) place h
-there (kinds.TimeOfDay ticks.Nano) own place ok h = eight-there (bytes own 1) place h
-there (kinds.Timestamp tick zone) own place ok h = eight-there (bytes own 1) place h
-there (kinds.Duration tick) own place ok h = eight-there (bytes own 1) place h
-there kinds.IntervalMonths own place ok h = four-there (bytes own 1) place h
-there kinds.IntervalDayTime own place ok h = h
-there kinds.IntervalMonthDayNano own place ok h = h
-there (kinds.List wide) own place ok h = h
-there (kinds.FixedList size) own place ok h = tt
-there kinds.Struct own place ok h = tt
-there kinds.Map own place ok h = h
-there kinds.BinaryView own place ok h = h
-there kinds.Utf8View own place ok h = h
+common-whole : (storage : Storage) → is_common storage ≡ true → AreWhole storage
+common-whole (storages.Wholes bits signed) is = by (cases_eq bits 32) (cases_eq bits 64)
+  where
+    by : (bits ≡ 32) ⊎ ¬ (bits ≡ 32) → (bits ≡ 64) ⊎ ¬ (bits ≡ 64) → AreWhole (storages.Wholes bits signed)
+    by (inl e) other = (inr (inr (inl (omega (arith, e)))), λ widest. absurd (omega (arith, e, widest)))
+    by (inr a) (inl e) = (inr (inr (inr (inl (omega (arith, e))))), λ widest. absurd (omega (arith, e, widest)))
+    by (inr a) (inr b) = absurd (grind (arith, nat_tests, is, a, b))
+common-whole (storages.Floats bits) is = absurd (true≢false (sym is))
+common-whole _ is = tt
+
+of-tick : (tick : Tick) → is_common (storage_of (kinds.TimeOfDay tick)) ≡ true
+of-tick ticks.Second = refl
+of-tick _ = refl
+
+are-whole : (kind : DataType) → ∥ KindOk kind ∥₁ → AreWhole (storage_of kind)
+are-whole (kinds.Int bits signed) ok = let width = int_width bits ok in (width.0, narrow (bits / 8) signed width.1)
+are-whole (kinds.Float bits) ok = let width = float_width bits ok in (width.0, narrow (bits / 8) false width.1)
+are-whole (kinds.Decimal precision scale false) ok = (inr (inr (inr (inr refl))), λ widest. refl)
+are-whole (kinds.Decimal precision scale true) ok = tt
+are-whole (kinds.TimeOfDay tick) ok = common-whole (storage_of (kinds.TimeOfDay tick)) (of-tick tick)
+are-whole kind ok = common-whole (storage_of kind) refl
+
+-- what a lawful array's buffers have of an item, by how it is stored
+there : (storage : Storage) (own : ArrayMembers) (place : ℕ) → AreWhole storage → StoredWithin (laid_out storage) own place
+    → IsThere storage (bytes own 1) (bytes own 2) place
+there (storages.Wholes bits signed) own place whole h = record { width_is = whole.0; widest = whole.1; there = h }
+there (storages.Floats bits) own place whole h = record { width_is = whole.0; widest = whole.1; there = h }
+there storages.Nothing own place whole h = tt
+there (storages.FixedLists size) own place whole h = tt
+there storages.Children own place whole h = tt
+there _ own place whole h = h
 
 pub item-there : (kind : DataType) (storage : Storage) (own : ArrayMembers) (stored text : List ℕ) (place : ℕ) → storage ≡ storage_of kind
     → stored ≡ bytes own 1 → text ≡ bytes own 2
@@ -125,22 +107,19 @@ pub item-there : (kind : DataType) (storage : Storage) (own : ArrayMembers) (sto
 item-there kind storage own stored text place s b t ok h =
     subst (λ a. IsThere a stored text place) (sym s)
     (subst (λ a. IsThere (storage_of kind) a text place) (sym b)
-    (subst (λ a. IsThere (storage_of kind) (bytes own 1) a place) (sym t) (there kind own place ok h)))
+    (subst (λ a. IsThere (storage_of kind) (bytes own 1) a place) (sym t) (there (storage_of kind) own place (are-whole kind ok) h)))
 
 -- ---- views
 
-view-named : (kind : DataType) (own : ArrayMembers) (i : ℕ) → IsViewStorage (storage_of kind) → IsTrue (is_valid own i) → ViewWithin (layout_of kind) own i
+view-named : (storage : Storage) (own : ArrayMembers) (i : ℕ) → IsViewStorage storage → IsTrue (is_valid own i) → ViewWithin (laid_out storage) own i
     → DataWithin own i
-view-named kinds.BinaryView own i is valid h = h valid
-view-named kinds.Utf8View own i is valid h = h valid
-view-named (kinds.Decimal precision scale false) own i is valid h = absurd is
-view-named (kinds.Decimal precision scale true) own i is valid h = absurd is
-view-named kind own i is valid h = absurd is
+view-named (storages.Views text) own i is valid h = h valid
+view-named storage own i is valid h = absurd is
 
 -- where the data of a valid view are
 pub view-there : (kind : DataType) (storage : Storage) (own : ArrayMembers) (i : ℕ) → storage ≡ storage_of kind → IsViewStorage storage → is_valid own i ≡ true
     → ViewWithin (layout_of kind) own i → DataWithin own i
-view-there kind storage own i s is v h = view-named kind own i (subst IsViewStorage s is) v h
+view-there kind storage own i s is v h = view-named (storage_of kind) own i (subst IsViewStorage s is) v h
 
 -- ---- a node of kinds that is in order
 
@@ -186,21 +165,18 @@ pub one-child : (t : Typed) → typed_of t ≡ Live (kind_of t) (trees (kids_of 
 one-child t e storage s list ok =
     ∥∥₁_elim ok (hlevel props) (λ nodes. one-kid (kind_of t) (kids_of t) (subst NodesOk e nodes).1 (subst IsListStorage s list))
 
-items-there : (kind : DataType) (own : ArrayMembers) (place total : ℕ) → ItemsWithin (layout_of kind) own place total
-    → AreItemsThere (storage_of kind) (bytes own 1) place total
-items-there (kinds.List wide) own place total h = h
-items-there (kinds.FixedList size) own place total h = h
-items-there kinds.Map own place total h = h
-items-there (kinds.Decimal precision scale false) own place total h = tt
-items-there (kinds.Decimal precision scale true) own place total h = tt
-items-there kind own place total h = tt
+items-there : (storage : Storage) (own : ArrayMembers) (place total : ℕ) → ItemsWithin (laid_out storage) own place total
+    → AreItemsThere storage (bytes own 1) place total
+items-there (storages.Lists wide) own place total h = h
+items-there (storages.FixedLists size) own place total h = h
+items-there _ own place total h = tt
 
 pub are-items-there : (kind : DataType) (storage : Storage) (own : ArrayMembers) (stored : List ℕ) (place total : ℕ) → storage ≡ storage_of kind
     → stored ≡ bytes own 1
     → ItemsWithin (layout_of kind) own place total → AreItemsThere storage stored place total
 are-items-there kind storage own stored place total s b h =
     subst (λ a. AreItemsThere a stored place total) (sym s)
-    (subst (λ a. AreItemsThere (storage_of kind) a place total) (sym b) (items-there kind own place total h))
+    (subst (λ a. AreItemsThere (storage_of kind) a place total) (sym b) (items-there (storage_of kind) own place total h))
 
 -- the items of the one child
 pub each-child : (kids : List KindTree) (children : List ArrayTree) (a n : ℕ) → 0 < length kids → 0 < length children
@@ -293,7 +269,6 @@ module _ (t : Typed) (e : typed_of t ≡ Live (kind_of t) (trees (kids_of t)) (m
         valid-node
         ∙ ap (λ d. item_or_entry (reader_of (maybe_tree d)) (kind_of t) (readers (trees (kids_of t)))
         (members_of array) (children_of array) (dictionary_of array) j) none
-        ∙ item-stored (kind_of t) (readers (trees (kids_of t))) (members_of array) (children_of array) j
         ∙ ap (λ a. stored_item a (readers (trees (kids_of t))) (members_of array) (children_of array) j) (sym s)
 
     -- the value of an item with an index is the dictionary's at the index

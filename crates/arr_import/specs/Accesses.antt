@@ -5,7 +5,7 @@ use Rattle.data_types.specs.declared.storage.Storage.TheVariants as storages
 use Rattle.arr_import.specs.declared.access.Access.{Access}
 use Rattle.arr_import.specs.declared.access.Access.TheVariants.{Truths, Int32, Int64, Int128, Between32, Other}
 
--- numbers of so many bits, with a sign
+-- numbers of this many bits, with a sign
 abbrev pub access_of_bits : ℕ → Access
 access_of_bits bits =
     if bits == 32 then Int32

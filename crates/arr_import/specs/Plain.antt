@@ -1,19 +1,20 @@
 -- Columns that are read with nothing to look up but the place: their items are stored in place or between offsets ("Arrow
 -- Columnar Format", "Validity bitmaps", "Fixed-size primitive layout" and "Variable-size binary layout").
-use Rattle.std.specs.Prelude.{◌≡◌, ◌==◌, ℕ, ◌+◌, ◌-◌, ◌*◌, ◌/◌, ◌^◌, ◌<◌, Bool, List, Option, None, Some, length, take, drop, if◌then◌else◌}
+use Rattle.std.specs.Prelude.{◌≡◌, ◌==◌, ℕ, ◌+◌, ◌-◌, ◌*◌, ◌/◌, ◌<◌, Bool, List, Option, None, Some, length, take, drop, if◌then◌else◌}
 use Rattle.data_types.specs.Storage.{storage_of}
 use Rattle.data_types.specs.declared.storage.Storage.{Storage}
 use Rattle.data_types.specs.declared.storage.Storage.TheVariants as storages
 use Rattle.data_types.specs.Value.{Value}
 use Rattle.data_types.specs.Value.Value.{Null, Truth, Whole, Bits, Bytes}
-use Rattle.bit_pack.specs.Packed.{bit, meant, number_at}
+use Rattle.data_types.specs.Packed.{bit, meant, number_at}
 use Rattle.tree_model.specs.Tree.{dictionary_of}
-use Rattle.kind_tree.specs.Kinds.{kind_in}
+use Rattle.data_types.specs.KindTrees.{kind_in}
 use Rattle.layout_rules.specs.Layout.{is_valid_by, natural, offset_in}
 use Rattle.arr_import.specs.declared.plain.Plain.{Plain}
 use Rattle.arr_import.specs.Lent.{lent_bytes}
 use Rattle.arr_import.specs.StoredItems.{IsThere}
 use Rattle.arr_import.specs.Window.{Window}
+use Rattle.layout_rules.specs.Rules.{window_limit}
 
 -- ---- which windows are such columns
 
@@ -66,11 +67,11 @@ IsBitThere (Some bits) place = place < 8 * length bits
 
 -- item i can be read
 pub record IsItemThere (plain : Plain) (i : ℕ) : Type 0 where
-  pub near : plain.first + i < 2 ^ 40
+  pub near : plain.first + i < window_limit
   pub validity : IsBitThere (lent_bytes plain.validity) (plain.first + i)
   pub there : IsThere plain.storage plain.stored.now plain.text.now (plain.first + i)
 
--- so many items, each by its number
+-- this many items, each by its number
 pub record ShowsItems (plain : Plain) (count : ℕ) (item : ℕ → Value) : Type 0 where
   pub there : (i : ℕ) → i < count → IsItemThere plain i
   pub items : (i : ℕ) → i < count → item i ≡ (if is_valid_in plain i then valid_item plain i else Null)

@@ -1,32 +1,17 @@
 -- How the items of a type are stored ("Arrow Columnar Format", "Physical memory layout").
-use Rattle.std.specs.Prelude.{◌≡◌, ◌==◌, ℕ, ◌+◌, ◌*◌, ◌/◌, ◌<◌, ◌≤◌, pos, ◌≤ℤ◌, Bool, false, IsTrue, List, length}
-use Rattle.data_types.specs.Value.{Value, values}
-use Rattle.data_types.specs.Value.Value.{Null, Truth, Whole, Bits, Bytes, Items, Fields}
-use Rattle.bit_pack.specs.Packed.{IsWidth, bit}
-use Rattle.raw_array.specs.Members.{ArrayMembers, ArrayTree}
-use Rattle.layout_rules.specs.Layout.{first, bytes, natural, offset_in, stored_number, stored_bytes, data_of, view_width}
-use Rattle.layout_rules.specs.Views.{view_data}
-use Rattle.layout_rules.specs.Values.{Reader, each, child_item, field_items, listed}
+use Rattle.std.specs.Prelude.{◌≡◌, ℕ, ◌+◌, ◌*◌, ◌/◌, ◌<◌, ◌≤◌, pos, ◌≤ℤ◌, Bool, false, IsTrue, List, length}
+use Rattle.data_types.specs.Packed.{IsWidth}
+use Rattle.raw_array.specs.Members.{ArrayMembers}
+use Rattle.layout_rules.specs.Layout.{natural, offset_in, stored_number, view_width}
 use Rattle.layout_rules.specs.Within.{OffsetsRise}
 use Rattle.data_types.specs.declared.storage.Storage.{Storage}
 use Rattle.data_types.specs.declared.storage.Storage.TheVariants as storages
-
 -- the item of an array whose items are stored so
-abbrev pub stored_item : Storage → List Reader → ArrayMembers → List ArrayTree → ℕ → Value
-stored_item storages.Nothing kids own children i = Null
-stored_item storages.Truths kids own children i = Truth (bit (bytes own 1) (first own + i) == 1)
-stored_item (storages.Wholes bits signed) kids own children i = Whole (stored_number (bits / 8) signed own i)
-stored_item (storages.Floats bits) kids own children i = Bits (natural (stored_number (bits / 8) false own i))
-stored_item (storages.Sized size) kids own children i = Bytes (stored_bytes size own i)
-stored_item (storages.Between wide text) kids own children i = Bytes (data_of wide own i)
-stored_item (storages.Views text) kids own children i = Bytes (view_data own i)
-stored_item (storages.Lists wide) kids own children i = listed wide kids own children i
-stored_item (storages.FixedLists size) kids own children i = Items (values (each (child_item kids children) ((first own + i) * size) size))
-stored_item storages.Children kids own children i = Fields (values (field_items kids children (first own + i)))
+pub use Rattle.layout_rules.specs.Values.{stored_item}
 
 -- ---- what the buffers have of the item at a place, so that it can be read
 
--- a number of so many bytes is there
+-- a number of this many bytes is there
 pub record NumberThere (width : ℕ) (signed : Bool) (stored : List ℕ) (place : ℕ) : Type 0 where
   pub width_is : IsWidth width
   pub widest : width ≡ 16 → IsTrue signed
@@ -64,13 +49,13 @@ abbrev pub IsOwn : Storage → Type 0
 IsOwn (storages.Wholes bits signed) = ⊥
 IsOwn _ = Unit {0}
 
--- what a child of so many items has of the item at a place
+-- what a child of this many items has of the item at a place
 abbrev pub AreItemsThere : Storage → List ℕ → ℕ → ℕ → Type 0
 AreItemsThere (storages.Lists wide) stored place total = natural (offset_in wide stored (place + 1)) ≤ total
 AreItemsThere (storages.FixedLists size) stored place total = (place + 1) * size ≤ total
 AreItemsThere _ stored place total = Unit {0}
 
--- a whole number is an index, which is a place of a dictionary of so many items
+-- a whole number is an index, which is a place of a dictionary of this many items
 abbrev pub IsIndexThere : Storage → ArrayMembers → ℕ → ℕ → ℕ → Type 0
 IsIndexThere (storages.Wholes bits signed) own i index total =
     (pos 0 ≤ℤ stored_number (bits / 8) signed own i) × (natural (stored_number (bits / 8) signed own i) ≡ index) × (index < total)

@@ -7,11 +7,11 @@ use Rattle.data_types.specs.Value.{Value, values}
 use Rattle.data_types.specs.Value.Value.{Fields}
 use Rattle.tree_model.specs.Tree.{Live, present, child_at}
 use Rattle.raw_array.specs.Members.{ArrayMembers, ArrayTree, members_of}
-use Rattle.kind_tree.specs.Kinds.{KindTree}
+use Rattle.data_types.specs.KindTrees.{KindTree}
 use Rattle.layout_rules.specs.Layout.{first, natural, is_valid, stored_number}
 use Rattle.layout_rules.specs.Values.{each, value_at, row_items, tree_items}
 
--- so many items of an array with its kinds, from the item `start` of the array's window on
+-- this many items of an array with its kinds, from the item `start` of the array's window on
 pub record Window : Type 0 where
   pub typed : KindTree
   pub array : ArrayTree

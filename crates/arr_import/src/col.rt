@@ -2,9 +2,9 @@
 ghost use Rattle.std.specs.Prelude.{◌≡◌, IsTrue, is_none, is_some, ◌+◌, ◌<◌, ◌≤◌, ◌^◌};
 ghost use Rattle.tree_model.specs.Tree.{IsLive, dictionary_of};
 ghost use Rattle.raw_array.specs.Members.{members_of};
-ghost use Rattle.kind_tree.specs.Kinds.{NodesOk, kind_in};
-ghost use Rattle.kind_tree.specs.TypedView.{typed_of, kind_of, dict_in};
-ghost use Rattle.kind_tree.specs.declared.typed.Typed.{out-Typed};
+ghost use Rattle.data_types.specs.KindTrees.{NodesOk, kind_in};
+ghost use Rattle.data_types.specs.TypedView.{typed_of, kind_of, dict_in};
+ghost use Rattle.data_types.specs.declared.typed.Typed.{out-Typed};
 ghost use Rattle.arr_import.specs.Accesses.{access_of};
 ghost use Rattle.layout_rules.specs.Layout.{buffer, bytes, first};
 ghost use Rattle.layout_rules.specs.Walk.{first_fault};
@@ -14,8 +14,7 @@ ghost use Rattle.data_types.specs.Storage.{storage_of as storage_is};
 ghost use Rattle.std.proofs.Props.{props};
 
 use crate::access::{Access, access_of};
-use data_types::{Storage, storage_of};
-use kind_tree::{Typed, kinds_of_typed};
+use data_types::{Storage, Typed, kinds_of_typed, storage_of};
 use layout_rules::{lawful_has_no_fault, lawful_root};
 use raw_array::RawArray;
 
@@ -75,7 +74,7 @@ pub(crate) fn buffer_bytes(array: &RawArray, k: usize) -> &[u8]
 
 impl<'a> Col<'a> {
     ghost use Rattle.std.specs.Prelude.{pos};
-    ghost use Rattle.kind_tree.specs.Kinds.{TypedOk};
+    ghost use Rattle.data_types.specs.KindTrees.{TypedOk};
     ghost use Rattle.layout_rules.specs.Walk.{LayoutOk};
     ghost use Rattle.layout_rules.specs.Values.{values_of};
     ghost use Rattle.arr_import.specs.Window.{whole, items_of};

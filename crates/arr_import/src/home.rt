@@ -3,8 +3,8 @@ ghost use Rattle.std.specs.Prelude.{◌≡◌, true, None, MatchOption, ◌+◌,
 ghost use Rattle.tree_model.specs.Tree.{dictionary_of};
 ghost use Rattle.raw_array.specs.Members.{members_of};
 ghost use Rattle.data_types.specs.declared.storage.Storage.TheVariants as storages;
-ghost use Rattle.kind_tree.specs.declared.typed.Typed.{out-Typed};
-ghost use Rattle.kind_tree.specs.TypedView.{kind_of, dict_in};
+ghost use Rattle.data_types.specs.declared.typed.Typed.{out-Typed};
+ghost use Rattle.data_types.specs.TypedView.{kind_of, dict_in};
 ghost use Rattle.layout_rules.specs.Layout.{is_valid as is_valid_at, natural};
 ghost use Rattle.arr_import.specs.Window.{IsDictionary, home_of, index_at, item_at};
 ghost use Rattle.arr_import.specs.Cols.{window_of};
@@ -14,8 +14,7 @@ ghost use Rattle.arr_import.specs.Shown.{Shows};
 use crate::col::Col;
 use crate::stored::whole_at;
 use crate::value_ref::ValueRef;
-use data_types::Storage;
-use kind_tree::kinds_of_typed;
+use data_types::{Storage, kinds_of_typed};
 use layout_rules::{lawful_has_no_fault, lawful_items_lie_within, lawful_parts, lawful_root};
 
 impl<'a> Col<'a> {
@@ -70,7 +69,7 @@ impl<'a> Col<'a> {
         }
     }
 
-    /// The same, where the indices are stored in so many bits.
+    /// The same, where the indices are stored in this many bits.
     #[inline(always)]
     pub(crate) fn entry_in(&self, i: u64, bits: u8, signed: bool, dictionary: &Col<'a>) -> u64
         requires inside { i < self.now.count }

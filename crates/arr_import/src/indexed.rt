@@ -2,8 +2,8 @@
 ghost use Rattle.std.specs.Prelude.{◌≡◌, true, false, None, ◌≤ℤ◌, ◌<ℤ◌, ℕ, List, IfSome, IfNone, pos, ◌<◌, ◌≢◌};
 ghost use Rattle.data_types.specs.Value.Value.{Null, Bytes};
 ghost use Rattle.tree_model.specs.Tree.{dictionary_of};
-ghost use Rattle.kind_tree.specs.TypedView.{dict_in};
-ghost use Rattle.kind_tree.specs.declared.typed.Typed.{out-Typed};
+ghost use Rattle.data_types.specs.TypedView.{dict_in};
+ghost use Rattle.data_types.specs.declared.typed.Typed.{out-Typed};
 ghost use Rattle.layout_rules.specs.Layout.{natural};
 ghost use Rattle.arr_import.specs.Window.{IsDictionary, item_at};
 ghost use Rattle.arr_import.specs.Cols.{window_of};

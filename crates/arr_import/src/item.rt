@@ -1,9 +1,9 @@
 //! The items of a column whose own values they are: no dictionary stands behind them.
-ghost use Rattle.std.specs.Prelude.{◌≡◌, true, ◌==◌, ◌+◌, ◌*◌, ◌<◌, ◌≤◌, ◌^◌, length, get_or};
-ghost use Rattle.bit_pack.specs.Packed.{bit};
+ghost use Rattle.std.specs.Prelude.{◌≡◌, true, ◌==◌, ◌+◌, ◌*◌, ◌<◌, ◌≤◌, length, get_or};
+ghost use Rattle.data_types.specs.Packed.{bit};
 ghost use Rattle.raw_array.specs.Members.{members_of};
 ghost use Rattle.tree_model.specs.Tree.{Released, children_of, child_at, trees};
-ghost use Rattle.kind_tree.specs.TypedView.{kind_of, kids_of};
+ghost use Rattle.data_types.specs.TypedView.{kind_of, kids_of};
 ghost use Rattle.layout_rules.specs.Layout.{first, is_valid as is_valid_at};
 ghost use Rattle.layout_rules.specs.Values.{each, child_item, listed, readers, tree_items};
 ghost use Rattle.arr_import.specs.StoredItems.{stored_item, IsThere, IsListStorage, AreItemsThere};
@@ -13,13 +13,13 @@ ghost use Rattle.data_types.specs.Value.Value.{Items};
 ghost use Rattle.arr_import.specs.Window.{items_of};
 ghost use Rattle.arr_import.specs.Cols.{window_of};
 ghost use Rattle.arr_import.specs.Shown.{Shows};
+ghost use Rattle.layout_rules.specs.Rules.{window_limit};
 
 use crate::col::Col;
 use crate::stored::{bits_at, bytes_at, start_at, text_at, truth_at, whole_at};
 use crate::value_ref::ValueRef;
 use bit_pack::bit_at;
-use data_types::Storage;
-use kind_tree::kinds_of_typed;
+use data_types::{Storage, kinds_of_typed};
 use layout_rules::{lawful_has_no_fault, lawful_items_lie_within, lawful_parts, lawful_root};
 
 impl<'a> Col<'a> {
@@ -85,7 +85,7 @@ impl<'a> Col<'a> {
         requires list { IsListStorage self.now.storage }
         ensures one { length (kids_of self.now.typed.now) ≡ 1 }
         ensures live { length (children_of self.now.array.now) ≡ 1 }
-        ensures few { tree_items (child_at self.now.array.now 0) ≤ 2 ^ 40 }
+        ensures few { tree_items (child_at self.now.array.now 0) ≤ window_limit }
         ensures items { AreItemsThere self.now.storage self.now.stored.now (first (members_of self.now.array.now) + (self.now.start + i))
             (tree_items (child_at self.now.array.now 0)) }
     {
@@ -111,7 +111,7 @@ impl<'a> Col<'a> {
         self.child_items(0, here, next - here)
     }
 
-    /// So many items for each item.
+    /// This many items for each item.
     fn fixed_list(&self, size: u32, i: u64) -> Col<'a>
         requires inside { i < self.now.count }
         requires storage { self.now.storage ≡ storages.FixedLists size }
@@ -163,7 +163,7 @@ fn is_set(bits: &[u8], place: u64) -> bool
 }
 
 fn times(place: u64, size: u32) -> u64
-    requires { (place + 1) * size ≤ 2 ^ 40 }
+    requires { (place + 1) * size ≤ window_limit }
     ensures { result ≡ place * size }
 {
     place * u64::from(size)

@@ -10,7 +10,7 @@
 //!
 //! Contracts see a column as a window (`specs/Window.antt`): the kinds, the array's tree, and which items of it. What an
 //! item is stands in `layout_rules`'s `specs/Values.antt`; what a reference shows, in `specs/Shown.antt`. A plain column is
-//! seen as so many items, each by its number (`specs/Plain.antt`).
+//! seen as this many items, each by its number (`specs/Plain.antt`).
 //!
 //! Nothing here takes memory, writes or copies bytes. A column looks its buffers up once, so
 //! that a text costs a bit, two offsets and a slice, whatever the length of the column; a list's items, and a dictionary

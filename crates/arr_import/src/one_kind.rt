@@ -7,8 +7,8 @@ ghost use Rattle.arr_import.specs.declared.access.Access.TheVariants as accesses
 ghost use Rattle.arr_import.specs.Accesses.{IsNumber};
 ghost use Rattle.tree_model.specs.Tree.{children_of, trees};
 ghost use Rattle.raw_array.specs.Members.{members_of};
-ghost use Rattle.kind_tree.specs.TypedView.{dict_in, kids_of};
-ghost use Rattle.kind_tree.specs.declared.typed.Typed.{out-Typed};
+ghost use Rattle.data_types.specs.TypedView.{dict_in, kids_of};
+ghost use Rattle.data_types.specs.declared.typed.Typed.{out-Typed};
 ghost use Rattle.layout_rules.specs.Layout.{natural, is_valid as is_valid_at};
 ghost use Rattle.layout_rules.specs.Values.{readers};
 ghost use Rattle.arr_import.specs.StoredItems.{stored_item, AreBetween, IsOwn, IsViewStorage};
@@ -18,8 +18,7 @@ ghost use Rattle.arr_import.specs.Cols.{window_of};
 use crate::access::Access;
 use crate::col::Col;
 use crate::stored::{bits_at, bytes_at, text_at, truth_at, whole_at};
-use data_types::Storage;
-use kind_tree::kinds_of_typed;
+use data_types::{Storage, kinds_of_typed};
 use layout_rules::{lawful_has_no_fault, lawful_root};
 
 impl<'a> Col<'a> {

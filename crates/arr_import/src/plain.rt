@@ -1,25 +1,25 @@
 //! Columns whose items are stored in place or between offsets, read with nothing to look up but the place. All else is
 //! settled once, when the column is asked for.
-ghost use Rattle.std.specs.Prelude.{◌≡◌, ◌↔◌, IsTrue, IfSome, IfNone, if◌then◌else◌, None, ◌+◌, ◌^◌, ◌<◌, ◌≤◌, ℕ};
+ghost use Rattle.std.specs.Prelude.{◌≡◌, ◌↔◌, IsTrue, IfSome, IfNone, if◌then◌else◌, None, ◌+◌, ◌<◌, ◌≤◌, ℕ};
 ghost use Rattle.data_types.specs.Storage.{storage_of};
 ghost use Rattle.data_types.specs.declared.storage.Storage.TheVariants as storages;
 ghost use Rattle.data_types.specs.Value.Value.{Null, Truth, Whole, Bits, Bytes};
 ghost use Rattle.tree_model.specs.Tree.{children_of, trees};
 ghost use Rattle.raw_array.specs.Members.{members_of};
 ghost use Rattle.layout_rules.specs.Layout.{buffer, first, is_valid as is_valid_at};
-ghost use Rattle.kind_tree.specs.Kinds.{kind_in};
-ghost use Rattle.kind_tree.specs.TypedView.{dict_in, kids_of};
+ghost use Rattle.data_types.specs.KindTrees.{kind_in};
+ghost use Rattle.data_types.specs.TypedView.{dict_in, kids_of};
 ghost use Rattle.layout_rules.specs.Values.{readers};
-ghost use Rattle.kind_tree.specs.declared.typed.Typed.{out-Typed};
+ghost use Rattle.data_types.specs.declared.typed.Typed.{out-Typed};
 ghost use Rattle.arr_import.specs.StoredItems.{AreBetween, IsThere, stored_item};
 ghost use Rattle.arr_import.specs.Window.{item_at};
 ghost use Rattle.arr_import.specs.Cols.{window_of};
 ghost use Rattle.arr_import.specs.Plain.{IsBitThere, IsItemThere, IsPlain, IsPlainStorage, ShowsItems, is_valid_in, storage_in, valid_item};
+ghost use Rattle.layout_rules.specs.Rules.{window_limit};
 
 use crate::col::Col;
 use crate::stored::{bits_at, bytes_at, text_at, truth_at, whole_at};
-use data_types::Storage;
-use kind_tree::kinds_of_typed;
+use data_types::{Storage, kinds_of_typed};
 use layout_rules::{lawful_has_no_fault, lawful_items_lie_within, lawful_root};
 
 /// A column whose items are stored in place or between offsets, and are no indices of a dictionary.
@@ -38,7 +38,7 @@ impl<'a> Col<'a> {
     /// What each item is, and that it can be read, where no dictionary stands behind them.
     fn items_are_stored(&self)
         requires own { dict_in (out-Typed self.now.typed.now).dict ≡ None }
-        ensures near { first (members_of self.now.array.now) + (self.now.start + self.now.count) ≤ 2 ^ 40 }
+        ensures near { first (members_of self.now.array.now) + (self.now.start + self.now.count) ≤ window_limit }
         ensures there { (i : ℕ) → i < self.now.count
             → IsThere self.now.storage self.now.stored.now self.now.text.now (first (members_of self.now.array.now) + (self.now.start + i)) }
         ensures validity { (i : ℕ) → i < self.now.count
@@ -136,7 +136,7 @@ impl<'a> Plain<'a> {
         truth_at(self.stored, self.first + i)
     }
 
-    /// What item `i` of whole numbers of so many bits is where it isn't null.
+    /// What item `i` of whole numbers of this many bits is where it isn't null.
     #[inline(always)]
     pub fn whole(&self, bits: u8, signed: bool, i: u64) -> i128
         requires there { IsItemThere self.now i }
@@ -146,7 +146,7 @@ impl<'a> Plain<'a> {
         whole_at(self.stored, self.first + i, bits / 8, signed)
     }
 
-    /// The bits of item `i` of floats of so many bits where it isn't null.
+    /// The bits of item `i` of floats of this many bits where it isn't null.
     #[inline(always)]
     pub fn float_bits(&self, bits: u8, i: u64) -> u64
         requires there { IsItemThere self.now i }
@@ -156,7 +156,7 @@ impl<'a> Plain<'a> {
         bits_at(self.stored, self.first + i, bits / 8)
     }
 
-    /// The bytes of item `i` of so many bytes each where it isn't null.
+    /// The bytes of item `i` of this many bytes each where it isn't null.
     #[inline(always)]
     pub fn sized(&self, size: u32, i: u64) -> &'a [u8]
         requires there { IsItemThere self.now i }

@@ -6,7 +6,7 @@ ghost use Rattle.arr_import.specs.Window.{IsStruct};
 ghost use Rattle.arr_import.specs.Cols.{window_of};
 
 use crate::col::Col;
-use kind_tree::kinds_of_typed;
+use data_types::kinds_of_typed;
 use layout_rules::{lawful_has_no_fault, lawful_root};
 
 impl<'a> Col<'a> {

@@ -4,8 +4,8 @@ ghost use Rattle.data_types.specs.Value.{Value};
 ghost use Rattle.data_types.specs.Value.Value.{Null, Truth, Whole, Bits, Bytes};
 ghost use Rattle.tree_model.specs.Tree.{Released, child_at, children_of};
 ghost use Rattle.raw_array.specs.Members.{members_of};
-ghost use Rattle.kind_tree.specs.TypedView.{typed_of, kids_of, dict_in};
-ghost use Rattle.kind_tree.specs.declared.typed.Typed.{out-Typed};
+ghost use Rattle.data_types.specs.TypedView.{typed_of, kids_of, dict_in};
+ghost use Rattle.data_types.specs.declared.typed.Typed.{out-Typed};
 ghost use Rattle.layout_rules.specs.Layout.{first, natural, is_valid as is_valid_at};
 ghost use Rattle.layout_rules.specs.Values.{row_items, tree_items};
 ghost use Rattle.arr_import.specs.Window.{IsRow, IsStruct, IsStructValue, child_window, home_of, item_at};
@@ -14,7 +14,7 @@ ghost use Rattle.arr_import.specs.Shown.{Shows};
 
 use crate::col::Col;
 use crate::value_ref::ValueRef;
-use kind_tree::kinds_of_typed;
+use data_types::kinds_of_typed;
 use layout_rules::{lawful_has_no_fault, lawful_items_lie_within, lawful_root};
 
 impl<'a> Col<'a> {

@@ -1,7 +1,7 @@
 //! Views, read in place ("Arrow Columnar Format", "Variable-size binary view layout"): a short item's bytes stand in its
 //! view, a long one's in the data buffer that its view names.
 ghost use Rattle.std.specs.Prelude.{◌≡◌, true, pos, ◌+◌, ◌*◌, ◌<◌, ◌≤◌, length};
-ghost use Rattle.bit_pack.specs.Packed.{meant, number_at};
+ghost use Rattle.data_types.specs.Packed.{meant, number_at};
 ghost use Rattle.raw_array.specs.Members.{members_of};
 ghost use Rattle.tree_model.specs.Tree.{IsLive};
 ghost use Rattle.layout_rules.specs.Layout.{is_valid as is_valid_at, view_width};
@@ -11,7 +11,7 @@ ghost use Rattle.arr_import.specs.StoredItems.{IsViewStorage};
 
 use crate::col::{Col, buffer_bytes};
 use bit_pack::offset_at;
-use kind_tree::kinds_of_typed;
+use data_types::kinds_of_typed;
 use layout_rules::{lawful_has_no_fault, lawful_items_lie_within, lawful_root};
 
 /// The longest item that stands in its view.

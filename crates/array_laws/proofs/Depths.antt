@@ -4,14 +4,15 @@ use Rattle.data_types.specs.declared.kind.DataType.{DataType}
 use Rattle.tree_model.specs.Tree.{Released, Live, Trees, no_trees, more_trees, MaybeTree, absent, present, tree_list, option_tree, Depth, depth_of_all}
 use Rattle.tree_model.specs.Tree.{depth_of_maybe}
 use Rattle.raw_array.specs.Members.{ArrayMembers, ArrayTree}
-use Rattle.kind_tree.specs.Kinds.{AllNodesOk, DictNodesOk, KindTree, NodesOk}
+use Rattle.data_types.specs.KindTrees.{AllNodesOk, DictNodesOk, KindTree, NodesOk}
 use Rattle.layout_rules.specs.Rules.{count_wrong, one_if}
-use Rattle.kind_tree.specs.Ways.{Steps, dictionary_step}
+use Rattle.data_types.specs.Ways.{Steps, dictionary_step}
 use Rattle.layout_rules.specs.Walk.{LayoutOk, fault_from, first_some, node_fault, visit_fault, visits, walk_below, walk_children}
 use Rattle.layout_rules.specs.Walk.{walk_dictionary, walk_of, walks_of}
 use Rattle.layout_rules.proofs.Lawful.{lawful-first_fault, left-none, right-none}
 use Rattle.layout_rules.proofs.Walks.{first_some-append}
-use Rattle.array_laws.proofs.NodeParts.{node-ok}
+use Rattle.layout_rules.specs.declared.rule.LayoutRule.TheVariants as rules
+use Rattle.layout_rules.proofs.NamedRules.{are-met}
 use Rattle.array_laws.proofs.LawfulNodes.{node}
 
 append-left : {X Y : Type 0} → (f : X → Option Y) (xs ys : List X) → first_some f (xs ++ ys) ≡ None → first_some f xs ≡ None
@@ -34,12 +35,12 @@ mutual
       let below =
       right-none (node_fault path (Some (node kind kids dict m ts d)))
       (first_some visit_fault (walk_below (walks_of kids) (walk_of dict) path (Live m ts d))) here e in
-      let n = node-ok path (node kind kids dict m ts d) here in
+      let met = are-met path (node kind kids dict m ts d) here in
       let a =
-      all-depth kids ok.3 0 path ts (counted (length (tree_list ts)) (length (tree_list kids)) n.children)
+      all-depth kids ok.3 0 path ts (counted (length (tree_list ts)) (length (tree_list kids)) (met rules.ChildCount))
       (append-left visit_fault (walk_children (walks_of kids) 0 path (tree_list ts)) (walk_dictionary (walk_of dict) path (option_tree d)) below) in
       let b =
-      dict-depth dict ok.4 path d (counted (one_if (option_tree d)) (one_if (option_tree dict)) n.dictionary)
+      dict-depth dict ok.4 path d (counted (one_if (option_tree d)) (one_if (option_tree dict)) (met rules.Dictionary))
       (append-right visit_fault (walk_children (walks_of kids) 0 path (tree_list ts)) (walk_dictionary (walk_of dict) path (option_tree d)) below) in
       omega (arith, a, b)
 

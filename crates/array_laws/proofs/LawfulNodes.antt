@@ -8,7 +8,9 @@ use Rattle.layout_rules.specs.Layout.{end, first, items, natural}
 use Rattle.layout_rules.specs.Rules.{Node, fault_if, is_negative, window_limit}
 use Rattle.layout_rules.specs.Walk.{LayoutOk, first_fault, first_some, node_fault, visit_fault, walk_below, walk_of, walks_of}
 use Rattle.layout_rules.proofs.Lawful.{lawful-first_fault, left-none, right-none}
-use Rattle.array_laws.proofs.NodeParts.{NodeOk, fault-false, node-ok}
+use Rattle.layout_rules.specs.declared.rule.LayoutRule.TheVariants as rules
+use Rattle.layout_rules.proofs.NamedRules.{AreMet, are-met}
+use Rattle.array_laws.proofs.NodeParts.{fault-false}
 
 pub pos-natural : (z : ℤ) → is_negative z ≡ false → z ≡ pos (natural z)
 pos-natural (pos n) e = refl
@@ -43,14 +45,14 @@ module _ (kind : DataType) (kids : Trees DataType) (dict : MaybeTree DataType) w
         right-none (node_fault [] (Some (node m ts d))) (first_some visit_fault (walk_below (walks_of kids) (walk_of dict) [] (Live m ts d))) here
         (lawful-first_fault (Live kind kids dict) (Live m ts d) ok)
 
-    pub lawful-node : NodeOk (node m ts d)
-    lawful-node = node-ok [] (node m ts d) here
+    pub lawful-node : AreMet (node m ts d)
+    lawful-node = are-met [] (node m ts d) here
 
     pub not-before : is_negative m.offset ≡ false
-    not-before = fault-false (is_negative m.offset) 0 m.offset (pos 0) lawful-node.offset_ok
+    not-before = fault-false (is_negative m.offset) 0 m.offset (pos 0) (lawful-node rules.NegativeOffset)
 
     pub not-less : is_negative m.length ≡ false
-    not-less = fault-false (is_negative m.length) 0 m.length (pos 0) lawful-node.length_ok
+    not-less = fault-false (is_negative m.length) 0 m.length (pos 0) (lawful-node rules.NegativeLength)
 
     pub offset-first : m.offset ≡ pos (first m)
     offset-first = pos-natural m.offset not-before
@@ -59,4 +61,4 @@ module _ (kind : DataType) (kids : Trees DataType) (dict : MaybeTree DataType) w
     length-items = pos-natural m.length not-less
 
     pub lawful-end : end m ≤ window_limit
-    lawful-end = not-long (end m) lawful-node.window
+    lawful-end = not-long (end m) (lawful-node rules.WindowTooLong)

@@ -19,3 +19,17 @@ pub mod WorkerPieces
 pub mod JoinedWindows
 pub mod StructParts
 pub mod StructLaw
+pub mod PickedColumns
+pub mod StructRows
+pub mod PackedColumns
+pub mod ReplacedColumn
+pub mod ColumnForm
+pub mod ColumnCosts
+pub mod ColumnDepths
+pub mod ColumnTypes
+pub mod TableForm
+mod Ranges
+mod OneItem
+mod OnceEach
+mod AllItems
+mod FlatTypes

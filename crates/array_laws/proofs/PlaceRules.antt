@@ -6,7 +6,7 @@ use Rattle.std.specs.Str.{is_utf8}
 use Rattle.std.specs.Str.Lossy.{utf8_valid_len}
 use Rattle.data_types.specs.declared.kind.DataType.{DataType}
 use Rattle.data_types.specs.declared.kind.DataType.TheVariants as kinds
-use Rattle.bit_pack.specs.Packed.{meant, number_at}
+use Rattle.data_types.specs.Packed.{meant, number_at}
 use Rattle.raw_array.specs.Members.{ArrayMembers}
 use Rattle.layout_rules.specs.declared.layout.Layout.{Layout}
 use Rattle.layout_rules.specs.declared.layout.Layout.TheVariants.{NoBuffers, FixedWidth, TruthBits, ByOffsets, ListOffsets, FixedItems, ByChildren, Views}
@@ -99,7 +99,7 @@ view_at bs p =
     (drop (natural (from_at bs p)) (bytes_or_none (bs (data_place (natural (buffer_at bs p))))))
     else take (natural (length_at bs p)) (drop (p * view_width + 4) (bytes_or_none (bs 1)))
 
--- what the lengths behind the last of so many buffers say of a data buffer
+-- what the lengths behind the last of this many buffers say of a data buffer
 abbrev pub size_at : Buffers → ℕ → ℕ → ℕ
 size_at bs n k =
     let lengths = bytes_or_none (bs (data_place (n - 3))) in
@@ -208,53 +208,14 @@ prefixes-by_place Views = one-rule prefix_wrong prefix-by_place
 
 -- ---- texts and indices
 pub texts-by_place : (kind : DataType) → EachByPlace (texts_wrong kind)
-texts-by_place kinds.Null = no-rule
-texts-by_place kinds.Bool = no-rule
-texts-by_place (kinds.Int bits signed) = no-rule
-texts-by_place (kinds.Float bits) = no-rule
-texts-by_place (kinds.Binary wide) = no-rule
 texts-by_place (kinds.Utf8 wide) = one-rule (not_text wide) (text-by_place wide)
-texts-by_place (kinds.FixedBinary size) = no-rule
-texts-by_place (kinds.Decimal precision scale wide) = no-rule
-texts-by_place kinds.DateDay = no-rule
-texts-by_place kinds.DateMilli = no-rule
-texts-by_place (kinds.TimeOfDay tick) = no-rule
-texts-by_place (kinds.Timestamp tick zone) = no-rule
-texts-by_place (kinds.Duration tick) = no-rule
-texts-by_place kinds.IntervalMonths = no-rule
-texts-by_place kinds.IntervalDayTime = no-rule
-texts-by_place kinds.IntervalMonthDayNano = no-rule
-texts-by_place (kinds.List wide) = no-rule
-texts-by_place (kinds.FixedList size) = no-rule
-texts-by_place kinds.Struct = no-rule
-texts-by_place kinds.Map = no-rule
-texts-by_place kinds.BinaryView = no-rule
 texts-by_place kinds.Utf8View = one-rule view_not_text view_text-by_place
+texts-by_place _ = no-rule
 
 pub indices-by_place : (kind : DataType) (total : Option ℤ) → EachByPlace (λ own. indices_wrong kind own total)
 indices-by_place kind None = no-rule
-indices-by_place kinds.Null (Some total) = no-rule
-indices-by_place kinds.Bool (Some total) = no-rule
 indices-by_place (kinds.Int bits signed) (Some total) = one-rule (λ own i. index_wrong (bits / 8) signed own total i) (index-by_place (bits / 8) signed total)
-indices-by_place (kinds.Float bits) (Some total) = no-rule
-indices-by_place (kinds.Binary wide) (Some total) = no-rule
-indices-by_place (kinds.Utf8 wide) (Some total) = no-rule
-indices-by_place (kinds.FixedBinary size) (Some total) = no-rule
-indices-by_place (kinds.Decimal precision scale wide) (Some total) = no-rule
-indices-by_place kinds.DateDay (Some total) = no-rule
-indices-by_place kinds.DateMilli (Some total) = no-rule
-indices-by_place (kinds.TimeOfDay tick) (Some total) = no-rule
-indices-by_place (kinds.Timestamp tick zone) (Some total) = no-rule
-indices-by_place (kinds.Duration tick) (Some total) = no-rule
-indices-by_place kinds.IntervalMonths (Some total) = no-rule
-indices-by_place kinds.IntervalDayTime (Some total) = no-rule
-indices-by_place kinds.IntervalMonthDayNano (Some total) = no-rule
-indices-by_place (kinds.List wide) (Some total) = no-rule
-indices-by_place (kinds.FixedList size) (Some total) = no-rule
-indices-by_place kinds.Struct (Some total) = no-rule
-indices-by_place kinds.Map (Some total) = no-rule
-indices-by_place kinds.BinaryView (Some total) = no-rule
-indices-by_place kinds.Utf8View (Some total) = no-rule
+indices-by_place _ (Some total) = no-rule
 
 -- ---- they see neither amounts nor windows
 

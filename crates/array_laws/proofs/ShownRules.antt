@@ -15,7 +15,7 @@ use Rattle.layout_rules.specs.Layout.{bytes_or_none, end, first, is_valid, is_va
 use Rattle.layout_rules.specs.Rules.{Node, buffer_absent, buffer_short, child_short, count_wrong, fails, falls_in, fault, fault_if, first_below, in_order}
 use Rattle.layout_rules.specs.Rules.{indices_wrong, is_behind_offsets, is_negative, items_need, length_if, live_length, null_count_wrong, null_count_wrong_in}
 use Rattle.layout_rules.specs.Rules.{null_total, offsets_fall, offsets_fall_if, one_if, prefixes_wrong, short_child, texts_wrong, views_misplaced}
-use Rattle.kind_tree.specs.Ways.{Steps}
+use Rattle.data_types.specs.Ways.{Steps}
 use Rattle.layout_rules.specs.Walk.{fault_at, first_some, node_fault, node_of}
 use Rattle.array_laws.specs.Shown.{shown, shown_members}
 use Rattle.array_laws.proofs.PlaceRules.{below-same, each-shown, indices-by_place, places-by_place, prefixes-by_place, texts-by_place}

@@ -6,9 +6,9 @@ use Rattle.data_types.specs.declared.kind.DataType.{DataType}
 use Rattle.tree_model.specs.Tree.{Released, Live, Trees, no_trees, more_trees, MaybeTree, absent, present, tree_list, option_tree, map_trees, map_maybe}
 use Rattle.raw_array.specs.Members.{ArrayMembers, ArrayTree}
 use Rattle.layout_rules.specs.declared.rule.LayoutRule.TheVariants as rules
-use Rattle.kind_tree.specs.Kinds.{KindTree}
+use Rattle.data_types.specs.KindTrees.{KindTree}
 use Rattle.layout_rules.specs.Layout.{items}
-use Rattle.kind_tree.specs.Ways.{Steps, dictionary_step}
+use Rattle.data_types.specs.Ways.{Steps, dictionary_step}
 use Rattle.layout_rules.specs.Walk.{ChunkOk, LayoutOk, Walk, first_chunk_fault, first_fault, first_some, is_table, root_fault}
 use Rattle.layout_rules.specs.Walk.{top_fault, visit_fault, visits, walk_below, walk_children, walk_dictionary, walk_of, walks_of}
 use Rattle.layout_rules.proofs.Walks.{first_some-append}

@@ -12,18 +12,20 @@ use Rattle.tree_model.specs.Tree.{IsLive, Released, Live, absent, trees, tree_li
 use Rattle.tree_model.proofs.Lists.{tree_list-trees}
 use Rattle.raw_array.specs.Members.{ArrayMembers, ArrayTree}
 use Rattle.raw_array.specs.declared.array.ReleaseKind.TheVariants.{Assembled}
-use Rattle.kind_tree.specs.Kinds.{KindTree}
+use Rattle.data_types.specs.KindTrees.{KindTree}
 use Rattle.layout_rules.specs.Layout.{natural}
 use Rattle.layout_rules.specs.Rules.{child_short, count_wrong, fault_if, live_length, null_total, short_child}
 use Rattle.layout_rules.specs.Values.{each, field_items, readers, row_items, rows_of, tree_items, value_at}
-use Rattle.kind_tree.specs.Ways.{Steps}
+use Rattle.data_types.specs.Ways.{Steps}
 use Rattle.layout_rules.specs.Walk.{ChunkOk, LayoutOk, first_some, node_fault, root_fault, top_fault, visit_fault, visits, walk_children, walks_of}
 use Rattle.layout_rules.specs.declared.rule.LayoutRule.TheVariants as rules
 use Rattle.layout_rules.proofs.Walks.{first_some-append}
 use Rattle.layout_rules.proofs.Lawful.{first_fault-lawful, lawful-first_fault}
 use Rattle.layout_rules.proofs.ReadWithin.{any-path, live-of}
-use Rattle.kind_tree.specs.ColumnKinds.{table_type}
-use Rattle.array_laws.proofs.NodeParts.{both-none, no-fault, ok-node}
+use Rattle.data_types.specs.ColumnKinds.{table_type}
+use Rattle.layout_rules.specs.Rules.{in_order}
+use Rattle.layout_rules.proofs.NamedRules.{AreMet, none-fails}
+use Rattle.array_laws.proofs.NodeParts.{both-none, no-fault}
 use Rattle.array_laws.proofs.WindowItems.{each-same}
 use Rattle.array_laws.proofs.LawfulNodes.{length-items, node}
 
@@ -106,25 +108,15 @@ module _ (types : List KindTree) (columns : List ArrayTree) (rows : ℕ) (are : 
       let start : 0 + rows ≡ rows = omega arith in
       (λ t. child_short (start t) 0 (tree_list-trees columns t)) ∙ all-long types columns rows 0 are long
 
+  met : AreMet (node kinds.Struct (trees types) absent (row_members rows) (trees columns) absent)
+  met rules.ChildCount = same-count
+  met rules.ChildShort = long-children
+  met rules.NullCount = null-count (null_total (row_members rows) rows) (no-nulls rows rows)
+  met rules.WindowTooLong = no-fault (nat_lt (2 ^ 40) (0 + rows)) 0 (pos (0 + rows)) (pos (2 ^ 40)) (le-ltb (2 ^ 40) (0 + rows) (omega (arith, few)))
+  met _ = refl
+
   here : node_fault [] (Some (node kinds.Struct (trees types) absent (row_members rows) (trees columns) absent)) ≡ None
-  here =
-      ok-node [] (node kinds.Struct (trees types) absent (row_members rows) (trees columns) absent) (record {
-        length_ok = refl;
-        offset_ok = refl;
-        count = refl;
-        children = same-count;
-        dictionary = refl;
-        there = refl;
-        long = refl;
-        rise = refl;
-        child_long = long-children;
-        nulls = null-count (null_total (row_members rows) rows) (no-nulls rows rows);
-        view_places = refl;
-        view_prefixes = refl;
-        text = refl;
-        index = refl;
-        window = no-fault (nat_lt (2 ^ 40) (0 + rows)) 0 (pos (0 + rows)) (pos (2 ^ 40)) (le-ltb (2 ^ 40) (0 + rows) (omega (arith, few)));
-      })
+  here = none-fails [] (node kinds.Struct (trees types) absent (row_members rows) (trees columns) absent) in_order met
 
   top : top_fault (table_type types) (struct_tree rows columns) ≡ None
   top = ap (λ (n : ℕ). if nat_lt 0 n then Some (root_fault rules.TopNulls (pos n)) else None) (no-nulls rows rows)

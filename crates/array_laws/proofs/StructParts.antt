@@ -4,11 +4,11 @@ use Rattle.std.specs.Prelude.{◌≤ℤ◌}
 use Rattle.data_types.specs.declared.kind.DataType.TheVariants as kinds
 use Rattle.tree_model.specs.Tree.{IsLive, Released, Live, Trees, MaybeTree, absent, trees, child_at, children_of}
 use Rattle.raw_array.specs.Members.{ArrayMembers, ArrayTree, members_of}
-use Rattle.kind_tree.specs.Kinds.{KindTree}
+use Rattle.data_types.specs.KindTrees.{KindTree}
 use Rattle.layout_rules.specs.Layout.{end, natural}
 use Rattle.layout_rules.specs.Values.{tree_items}
 use Rattle.layout_rules.specs.Walk.{LayoutOk}
-use Rattle.kind_tree.specs.ColumnKinds.{table_type}
+use Rattle.data_types.specs.ColumnKinds.{table_type}
 use Rattle.array_laws.proofs.ChunkParts.{struct-facts}
 use Rattle.array_laws.proofs.LawfulNodes.{lawful-live}
 

@@ -4,7 +4,7 @@ use Rattle.std.specs.Prelude.{◌+ℤ◌}
 use Rattle.data_types.specs.declared.kind.DataType.{DataType}
 use Rattle.tree_model.specs.Tree.{Live, Trees, MaybeTree, tree_list, option_tree}
 use Rattle.raw_array.specs.Members.{ArrayMembers, ArrayTree, nulls_in_part}
-use Rattle.kind_tree.specs.Kinds.{KindTree}
+use Rattle.data_types.specs.KindTrees.{KindTree}
 use Rattle.layout_rules.specs.Layout.{first, items, natural}
 use Rattle.layout_rules.specs.Rules.{is_negative}
 use Rattle.layout_rules.specs.Values.{each, field_items, readers, reader_of, row_items, rows_of, value_at, values_of}

@@ -16,7 +16,9 @@ use Rattle.layout_rules.specs.Rules.{offsets_fall_if, prefixes_wrong, views_misp
 use Rattle.layout_rules.proofs.Lawful.{left-none, right-none}
 use Rattle.layout_rules.proofs.Long.{long-bytes}
 use Rattle.layout_rules.proofs.TextData.{not_zero}
-use Rattle.array_laws.proofs.NodeParts.{NodeOk, below-again, both-none, no-fault}
+use Rattle.layout_rules.specs.declared.rule.LayoutRule.TheVariants as rules
+use Rattle.layout_rules.proofs.NamedRules.{AreMet}
+use Rattle.array_laws.proofs.NodeParts.{below-again, both-none, no-fault}
 use Rattle.array_laws.proofs.PlaceRules.{IsPart, each-part, falls-by_place, indices-by_place, places-by_place, prefixes-by_place, rule-part, texts-by_place}
 use Rattle.array_laws.proofs.Rising.{falls-step, natural-rises, never-negative, rises}
 use Rattle.array_laws.proofs.Sizes.{count-same, count_of, counts_nulls, named-same, nulls-in, offset-same}
@@ -253,26 +255,32 @@ module _ (n : Node) (w : ArrayMembers) (off len : ℕ) (p : IsWindow n.own w off
   buffers-part f g each e =
       ap (first_below g) (count-same l n.own w p.part.same) ∙ below-again f g (count_of l n.own) (λ k lt. each k) e
 
-  pub part-ok : NodeOk n → NodeOk (with_own n w)
-  part-ok ok =
-      let need : (k : ℕ) → need l w k ≤ need l n.own k = λ k. need-le n.own w off len p.part l k ok.rise (offsets-long l n.own ok.there ok.long) in
-      let same = p.part.same in
-      record {
-        length_ok = no-fault (is_negative w.length) 0 w.length (pos 0) p.not_less;
-        offset_ok = no-fault (is_negative w.offset) 0 w.offset (pos 0) p.not_before;
-        count = (λ t. count_wrong (same.count t) (count-same l n.own w same t)) ∙ ok.count;
-        children = ok.children;
-        dictionary = ok.dictionary;
-        there = buffers-part (buffer_absent l n.own) (buffer_absent l w) (λ k. absent-part l n.own w k (same.bytes k) (need k)) ok.there;
-        long = buffers-part (buffer_short l n.own) (buffer_short l w) (λ k. short-part l n.own w k (same.bytes k) (need k)) ok.long;
-        rise = falls-part n.own w off len p.part (is_behind_offsets l) ok.rise;
-        child_long = children-le (items_need l w) (items_need l n.own) 0 n.children (items-le n.own w off len p.part l ok.rise) ok.child_long;
-        nulls = nulls-part_in n.own w off len p l ok.nulls;
-        view_places = each-part n.own w off len p.part (views_misplaced l) (places-by_place l) ok.view_places;
-        view_prefixes = each-part n.own w off len p.part (prefixes_wrong l) (prefixes-by_place l) ok.view_prefixes;
-        text = each-part n.own w off len p.part (texts_wrong n.kind) (texts-by_place n.kind) ok.text;
-        index =
-            each-part n.own w off len p.part (λ own. indices_wrong n.kind own (length_if n.dictionary))
-            (indices-by_place n.kind (length_if n.dictionary)) ok.index;
-        window = not-long (end w) (end n.own) (end-part n.own w off len p.part) ok.window;
-      }
+  module _ (met : AreMet n) where
+    needed : (k : ℕ) → need l w k ≤ need l n.own k
+    needed k =
+        need-le n.own w off len p.part l k (met rules.OffsetsFall) (offsets-long l n.own (met rules.BufferAbsent) (met rules.BufferShort))
+
+    pub part-met : AreMet (with_own n w)
+    part-met rules.Released = refl
+    part-met rules.NegativeLength = no-fault (is_negative w.length) 0 w.length (pos 0) p.not_less
+    part-met rules.NegativeOffset = no-fault (is_negative w.offset) 0 w.offset (pos 0) p.not_before
+    part-met rules.BufferCount = (λ t. count_wrong (p.part.same.count t) (count-same l n.own w p.part.same t)) ∙ met rules.BufferCount
+    part-met rules.ChildCount = met rules.ChildCount
+    part-met rules.Dictionary = met rules.Dictionary
+    part-met rules.BufferAbsent =
+        buffers-part (buffer_absent l n.own) (buffer_absent l w) (λ k. absent-part l n.own w k (p.part.same.bytes k) (needed k)) (met rules.BufferAbsent)
+    part-met rules.BufferShort =
+        buffers-part (buffer_short l n.own) (buffer_short l w) (λ k. short-part l n.own w k (p.part.same.bytes k) (needed k)) (met rules.BufferShort)
+    part-met rules.OffsetsFall = falls-part n.own w off len p.part (is_behind_offsets l) (met rules.OffsetsFall)
+    part-met rules.ChildShort =
+        children-le (items_need l w) (items_need l n.own) 0 n.children (items-le n.own w off len p.part l (met rules.OffsetsFall)) (met rules.ChildShort)
+    part-met rules.NullCount = nulls-part_in n.own w off len p l (met rules.NullCount)
+    part-met rules.ViewPlace = each-part n.own w off len p.part (views_misplaced l) (places-by_place l) (met rules.ViewPlace)
+    part-met rules.ViewPrefix = each-part n.own w off len p.part (prefixes_wrong l) (prefixes-by_place l) (met rules.ViewPrefix)
+    part-met rules.NotText = each-part n.own w off len p.part (texts_wrong n.kind) (texts-by_place n.kind) (met rules.NotText)
+    part-met rules.IndexRange =
+        each-part n.own w off len p.part (λ own. indices_wrong n.kind own (length_if n.dictionary))
+        (indices-by_place n.kind (length_if n.dictionary)) (met rules.IndexRange)
+    part-met rules.WindowTooLong = not-long (end w) (end n.own) (end-part n.own w off len p.part) (met rules.WindowTooLong)
+    part-met rules.TopKind = refl
+    part-met rules.TopNulls = refl

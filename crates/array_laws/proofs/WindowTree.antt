@@ -10,7 +10,7 @@ use Rattle.data_types.specs.Value.{Null}
 use Rattle.tree_model.specs.Tree.{IsLive, Released, Live, Trees, MaybeTree}
 use Rattle.raw_array.specs.Members.{ArrayMembers, ArrayTree, members_of, windowed}
 use Rattle.raw_array.specs.Windows.{FitsWindow, Window}
-use Rattle.kind_tree.specs.Kinds.{KindTree}
+use Rattle.data_types.specs.KindTrees.{KindTree}
 use Rattle.layout_rules.specs.Layout.{first, items, natural}
 use Rattle.layout_rules.specs.Rules.{null_total}
 use Rattle.layout_rules.specs.Values.{each, row_items, rows_of, tree_items, value_at, values_of}
@@ -18,9 +18,11 @@ use Rattle.layout_rules.specs.Walk.{ChunkOk, LayoutOk, first_some, is_table, nod
 use Rattle.layout_rules.specs.declared.rule.LayoutRule.TheVariants as rules
 use Rattle.layout_rules.proofs.Lawful.{first_fault-lawful}
 use Rattle.array_laws.proofs.LawfulNodes.{below-lawful, lawful-end, lawful-live, lawful-node, length-items, node, not-before, offset-first}
-use Rattle.array_laws.proofs.NodeParts.{both-none, ok-node}
+use Rattle.layout_rules.specs.Rules.{in_order}
+use Rattle.layout_rules.proofs.NamedRules.{none-fails}
+use Rattle.array_laws.proofs.NodeParts.{both-none}
 use Rattle.array_laws.proofs.WindowItems.{each-same, length-each, part-each, window-part, window_of, window-rows, window-value, window-values}
-use Rattle.array_laws.proofs.WindowNode.{IsWindow, part-ok, total-within}
+use Rattle.array_laws.proofs.WindowNode.{IsWindow, part-met, total-within}
 
 top-zero : (n : ℕ) → (if nat_lt 0 n then Some (root_fault rules.TopNulls (pos n)) else None) ≡ None → n ≡ 0
 top-zero n e = grind arith
@@ -55,7 +57,7 @@ module _ (kind : DataType) (kids : Trees DataType) (dict : MaybeTree DataType) (
     live-lawful =
         first_fault-lawful typed (Live w ts d)
         (both-none (node_fault [] (Some (node kind kids dict w ts d))) (first_some visit_fault (walk_below (walks_of kids) (walk_of dict) [] (Live w ts d)))
-        (ok-node [] (node kind kids dict w ts d) (part-ok (node kind kids dict m ts d) w off len part (lawful-node kind kids dict m ts d ok)))
+        (none-fails [] (node kind kids dict w ts d) in_order (part-met (node kind kids dict m ts d) w off len part (lawful-node kind kids dict m ts d ok)))
         (below-lawful kind kids dict m ts d ok))
 
     live-values : values_of typed (Live w ts d) ≡ take len (drop off (values_of typed (Live m ts d)))

@@ -8,10 +8,10 @@ use Rattle.data_types.specs.Value.{Value, Bytes, Whole}
 use Rattle.tree_model.specs.Tree.{Live, no_trees, absent, trees}
 use Rattle.raw_array.specs.Members.{Buffer, ArrayTree}
 use Rattle.raw_array.specs.declared.array.ReleaseKind.TheVariants.{Assembled, Exported}
-use Rattle.kind_tree.specs.Kinds.{KindTree}
+use Rattle.data_types.specs.KindTrees.{KindTree}
 use Rattle.layout_rules.specs.Values.{rows_of}
 use Rattle.layout_rules.specs.Walk.{first_chunk_fault}
-use Rattle.kind_tree.specs.ColumnKinds.{table_type}
+use Rattle.data_types.specs.ColumnKinds.{table_type}
 
 abbrev pub bytes : List ℕ → Option Buffer
 bytes bs = Some (record { bytes = bs; amount = 7 })

@@ -1,16 +1,17 @@
 //! Laws on trees of arrays: what a reader sees of them, and windows on them.
-ghost use Rattle.std.specs.Prelude.{◌≡◌, ◌≤◌, ◌<◌, ◌≤ℤ◌, ◌+◌, ◌-◌, ◌^◌, ℕ, pos, List, take, drop, length, get_or, ◌++◌};
+ghost use Rattle.std.specs.Prelude.{◌≡◌, ◌≤◌, ◌<◌, ◌≤ℤ◌, ◌+◌, ◌-◌, ℕ, pos, List, take, drop, length, get_or, ◌++◌};
 ghost use Rattle.data_types.specs.Table.{Row};
 ghost use Rattle.tree_model.specs.Tree.{Depth, IsLive, Released, child_at, children_of};
 ghost use Rattle.raw_array.specs.Members.{ArrayTree, Like, Lowered, LoweredBy, ShareOf, members_of};
-ghost use Rattle.kind_tree.specs.Kinds.{KindTree, NodesOk};
+ghost use Rattle.data_types.specs.KindTrees.{KindTree, NodesOk};
 ghost use Rattle.layout_rules.specs.Layout.{end};
 ghost use Rattle.layout_rules.specs.Values.{rows_of, tree_items, values_of};
 ghost use Rattle.layout_rules.specs.Walk.{ChunkOk, LayoutOk, first_chunk_fault, first_fault};
 ghost use Rattle.raw_array.specs.Windows.{FitsWindow, Window};
-ghost use Rattle.kind_tree.specs.ColumnKinds.{table_type};
+ghost use Rattle.data_types.specs.ColumnKinds.{table_type};
 ghost use Rattle.array_laws.specs.Shown.{SameShown};
 ghost use Rattle.array_laws.specs.Pieces.{border, joined_pieces, piece, rows_of_pieces};
+ghost use Rattle.layout_rules.specs.Rules.{window_limit};
 
 /// A law: faults, values and rows are those of what a tree shows.
 pub fn trees_that_show_the_same()
@@ -63,7 +64,7 @@ pub fn lawful_structs_have_columns()
     ensures live { (types : List KindTree) (t : ArrayTree) → LayoutOk (table_type types) t → IsLive t }
     ensures offset { (types : List KindTree) (t : ArrayTree) → LayoutOk (table_type types) t → pos 0 ≤ℤ (members_of t).offset }
     ensures length { (types : List KindTree) (t : ArrayTree) → LayoutOk (table_type types) t → pos 0 ≤ℤ (members_of t).length }
-    ensures end { (types : List KindTree) (t : ArrayTree) → LayoutOk (table_type types) t → end (members_of t) ≤ 2 ^ 40 }
+    ensures end { (types : List KindTree) (t : ArrayTree) → LayoutOk (table_type types) t → end (members_of t) ≤ window_limit }
     ensures children { (types : List KindTree) (t : ArrayTree) → LayoutOk (table_type types) t → length (children_of t) ≡ length types }
     ensures column { (types : List KindTree) (t : ArrayTree) (p : ℕ) → p < length types → LayoutOk (table_type types) t
         → LayoutOk (get_or types p Released) (child_at t p) }

@@ -7,7 +7,7 @@ ghost use Rattle.layout_rules.specs.Values.{values_of};
 ghost use Rattle.layout_rules.specs.Walk.{first_fault};
 ghost use Rattle.array_laws.specs.Examples.{HasRows, chunk, hello, hi, n, text_views, texts, three, types};
 ghost use Rattle.array_laws.specs.Pieces.{rows_of_pieces};
-ghost use Rattle.kind_tree.specs.ColumnKinds.{table_type};
+ghost use Rattle.data_types.specs.ColumnKinds.{table_type};
 
 /// A chunk, its windows and its shares, and windows on a column of views.
 pub fn worked_windows()

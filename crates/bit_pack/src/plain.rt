@@ -1,8 +1,8 @@
 //! The same numbers byte by byte, whatever the width: plain programs for the same definitions.
 ghost use Rattle.std.specs.Prelude.{◌≡◌, ◌+◌, ◌*◌, ◌<◌, ◌≤◌, ◌^◌, ◌++◌, ℕ, length, take, drop};
-ghost use Rattle.bit_pack.specs.Packed.{number_at, le_bytes};
+ghost use Rattle.data_types.specs.Packed.{number_at, le_bytes};
 
-/// The number that so many bytes at a byte place are.
+/// The number that this many bytes at a byte place are.
 pub(crate) fn unsigned_at(bytes: &[u8], at: usize, width: usize) -> u128
     requires width { width ≤ 16 }
     requires within { at + width ≤ length bytes.now }
@@ -16,7 +16,7 @@ pub(crate) fn unsigned_at(bytes: &[u8], at: usize, width: usize) -> u128
     n
 }
 
-/// Writes the lowest bytes of a number, so many of them, at a byte place.
+/// Writes the lowest bytes of a number, this many of them, at a byte place.
 pub(crate) fn put_unsigned(bytes: &mut [u8], at: usize, width: usize, number: u128)
     requires { at + width ≤ length bytes.old }
     ensures { bytes.new ≡ take at bytes.old ++ le_bytes width number ++ drop (at + width) bytes.old }

@@ -1,6 +1,6 @@
 //! The least and the greatest number of each width as its bytes, both ways, and bits and counts across bytes.
 ghost use Rattle.std.specs.Prelude.{◌≡◌, length, IsTrue};
-ghost use Rattle.bit_pack.specs.Packed.{IsWidth, FitsWidth};
+ghost use Rattle.data_types.specs.Packed.{IsWidth, FitsWidth};
 
 use super::*;
 use crate::bits::clear_bits;

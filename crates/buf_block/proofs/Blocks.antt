@@ -7,10 +7,10 @@ use native.Mathlib.Decide.{ℕ_discrete}
 use lib.ListN.{get_elem?}
 use Rattle.std.proofs.lemmas.List.{length-set, length-replicate}
 use Rattle.atomic_table.specs.Table.{State, Act, carried_after, homes_after}
-use Rattle.buf_block.specs.declared.rule.Grip.{Grip}
-use Rattle.buf_block.specs.declared.rule.Stake.{Stake}
+use Rattle.buf_block.specs.declared.rule.HolderView.{HolderView}
+use Rattle.buf_block.specs.declared.rule.SeatView.{SeatView}
 use Rattle.buf_block.specs.Block.{holding, done, SlotState, slot_with_deed, slot_without_deed, IsBlock, Back}
-use Rattle.buf_block.specs.BlockTable.{with_grip, grips_at, block_at, rank, IsTable, BackAt, slots_at}
+use Rattle.buf_block.specs.BlockTable.{with_holder_view, holder_views_at, block_at, rank, IsTable, BackAt, slots_at}
 use Rattle.buf_block.specs.BlockView.{Hands, empty_hands, hands_with}
 use Rattle.buf_block.specs.BlockLog.{Scene, BlockStep, splits_off, lets_go, takes_deed, reads, Does, Log}
 use Rattle.buf_block.specs.TableLog.{TableScene, made_table, scene_at, hands_at, after_taking, after_making, after_subtracting, TableStep, makes, steps, TableLog, steps_of}
@@ -19,7 +19,7 @@ use Rattle.buf_block.proofs.Apart.{at_rank, splits_one, split_here, split_elsewh
 use Rattle.buf_block.proofs.Apart.{act_of, number, Given, mine, within, bound, step_here, step_elsewhere, step_valid}
 
 abbrev Table : Type 0
-Table = State SlotState Stake
+Table = State SlotState SeatView
 
 -- ---- hands
 hands_there : (hands : ℕ → Hands) (place : ℕ) (these : Hands) → hands_at hands place these place ≡ these
@@ -28,7 +28,7 @@ hands_there hands place these = ap (λ (b : Bool). if b then these else hands pl
 hands_else : (hands : ℕ → Hands) (place : ℕ) (these : Hands) (k : ℕ) → k ≢ place → hands_at hands place these k ≡ hands k
 hands_else hands place these k ne = ap (λ (b : Bool). if b then these else hands k) (ne_eqb k place ne)
 
-scene_is : (k : ℕ) (t : TableScene) (b : State SlotState Grip) (hands : Hands) → block_at k t.table ≡ b → t.hands k ≡ hands
+scene_is : (k : ℕ) (t : TableScene) (b : State SlotState HolderView) (hands : Hands) → block_at k t.table ≡ b → t.hands k ≡ hands
     → scene_at k t ≡ record { table = b; hands = hands }
 scene_is k t b hands e f i = record { table = e i; hands = f i }
 
@@ -37,22 +37,22 @@ abbrev Result : TableScene → ℕ → BlockStep → TableScene → Type 0
 Result s place b t = IsTable t.table × (length t.table.words ≡ length s.table.words) × Does (scene_at place s) b (scene_at place t)
     × ((k : ℕ) → k < length s.table.words → k ≢ place → scene_at k t ≡ scene_at k s)
 
-module _ (s : TableScene) (r : IsTable s.table) (seat : ℕ) (v : Stake) (at : get_elem? s.table.views seat ≡ some v) where
+module _ (s : TableScene) (r : IsTable s.table) (seat : ℕ) (v : SeatView) (at : get_elem? s.table.views seat ≡ some v) where
   abbrev place : ℕ
   place = v.place
 
   abbrev own_number : ℕ
   own_number = rank v.place s.table.views seat
 
-  takes_one : (amount : ℕ) → v.grip ≡ holding amount → 2 ≤ amount
+  takes_one : (amount : ℕ) → v.holder_view ≡ holding amount → 2 ≤ amount
       → Result s place (splits_off own_number) (record {
         table = after_taking s.table seat v amount;
-        hands = hands_at s.hands place (hands_with (s.hands place) (length (grips_at place s.table.views)) []);
+        hands = hands_at s.hands place (hands_with (s.hands place) (length (holder_views_at place s.table.views)) []);
       })
   takes_one amount is more =
-      let these : Hands = hands_with (s.hands place) (length (grips_at place s.table.views)) [] in
+      let these : Hands = hands_with (s.hands place) (length (holder_views_at place s.table.views)) [] in
       let t : TableScene = record { table = after_taking s.table seat v amount; hands = hands_at s.hands place these } in (
-        subst (λ (n : ℕ). IsTable (after_taking s.table seat v n)) (ap (λ (g : Grip). g.amount) is) (splits_one seat v amount is more s.table r at),
+        subst (λ (n : ℕ). IsTable (after_taking s.table seat v n)) (ap (λ (g : HolderView). g.amount) is) (splits_one seat v amount is more s.table r at),
         refl,
         (
           amount,
@@ -63,7 +63,7 @@ module _ (s : TableScene) (r : IsTable s.table) (seat : ℕ) (v : Stake) (at : g
         λ k inside ne. scene_is k t _ _ (split_elsewhere s.table seat v amount at k (λ e. ne (sym e))) (hands_else s.hands place these k ne),
       )
 
-  takes_out : v.grip.last ≡ true → s.hands place own_number ≡ slot_with_deed
+  takes_out : v.holder_view.last ≡ true → s.hands place own_number ≡ slot_with_deed
       → Result s place (takes_deed own_number) (record {
         table = s.table;
         hands = hands_at s.hands place (hands_with (s.hands place) own_number slot_without_deed);
@@ -73,15 +73,15 @@ module _ (s : TableScene) (r : IsTable s.table) (seat : ℕ) (v : Stake) (at : g
       let t : TableScene = record { table = s.table; hands = hands_at s.hands place these } in (
         r,
         refl,
-        ((v.grip, at_rank place s.table.views seat v at refl, last), full, sym (scene_is place t _ these refl (hands_there s.hands place these))),
+        ((v.holder_view, at_rank place s.table.views seat v at refl, last), full, sym (scene_is place t _ these refl (hands_there s.hands place these))),
         λ k inside ne. scene_is k t _ _ refl (hands_else s.hands place these k ne),
       )
 
-  reads_on : (amount : ℕ) → v.grip ≡ holding amount → 1 ≤ amount → Result s place (reads own_number) s
+  reads_on : (amount : ℕ) → v.holder_view ≡ holding amount → 1 ≤ amount → Result s place (reads own_number) s
   reads_on amount is more = (r, refl, (amount, (at_rank place s.table.views seat v at refl ∙ ap some is, more), refl), λ k inside ne. refl)
 
   -- ---- the subtraction
-  module _ (inside : v.place < length s.table.words) (amount : ℕ) (is : v.grip ≡ holding amount) (more : 1 ≤ amount) where
+  module _ (inside : v.place < length s.table.words) (amount : ℕ) (is : v.holder_view ≡ holding amount) (more : 1 ≤ amount) where
     abbrev slots_of : Bool → List (ℕ × SlotState)
     slots_of last = carried_after [] (act_of last)
 
@@ -127,30 +127,30 @@ module _ (s : TableScene) (r : IsTable s.table) (seat : ℕ) (v : Stake) (at : g
     own_slot : slots_at place ((place, Some (record {})) ∷ []) ≡ slot_with_deed
     own_slot = ap (λ (b : Bool). if b then (0, Some (record {})) ∷ [] else []) (eq-eqb place place refl)
 
-    lets_it_go : (w : Stake) (act : Act SlotState) → IsTable (after_subtracting s.table place seat amount w act)
+    lets_it_go : (w : SeatView) (act : Act SlotState) → IsTable (after_subtracting s.table place seat amount w act)
         → (last : Bool) → (found_now == amount) ≡ last → BackAt v amount last (w, carried_after [] act)
         → Result s place (lets_go own_number) (record {
           table = after_subtracting s.table place seat amount w act;
           hands = hands_at s.hands place (hands_with (s.hands place) own_number (slots_at place (carried_after [] act)));
         })
     lets_it_go w act kept true e back =
-        let w_is : w ≡ with_grip v (done amount true) = ap (λ (m : Stake × List (ℕ × SlotState)). m.0) back in
+        let w_is : w ≡ with_holder_view v (done amount true) = ap (λ (m : SeatView × List (ℕ × SlotState)). m.0) back in
         let slots_are : slots_at place (carried_after [] act) ≡ slot_with_deed =
-        ap (λ (m : Stake × List (ℕ × SlotState)). slots_at place m.1) back ∙ own_slot in
-        subst (λ (x : Stake). Result s place (lets_go own_number) (record {
+        ap (λ (m : SeatView × List (ℕ × SlotState)). slots_at place m.1) back ∙ own_slot in
+        subst (λ (x : SeatView). Result s place (lets_go own_number) (record {
           table = after_subtracting s.table place seat amount x act;
           hands = hands_at s.hands place (hands_with (s.hands place) own_number (slots_at place (carried_after [] act)));
         })) (sym w_is)
-        (goes_off true e (homes_after s.table.homes [] act) (subst (λ (x : Stake). IsTable (after_subtracting s.table place seat amount x act)) w_is kept)
+        (goes_off true e (homes_after s.table.homes [] act) (subst (λ (x : SeatView). IsTable (after_subtracting s.table place seat amount x act)) w_is kept)
         (slots_at place (carried_after [] act)) slots_are)
     lets_it_go w act kept false e back =
-        let w_is : w ≡ with_grip v (done amount false) = ap (λ (m : Stake × List (ℕ × SlotState)). m.0) back in
-        let slots_are : slots_at place (carried_after [] act) ≡ [] = ap (λ (m : Stake × List (ℕ × SlotState)). slots_at place m.1) back in
-        subst (λ (x : Stake). Result s place (lets_go own_number) (record {
+        let w_is : w ≡ with_holder_view v (done amount false) = ap (λ (m : SeatView × List (ℕ × SlotState)). m.0) back in
+        let slots_are : slots_at place (carried_after [] act) ≡ [] = ap (λ (m : SeatView × List (ℕ × SlotState)). slots_at place m.1) back in
+        subst (λ (x : SeatView). Result s place (lets_go own_number) (record {
           table = after_subtracting s.table place seat amount x act;
           hands = hands_at s.hands place (hands_with (s.hands place) own_number (slots_at place (carried_after [] act)));
         })) (sym w_is)
-        (goes_off false e (homes_after s.table.homes [] act) (subst (λ (x : Stake). IsTable (after_subtracting s.table place seat amount x act)) w_is kept)
+        (goes_off false e (homes_after s.table.homes [] act) (subst (λ (x : SeatView). IsTable (after_subtracting s.table place seat amount x act)) w_is kept)
         (slots_at place (carried_after [] act)) slots_are)
 
 -- at the place and with the number that the step has
@@ -163,11 +163,11 @@ steps_one_block s t place (splits_off number) r (inside, (seat, v, amount, (at, 
     subst (Result s place (splits_off number)) e
     (renamed s splits_off (λ p n. record {
       table = after_taking s.table seat v amount;
-      hands = hands_at s.hands p (hands_with (s.hands p) (length (grips_at p s.table.views)) []);
+      hands = hands_at s.hands p (hands_with (s.hands p) (length (holder_views_at p s.table.views)) []);
     }) v.place place (rank v.place s.table.views seat) number here (ap (λ (p : ℕ). rank p s.table.views seat) here ∙ counted)
     (takes_one s r seat v at amount is more))
 steps_one_block s t place (lets_go number) r (inside, (seat, v, amount, w, act, (at, here, counted), is, more, valid, kept, told, e)) =
-    let amount_is : v.grip.amount ≡ amount = ap (λ (g : Grip). g.amount) is in
+    let amount_is : v.holder_view.amount ≡ amount = ap (λ (g : HolderView). g.amount) is in
     let back : BackAt v amount (get_or s.table.words place 0 == amount) (w, carried_after [] act) =
     subst (λ (n : ℕ). BackAt v n (get_or s.table.words place 0 == n) (w, carried_after [] act)) amount_is told.2 in
     subst (Result s place (lets_go number)) e

@@ -14,9 +14,9 @@ use Rattle.holder_core.specs.declared.Deed.{Deed}
 use Rattle.holder_core.specs.declared.Deed.TheVariants.{Home, Due, Gone}
 use Rattle.holder_core.specs.declared.Reply.TheVariants.{NewHolder, Kept, Last, Bytes}
 use Rattle.holder_core.specs.declared.Reply.TheVariants as reply
-use Rattle.buf_block.specs.declared.rule.Grip.{Grip}
+use Rattle.buf_block.specs.declared.rule.HolderView.{HolderView}
 use Rattle.buf_block.specs.Block.{holding, done, amounts_of, total, SlotState, slot_at, slot_with_deed, slot_without_deed, IsBlock, Back}
-use Rattle.buf_block.specs.BlockTable.{stake, with_grip, IsTable}
+use Rattle.buf_block.specs.BlockTable.{seat_view, with_holder_view, IsTable}
 use Rattle.buf_block.specs.BlockView.{Hands, empty_hands, hands_with, WasLast, Shows, HoldsAt, first_state, split_at, less_by, ShowsOk, ShowsOne, MadeWhole}
 use Rattle.buf_block.specs.BlockView.{SplitIsTheTables, SplitIsStep, LetGoIsStep, ExchangeIsStep, ReadIsStep}
 use Rattle.buf_block.proofs.Keeps.{begins, splits, total-set, amount_within, same_test}
@@ -24,13 +24,13 @@ use Rattle.buf_block.proofs.Apart.{splits_one, split_here}
 
 -- ---- amounts
 
-amount_at : (views : List Grip) (seat : ℕ) (g : Grip) → get_elem? views seat ≡ some g
+amount_at : (views : List HolderView) (seat : ℕ) (g : HolderView) → get_elem? views seat ≡ some g
     → (get_or (amounts_of views) seat 0 ≡ g.amount) × (seat < length (amounts_of views))
 amount_at [] seat g e = absurd (some-ne-none g (sym e))
-amount_at (x ∷ xs) zero g e = (ap (λ (v : Grip). v.amount) (some-injective x g e), omega arith)
+amount_at (x ∷ xs) zero g e = (ap (λ (v : HolderView). v.amount) (some-injective x g e), omega arith)
 amount_at (x ∷ xs) (suc seat) g e = let r = amount_at xs seat g e in (r.0, let l = r.1 in omega arith)
 
-there : (views : List Grip) (seat : ℕ) (g w : Grip) → get_elem? views seat ≡ some g → get_elem? (set views seat w) seat ≡ some w
+there : (views : List HolderView) (seat : ℕ) (g w : HolderView) → get_elem? views seat ≡ some g → get_elem? (set views seat w) seat ≡ some w
 there [] seat g w e = absurd (some-ne-none g (sym e))
 there (x ∷ xs) zero g w e = refl
 there (x ∷ xs) (suc seat) g w e = there xs seat g w e
@@ -63,14 +63,14 @@ IsFirstFull (slot ∷ slots) = IsFull slot.1
 taken_out : slot_with_deed ≡ slot_without_deed → ⊥
 taken_out e = subst IsFirstFull e tt
 
-one_was_last : (s : State SlotState Grip) → IsBlock s → (seat other : ℕ) → WasLast s.views seat → WasLast s.views other → other ≡ seat
+one_was_last : (s : State SlotState HolderView) → IsBlock s → (seat other : ℕ) → WasLast s.views seat → WasLast s.views other → other ≡ seat
 one_was_last s r seat other l m = r.once other seat m.0 l.0 m.1 l.1 m.2 l.2
 
 hands_here : (hands : Hands) (seat : ℕ) (slots : List (ℕ × SlotState)) → hands_with hands seat slots seat ≡ slots
 hands_here hands seat slots = ap (λ (b : Bool). if b then slots else hands seat) (eq-eqb seat seat refl)
 
 -- a block that has some amount
-module _ (s : State SlotState Grip) (r : IsBlock s) (more : 1 ≤ total s.views) where
+module _ (s : State SlotState HolderView) (r : IsBlock s) (more : 1 ≤ total s.views) where
   at_home : s.homes ≡ slot_at false
   at_home = r.slot ∙ ap slot_at (ne_eqb (total s.views) 0 (λ e. omega arith))
 
@@ -108,7 +108,7 @@ shows_ok s hands h r sh =
       bound = omega arith;
     }
 
-same_deed : (s : State SlotState Grip) (hands : Hands) (h k : Holders) → Shows s hands h → Shows s hands k → (d : Deed) → h.deed ≡ d → k.deed ≡ d
+same_deed : (s : State SlotState HolderView) (hands : Hands) (h k : Holders) → Shows s hands h → Shows s hands k → (d : Deed) → h.deed ≡ d → k.deed ≡ d
 same_deed s hands h k a b Home e = b.home.1 (a.home.0 e)
 same_deed s hands h k a b (Due seat) e = (b.due seat).1 ((a.due seat).0 e)
 same_deed s hands h k a b Gone e = b.gone.1 (a.gone.0 e)
@@ -127,7 +127,7 @@ made_whole = (begins, shows_home first_state begins (omega arith) empty_hands (r
 is_true : (b : Bool) (P Q : Type 0) → b ≡ true → P → MatchBool b P Q
 is_true b P Q e p = subst (λ (c : Bool). MatchBool c P Q) (sym e) p
 
-module _ (s : State SlotState Grip) (hands : Hands) (h : Holders) (seat amount : ℕ) (k : HoldsAt s hands h seat amount) where
+module _ (s : State SlotState HolderView) (hands : Hands) (h : Holders) (seat amount : ℕ) (k : HoldsAt s hands h seat amount) where
   has : 1 ≤ total s.views
   has =
       let less = amount_within s.views seat (holding amount) k.view in
@@ -146,27 +146,27 @@ module _ (s : State SlotState Grip) (hands : Hands) (h : Holders) (seat amount :
       ap (λ (l : List ℕ). set (l ++ 1 ∷ []) seat (amount_of h seat - 1)) k.shown.amounts
       ∙ ap (λ (a : ℕ). set (amounts_of s.views ++ 1 ∷ []) seat (a - 1)) amount_here
       ∙ set-append_left (amounts_of s.views) (1 ∷ []) seat (amount - 1) inside
-      ∙ ap (λ (l : List ℕ). l ++ 1 ∷ []) (sym (map-set (λ (g : Grip). g.amount) s.views seat (holding (amount - 1))))
-      ∙ sym (map-append (λ (g : Grip). g.amount) (set s.views seat (holding (amount - 1))) (holding 1 ∷ []))
+      ∙ ap (λ (l : List ℕ). l ++ 1 ∷ []) (sym (map-set (λ (g : HolderView). g.amount) s.views seat (holding (amount - 1))))
+      ∙ sym (map-append (λ (g : HolderView). g.amount) (set s.views seat (holding (amount - 1))) (holding 1 ∷ []))
 
   -- the amounts after the seat gave all of its amount back
-  rest_amounts : (w : Grip) → w.amount ≡ 0 → set h.amounts seat 0 ≡ amounts_of (set s.views seat w)
+  rest_amounts : (w : HolderView) → w.amount ≡ 0 → set h.amounts seat 0 ≡ amounts_of (set s.views seat w)
   rest_amounts w none =
       ap (λ (l : List ℕ). set l seat 0) k.shown.amounts ∙ ap (λ (a : ℕ). set (amounts_of s.views) seat a) (sym none)
-      ∙ sym (map-set (λ (g : Grip). g.amount) s.views seat w)
+      ∙ sym (map-set (λ (g : HolderView). g.amount) s.views seat w)
 
   -- the last seat has the slot, and the deed is due to it; where it wasn't the last, the deed stays at home
-  shows_given : (b : Bool) (t : State SlotState Grip) (w : Grip) (slots : List (ℕ × SlotState)) → IsBlock t → t.views ≡ set s.views seat w
+  shows_given : (b : Bool) (t : State SlotState HolderView) (w : HolderView) (slots : List (ℕ × SlotState)) → IsBlock t → t.views ≡ set s.views seat w
       → (total t.views == 0) ≡ b → Back amount b (w, slots)
       → Shows t (hands_with hands seat slots) (record { amounts = set h.amounts seat 0; deed = if b then Due seat else h.deed })
   shows_given true t w slots r views none back =
-      let w_is : w ≡ done amount true = ap (λ (m : Grip × List (ℕ × SlotState)). m.0) back in
-      let slots_are : slots ≡ slot_with_deed = ap (λ (m : Grip × List (ℕ × SlotState)). m.1) back in
+      let w_is : w ≡ done amount true = ap (λ (m : HolderView × List (ℕ × SlotState)). m.0) back in
+      let slots_are : slots ≡ slot_with_deed = ap (λ (m : HolderView × List (ℕ × SlotState)). m.1) back in
       let mine : WasLast t.views seat =
-      (w, ap (λ (l : List Grip). get_elem? l seat) views ∙ there s.views seat (holding amount) w k.view, ap (λ (v : Grip). v.last) w_is) in
+      (w, ap (λ (l : List HolderView). get_elem? l seat) views ∙ there s.views seat (holding amount) w k.view, ap (λ (v : HolderView). v.last) w_is) in
       let here : hands_with hands seat slots seat ≡ slot_with_deed = hands_here hands seat slots ∙ slots_are in
       record {
-        amounts = rest_amounts w (ap (λ (v : Grip). v.amount) w_is) ∙ ap amounts_of (sym views);
+        amounts = rest_amounts w (ap (λ (v : HolderView). v.amount) w_is) ∙ ap amounts_of (sym views);
         home = (
           (λ e. absurd (home_is_not_due (Due seat) seat e refl)),
           (λ e. absurd (away (ap slot_at (sym none) ∙ sym r.slot ∙ e))),
@@ -182,15 +182,15 @@ module _ (s : State SlotState Grip) (hands : Hands) (h : Holders) (seat amount :
         );
       }
   shows_given false t w slots r views some_left back =
-      let w_is : w ≡ done amount false = ap (λ (m : Grip × List (ℕ × SlotState)). m.0) back in
+      let w_is : w ≡ done amount false = ap (λ (m : HolderView × List (ℕ × SlotState)). m.0) back in
       let left : total t.views ≢ 0 = λ e. true≢false (sym (eq-eqb (total t.views) 0 e) ∙ some_left) in
       shows_home t r (omega arith) (hands_with hands seat slots) (record { amounts = set h.amounts seat 0; deed = h.deed })
-      (rest_amounts w (ap (λ (v : Grip). v.amount) w_is) ∙ ap amounts_of (sym views)) home_here
+      (rest_amounts w (ap (λ (v : HolderView). v.amount) w_is) ∙ ap amounts_of (sym views)) home_here
 
 -- ---- each step is the machine's
 pub split_is_the_tables : SplitIsTheTables
 split_is_the_tables seat v amount is more = (
-  subst (λ (n : ℕ). Splits IsTable seat v (with_grip v (holding (n - 1))) (stake v.place (holding 1) false)) (ap (λ (g : Grip). g.amount) is)
+  subst (λ (n : ℕ). Splits IsTable seat v (with_holder_view v (holding (n - 1))) (seat_view v.place (holding 1) false)) (ap (λ (g : HolderView). g.amount) is)
       (splits_one seat v amount is more),
   λ s at. split_here s seat v amount at,
 )
@@ -234,9 +234,9 @@ let_go_is_step s hands h seat amount k view act valid kept told =
           (shows_given s hands h seat amount k (found == amount) t view (carried_after [] act) kept refl none told.2),
     )
   where
-    back_amount : (b : Bool) (amount : ℕ) (w : Grip) (slots : List (ℕ × SlotState)) → Back amount b (w, slots) → w.amount ≡ 0
-    back_amount true amount w slots e = ap (λ (m : Grip × List (ℕ × SlotState)). m.0.amount) e
-    back_amount false amount w slots e = ap (λ (m : Grip × List (ℕ × SlotState)). m.0.amount) e
+    back_amount : (b : Bool) (amount : ℕ) (w : HolderView) (slots : List (ℕ × SlotState)) → Back amount b (w, slots) → w.amount ≡ 0
+    back_amount true amount w slots e = ap (λ (m : HolderView × List (ℕ × SlotState)). m.0.amount) e
+    back_amount false amount w slots e = ap (λ (m : HolderView × List (ℕ × SlotState)). m.0.amount) e
 
 pub exchange_is_step : ExchangeIsStep
 exchange_is_step s hands h seat r sh mine here =

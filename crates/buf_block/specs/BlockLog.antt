@@ -8,14 +8,14 @@ use Rattle.holder_core.specs.HolderRuns.{Answered, Runs}
 use Rattle.holder_core.specs.declared.Deed.TheVariants.{Home}
 use Rattle.holder_core.specs.declared.Event.{Event}
 use Rattle.holder_core.specs.declared.Event.TheVariants.{Split, LetGo, TakeDeed, Read}
-use Rattle.buf_block.specs.declared.rule.Grip.{Grip}
+use Rattle.buf_block.specs.declared.rule.HolderView.{HolderView}
 use Rattle.buf_block.specs.Block.{holding, total, SlotState, slot_with_deed, slot_without_deed, IsBlock, GivesBack}
 use Rattle.buf_block.specs.BlockView.{Hands, empty_hands, hands_with, WasLast, Shows, first_state, split_at, less_by}
 
 -- ---- a block, and the steps of its seats
 -- a block between two steps: its table's state, and the slots in the hands of its seats
 pub record Scene : Type 0 where
-  pub table : State SlotState Grip
+  pub table : State SlotState HolderView
   pub hands : Hands
 
 -- the block as it is made
@@ -42,7 +42,7 @@ abbrev pub found_in : Scene → ℕ
 found_in s = slice_index s.table.words 0
 
 -- the block after the subtraction, where the seat gets this view and does this to the slot
-abbrev pub after_giving : Scene → ℕ → ℕ → Grip → Act SlotState → Scene
+abbrev pub after_giving : Scene → ℕ → ℕ → HolderView → Act SlotState → Scene
 after_giving s seat amount view act = record {
   table = stepped s.table 0 (less_by amount (found_in s)) seat [] view act;
   hands = hands_with s.hands seat (carried_after [] act);
@@ -53,7 +53,7 @@ after_giving s seat amount view act = record {
 abbrev pub Does : Scene → BlockStep → Scene → Type 0
 Does s (splits_off seat) t = (amount : ℕ) × HasAmount s seat amount × (2 ≤ amount) × (after_split_off s seat amount ≡ t)
 Does s (lets_go seat) t =
-    (amount : ℕ) × (view : Grip) × (act : Act SlotState) × HasAmount s seat amount × Valid s.table.homes [] act
+    (amount : ℕ) × (view : HolderView) × (act : Act SlotState) × HasAmount s seat amount × Valid s.table.homes [] act
     × IsBlock (after_giving s seat amount view act).table
     × GivesBack (step 1 0 amount 0 none) (holding amount, []) (found_in s) (view, carried_after [] act)
     × (after_giving s seat amount view act ≡ t)

@@ -2,7 +2,7 @@
 use Rattle.std.specs.Prelude.{◌≡◌, ℕ, ◌↔◌, true, List}
 use Rattle.buf_block.specs.declared.hold.LetGo.{LetGo}
 use Rattle.buf_block.specs.declared.hold.LetGo.TheVariants.{Freed}
-use Rattle.buf_block.specs.declared.rule.Grip.{Grip}
+use Rattle.buf_block.specs.declared.rule.HolderView.{HolderView}
 use Rattle.buf_block.specs.Block.{SlotState, slot_without_deed}
 use Rattle.buf_block.specs.BlockTable.{BlockId}
 
@@ -11,7 +11,7 @@ use Rattle.buf_block.specs.BlockTable.{BlockId}
 pub record Receipt : Type 0 where
   pub gave : ℕ
   pub answer : LetGo
-  pub seat_view : Grip
+  pub seat_view : HolderView
   pub seat_slots : List (ℕ × SlotState)
   pub block : BlockId
   pub seat : ℕ

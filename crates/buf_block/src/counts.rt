@@ -2,19 +2,19 @@
 ghost use Rattle.std.specs.Prelude.{◌≡◌, ℕ, ◌<◌, ◌≤◌, [], ◌∷◌, true, Some, IfSome, replicate};
 ghost use Rattle.std.specs.Arc.{arc_value};
 ghost use Rattle.buf_block.specs.Block.{holding};
-ghost use Rattle.buf_block.specs.BlockTable.{stake};
+ghost use Rattle.buf_block.specs.BlockTable.{seat_view};
 
 use crate::hold::AMOUNT;
-use crate::rule::{Deed, Stake, TakeWhole, Whole};
+use crate::rule::{Deed, SeatView, TakeWhole, Whole};
 use atomic_table::{Seat, Table};
 use std::alloc::{AllocFailed, Global};
 use std::sync::Arc;
 
-pub(crate) type Words = Table<Option<Deed>, Stake, (), Whole, Global>;
+pub(crate) type Words = Table<Option<Deed>, SeatView, (), Whole, Global>;
 
-pub(crate) type Stand = Seat<Option<Deed>, Stake>;
+pub(crate) type Stand = Seat<Option<Deed>, SeatView>;
 
-/// Counts for blocks that are to be made, so many in one table. The blocks share the table and nothing else: each is freed
+/// Counts for blocks that are to be made, this many in one table. The blocks share the table and nothing else: each is freed
 /// by the step that takes its last holder, and its bytes with it.
 #[derive(Drop)]
 pub struct Counts {
@@ -33,7 +33,7 @@ struct Open {
     next: usize,
     size: usize,
     ghost of_table: { seat.table_id ≡ (arc_value table).shared.table_id },
-    ghost rights: { seat.me ≡ (stake next (holding 4294967296) true, []) },
+    ghost rights: { seat.me ≡ (seat_view next (holding 4294967296) true, []) },
     ghost words: { (arc_value table).shared.table_id.words ≡ size },
     ghost slots: { (arc_value table).shared.table_id.slots ≡ size },
 }
@@ -46,7 +46,7 @@ pub(crate) struct Count {
     pub(crate) place: usize,
     ghost of_table: { seat.table_id ≡ (arc_value table).shared.table_id },
     ghost at_place: { seat.me.0.place ≡ place },
-    ghost whole: { (seat.me.0.grip ≡ holding 4294967296) × (seat.me.1 ≡ []) },
+    ghost whole: { (seat.me.0.holder_view ≡ holding 4294967296) × (seat.me.1 ≡ []) },
     ghost inside: { (place < (arc_value table).shared.table_id.words) × (place < (arc_value table).shared.table_id.slots) },
 }
 
@@ -54,7 +54,7 @@ pub(crate) struct Count {
 const MOST: usize = 64;
 
 impl Counts {
-    /// No table yet; one will have so many counts, or 64 where they are more. Takes no memory.
+    /// No table yet; one will have this many counts, or 64 where they are more. Takes no memory.
     pub fn of(size: usize) -> Counts
         requires some { 1 ≤ size }
     {
@@ -114,7 +114,7 @@ pub(crate) fn lone_count(alloc: Global) -> Option<Count>
     })
 }
 
-/// A table of so many words, each with a whole amount and the deed in its slot.
+/// A table of this many words, each with a whole amount and the deed in its slot.
 #[inline(never)]
 fn open_table(alloc: Global, size: usize) -> Option<Open>
     requires size { (1 ≤ size) × (size ≤ 64) }

@@ -85,8 +85,8 @@ impl Case {
     }
 }
 
-/// Adds so many lines of input, in each of which `{i}` is its number from 1, `{d}` the last digit of that, and `{odd}` whether it is
-/// odd. Says whether they spell bytes.
+/// Adds this many lines of input, in each of which `{i}` is its number from 1, `{d}` the last digit of that, and `{odd}` whether it
+/// is odd. Says whether they spell bytes.
 fn push_made(
     bytes: &mut Vec<u8>,
     alloc: Global,

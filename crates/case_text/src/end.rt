@@ -9,7 +9,7 @@ pub struct End {
 }
 
 impl End {
-    /// A source or a sink that moves so many bytes a call, has room for a million, and never fails.
+    /// A source or a sink that moves this many bytes a call, has room for a million, and never fails.
     pub fn new(step: usize) -> End {
         End {
             step,

@@ -32,7 +32,7 @@ byte-small (flag ∷ flags) =
     omega (arith, power, value-small flag, byte-small flags)
 
 -- ---- a bit within a byte
--- flags end so many bits into a byte, which has no other bit set
+-- flags end this many bits into a byte, which has no other bit set
 pub record EndsWithin (flags : List Bool) (q r : ℕ) : Type 0 where
   pub there : length (bit_bytes flags) ≡ q + 1
   pub small : get_or (bit_bytes flags) q 0 < 2 ^ r
@@ -166,7 +166,7 @@ bits-whole (a ∷ b ∷ c ∷ d ∷ f ∷ g ∷ h ∷ i ∷ flags) zero k flag e
 bits-whole (a ∷ b ∷ c ∷ d ∷ f ∷ g ∷ h ∷ i ∷ flags) (suc q) k flag e =
     ap (λ bytes. byte_of (a ∷ b ∷ c ∷ d ∷ f ∷ g ∷ h ∷ i ∷ []) ∷ bytes) (bits-whole flags q k flag (omega arith))
 
--- a bit so many times, and so many times more
+-- a bit this many times, and this many times more
 pub adds-more : (count more times : ℕ) (flag : Bool) (old between new : List ℕ) → AddsBits count flag more old between
     → AddsBits (count + more) flag times between new → AddsBits count flag (more + times) old new
 adds-more count more times flag old between new first then = λ flags len is.

@@ -6,7 +6,7 @@ use Rattle.std.proofs.lemmas.List.{length-map, length-replicate, take_all}
 use Rattle.std.proofs.lemmas.List.Elements.{All-head, All-tail}
 use Rattle.std.specs.List.{All, flat_map}
 use Rattle.std.specs.Prelude.{map, None}
-use Rattle.bit_pack.specs.Packed.{le_bytes, offset_width, stored}
+use Rattle.data_types.specs.Packed.{le_bytes, offset_width, stored}
 use Rattle.data_types.specs.Storage.{storage_of}
 use Rattle.data_types.specs.Value.{Value, Null, Truth, Whole, Bits, Bytes, Items, Fields, bytes_of}
 use Rattle.data_types.specs.declared.kind.DataType.{DataType}

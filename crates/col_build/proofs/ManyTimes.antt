@@ -89,7 +89,7 @@ bitwise-form : (builder : Builder) (kind : DataType) (values : List Value) → H
     → IsBitwise (shape_if (is_wide kind) (form_of kind))
 bitwise-form builder kind values holds bitwise = subst IsBitwise (holds.shape ∙ shape-same kind holds.fits.flat) bitwise
 
--- ---- the value so many times more
+-- ---- the value this many times more
 
 pub record IsTimes (old new : Builder) (values : List Value) (value : Value) (times : ℕ) : Type 0 where
   pub is_kind : new.kind ≡ old.kind

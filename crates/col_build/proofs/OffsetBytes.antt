@@ -5,7 +5,7 @@ use Rattle.std.proofs.lemmas.Grind.{flat_map-append}
 use Rattle.std.proofs.lemmas.List.{map-append}
 use Rattle.std.specs.Prelude.{map}
 use Rattle.std.specs.List.{concat, flat_map}
-use Rattle.bit_pack.specs.Packed.{le_bytes, offset_width}
+use Rattle.data_types.specs.Packed.{le_bytes, offset_width}
 use Rattle.data_types.specs.Value.{Value, bytes_of}
 use Rattle.col_build.specs.Encoding.{ends, offset_bytes}
 use Rattle.col_build.specs.Holding.{HasOffsets}

@@ -6,7 +6,7 @@ use Rattle.std.proofs.lemmas.List.{length-map, length-take}
 use Rattle.std.specs.List.{All, concat, flat_map}
 use Rattle.std.specs.Prelude.{ℤ, map, None}
 use Rattle.std.proofs.Math.Nat.{suc-mul}
-use Rattle.bit_pack.specs.Packed.{IsWidth, le_bytes}
+use Rattle.data_types.specs.Packed.{IsWidth, le_bytes}
 use Rattle.data_types.specs.FieldText.{form_of, in_range}
 use Rattle.data_types.specs.Value.{Value, Truth, Whole, bytes_of}
 use Rattle.data_types.specs.declared.kind.DataType.{DataType}

@@ -1,14 +1,17 @@
 -- The faults and the layout of a form, by its shape.
 use Rattle.std.proofs.Common.{◌≡◌, ◌≢◌, ◌+◌, ◌*◌, ◌/◌, ◌^◌, ◌<◌, ◌⊎◌, ℕ, Bool, true, false, List, length, refl, sym, ap, ◌∙◌, arith, inl, inr}
-use Rattle.std.specs.Prelude.{not, nat_lt, ◌==◌, ◌&&◌, if◌then◌else◌, Option, None, Some}
+use Rattle.std.specs.Prelude.{not, nat_lt, ◌==◌, ◌&&◌, ◌||◌, if◌then◌else◌, Option, None, Some}
+use Rattle.std.proofs.lemmas.Bool.{cases_eq, false≢true}
+use Rattle.std.proofs.lemmas.Bool.Decides.{nat_tests}
 use Rattle.std.specs.Str.{is_utf8}
 use Rattle.data_types.specs.FieldText.{Form, Truths, Wholes, FloatBits, Text, HexBytes, SizedHex, Decimals, form_of, in_range}
 use Rattle.data_types.specs.Kinds.{KindOk}
 use Rattle.data_types.specs.Value.{Value, Null, Truth, Whole, Bits, Bytes, Items, Fields, byte_total}
 use Rattle.data_types.specs.declared.kind.DataType.{DataType}
 use Rattle.data_types.specs.declared.kind.DataType.TheVariants as kinds
+use Rattle.data_types.specs.declared.kind.Tick.{Tick}
 use Rattle.data_types.specs.declared.kind.Tick.TheVariants as ticks
-use Rattle.bit_pack.specs.Packed.{IsWidth}
+use Rattle.data_types.specs.Packed.{IsWidth}
 use Rattle.col_build.specs.Encoding.{HasForm, fault_if, is_wide, push_fault}
 use Rattle.col_build.specs.Holding.{ShapeOk}
 use Rattle.col_build.specs.Shapes.{range_fault, shape_fault, shape_in}
@@ -41,7 +44,7 @@ shape-same kinds.IntervalMonthDayNano flat = absurd flat
 shape-same _ flat = refl
 
 -- the numbers of a form's bits are whole bytes
-abbrev FormOk : Option Form → Type 0
+abbrev pub FormOk : Option Form → Type 0
 FormOk (Some (Wholes bits signed)) = (8 * (bits / 8) ≡ bits) × IsWidth (bits / 8) × (bits / 8 ≢ 16)
 FormOk (Some (FloatBits bits)) = (8 * (bits / 8) ≡ bits) × IsWidth (bits / 8) × (bits / 8 ≢ 16)
 FormOk (Some (SizedHex size)) = size < 2 ^ 31
@@ -58,22 +61,41 @@ of-float bits (inl e) = rw e (refl, inr (inl refl), omega arith)
 of-float bits (inr (inl e)) = rw e (refl, inr (inr (inl refl)), omega arith)
 of-float bits (inr (inr e)) = rw e (refl, inr (inr (inr (inl refl))), omega arith)
 
-form-ok : (kind : DataType) → KindOk kind → FormOk (form_of kind)
+-- a form that has no number, or whole numbers of these many bits
+abbrev pub is_common : Option Form → Bool
+is_common (Some (Wholes bits signed)) = (bits == 32) || (bits == 64)
+is_common (Some (FloatBits bits)) = false
+is_common (Some (SizedHex size)) = false
+is_common (Some (Decimals precision places)) = false
+is_common _ = true
+
+pub common-bits : (bits : ℕ) → ((bits == 32) || (bits == 64)) ≡ true → (bits ≡ 32) ⊎ (bits ≡ 64)
+common-bits bits is = by (cases_eq bits 32) (cases_eq bits 64)
+  where
+    by : (bits ≡ 32) ⊎ ¬ (bits ≡ 32) → (bits ≡ 64) ⊎ ¬ (bits ≡ 64) → (bits ≡ 32) ⊎ (bits ≡ 64)
+    by (inl e) other = inl e
+    by (inr a) (inl e) = inr e
+    by (inr a) (inr b) = absurd (grind (arith, nat_tests, is, a, b))
+
+of-common : (form : Option Form) → is_common form ≡ true → FormOk form
+of-common (Some (Wholes bits signed)) is = of-bits bits signed (inr (inr (common-bits bits is)))
+of-common (Some (FloatBits bits)) is = absurd (false≢true is)
+of-common (Some (SizedHex size)) is = absurd (false≢true is)
+of-common (Some (Decimals precision places)) is = absurd (false≢true is)
+of-common _ is = tt
+
+pub of-tick : (tick : Tick) → is_common (form_of (kinds.TimeOfDay tick)) ≡ true
+of-tick ticks.Second = refl
+of-tick _ = refl
+
+pub form-ok : (kind : DataType) → KindOk kind → FormOk (form_of kind)
 form-ok (kinds.Int bits signed) ok = of-bits bits signed ok
 form-ok (kinds.Float bits) ok = of-float bits ok
 form-ok (kinds.FixedBinary size) ok = ok
 form-ok (kinds.Decimal precision scale false) ok = tt
 form-ok (kinds.Decimal precision scale true) ok = tt
-form-ok kinds.DateDay ok = of-bits 32 true (inr (inr (inl refl)))
-form-ok kinds.DateMilli ok = of-bits 64 true (inr (inr (inr refl)))
-form-ok (kinds.TimeOfDay ticks.Second) ok = of-bits 32 true (inr (inr (inl refl)))
-form-ok (kinds.TimeOfDay ticks.Milli) ok = of-bits 32 true (inr (inr (inl refl)))
-form-ok (kinds.TimeOfDay ticks.Micro) ok = of-bits 64 true (inr (inr (inr refl)))
-form-ok (kinds.TimeOfDay ticks.Nano) ok = of-bits 64 true (inr (inr (inr refl)))
-form-ok (kinds.Timestamp tick zone) ok = of-bits 64 true (inr (inr (inr refl)))
-form-ok (kinds.Duration tick) ok = of-bits 64 true (inr (inr (inr refl)))
-form-ok kinds.IntervalMonths ok = of-bits 32 true (inr (inr (inl refl)))
-form-ok _ ok = tt
+form-ok (kinds.TimeOfDay tick) ok = of-common (form_of (kinds.TimeOfDay tick)) (of-tick tick)
+form-ok kind ok = of-common (form_of kind) refl
 
 -- ---- the fault of an item, form by form
 range : (fits : Bool) → (if not (fits && true) then Some OutOfRange else None) ≡ range_fault fits

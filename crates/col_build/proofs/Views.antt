@@ -8,7 +8,7 @@ use Rattle.col_build.specs.Finished.{AreMade, present_count}
 some-cons : (view : Option BufView) (views : List (Option BufView)) → count_by is_some (view ∷ views) ≡ cond (is_some view) 1 0 + count_by is_some views
 some-cons view views = sum_by-cons (λ view. cond (is_some view) 1 0) view views
 
--- a finished column has so many views as buffers of its encoding are there
+-- a finished column has as many views as buffers of its encoding are there
 pub made-count : (views : List (Option BufView)) (buffers : List (Option (List ℕ))) → AreMade views buffers → count_by is_some views ≡ present_count buffers
 made-count [] [] made = omega arith
 made-count [] (bytes ∷ buffers) made = absurd made

@@ -4,7 +4,7 @@ use Rattle.std.specs.Prelude.{◌≡◌, ℕ, ◌+◌, ◌*◌, ◌/◌, ◌^◌
 use Rattle.std.specs.Prelude.{Option, None, Some, All}
 use Rattle.std.specs.List.{concat, flat_map}
 use Rattle.std.specs.Str.{is_utf8}
-use Rattle.bit_pack.specs.Packed.{le_bytes, stored, offset_width}
+use Rattle.data_types.specs.Packed.{le_bytes, stored, offset_width}
 use Rattle.data_types.specs.FieldText.{Form, Truths, Wholes, FloatBits, Text, HexBytes, SizedHex, Decimals, form_of, in_range}
 use Rattle.data_types.specs.Kinds.{KindOk}
 use Rattle.data_types.specs.Value.{Value, Null, Truth, Whole, Bits, Bytes}
@@ -132,7 +132,7 @@ is_by_offsets Text = true
 is_by_offsets HexBytes = true
 is_by_offsets _ = false
 
--- offsets of 32 bits reach so many bytes
+-- offsets of 32 bits reach this many bytes
 abbrev pub is_within : Bool → Form → ℕ → Bool
 is_within false form total = if is_by_offsets form then nat_lt total (2 ^ 31) else true
 is_within true form total = true
@@ -155,7 +155,7 @@ push_fault kind values value = fault_if (is_wide kind) (form_of kind) values val
 
 -- ---- the columns that have an encoding
 
--- the offsets, if there are any, reach so many bytes
+-- the offsets, if there are any, reach this many bytes
 abbrev pub are_within : Bool → Option Form → ℕ → Bool
 are_within wide None total = true
 are_within wide (Some form) total = is_within wide form total

@@ -5,8 +5,7 @@ use Rattle.buf_block.specs.declared.hold.TheConstants.{AMOUNT}
 use Rattle.data_types.specs.Value.{Value}
 use Rattle.data_types.specs.declared.kind.DataType.{DataType}
 use Rattle.col_build.specs.Encoding.{encoded}
-use Rattle.col_build.specs.declared.built.Built.{Built}
-use Rattle.col_build.specs.declared.built.Laid.{Laid}
+use Rattle.col_build.specs.declared.column.FinishedColumn.{FinishedColumn}
 
 -- the view is the whole of a block of these bytes, by the block's first hold
 pub record IsWhole (view : BufView) (content : List ℕ) : Type 0 where
@@ -35,15 +34,8 @@ present_count (Some bytes ∷ buffers) = 1 + present_count buffers
 abbrev pub blocks_of : DataType → List Value → ℕ
 blocks_of kind values = present_count (encoded kind values).buffers
 
--- the buffers of the finished column are the encoding of these values
-pub record IsLaidOut (laid : Laid) (kind : DataType) (values : List Value) : Type 0 where
-  pub length : laid.length ≡ pos (encoded kind values).length
-  pub null_count : laid.null_count ≡ pos (encoded kind values).null_count
-  pub buffers : AreMade laid.buffers.items (encoded kind values).buffers
-
 -- the finished column is the encoding of these values
-pub record IsEncoded (built : Built) (kind : DataType) (values : List Value) : Type 0 where
-  pub is_kind : built.kind ≡ kind
-  pub length : built.length ≡ pos (encoded kind values).length
-  pub null_count : built.null_count ≡ pos (encoded kind values).null_count
-  pub buffers : AreMade built.buffers.items (encoded kind values).buffers
+pub record IsEncoded (column : FinishedColumn) (kind : DataType) (values : List Value) : Type 0 where
+  pub length : column.length ≡ pos (encoded kind values).length
+  pub null_count : column.null_count ≡ pos (encoded kind values).null_count
+  pub buffers : AreMade column.buffers.items (encoded kind values).buffers

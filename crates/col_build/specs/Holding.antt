@@ -1,7 +1,7 @@
 -- What a builder holds: the buffers of the encoding of its values, in the making.
 use Rattle.std.specs.Prelude.{◌≡◌, ◌≢◌, ◌⊎◌, ℕ, ◌+◌, ◌*◌, ◌^◌, ◌<◌, Bool, false, IsTrue, List, [], ◌∷◌, ◌++◌, length, map, take, None, Result}
 use Rattle.std.specs.List.{concat, flat_map}
-use Rattle.bit_pack.specs.Packed.{IsWidth}
+use Rattle.data_types.specs.Packed.{IsWidth}
 use Rattle.data_types.specs.Storage.{storage_of}
 use Rattle.data_types.specs.declared.storage.Storage.TheVariants as stored
 use Rattle.data_types.specs.Value.{Value, bytes_of}
@@ -37,13 +37,13 @@ abbrev pub IsLaidAs : Shape → Shape → Type 0
 IsLaidAs (shapes.Between wide text) own = (tested : Bool) × (own ≡ shapes.Between wide tested)
 IsLaidAs shape own = own ≡ shape
 
--- the validity bits of these values, so many of them nulls
+-- the validity bits of these values, this many of them nulls
 pub record HasValidity (bits : List ℕ) (count nulls : ℕ) (values : List Value) : Type 0 where
   pub counted : count ≡ length values
   pub nulls_counted : nulls ≡ null_total values
   pub shown : if_some bits ≡ validity_of values
 
--- the bytes of so many items: behind those of numbers there may be others, made ahead
+-- the bytes of this many items: behind those of numbers there may be others, made ahead
 abbrev pub bytes_in : Shape → ℕ → List ℕ → List ℕ
 bytes_in (shapes.Wholes width signed) count bytes = take (count * width) bytes
 bytes_in (shapes.Floats width) count bytes = take (count * width) bytes
@@ -86,7 +86,7 @@ Keeps old new = (kind : DataType) (values : List Value) → Holds old kind value
 abbrev pub Adds : Value → Builder → Builder → Type 0
 Adds value old new = (kind : DataType) (values : List Value) → Holds old kind values → Holds new kind (values ++ value ∷ [])
 
--- the answer is that of a push of the value: it fails where the column doesn't take it, and for want of memory
+-- the answer is that of a push of the value: it fails where the column doesn't take it, and where memory runs out
 abbrev pub IsPushed : Value → Builder → Result (Unit {0}) PushFault → Type 0
 IsPushed value old result = (kind : DataType) (values : List Value) → Holds old kind values → IsAnswer result (push_fault kind values value)
 
@@ -94,11 +94,11 @@ IsPushed value old result = (kind : DataType) (values : List Value) → Holds ol
 abbrev pub Takes : Builder → Value → Type 0
 Takes builder value = (kind : DataType) × (values : List Value) × Holds builder kind values × (length values < 2 ^ 40) × (push_fault kind values value ≡ None)
 
--- the column is of whole numbers of so many bytes
+-- the column is of whole numbers of this many bytes
 abbrev pub HoldsWholes : ℕ → Builder → Type 0
 HoldsWholes width builder =
     (kind : DataType) (values : List Value) → Holds builder kind values → (signed : Bool) × (storage_of kind ≡ stored.Wholes (8 * width) signed)
 
--- the column is of floats of so many bytes
+-- the column is of floats of this many bytes
 abbrev pub HoldsFloats : ℕ → Builder → Type 0
 HoldsFloats width builder = (kind : DataType) (values : List Value) → Holds builder kind values → storage_of kind ≡ stored.Floats (8 * width)

@@ -46,7 +46,7 @@ IsPushedWhole value old result = (kind : DataType) (values : List Value) → Hol
 
 -- ---- where an item that is made ahead has its place
 
--- numbers of so many bytes
+-- numbers of this many bytes
 abbrev pub IsNumbers : ℕ → Shape → Type 0
 IsNumbers width (shapes.Wholes own signed) = own ≡ width
 IsNumbers width (shapes.Floats own) = own ≡ width

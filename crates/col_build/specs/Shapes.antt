@@ -27,12 +27,12 @@ abbrev pub range_fault : Bool → Option PushFault
 range_fault true = None
 range_fault false = Some OutOfRange
 
--- 2 to the power of the bits that a number of so many bits has beside its sign
+-- 2 to the power of the bits that a number of this many bits has beside its sign
 abbrev pub past : ℕ → Bool → ℕ
 past bits true = 2 ^ (bits - 1)
 past bits false = 2 ^ bits
 
--- offsets of 32 bits reach so many bytes
+-- offsets of 32 bits reach this many bytes
 abbrev pub reaches : Bool → ℕ → Bool
 reaches true total = true
 reaches false total = nat_lt total (2 ^ 31)
@@ -41,7 +41,7 @@ abbrev pub text_fault : Bool → List ℕ → Option PushFault
 text_fault false bytes = None
 text_fault true bytes = if is_utf8 bytes then None else Some NotText
 
--- where so many bytes stand between the offsets
+-- where this many bytes stand between the offsets
 abbrev pub between_fault : Bool → Bool → ℕ → List ℕ → Option PushFault
 between_fault wide text total bytes = if reaches wide (total + length bytes) then text_fault text bytes else Some OutOfRange
 
@@ -56,12 +56,12 @@ shape_fault shape total value = Some WrongKind
 
 -- ---- what an attempt to append some bytes leaves
 
--- it fails for this fault or for want of memory
+-- it fails for this fault or where memory runs out
 abbrev pub IsAnswer : Result (Unit {0}) PushFault → Option PushFault → Type 0
 IsAnswer (Ok _) fault = fault ≡ None
 IsAnswer (Err e) fault = (e ≡ NoMemory) ⊎ (fault ≡ Some e)
 
--- it fails for this fault or for want of memory, and then the bytes stay
+-- it fails for this fault or where memory runs out, and then the bytes stay
 abbrev pub Stored : Result (Unit {0}) PushFault → List ℕ → List ℕ → Option PushFault → List ℕ → Type 0
 Stored (Ok _) old new fault bytes = (fault ≡ None) × (new ≡ old ++ bytes)
 Stored (Err e) old new fault bytes = ((e ≡ NoMemory) ⊎ (fault ≡ Some e)) × (new ≡ old)

@@ -31,11 +31,11 @@ IsBitwise shape = (shape ≡ shapes.Truths) ⊎ (shape ≡ shapes.Sized 0)
 
 -- ---- bits
 
--- the bytes are those of so many bits
+-- the bytes are those of this many bits
 abbrev pub ShowsBits : ℕ → List ℕ → Type 0
 ShowsBits count bytes = (flags : List Bool) × (length flags ≡ count) × (bytes ≡ bit_bytes flags)
 
--- behind so many bits one of them stands so often
+-- behind this many bits one of them stands so often
 abbrev pub AddsBits : ℕ → Bool → ℕ → List ℕ → List ℕ → Type 0
 AddsBits count flag times old new =
     (flags : List Bool) → length flags ≡ count → old ≡ bit_bytes flags → new ≡ bit_bytes (flags ++ replicate times flag)

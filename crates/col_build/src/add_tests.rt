@@ -89,7 +89,7 @@ fn take_one(
     }
 }
 
-/// Takes so many items, these ones round and round, each eighth by the call for any.
+/// Takes this many items, these ones round and round, each eighth by the call for any.
 fn take_round(
     rt: &impl Abort,
     kind: &DataType,
@@ -113,7 +113,7 @@ fn buffer<'x>(bytes: &'x [u8]) -> Option<&'x [u8]> {
     if bytes.is_empty() { None } else { Some(bytes) }
 }
 
-/// Adds so many items to a column, and expects the buffers of one that they are pushed to.
+/// Adds this many items to a column, and expects the buffers of one that they are pushed to.
 fn expect_alike(
     rt: &impl Abort,
     alloc: Global,
@@ -148,13 +148,13 @@ fn expect_alike(
     let bytes = buffer(pushed.bytes.as_slice());
     let (desk, mut pass) = open_desk();
     if pushed.offsets.is_empty() {
-        expect_finish(rt, alloc, added, &mut pass, counts, &[validity, bytes]);
+        expect_finish(rt, alloc, &mut added, &mut pass, counts, &[validity, bytes]);
     } else {
         let offsets = buffer(pushed.offsets.as_slice());
         expect_finish(
             rt,
             alloc,
-            added,
+            &mut added,
             &mut pass,
             counts,
             &[validity, offsets, bytes],
@@ -163,7 +163,7 @@ fn expect_alike(
     let _audit = desk.close(pass);
 }
 
-/// Columns of whole numbers of so many bits.
+/// Columns of whole numbers of this many bits.
 fn expect_ints(rt: &impl Abort, alloc: Global, bits: u8)
     requires { (bits ≡ 8) ⊎ (bits ≡ 16) ⊎ (bits ≡ 32) ⊎ (bits ≡ 64) }
 {
@@ -175,7 +175,7 @@ fn expect_ints(rt: &impl Abort, alloc: Global, bits: u8)
     expect_alike(rt, alloc, int(bits, false), 700, &small, 600);
 }
 
-/// Columns of floats of so many bits.
+/// Columns of floats of this many bits.
 fn expect_floats(rt: &impl Abort, alloc: Global, bits: u8)
     requires { (bits ≡ 16) ⊎ (bits ≡ 32) ⊎ (bits ≡ 64) }
 {

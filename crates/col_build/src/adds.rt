@@ -18,7 +18,7 @@ use data_types::DataType;
 use std::alloc::Global;
 use unit_pass::NoMemory;
 
-/// Whether an offset of four bytes behind so many items has its place.
+/// Whether an offset of four bytes behind this many items has its place.
 #[inline(always)]
 fn is_offset_there(offsets: &Vec<u8>, count: usize) -> bool
     requires { count ≤ 2 ^ 40 }
@@ -27,7 +27,7 @@ fn is_offset_there(offsets: &Vec<u8>, count: usize) -> bool
     count * 4 + 8 <= offsets.len()
 }
 
-/// Makes so many zeros, the first narrow offset and what is ahead of it.
+/// Makes this many zeros, the first narrow offset and what is ahead of it.
 fn fill_first(offsets: &mut Vec<u8>, end: usize) -> Result<(), NoMemory>
     requires none { offsets.old.items ≡ [] }
     requires some { 4 ≤ end }
@@ -39,7 +39,7 @@ fn fill_first(offsets: &mut Vec<u8>, end: usize) -> Result<(), NoMemory>
     }
 }
 
-/// The first narrow offset, with zeros ahead and room for the offsets of so many items.
+/// The first narrow offset, with zeros ahead and room for the offsets of this many items.
 fn begin_ahead(alloc: Global, items: usize) -> Result<Vec<u8>, NoMemory>
     ensures { IfOk result (λ offsets. take 4 offsets.items ≡ 0 ∷ 0 ∷ 0 ∷ 0 ∷ []) }
 {
@@ -51,7 +51,7 @@ fn begin_ahead(alloc: Global, items: usize) -> Result<Vec<u8>, NoMemory>
     Ok(offsets)
 }
 
-/// The offsets of no items, with room for those of so many where they are narrow.
+/// The offsets of no items, with room for those of this many where they are narrow.
 fn first_offsets(alloc: Global, shape: Shape, items: usize) -> Result<Vec<u8>, NoMemory>
     ensures { IfOk result (λ offsets. HasBytes shape [] (offsets_in shape 0 offsets.items) (bytes_in shape 0 [])) }
 {
@@ -67,7 +67,7 @@ fn first_offsets(alloc: Global, shape: Shape, items: usize) -> Result<Vec<u8>, N
 impl Builder {
     ghost use Rattle.col_build.specs.Holding.{Adds, Holds, HoldsFew, HoldsFloats, HoldsSome, HoldsWholes, Keeps, Takes};
     ghost use Rattle.col_build.specs.Settled.{IsNarrow, IsNumbers};
-    ghost use Rattle.col_build.specs.declared.shape.Shape.TheVariants.{Between, Floats, Truths, Wholes};
+    ghost use Rattle.col_build.specs.declared.shape.Shape.TheVariants.{Between, Floats, Sized, Truths, Wholes};
 
     /// Adds any item that the column takes.
     #[inline(never)]
@@ -255,7 +255,7 @@ impl Builder {
         }
     }
 
-    /// Adds bytes behind nulls, between wide offsets, or first of all.
+    /// Adds bytes that are first of all, between wide offsets, or of a fixed size.
     #[inline(never)]
     fn add_bytes_rarely(&mut self, bytes: &[u8]) -> Result<(), NoMemory>
         requires takes { Takes self.old (Bytes bytes.now) }
@@ -270,7 +270,15 @@ impl Builder {
                 self.make_offset()?;
                 self.put_between(bytes, false)
             }
-            Shape::Between { wide, text: _ } => self.push_untested(wide, bytes),
+            Shape::Between {
+                wide: true,
+                text: _,
+            } => self.push_untested(true, bytes),
+            Shape::Between {
+                wide: false,
+                text: _,
+            } => self.push_untested(false, bytes),
+            Shape::Sized { size } => self.push_sized(size, bytes),
             _ => self.add(Item::Bytes(bytes)),
         }
     }
@@ -341,15 +349,16 @@ impl Builder {
             → Adds value self.old self.new) }
         ensures kept { OnErr result (Keeps self.old self.new) }
     {
-        let nulls = self.nulls;
-        match make_room(&mut self.validity, self.count, nulls, null) {
-            Ok(()) => {}
-            Err(_) => return Err(NoMemory),
-        }
         append_bytes(&mut self.bytes, bytes)?;
-        let end = self.bytes.len() as u64;
-        put_number(&mut self.offsets, self.count * 4 + 4, 4, end);
-        push_validity(&mut self.validity, self.count, nulls, null);
+        let end = self.bytes.len();
+        match add_validity(&mut self.validity, self.count, self.nulls, null) {
+            Ok(()) => {}
+            Err(NoMemory) => {
+                self.bytes.truncate(end - bytes.len());
+                return Err(NoMemory);
+            }
+        }
+        put_number(&mut self.offsets, self.count * 4 + 4, 4, end as u64);
         self.count += 1;
         self.nulls += usize::from(null);
         Ok(())
@@ -371,6 +380,22 @@ impl Builder {
         }
     }
 
+    /// Adds bytes of a fixed size that the column takes.
+    #[inline(always)]
+    fn push_sized(&mut self, size: usize, bytes: &[u8]) -> Result<(), NoMemory>
+        requires takes { Takes self.old (Bytes bytes.now) }
+        requires sized { self.old.shape ≡ Sized size }
+        ensures added { OnOk result (Adds (Bytes bytes.now) self.old self.new) }
+        ensures kept { OnErr result (Keeps self.old self.new) }
+    {
+        self.settle();
+        match self.push_as(Shape::Sized { size }, Item::Bytes(bytes)) {
+            Ok(()) => Ok(()),
+            Err(PushFault::NoMemory) => Err(NoMemory),
+            Err(_) => unreachable!(),
+        }
+    }
+
     /// How many items there are, and how many bytes they take beside their offsets, as a measure of the room that others
     /// like them need.
     pub fn used(&self) -> (usize, usize)
@@ -385,8 +410,8 @@ impl Builder {
         (self.count, bytes)
     }
 
-    /// Begins anew: the column without values, with room for so many items, and for so many bytes of theirs. On want of
-    /// memory it stays.
+    /// Begins anew: the column without values, with room for this many items, and for this many bytes of theirs. Where memory runs
+    /// out it stays.
     pub fn begin_anew(&mut self, alloc: Global, items: usize, bytes: usize) -> Result<(), NoMemory>
         requires holds { HoldsSome self.old }
         ensures begun { OnOk result ((kind : DataType) (values : List Value) → Holds self.old kind values → Holds self.new kind []) }
@@ -404,7 +429,7 @@ impl Builder {
         Ok(())
     }
 
-    /// A column of a flat type, without values, with room for so many items, and for so many bytes of theirs.
+    /// A column of a flat type, without values, with room for this many items, and for this many bytes of theirs.
     pub fn with_room(
         alloc: Global,
         kind: DataType,

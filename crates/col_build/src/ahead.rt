@@ -1,7 +1,7 @@
 //! What is made ahead of further items: bytes behind those of numbers and of narrow offsets, which nothing reads. An item
 //! that finds its place there is stored without a look at the vector's room.
 ghost use Rattle.std.specs.Prelude.{◌≡◌, ◌≢◌, ◌≤◌, ◌<◌, ◌^◌, ◌+◌, ◌*◌, ◌++◌, Bool, true, OnOk, OnErr, length, replicate, take, vec_len};
-ghost use Rattle.bit_pack.specs.Packed.{IsWidth, le_bytes, stored};
+ghost use Rattle.data_types.specs.Packed.{IsWidth, le_bytes, stored};
 ghost use Rattle.data_types.specs.FieldText.{in_range};
 ghost use Rattle.col_build.specs.Holding.{ShapeOk, bytes_in, offsets_in};
 
@@ -11,7 +11,7 @@ use unit_pass::NoMemory;
 /// How many bytes are made ahead: so few that they are cleared by vectors, and not by a string instruction.
 pub(crate) const AHEAD: usize = 1024;
 
-/// Cuts what is made ahead of so many items.
+/// Cuts what is made ahead of this many items.
 #[inline(always)]
 pub(crate) fn cut_ahead(shape: Shape, count: usize, offsets: &mut Vec<u8>, bytes: &mut Vec<u8>)
     requires ok { ShapeOk shape }
@@ -30,7 +30,7 @@ pub(crate) fn cut_ahead(shape: Shape, count: usize, offsets: &mut Vec<u8>, bytes
     }
 }
 
-/// Makes zeros behind so many bytes, where the next numbers will stand.
+/// Makes zeros behind this many bytes, where the next numbers will stand.
 pub(crate) fn fill_ahead(bytes: &mut Vec<u8>, start: usize, width: usize) -> Result<(), NoMemory>
     requires start { start ≤ vec_len bytes.old }
     requires width { width ≤ 16 }
@@ -62,7 +62,7 @@ fn put_at(bytes: &mut Vec<u8>, at: usize, more: &[u8])
     bytes[at..at + more.len()].copy_from_slice(more);
 }
 
-/// Stores the lowest bytes of a number in their place, so many of them.
+/// Stores the lowest bytes of a number in their place, this many of them.
 #[inline(always)]
 pub(crate) fn put_number(bytes: &mut Vec<u8>, at: usize, width: usize, number: u64)
     requires width { IsWidth width }

@@ -6,7 +6,7 @@ ghost use Rattle.col_build.specs.Times.{AddsBits, ShowsBits};
 
 use unit_pass::NoMemory;
 
-/// Adds a bit behind so many.
+/// Adds a bit behind this many.
 #[inline(always)]
 pub(crate) fn push_bit(bits: &mut Vec<u8>, count: usize, flag: bool) -> Result<(), NoMemory>
     requires shows { (flags : List Bool) × (length flags ≡ count) × (bits.old.items ≡ bit_bytes flags) }
@@ -30,7 +30,7 @@ pub(crate) fn push_bit(bits: &mut Vec<u8>, count: usize, flag: bool) -> Result<(
     Ok(())
 }
 
-/// Makes so many bits that are set, and a clear one behind them.
+/// Makes this many bits that are set, and a clear one behind them.
 pub(crate) fn fill_to_clear(bits: &mut Vec<u8>, count: usize)
     requires none { bits.old.items ≡ [] }
     requires room { count / 8 + 1 ≤ vec_capacity bits.old }
@@ -46,7 +46,7 @@ pub(crate) fn fill_to_clear(bits: &mut Vec<u8>, count: usize)
     }
 }
 
-/// Adds a bit behind so many, so many times, one by one.
+/// Adds a bit behind this many, this many times, one by one.
 fn push_each(bits: &mut Vec<u8>, count: usize, flag: bool, times: usize)
     requires shows { ShowsBits count bits.old.items }
     requires few { count + times ≤ 2 ^ 41 }
@@ -63,7 +63,7 @@ fn push_each(bits: &mut Vec<u8>, count: usize, flag: bool, times: usize)
     }
 }
 
-/// Appends a byte so many times, for which there is room.
+/// Appends a byte this many times, for which there is room.
 fn append_all(bytes: &mut Vec<u8>, byte: u8, times: usize)
     requires { vec_len bytes.old + times ≤ vec_capacity bytes.old }
     ensures items { bytes.new.items ≡ bytes.old.items ++ replicate times byte }
@@ -76,7 +76,7 @@ fn append_all(bytes: &mut Vec<u8>, byte: u8, times: usize)
     }
 }
 
-/// Adds a bit behind whole bytes of them, for so many bytes.
+/// Adds a bit behind whole bytes of them, for this many bytes.
 fn push_whole(bits: &mut Vec<u8>, count: usize, flag: bool, whole: usize)
     requires shows { ShowsBits count bits.old.items }
     requires even { whole ≢ 0 → count % 8 ≡ 0 }
@@ -92,7 +92,7 @@ fn push_whole(bits: &mut Vec<u8>, count: usize, flag: bool, whole: usize)
     append_all(bits, byte, whole);
 }
 
-/// Adds a bit behind so many, so many times, by whole bytes where they are.
+/// Adds a bit behind this many, this many times, by whole bytes where they are.
 pub(crate) fn push_bits(bits: &mut Vec<u8>, count: usize, flag: bool, times: usize)
     requires shows { ShowsBits count bits.old.items }
     requires few { count + times ≤ 2 ^ 40 }

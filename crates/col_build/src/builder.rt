@@ -1,23 +1,20 @@
 //! A flat column in the making: items pushed one by one, and the column of them.
-ghost use Rattle.std.specs.Prelude.{◌≡◌, ◌≤◌, ◌<◌, ◌^◌, ◌+◌, ◌∷◌, [], List, Bool, true, pos, length, map, if◌then◌else◌, is_ok, IfOk, IfErr, OnOk, OnErr};
-ghost use Rattle.unit_pass.specs.Tally.{risen};
+ghost use Rattle.std.specs.Prelude.{◌≡◌, ◌≤◌, ◌<◌, ◌^◌, ◌+◌, ◌∷◌, [], List, Bool, true, pos, length, map, IfOk, OnOk, OnErr};
 ghost use Rattle.data_types.specs.FieldText.{form_of};
 ghost use Rattle.data_types.specs.Kinds.{KindOk};
 ghost use Rattle.data_types.specs.Value.{Value, Bytes};
 ghost use Rattle.std.specs.Str.{is_utf8};
 ghost use Rattle.data_types.specs.declared.kind.DataType.{DataType};
-ghost use Rattle.col_build.specs.Encoding.{Fits, HasForm, is_null};
+ghost use Rattle.col_build.specs.Encoding.{HasForm, is_null};
 ghost use Rattle.col_build.specs.Items.{value_of};
 
 use crate::ahead::cut_ahead;
-use crate::finish::Spares;
 use crate::shape::{Shape, shape_of};
 use crate::store::store;
 use crate::validity::{make_room, push_validity};
-use crate::{Built, Item, Laid, PushFault};
+use crate::{Item, PushFault};
 use data_types::DataType;
 use std::alloc::Global;
-use unit_pass::{NoMemory, Pass};
 
 /// A flat column in the making. Contracts say which values it holds, by `Holds`: its buffers are those of their encoding.
 #[derive(Drop)]
@@ -43,7 +40,6 @@ pub(crate) fn is_null(item: &Item<'_>) -> bool
 }
 
 impl Builder {
-    ghost use Rattle.col_build.specs.Finished.{IsEncoded, blocks_of};
     ghost use Rattle.col_build.specs.Holding.{Adds, Holds, HoldsFew, HoldsSome, IsLaidAs, IsPushed, Keeps};
     ghost use Rattle.col_build.specs.Settled.{AddsWhole, HoldsFewWhole, HoldsSomeWhole, HoldsWhole, IsPushedWhole, KeepsWhole, Settles};
     ghost use Rattle.col_build.specs.Shapes.{shape_fault};
@@ -143,49 +139,5 @@ impl Builder {
         ensures { (kind : DataType) (values : List Value) → Holds self.now kind values → result ≡ pos (length values) }
     {
         self.count as i64
-    }
-
-    /// The column of the items, whose buffers are moved into blocks. Draws a unit and counts a block for
-    /// each buffer that is there. `NoMemory` comes for want of memory alone, and the builder comes back with it.
-    pub fn finish(self, alloc: Global, pass: &mut Pass) -> Result<Built, (Builder, NoMemory)>
-        requires holds { HoldsSome self }
-        requires units { 3 ≤ pass.old.units }
-        ensures encoded { IfOk result (λ built. (kind : DataType) (values : List Value) → Holds self kind values → IsEncoded built kind values) }
-        ensures fits { (kind : DataType) (values : List Value) → Holds self kind values → Fits kind values }
-        ensures back { IfErr result (λ e. Keeps self e.0) }
-        ensures units { (kind : DataType) (values : List Value) → Holds self kind values
-            → pass.new.units + (if is_ok result then blocks_of kind values else 0) ≡ pass.old.units }
-        ensures blocks { OnOk result
-            ((kind : DataType) (values : List Value) → Holds self kind values → pass.new.blocks ≡ risen pass.old.blocks (blocks_of kind values)) }
-        ensures nodes { pass.new.nodes ≡ pass.old.nodes }
-    {
-        let mut builder = self;
-        let mut spares = Spares::new(alloc);
-        match builder.finish_here(alloc, &mut spares, pass) {
-            Ok(
-                Laid {
-                    length,
-                    null_count,
-                    buffers,
-                },
-            ) => {
-                let Builder {
-                    kind,
-                    shape: _,
-                    count: _,
-                    nulls: _,
-                    validity: _,
-                    offsets: _,
-                    bytes: _,
-                } = builder;
-                Ok(Built {
-                    kind,
-                    length,
-                    null_count,
-                    buffers,
-                })
-            }
-            Err(NoMemory) => Err((builder, NoMemory)),
-        }
     }
 }

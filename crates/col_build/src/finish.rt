@@ -9,7 +9,7 @@ ghost use Rattle.col_build.specs.Finished.{AreMade};
 
 use crate::shape::Shape;
 use crate::store::begin_offsets;
-use crate::{Builder, Laid};
+use crate::{Builder, FinishedColumn};
 use buf_block::{BufView, Counts, make_counted};
 use std::alloc::Global;
 use std::mem::replace;
@@ -18,24 +18,24 @@ use unit_pass::{NoMemory, Pass, SUPPLY};
 /// Room to take the validity bits and the offsets of columns out of their blocks again, where memory runs out. It serves for
 /// many columns.
 #[derive(Drop)]
-pub struct Spares {
+pub struct SpareBuffers {
     // The room for the first of three buffers, and for the one before the bytes.
     pub(crate) first: Vec<u8>,
     pub(crate) next: Vec<u8>,
     pub(crate) counts: Counts,
 }
 
-impl Spares {
+impl SpareBuffers {
     /// No room yet. Takes no memory.
-    pub fn new(alloc: Global) -> Spares {
-        Spares::of(alloc, 3)
+    pub fn new(alloc: Global) -> SpareBuffers {
+        SpareBuffers::of(alloc, 3)
     }
 
-    /// The same, whose blocks have so many counts in one table.
-    pub fn of(alloc: Global, size: usize) -> Spares
+    /// The same, whose blocks have this many counts in one table.
+    pub fn of(alloc: Global, size: usize) -> SpareBuffers
         requires some { 1 ≤ size }
     {
-        Spares {
+        SpareBuffers {
             first: Vec::new(alloc),
             next: Vec::new(alloc),
             counts: Counts::of(size),
@@ -164,7 +164,7 @@ fn lay_two(
     kept: &mut Vec<u8>,
     bytes: &mut Vec<u8>,
     text: bool,
-    spares: &mut Spares,
+    spares: &mut SpareBuffers,
     pass: &mut Pass,
 ) -> bool
     requires room { vec_len buffers.old + 2 ≤ vec_capacity buffers.old }
@@ -203,7 +203,7 @@ fn lay_three(
     alloc: Global,
     builder: &mut Builder,
     text: bool,
-    spares: &mut Spares,
+    spares: &mut SpareBuffers,
     pass: &mut Pass,
 ) -> bool
     requires none { buffers.old.items ≡ [] }
@@ -254,7 +254,7 @@ fn lay_three(
 
 impl Builder {
     ghost use Rattle.col_build.specs.Encoding.{Fits, encoded};
-    ghost use Rattle.col_build.specs.Finished.{IsLaidOut, blocks_of};
+    ghost use Rattle.col_build.specs.Finished.{IsEncoded, blocks_of};
     ghost use Rattle.col_build.specs.Holding.{Holds, HoldsSome, Keeps};
     ghost use Rattle.col_build.specs.Settled.{HoldsSomeWhole, HoldsWhole, KeepsWhole};
     ghost use Rattle.data_types.specs.Value.{Value};
@@ -266,7 +266,7 @@ impl Builder {
         &mut self,
         buffers: &mut Vec<Option<BufView>>,
         alloc: Global,
-        spares: &mut Spares,
+        spares: &mut SpareBuffers,
         pass: &mut Pass,
     ) -> bool
         requires none { buffers.old.items ≡ [] }
@@ -301,17 +301,17 @@ impl Builder {
         }
     }
 
-    /// The column of the items of a builder with nothing ahead. As [`Builder::finish_here`].
+    /// The column of the items of a builder with nothing ahead. As [`Builder::finish`].
     #[inline(always)]
     fn finish_whole(
         &mut self,
         alloc: Global,
-        spares: &mut Spares,
+        spares: &mut SpareBuffers,
         pass: &mut Pass,
-    ) -> Result<Laid, NoMemory>
+    ) -> Result<FinishedColumn, NoMemory>
         requires holds { HoldsSomeWhole self.old }
         requires units { 3 ≤ pass.old.units }
-        ensures encoded { IfOk result (λ laid. (kind : DataType) (values : List Value) → HoldsWhole self.old kind values → IsLaidOut laid kind values) }
+        ensures encoded { IfOk result (λ column. (kind : DataType) (values : List Value) → HoldsWhole self.old kind values → IsEncoded column kind values) }
         ensures emptied { OnOk result ((kind : DataType) (values : List Value) → HoldsWhole self.old kind values → Holds self.new kind []) }
         ensures kept { OnErr result (KeepsWhole self.old self.new) }
         ensures units { (kind : DataType) (values : List Value) → HoldsWhole self.old kind values
@@ -327,28 +327,28 @@ impl Builder {
             buffers.destroy_empty();
             return Err(NoMemory);
         }
-        let laid = Laid {
+        let column = FinishedColumn {
             length: self.count as i64,
             null_count: self.nulls as i64,
             buffers,
         };
         self.count = 0;
         self.nulls = 0;
-        Ok(laid)
+        Ok(column)
     }
 
     /// The column of the items, whose buffers are moved into blocks. Draws a unit and counts a block for each buffer that is
-    /// there. The builder holds no items then, and on want of memory the same as before. The spares serve for many columns.
+    /// there. The builder holds no items then, and where memory runs out the same as before. The spares serve for many columns.
     #[inline(always)]
-    pub fn finish_here(
+    pub fn finish(
         &mut self,
         alloc: Global,
-        spares: &mut Spares,
+        spares: &mut SpareBuffers,
         pass: &mut Pass,
-    ) -> Result<Laid, NoMemory>
+    ) -> Result<FinishedColumn, NoMemory>
         requires holds { HoldsSome self.old }
         requires units { 3 ≤ pass.old.units }
-        ensures encoded { IfOk result (λ laid. (kind : DataType) (values : List Value) → Holds self.old kind values → IsLaidOut laid kind values) }
+        ensures encoded { IfOk result (λ column. (kind : DataType) (values : List Value) → Holds self.old kind values → IsEncoded column kind values) }
         ensures fits { (kind : DataType) (values : List Value) → Holds self.old kind values → Fits kind values }
         ensures emptied { OnOk result ((kind : DataType) (values : List Value) → Holds self.old kind values → Holds self.new kind []) }
         ensures kept { OnErr result (Keeps self.old self.new) }

@@ -1,6 +1,6 @@
 //! Numbers of a width in bytes, appended ("Arrow Columnar Format", "Byte order" and "Fixed-size primitive layout").
 ghost use Rattle.std.specs.Prelude.{◌≡◌, ◌≢◌, ◌+◌, ◌*◌, ◌^◌, ◌<◌, ◌≤◌, ◌++◌, ℤ, pos, true, IsTrue, Option, None, nat_lt, vec_capacity, vec_len};
-ghost use Rattle.bit_pack.specs.Packed.{IsWidth, le_bytes, stored};
+ghost use Rattle.data_types.specs.Packed.{IsWidth, le_bytes, stored};
 ghost use Rattle.data_types.specs.FieldText.{in_range};
 ghost use Rattle.col_build.specs.Shapes.{Stored, past, range_fault};
 
@@ -17,7 +17,7 @@ pub(crate) fn append(bytes: &mut Vec<u8>, more: &[u8]) -> Result<(), PushFault>
     }
 }
 
-/// Appends the lowest bytes of a number, so many of them.
+/// Appends the lowest bytes of a number, this many of them.
 #[inline(always)]
 pub(crate) fn append_number(bytes: &mut Vec<u8>, width: usize, number: u64) -> Result<(), PushFault>
     requires width { IsWidth width }

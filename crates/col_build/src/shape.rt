@@ -12,11 +12,11 @@ use data_types::{DataType, Storage, storage_of};
 pub(crate) enum Shape {
     // A truth value, by a bit.
     Truths,
-    // A whole number of so many bytes.
+    // A whole number of this many bytes.
     Wholes { width: usize, signed: bool },
-    // The bits of a float of so many bytes.
+    // The bits of a float of this many bytes.
     Floats { width: usize },
-    // So many bytes.
+    // This many bytes.
     Sized { size: usize },
     // Bytes, or UTF-8, between offsets of 32 bits or, where they are wide, of 64.
     Between { wide: bool, text: bool },

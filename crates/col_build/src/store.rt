@@ -2,7 +2,7 @@
 ghost use Rattle.std.specs.Prelude.{◌≡◌, ◌≢◌, ◌==◌, ◌⊎◌, ◌+◌, ◌^◌, ◌<◌, ◌++◌, ◌∷◌, [], ℕ, Bool, List, None, Some, length, map, replicate, true, IsTrue, OnOk};
 ghost use Rattle.std.specs.Prelude.{OnErr, IfErr};
 ghost use Rattle.std.specs.List.{concat};
-ghost use Rattle.bit_pack.specs.Packed.{IsWidth, le_bytes, offset_width};
+ghost use Rattle.data_types.specs.Packed.{IsWidth, le_bytes, offset_width};
 ghost use Rattle.data_types.specs.Value.{Value, bytes_of};
 ghost use Rattle.col_build.specs.Encoding.{bit_bytes, is_set, offset_bytes, stored_item};
 ghost use Rattle.col_build.specs.Items.{value_of};
@@ -17,7 +17,7 @@ use crate::shape::Shape;
 use crate::text::is_text;
 use crate::{Item, PushFault};
 
-/// Appends so many zeros.
+/// Appends this many zeros.
 #[inline(always)]
 fn append_zeros(bytes: &mut Vec<u8>, count: usize) -> Result<(), PushFault>
     requires { count < 2 ^ 31 }
@@ -60,7 +60,8 @@ fn store_float(bytes: &mut Vec<u8>, width: usize, item: Item<'_>) -> Result<(), 
     }
 }
 
-/// Appends bytes that are so many.
+/// Appends bytes that are this many.
+#[inline(always)]
 fn append_sized(bytes: &mut Vec<u8>, size: usize, more: &[u8]) -> Result<(), PushFault>
     ensures { Stored result bytes.old.items bytes.new.items (range_fault (length more.now == size)) more.now }
 {
@@ -70,6 +71,7 @@ fn append_sized(bytes: &mut Vec<u8>, size: usize, more: &[u8]) -> Result<(), Pus
     append(bytes, more)
 }
 
+#[inline(always)]
 fn store_sized(bytes: &mut Vec<u8>, size: usize, item: Item<'_>) -> Result<(), PushFault>
     requires { size < 2 ^ 31 }
     ensures { Stored result bytes.old.items bytes.new.items (shape_fault (Sized size) 0 (value_of item.entry)) (stored_item size (value_of item.entry)) }
@@ -118,7 +120,7 @@ fn end_item(offsets: &mut Vec<u8>, wide: bool, end: usize) -> Result<(), PushFau
     append_offset(offsets, wide, end)
 }
 
-/// Whether offsets reach so many bytes.
+/// Whether offsets reach this many bytes.
 #[inline(always)]
 fn is_reached(wide: bool, total: usize) -> bool
     ensures { result ≡ reaches wide total }
@@ -126,7 +128,7 @@ fn is_reached(wide: bool, total: usize) -> bool
     wide || total < 1 << 31
 }
 
-/// Why bytes aren't taken behind so many.
+/// Why bytes aren't taken behind this many.
 #[inline(always)]
 fn fault_between(wide: bool, text: bool, start: usize, more: &[u8]) -> Option<PushFault>
     requires { start < 2 ^ 63 }
@@ -209,7 +211,7 @@ fn store_between(
     }
 }
 
-/// Adds an item behind so many. Where it isn't taken the values stay.
+/// Adds an item behind this many. Where it isn't taken the values stay.
 #[inline(always)]
 pub(crate) fn store(
     shape: Shape,

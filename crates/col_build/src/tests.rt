@@ -1,20 +1,20 @@
-//! Columns that are finished where they are, and with the builder, against buffers that were written by hand.
+//! Finished columns, against buffers that were written by hand.
 ghost use Rattle.std.specs.Prelude.{◌≡◌, ◌+◌, ◌<◌, ◌≤◌, [], List, length, pos, false};
 ghost use Rattle.unit_pass.specs.declared.pass.TheConstants.{SUPPLY};
 ghost use Rattle.data_types.specs.Value.{Value};
 ghost use Rattle.data_types.specs.declared.kind.DataType.{DataType};
-ghost use Rattle.col_build.specs.Finished.{IsEncoded, IsLaidOut, blocks_of};
+ghost use Rattle.col_build.specs.Finished.{IsEncoded, blocks_of};
 ghost use Rattle.col_build.specs.Holding.{Adds, Holds, HoldsFew, HoldsSome};
 ghost use Rattle.col_build.specs.Items.{value_of};
 ghost use Rattle.data_types.specs.declared.kind.DataType.TheVariants.{Decimal, Int};
 
 use crate::Item::{Null, Whole};
-use crate::{Builder, Built, Item, Laid, PushFault, Spares};
+use crate::{Builder, FinishedColumn, Item, PushFault, SpareBuffers};
 use buf_block::{BufView, let_go_all};
 use data_types::DataType;
 use std::alloc::Global;
 use std::process::Abort;
-use unit_pass::{Pass, SUPPLY, open_desk};
+use unit_pass::{NoMemory, Pass, open_desk};
 
 /// Expects these bytes in a buffer, or none.
 fn expect_buffer(rt: &impl Abort, view: &Option<BufView>, bytes: Option<&[u8]>) {
@@ -68,42 +68,21 @@ fn push_taken(rt: &impl Abort, builder: &mut Builder, items: &[Item<'_>])
 }
 
 /// Expects these counts and buffers of the column.
-fn expect_built(
+fn expect_column(
     rt: &impl Abort,
-    built: Built,
+    column: FinishedColumn,
     pass: &mut Pass,
     counts: (i64, i64),
     buffers: &[Option<&[u8]>],
 )
-    requires { (kind : DataType) × (values : List Value) × IsEncoded built kind values × (pass.old.units + blocks_of kind values ≡ SUPPLY) }
+    requires { (kind : DataType) × (values : List Value) × IsEncoded column kind values × (pass.old.units + blocks_of kind values ≡ SUPPLY) }
     ensures { pass.new.units ≡ SUPPLY }
 {
-    let Built {
-        kind: _,
+    let FinishedColumn {
         length,
         null_count,
         buffers: views,
-    } = built;
-    expect_buffers(rt, (length, null_count), &views, counts, buffers);
-    let_go_all(views, pass);
-}
-
-/// The same of a column without its type.
-fn expect_laid(
-    rt: &impl Abort,
-    laid: Laid,
-    pass: &mut Pass,
-    counts: (i64, i64),
-    buffers: &[Option<&[u8]>],
-)
-    requires { (kind : DataType) × (values : List Value) × IsLaidOut laid kind values × (pass.old.units + blocks_of kind values ≡ SUPPLY) }
-    ensures { pass.new.units ≡ SUPPLY }
-{
-    let Laid {
-        length,
-        null_count,
-        buffers: views,
-    } = laid;
+    } = column;
     expect_buffers(rt, (length, null_count), &views, counts, buffers);
     let_go_all(views, pass);
 }
@@ -112,24 +91,26 @@ fn expect_laid(
 pub(crate) fn expect_finish(
     rt: &impl Abort,
     alloc: Global,
-    builder: Builder,
+    builder: &mut Builder,
     pass: &mut Pass,
     counts: (i64, i64),
     buffers: &[Option<&[u8]>],
 )
-    requires holds { HoldsSome builder }
+    requires holds { HoldsSome builder.old }
     requires units { pass.old.units ≡ SUPPLY }
-    ensures { pass.new.units ≡ SUPPLY }
+    ensures empty { (kind : DataType) × Holds builder.new kind [] }
+    ensures units { pass.new.units ≡ SUPPLY }
 {
     let blocks = buffers.iter().flatten().count() as u64;
-    match builder.finish(alloc, pass) {
-        Ok(built) => {
+    let mut spares = SpareBuffers::new(alloc);
+    match builder.finish(alloc, &mut spares, pass) {
+        Ok(column) => {
             assert_eq!(rt; pass.blocks(), blocks);
-            expect_built(rt, built, pass, counts, buffers)
+            expect_column(rt, column, pass, counts, buffers)
         }
-        Err((builder, _memory)) => match builder.finish(alloc, pass) {
-            Ok(built) => expect_built(rt, built, pass, counts, buffers),
-            Err((_builder, _memory)) => assert!(rt; false, "memory"),
+        Err(NoMemory) => match builder.finish(alloc, &mut spares, pass) {
+            Ok(column) => expect_column(rt, column, pass, counts, buffers),
+            Err(NoMemory) => panic!(rt; "memory"),
         },
     }
 }
@@ -151,43 +132,22 @@ pub(crate) fn decimal() -> DataType
     }
 }
 
-/// Expects these counts and buffers of a column that was finished where it stands, and begins it anew.
-fn expect_here(
-    rt: &impl Abort,
-    alloc: Global,
-    builder: &mut Builder,
-    pass: &mut Pass,
-    counts: (i64, i64),
-    buffers: &[Option<&[u8]>],
-)
-    requires holds { HoldsSome builder.old }
-    requires units { pass.old.units ≡ SUPPLY }
-    ensures empty { (kind : DataType) × Holds builder.new kind [] }
-    ensures units { pass.new.units ≡ SUPPLY }
-{
-    let mut spares = Spares::new(alloc);
-    let Ok(laid) = builder.finish_here(alloc, &mut spares, pass) else {
-        panic!(rt; "memory")
-    };
-    expect_laid(rt, laid, pass, counts, buffers);
-    let Ok(()) = builder.begin_anew(alloc, 3, 3) else {
-        panic!(rt; "memory")
-    };
-}
-
-/// The same items are finished where they stand, and then with the builder.
+/// The same items are finished twice by one builder.
 #[test]
-fn a_builder_that_stays_begins_anew(rt: HostRuntime) {
+fn a_finished_builder_begins_anew(rt: HostRuntime) {
     let alloc = rt.alloc();
-    let (desk, mut pass) = open_desk();
     let items = [Whole(7), Null, Whole(9)];
     let buffers: [Option<&[u8]>; 2] = [Some(&[0b101]), Some(&[7, 0, 9])];
     let mut builder = Builder::new(alloc, int(8, false));
-    push_taken(&rt, &mut builder, &items);
-    expect_here(&rt, alloc, &mut builder, &mut pass, (3, 1), &buffers);
-    let _audit = desk.close(pass);
     let (desk, mut pass) = open_desk();
     push_taken(&rt, &mut builder, &items);
-    expect_finish(&rt, alloc, builder, &mut pass, (3, 1), &buffers);
+    expect_finish(&rt, alloc, &mut builder, &mut pass, (3, 1), &buffers);
+    let _audit = desk.close(pass);
+    let Ok(()) = builder.begin_anew(alloc, 3, 3) else {
+        panic!(&rt; "memory")
+    };
+    let (desk, mut pass) = open_desk();
+    push_taken(&rt, &mut builder, &items);
+    expect_finish(&rt, alloc, &mut builder, &mut pass, (3, 1), &buffers);
     let _audit = desk.close(pass);
 }

@@ -12,7 +12,7 @@ use crate::shape::Shape;
 use crate::{Builder, Item};
 use unit_pass::NoMemory;
 
-/// Makes room for the bits of so many items more.
+/// Makes room for the bits of this many items more.
 fn make_room(bits: &mut Vec<u8>, times: usize) -> Result<(), NoMemory>
     requires { times ≤ 2 ^ 40 }
     ensures items { bits.new.items ≡ bits.old.items }
@@ -24,7 +24,7 @@ fn make_room(bits: &mut Vec<u8>, times: usize) -> Result<(), NoMemory>
     }
 }
 
-/// Adds the validity bits of an item that stands so many times more, behind so many, so many of them nulls. One that is null
+/// Adds the validity bits of an item that stands this many times more, behind this many, this many of them nulls. One that is null
 /// stands behind another null.
 fn repeat_validity(
     validity: &mut Vec<u8>,
@@ -48,7 +48,7 @@ fn repeat_validity(
     Ok(())
 }
 
-/// How many of so many items are null, where all are or none.
+/// How many of this many items are null, where all are or none.
 fn nulls_among(null: bool, times: usize) -> usize
     ensures { (value : Value) → is_null value ≡ null → result ≡ null_total (replicate times value) }
 {
@@ -70,7 +70,7 @@ impl Builder {
     ghost use Rattle.col_build.specs.Times.{AddsSome, AddsTimes, TakesTimes};
     ghost use Rattle.col_build.specs.declared.shape.Shape.TheVariants.{Sized, Truths};
 
-    /// Adds an item that the column takes so many times. Where its items have no bytes of their own, so as truth values, their
+    /// Adds an item that the column takes this many times. Where its items have no bytes of their own, so as truth values, their
     /// bits are added by whole bytes.
     ///
     /// # Errors
@@ -126,7 +126,7 @@ impl Builder {
         self.repeat(is_set(&item), is_null(&item), times - 1)
     }
 
-    /// Adds an item so many times more, which is a null behind another, or has this truth value.
+    /// Adds an item this many times more, which is a null behind another, or has this truth value.
     fn repeat(&mut self, truth: bool, null: bool, times: usize) -> Result<(), NoMemory>
         requires takes { (value : Value) × (is_null value ≡ null) × (is_set value ≡ truth) × TakesTimes self.old value times }
         requires bitwise { IsBitwise self.old.shape }
@@ -141,7 +141,7 @@ impl Builder {
         }
     }
 
-    /// Adds a truth value or a null so many times more.
+    /// Adds a truth value or a null this many times more.
     fn repeat_truth(&mut self, truth: bool, null: bool, times: usize) -> Result<(), NoMemory>
         requires takes { (value : Value) × (is_null value ≡ null) × (is_set value ≡ truth) × TakesTimes self.old value times }
         requires truths { self.old.shape ≡ Truths }
@@ -158,7 +158,7 @@ impl Builder {
         Ok(())
     }
 
-    /// Adds an item without bytes, or a null, so many times more.
+    /// Adds an item without bytes, or a null, this many times more.
     fn repeat_nothing(&mut self, null: bool, times: usize) -> Result<(), NoMemory>
         requires takes { (value : Value) × (is_null value ≡ null) × TakesTimes self.old value times }
         requires nothing { self.old.shape ≡ Sized 0 }

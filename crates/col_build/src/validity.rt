@@ -9,7 +9,7 @@ use crate::PushFault;
 use crate::bits::{fill_to_clear, push_bit};
 use unit_pass::NoMemory;
 
-/// Makes room for the bit of an item behind so many, so many of them nulls.
+/// Makes room for the bit of an item behind this many, this many of them nulls.
 #[inline(always)]
 pub(crate) fn make_room(
     validity: &mut Vec<u8>,
@@ -32,7 +32,7 @@ pub(crate) fn make_room(
     }
 }
 
-/// Adds the bit of an item behind so many, for which there is room.
+/// Adds the bit of an item behind this many, for which there is room.
 #[inline(always)]
 pub(crate) fn push_validity(validity: &mut Vec<u8>, count: usize, nulls: usize, null: bool)
     requires has { (values : List Value) × HasValidity validity.old.items count nulls values }
@@ -53,7 +53,7 @@ pub(crate) fn push_validity(validity: &mut Vec<u8>, count: usize, nulls: usize, 
     }
 }
 
-/// Makes the bits of so many items that are valid, and of a null behind them.
+/// Makes the bits of this many items that are valid, and of a null behind them.
 #[inline(never)]
 fn begin_validity(validity: &mut Vec<u8>, count: usize) -> Result<(), NoMemory>
     requires none { validity.old.items ≡ [] }
@@ -68,7 +68,7 @@ fn begin_validity(validity: &mut Vec<u8>, count: usize) -> Result<(), NoMemory>
     Ok(())
 }
 
-/// Adds the bit of an item behind so many, so many of them nulls. Bits begin with the first null.
+/// Adds the bit of an item behind this many, this many of them nulls. Bits begin with the first null.
 #[inline(always)]
 pub(crate) fn add_validity(
     validity: &mut Vec<u8>,

@@ -1,20 +1,18 @@
 -- The blocks of a column's encoding.
 use Rattle.std.proofs.Common.{◌≡◌, ◌∙◌, ◌<◌, ◌+◌, ◌/◌, ◌++◌, ℕ, zero, suc, Bool, true, false, List, [], ◌∷◌, length, map, All, refl, sym, ap}
 use Rattle.std.proofs.Common.{subst, inl, inr, arith}
-use Rattle.std.specs.Prelude.{Option, None, Some, ◌⊎◌, ◌==◌, not, if◌then◌else◌}
+use Rattle.std.specs.Prelude.{Option, None, Some, ◌==◌, not, if◌then◌else◌}
 use Rattle.std.specs.List.{concat, flat_map, list_any}
 use Rattle.std.proofs.Math.Nat.{zero-add}
 use Rattle.std.proofs.lemmas.Bool.Decides.{nat_tests}
 use Rattle.std.proofs.lemmas.List.{length-append, length-replicate}
 use Rattle.std.proofs.lemmas.List.Elements.{All-head, All-tail}
-use Rattle.bit_pack.specs.Packed.{le_bytes, stored}
+use Rattle.data_types.specs.Packed.{IsWidth, le_bytes, stored}
 use Rattle.data_types.specs.ColumnForms.{HasForm, IsColumnKind}
 use Rattle.data_types.specs.FieldText.{Form, Truths, Wholes, FloatBits, Text, HexBytes, SizedHex, Decimals, IsOfForm, IsOfSome, IsValueOf, form_of}
-use Rattle.data_types.specs.Kinds.{KindOk}
 use Rattle.data_types.specs.Value.{Value, Null, Truth, Whole, Bits, Bytes, Items, Fields, bytes_of, is_null}
 use Rattle.data_types.specs.declared.kind.DataType.{DataType}
-use Rattle.data_types.specs.declared.kind.DataType.TheVariants as kinds
-use Rattle.data_types.specs.declared.kind.Tick.TheVariants as ticks
+use Rattle.col_build.proofs.ShapeFacts.{FormOk, form-ok}
 use Rattle.col_build.specs.Encoding.{bit_bytes, buffers_by, buffers_if, if_some, in_place, is_set, is_wide, null_total, stored_item, validity_of}
 use Rattle.col_build.specs.Finished.{blocks_of, present_count}
 use Rattle.stage_model.specs.Traffic.{flat_blocks, form_blocks, one_if_any, row_blocks, validity_blocks}
@@ -122,33 +120,16 @@ abbrev IsWholeIf : Option Form → Type 0
 IsWholeIf None = Unit {0}
 IsWholeIf (Some form) = IsWhole form
 
-of-bits : (bits : ℕ) → (bits ≡ 8) ⊎ (bits ≡ 16) ⊎ (bits ≡ 32) ⊎ (bits ≡ 64) → 0 < bits / 8
-of-bits bits (inl e) = rw e (omega arith)
-of-bits bits (inr (inl e)) = rw e (omega arith)
-of-bits bits (inr (inr (inl e))) = rw e (omega arith)
-of-bits bits (inr (inr (inr e))) = rw e (omega arith)
+some-bytes : (width : ℕ) → IsWidth width → 0 < width
+some-bytes width (inl e) = omega (arith, e)
+some-bytes width (inr (inl e)) = omega (arith, e)
+some-bytes width (inr (inr (inl e))) = omega (arith, e)
+some-bytes width (inr (inr (inr (inl e)))) = omega (arith, e)
+some-bytes width (inr (inr (inr (inr e)))) = omega (arith, e)
 
-of-float : (bits : ℕ) → (bits ≡ 16) ⊎ (bits ≡ 32) ⊎ (bits ≡ 64) → 0 < bits / 8
-of-float bits (inl e) = rw e (omega arith)
-of-float bits (inr (inl e)) = rw e (omega arith)
-of-float bits (inr (inr e)) = rw e (omega arith)
-
-is-whole : (kind : DataType) → KindOk kind → IsWholeIf (form_of kind)
-is-whole (kinds.Int bits signed) ok = of-bits bits ok
-is-whole (kinds.Float bits) ok = of-float bits ok
-is-whole (kinds.Binary true) ok = tt
-is-whole (kinds.Binary false) ok = tt
-is-whole (kinds.Decimal precision scale false) ok = tt
-is-whole (kinds.Decimal precision scale true) ok = tt
-is-whole kinds.DateDay ok = of-bits 32 (inr (inr (inl refl)))
-is-whole kinds.DateMilli ok = of-bits 64 (inr (inr (inr refl)))
-is-whole (kinds.TimeOfDay ticks.Second) ok = of-bits 32 (inr (inr (inl refl)))
-is-whole (kinds.TimeOfDay ticks.Milli) ok = of-bits 32 (inr (inr (inl refl)))
-is-whole (kinds.TimeOfDay ticks.Micro) ok = of-bits 64 (inr (inr (inr refl)))
-is-whole (kinds.TimeOfDay ticks.Nano) ok = of-bits 64 (inr (inr (inr refl)))
-is-whole (kinds.Timestamp tick zone) ok = of-bits 64 (inr (inr (inr refl)))
-is-whole (kinds.Duration tick) ok = of-bits 64 (inr (inr (inr refl)))
-is-whole kinds.IntervalMonths ok = of-bits 32 (inr (inr (inl refl)))
+is-whole : (form : Option Form) → FormOk form → IsWholeIf form
+is-whole (Some (Wholes bits signed)) ok = some-bytes (bits / 8) ok.1
+is-whole (Some (FloatBits bits)) ok = some-bytes (bits / 8) ok.1
 is-whole _ ok = tt
 
 -- ---- the values of a form
@@ -209,4 +190,4 @@ value-of kind form (Fields vs) is of = subst (λ (o : Option Form). IsOfSome o (
 -- a column of values of a type is made of these blocks
 pub blocks-are : (kind : DataType) (values : List Value) → IsColumnKind kind → All (IsValueOf kind) values → blocks_of kind values ≡ flat_blocks kind values
 blocks-are kind values is are =
-    some-is (is_wide kind) (form_of kind) values is.1 (is-whole kind is.0) (λ form e k d small. value-of kind form _ e (are k d small))
+    some-is (is_wide kind) (form_of kind) values is.1 (is-whole (form_of kind) (form-ok kind is.0)) (λ form e k d small. value-of kind form _ e (are k d small))

@@ -13,8 +13,8 @@ use Rattle.data_types.specs.declared.storage.Storage.TheVariants as stored
 use Rattle.col_build.specs.Holding.{Holds, HoldsWholes, Takes as IsTaken}
 use Rattle.col_build.specs.declared.builder.Builder.{Builder}
 use Rattle.raw_array.specs.Members.{ArrayTree}
-use Rattle.kind_tree.specs.ColumnKinds.{type_of_kind}
-use Rattle.kind_tree.specs.Kinds.{KindTree}
+use Rattle.data_types.specs.ColumnKinds.{type_of_kind}
+use Rattle.data_types.specs.KindTrees.{KindTree}
 use Rattle.layout_rules.specs.Values.{value_at}
 use Rattle.arr_import.specs.Window.{Window, item_at, whole}
 use Rattle.stream_face.specs.Lawful.{AreValues}
@@ -63,7 +63,7 @@ takes-next kind f kept k builder storage is are few small holds stored =
 pub taken : (builder : Builder) (storage : Storage) (value : Value) → Takes builder storage value → IsTaken builder value
 taken builder storage value takes = (takes.kind, takes.values, takes.holds, takes.few, takes.taken)
 
--- the column of a type whose values are whole numbers of so many bytes
+-- the column of a type whose values are whole numbers of this many bytes
 pub holds-wholes : (builder : Builder) (kind : DataType) (values : List Value) (width : ℕ) (signed : Bool) → Holds builder kind values
     → storage_of kind ≡ stored.Wholes (8 * width) signed → HoldsWholes width builder
 holds-wholes builder kind values width signed holds is = λ type vs own. (signed, ap storage_of (sym own.is_kind ∙ holds.is_kind) ∙ is)

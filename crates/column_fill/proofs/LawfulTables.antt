@@ -16,8 +16,8 @@ use Rattle.raw_array.specs.Members.{ArrayTree, Cost, cost_of_all}
 use Rattle.raw_schema.specs.Members.{Nodes}
 use Rattle.col_build.specs.Encoding.{Fits, encoded}
 use Rattle.col_build.specs.Finished.{blocks_of}
-use Rattle.kind_tree.specs.ColumnKinds.{table_type, type_of_column, type_of_columns, types_of_columns}
-use Rattle.kind_tree.specs.Kinds.{KindTree}
+use Rattle.data_types.specs.ColumnKinds.{table_type, type_of_column, type_of_columns, types_of_columns}
+use Rattle.data_types.specs.KindTrees.{KindTree}
 use Rattle.schema_check.specs.ColumnSchema.{SchemaOf, schema_of_column}
 use Rattle.schema_check.specs.Schemas.{TypedOf}
 use Rattle.layout_rules.specs.Values.{each, rows_of, values_of}

@@ -4,3 +4,5 @@ pub mod ColumnBlocks
 pub mod ColumnCosts
 pub mod Counts
 pub mod LawfulTables
+pub mod Taken
+pub mod FlatColumns

@@ -1,2 +1,4 @@
 pub mod Takes
 pub mod Tables
+pub mod Gathered
+pub mod FlatColumns

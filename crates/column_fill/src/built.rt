@@ -1,5 +1,5 @@
 //! The array of a column in the making.
-ghost use Rattle.std.specs.Prelude.{◌≡◌, ◌+◌, ◌≤◌, List, Option, IfOk, OnErr, OnOk, count_by, is_some};
+ghost use Rattle.std.specs.Prelude.{◌≡◌, ◌+◌, ◌≤◌, List, Option, IfOk, OnErr, OnOk};
 ghost use Rattle.data_types.specs.Value.{Value};
 ghost use Rattle.data_types.specs.declared.kind.DataType.{DataType as AType};
 ghost use Rattle.tree_model.specs.Tree.{maybe_tree};
@@ -11,9 +11,8 @@ ghost use Rattle.col_build.specs.Finished.{blocks_of};
 ghost use Rattle.col_build.specs.Holding.{Holds};
 ghost use Rattle.arr_export.specs.ArrayTrees.{AreIndicesIf, column_tree};
 
-use arr_export::export_column;
-use buf_block::let_go_all;
-use col_build::{Builder, Built};
+use arr_export::{export_column, let_go_column};
+use col_build::{Builder, SpareBuffers};
 use raw_array::RawArray;
 use std::alloc::Global;
 use unit_pass::{NoMemory, Pass, SUPPLY};
@@ -31,26 +30,8 @@ fn end_dictionary(dictionary: Option<RawArray>, pass: &mut Pass)
     }
 }
 
-/// Lets the buffers of a finished column go, and releases its dictionary, where there is one: what is owed for a column that
-/// `arr_export::export_column` gave back.
-fn give_up(built: Built, dictionary: Option<RawArray>, pass: &mut Pass)
-    requires { pass.old.units + cost_of_maybe (maybe_tree dictionary) + count_by is_some built.buffers.items ≤ SUPPLY }
-    ensures units { pass.new.units ≡ pass.old.units + cost_of_maybe (maybe_tree dictionary) + count_by is_some built.buffers.items }
-    ensures blocks { pass.new.blocks ≡ pass.old.blocks }
-    ensures nodes { pass.new.nodes ≡ pass.old.nodes }
-{
-    end_dictionary(dictionary, pass);
-    let Built {
-        kind: _,
-        length: _,
-        null_count: _,
-        buffers,
-    } = built;
-    let_go_all(buffers, pass);
-}
-
 /// The array of the column that a builder holds, over a dictionary, where there is one: the items are its indices then ("Arrow
-/// Columnar Format", "Dictionary-encoded Layout"). It counts a block for each buffer, and one node. On want of memory all is
+/// Columnar Format", "Dictionary-encoded Layout"). It counts a block for each buffer, and one node. Where memory runs out all is
 /// released, the dictionary too.
 pub fn built_column(
     alloc: Global,
@@ -70,15 +51,16 @@ pub fn built_column(
     ensures nodes { OnOk result (pass.new.nodes ≡ risen pass.old.nodes 1) }
     ensures units_back { OnErr result (pass.new.units ≡ pass.old.units + cost_of_maybe (maybe_tree dictionary)) }
 {
-    match builder.finish(alloc, pass) {
-        Ok(built) => match export_column(alloc, built, dictionary, pass) {
+    let mut builder = builder;
+    match builder.finish(alloc, &mut SpareBuffers::new(alloc), pass) {
+        Ok(column) => match export_column(alloc, column, dictionary, pass) {
             Ok(array) => Ok(array),
-            Err((built, dictionary, NoMemory)) => {
-                give_up(built, dictionary, pass);
+            Err((column, dictionary, NoMemory)) => {
+                let_go_column(column, dictionary, pass);
                 Err(NoMemory)
             }
         },
-        Err((_builder, NoMemory)) => {
+        Err(NoMemory) => {
             end_dictionary(dictionary, pass);
             Err(NoMemory)
         }

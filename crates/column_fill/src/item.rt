@@ -1,15 +1,18 @@
 //! Items that are moved into a column in the making.
-ghost use Rattle.std.specs.Prelude.{◌≡◌, ◌≢◌, ◌<◌, ◌^◌, ◌*◌, Bool, true, OnErr, OnOk};
+ghost use Rattle.std.specs.Prelude.{◌≡◌, ◌≢◌, ◌<◌, ◌*◌, Bool, true, if◌then◌else◌, OnErr, OnOk};
 ghost use Rattle.data_types.specs.declared.storage.Storage.{Storage as AStorage};
 ghost use Rattle.data_types.specs.declared.storage.Storage.TheVariants.{Between, Truths, Wholes};
 ghost use Rattle.col_build.specs.Holding.{Adds, Keeps};
 ghost use Rattle.col_build.specs.Items.{value_of};
 ghost use Rattle.col_build.specs.Times.{AddsSome, AddsTimes, TakesTimes};
+ghost use Rattle.data_types.specs.Value.{Null};
 ghost use Rattle.arr_import.specs.Cols.{window_of};
+ghost use Rattle.arr_import.specs.Plain.{IsItemThere, is_valid_in, storage_in, valid_item};
 ghost use Rattle.arr_import.specs.Window.{item_at};
 ghost use Rattle.column_fill.specs.Takes.{IsStored, Takes};
+ghost use Rattle.layout_rules.specs.Rules.{window_limit};
 
-use arr_import::Col;
+use arr_import::{Col, Plain};
 use col_build::{Builder, Item, PushFault};
 use data_types::Storage;
 use unit_pass::NoMemory;
@@ -18,7 +21,7 @@ use unit_pass::NoMemory;
 #[inline(always)]
 fn item_of<'a>(items: &Col<'a>, storage: Storage, i: u64) -> Item<'a>
     requires inside { i < (window_of items.now).count }
-    requires near { i < 2 ^ 40 }
+    requires near { i < window_limit }
     requires stored { IsStored storage (item_at (window_of items.now) i) }
     ensures { value_of result ≡ item_at (window_of items.now) i }
 {
@@ -45,7 +48,7 @@ fn item_of<'a>(items: &Col<'a>, storage: Storage, i: u64) -> Item<'a>
 }
 
 /// Adds an item to a column in the making that takes it, of a text without testing it again. `storage` is how the column's values
-/// are stored. An `Err` comes for want of memory alone; the column is as before then.
+/// are stored. An `Err` comes only where memory runs out; the column is as before then.
 #[inline(always)]
 pub fn push(builder: &mut Builder, storage: Storage, item: Item<'_>) -> Result<(), NoMemory>
     requires { Takes builder.old storage (value_of item) }
@@ -67,7 +70,7 @@ pub fn push(builder: &mut Builder, storage: Storage, item: Item<'_>) -> Result<(
 #[inline(always)]
 fn push_bytes(builder: &mut Builder, items: &Col<'_>, i: u64) -> Result<(), NoMemory>
     requires inside { i < (window_of items.now).count }
-    requires near { i < 2 ^ 40 }
+    requires near { i < window_limit }
     requires takes { (wide : Bool) × (text : Bool) × Takes builder.old (Between wide text) (item_at (window_of items.now) i) }
     ensures { OnOk result (Adds (item_at (window_of items.now) i) builder.old builder.new) }
 {
@@ -77,11 +80,11 @@ fn push_bytes(builder: &mut Builder, items: &Col<'_>, i: u64) -> Result<(), NoMe
     }
 }
 
-/// Adds a whole number of a column, of so many bytes, or a null.
+/// Adds a whole number of a column, of this many bytes, or a null.
 #[inline(always)]
 fn push_whole(builder: &mut Builder, width: usize, items: &Col<'_>, i: u64) -> Result<(), NoMemory>
     requires inside { i < (window_of items.now).count }
-    requires near { i < 2 ^ 40 }
+    requires near { i < window_limit }
     requires takes { (signed : Bool) × Takes builder.old (Wholes (8 * width) signed) (item_at (window_of items.now) i) }
     ensures { OnOk result (Adds (item_at (window_of items.now) i) builder.old builder.new) }
 {
@@ -95,7 +98,7 @@ fn push_whole(builder: &mut Builder, width: usize, items: &Col<'_>, i: u64) -> R
 #[inline(always)]
 fn push_truth(builder: &mut Builder, items: &Col<'_>, i: u64) -> Result<(), NoMemory>
     requires inside { i < (window_of items.now).count }
-    requires near { i < 2 ^ 40 }
+    requires near { i < window_limit }
     requires takes { Takes builder.old Truths (item_at (window_of items.now) i) }
     ensures { OnOk result (Adds (item_at (window_of items.now) i) builder.old builder.new) }
 {
@@ -114,7 +117,7 @@ fn push_rare(
     i: u64,
 ) -> Result<(), NoMemory>
     requires inside { i < (window_of items.now).count }
-    requires near { i < 2 ^ 40 }
+    requires near { i < window_limit }
     requires takes { Takes builder.old storage (item_at (window_of items.now) i) }
     ensures { OnOk result (Adds (item_at (window_of items.now) i) builder.old builder.new) }
 {
@@ -130,7 +133,7 @@ pub fn push_item(
     i: u64,
 ) -> Result<(), NoMemory>
     requires inside { i < (window_of items.now).count }
-    requires near { i < 2 ^ 40 }
+    requires near { i < window_limit }
     requires takes { Takes builder.old storage (item_at (window_of items.now) i) }
     ensures { OnOk result (Adds (item_at (window_of items.now) i) builder.old builder.new) }
 {
@@ -144,7 +147,71 @@ pub fn push_item(
     }
 }
 
-/// Adds an item of a column so many times. `storage` is how the builder's values are stored.
+/// An item that isn't null of a column that is read by its places.
+#[inline(always)]
+fn item_in<'a>(items: &Plain<'a>, storage: Storage, i: u64) -> Item<'a>
+    requires there { IsItemThere items.now i }
+    requires stored { storage_in items.now ≡ storage }
+    ensures { value_of result ≡ valid_item items.now i }
+{
+    match storage {
+        Storage::Truths => Item::Truth(items.truth(i)),
+        Storage::Wholes { bits, signed } => Item::Whole(items.whole(bits, signed, i)),
+        Storage::Floats { bits } => Item::Bits(items.float_bits(bits, i)),
+        Storage::Sized { size } => Item::Bytes(items.sized(size, i)),
+        Storage::Between { wide, .. } => Item::Bytes(items.between(wide, i)),
+        _ => Item::Null,
+    }
+}
+
+/// Adds an item that isn't null of a column that is read by its places.
+#[inline(always)]
+fn push_valid(
+    builder: &mut Builder,
+    storage: Storage,
+    items: &Plain<'_>,
+    i: u64,
+) -> Result<(), NoMemory>
+    requires there { IsItemThere items.now i }
+    requires stored { storage_in items.now ≡ storage }
+    requires takes { Takes builder.old storage (valid_item items.now i) }
+    ensures { OnOk result (Adds (valid_item items.now i) builder.old builder.new) }
+{
+    match storage {
+        Storage::Between { wide, .. } => builder.add_bytes(items.between(wide, i)),
+        Storage::Wholes { bits: 32, signed } => builder.add_whole(4, items.whole(32, signed, i)),
+        Storage::Wholes { bits: 64, signed } => builder.add_whole(8, items.whole(64, signed, i)),
+        Storage::Wholes { bits: 128, signed } => builder.add_whole(16, items.whole(128, signed, i)),
+        Storage::Truths => builder.add_truth(items.truth(i)),
+        _ => push(builder, storage, item_in(items, storage, i)),
+    }
+}
+
+/// Adds an item of a column that is read by its places. `storage` is how its items and the builder's values are stored. Where it is
+/// a constant, an item of a common type costs one test of its validity and the stores.
+///
+/// # Errors
+///
+/// `NoMemory` where there is no memory for it.
+#[inline(always)]
+pub fn push_plain(
+    builder: &mut Builder,
+    storage: Storage,
+    items: &Plain<'_>,
+    i: u64,
+) -> Result<(), NoMemory>
+    requires there { IsItemThere items.now i }
+    requires stored { storage_in items.now ≡ storage }
+    requires takes { Takes builder.old storage (if is_valid_in items.now i then valid_item items.now i else Null) }
+    ensures { OnOk result (Adds (if is_valid_in items.now i then valid_item items.now i else Null) builder.old builder.new) }
+{
+    if !items.is_valid(i) {
+        return builder.add_null();
+    }
+    push_valid(builder, storage, items, i)
+}
+
+/// Adds an item of a column this many times. `storage` is how the builder's values are stored.
 ///
 /// # Errors
 ///
@@ -157,7 +224,7 @@ pub fn push_item_times(
     times: u64,
 ) -> Result<(), NoMemory>
     requires inside { i < (window_of items.now).count }
-    requires near { i < 2 ^ 40 }
+    requires near { i < window_limit }
     requires stored { times ≢ 0 → IsStored storage (item_at (window_of items.now) i) }
     requires takes { TakesTimes builder.old (item_at (window_of items.now) i) times }
     ensures added { OnOk result (AddsTimes (item_at (window_of items.now) i) times builder.old builder.new) }

@@ -44,7 +44,7 @@ fitting kind values ok form few each small = record {
   bounded = bounded-by (form_of kind) (byte_total values) (omega (arith, small));
 }
 
--- a live array of some length has so many items
+-- a live array of some length has this many items
 pub items-of : (array : ArrayTree) (n : ℕ) → IsLive array → pos n ≤ℤ (members_of array).length → n ≤ tree_items array
 items-of Released n live le = absurd live
 items-of (Live own children dictionary) n live le = by own.length le

@@ -3,13 +3,12 @@ ghost use Rattle.std.specs.Prelude.{◌≡◌, ◌≤ℤ◌, ◌++◌, pos, List
 ghost use Rattle.layout_rules.specs.Layout.{natural};
 ghost use Rattle.data_types.specs.Value.{Value};
 ghost use Rattle.data_types.specs.declared.kind.DataType.{DataType};
-ghost use Rattle.col_build.specs.Finished.{IsMade, IsLaidOut};
+ghost use Rattle.col_build.specs.Finished.{IsMade};
 ghost use Rattle.arr_export.specs.ArrayTrees.{HasValues, IsColumn};
 
-use arr_export::{export_column, export_laid, export_table};
+use arr_export::{export_column, export_table};
 use buf_block::{BufView, make};
-use col_build::{Built, Laid};
-use data_types::DataType;
+use col_build::FinishedColumn;
 use raw_array::RawArray;
 use std::alloc::Global;
 use std::process::Abort;
@@ -77,14 +76,14 @@ fn three(
 fn exported(
     rt: &impl Abort,
     alloc: Global,
-    built: Built,
+    column: FinishedColumn,
     dictionary: Option<RawArray>,
     pass: &mut Pass,
 ) -> RawArray
-    requires { (kind : DataType) × (values : List Value) × HasValues built dictionary kind values }
+    requires { (kind : DataType) × (values : List Value) × HasValues column dictionary kind values }
 {
     assert!(rt; pass.units() >= 1);
-    match export_column(alloc, built, dictionary, pass) {
+    match export_column(alloc, column, dictionary, pass) {
         Ok(tree) => tree,
         Err(_refused) => panic!(rt; "there is memory"),
     }
@@ -99,43 +98,12 @@ fn numbers(rt: &impl Abort, alloc: Global, pass: &mut Pass) -> RawArray {
         &[1, 0, 0, 0, 0, 0, 0, 0, 2, 0, 0, 0, 4, 0, 0, 0, 8, 0, 0, 0],
         pass,
     );
-    let built = Built {
-        kind: DataType::Int {
-            bits: 32,
-            signed: true,
-        },
+    let column = FinishedColumn {
         length: 5,
         null_count: 1,
         buffers: two(rt, alloc, validity, data),
     };
-    exported(rt, alloc, built, None, pass)
-}
-
-fn exported_laid(rt: &impl Abort, alloc: Global, laid: Laid, pass: &mut Pass) -> RawArray
-    requires { (kind : DataType) × (values : List Value) × IsLaidOut laid kind values }
-{
-    assert!(rt; pass.units() >= 1);
-    match export_laid(alloc, laid, pass) {
-        Ok(tree) => tree,
-        Err(_refused) => panic!(rt; "there is memory"),
-    }
-}
-
-/// The same numbers, as buffers without a type.
-fn laid_numbers(rt: &impl Abort, alloc: Global, pass: &mut Pass) -> RawArray {
-    let validity = block(rt, alloc, &[0b0001_1101], pass);
-    let data = block(
-        rt,
-        alloc,
-        &[1, 0, 0, 0, 0, 0, 0, 0, 2, 0, 0, 0, 4, 0, 0, 0, 8, 0, 0, 0],
-        pass,
-    );
-    let laid = Laid {
-        length: 5,
-        null_count: 1,
-        buffers: two(rt, alloc, validity, data),
-    };
-    exported_laid(rt, alloc, laid, pass)
+    exported(rt, alloc, column, None, pass)
 }
 
 /// The standard's "joe", null, null, "mark" ("Variable-size Binary Layout").
@@ -148,13 +116,12 @@ fn texts(rt: &impl Abort, alloc: Global, pass: &mut Pass) -> RawArray {
         pass,
     );
     let data = block(rt, alloc, b"joemark", pass);
-    let built = Built {
-        kind: DataType::Utf8 { wide: false },
+    let column = FinishedColumn {
         length: 4,
         null_count: 2,
         buffers: three(rt, alloc, validity, offsets, data),
     };
-    exported(rt, alloc, built, None, pass)
+    exported(rt, alloc, column, None, pass)
 }
 
 /// The bytes 1 and 2, none, and 3, with offsets of 64 bits.
@@ -169,26 +136,24 @@ fn binaries(rt: &impl Abort, alloc: Global, pass: &mut Pass) -> RawArray {
         pass,
     );
     let data = block(rt, alloc, &[1, 2, 3], pass);
-    let built = Built {
-        kind: DataType::Binary { wide: true },
+    let column = FinishedColumn {
         length: 3,
         null_count: 0,
         buffers: three(rt, alloc, None, offsets, data),
     };
-    exported(rt, alloc, built, None, pass)
+    exported(rt, alloc, column, None, pass)
 }
 
 /// True, false, null, true: a bit an item, the least significant first.
 fn truths(rt: &impl Abort, alloc: Global, pass: &mut Pass) -> RawArray {
     let validity = block(rt, alloc, &[0b1011], pass);
     let data = block(rt, alloc, &[0b1001], pass);
-    let built = Built {
-        kind: DataType::Bool,
+    let column = FinishedColumn {
         length: 4,
         null_count: 1,
         buffers: two(rt, alloc, validity, data),
     };
-    exported(rt, alloc, built, None, pass)
+    exported(rt, alloc, column, None, pass)
 }
 
 /// 1.5 and -2 as floats of 64 bits: 0x3ff8000000000000 and 0xc000000000000000 in IEEE 754.
@@ -199,13 +164,12 @@ fn floats(rt: &impl Abort, alloc: Global, pass: &mut Pass) -> RawArray {
         &[0, 0, 0, 0, 0, 0, 0xf8, 0x3f, 0, 0, 0, 0, 0, 0, 0, 0xc0],
         pass,
     );
-    let built = Built {
-        kind: DataType::Float { bits: 64 },
+    let column = FinishedColumn {
         length: 2,
         null_count: 0,
         buffers: two(rt, alloc, None, data),
     };
-    exported(rt, alloc, built, None, pass)
+    exported(rt, alloc, column, None, pass)
 }
 
 /// 2.56 and -0.01 as decimals of five digits, two of them behind the point.
@@ -219,30 +183,24 @@ fn decimals(rt: &impl Abort, alloc: Global, pass: &mut Pass) -> RawArray {
         ],
         pass,
     );
-    let built = Built {
-        kind: DataType::Decimal {
-            precision: 5,
-            scale: 2,
-            wide: false,
-        },
+    let column = FinishedColumn {
         length: 2,
         null_count: 0,
         buffers: two(rt, alloc, None, data),
     };
-    exported(rt, alloc, built, None, pass)
+    exported(rt, alloc, column, None, pass)
 }
 
 /// "abc", null and "def", each of three bytes.
 fn triples(rt: &impl Abort, alloc: Global, pass: &mut Pass) -> RawArray {
     let validity = block(rt, alloc, &[0b101], pass);
     let data = block(rt, alloc, b"abc\0\0\0def", pass);
-    let built = Built {
-        kind: DataType::FixedBinary { size: 3 },
+    let column = FinishedColumn {
         length: 3,
         null_count: 1,
         buffers: two(rt, alloc, validity, data),
     };
-    exported(rt, alloc, built, None, pass)
+    exported(rt, alloc, column, None, pass)
 }
 
 /// The places 1, 0, 1, 3 of the texts.
@@ -252,16 +210,12 @@ fn places(rt: &impl Abort, alloc: Global, pass: &mut Pass) -> RawArray {
     assert!(rt; dictionary.length() >= 4);
     assert!(rt; dictionary.depth() <= 127);
     let data = block(rt, alloc, &[1, 0, 1, 3], pass);
-    let built = Built {
-        kind: DataType::Int {
-            bits: 8,
-            signed: false,
-        },
+    let column = FinishedColumn {
         length: 4,
         null_count: 0,
         buffers: two(rt, alloc, None, data),
     };
-    exported(rt, alloc, built, Some(dictionary), pass)
+    exported(rt, alloc, column, Some(dictionary), pass)
 }
 
 // ---- what is read of an array
@@ -374,18 +328,6 @@ fn columns_are_handed_out_as_they_are_laid_out(rt: HostRuntime) -> Result<(), Fa
 }
 
 #[test]
-fn buffers_without_a_type_are_handed_out_as_their_column(rt: HostRuntime) -> Result<(), Fail> {
-    let alloc = rt.alloc();
-    let (desk, mut pass) = open_desk();
-    let tree = laid_numbers(&rt, alloc, &mut pass);
-    let checked = check(&rt, alloc, tree, NUMBERS, &mut pass);
-    assert_eq!(rt; pass.units(), SUPPLY);
-    let audit = desk.close(pass);
-    assert_eq!(rt; (audit.nodes, audit.blocks), (1, 2));
-    checked
-}
-
-#[test]
 fn indices_stand_before_their_dictionary(rt: HostRuntime) -> Result<(), Fail> {
     let alloc = rt.alloc();
     let (desk, mut pass) = open_desk();
@@ -401,7 +343,7 @@ fn indices_stand_before_their_dictionary(rt: HostRuntime) -> Result<(), Fail> {
 
 // ---- a table
 
-/// A live array of at least so many items, as a column.
+/// A live array of at least this many items, as a column.
 fn column(rt: &impl Abort, tree: &RawArray, rows: i64)
     requires { pos 0 ≤ℤ rows }
     ensures { IsColumn (natural rows) tree.now }

@@ -1,4 +1,4 @@
--- The rows of a text in batches: chunks of at most so many rows, and how they end.
+-- The rows of a text in batches: chunks of at most this many rows, and how they end.
 use Rattle.std.specs.Prelude.{ℕ, ◌+◌, ◌-◌, ◌==◌, List, [], ◌∷◌, length, Option, None, Some, Result, Ok, Err, if◌then◌else◌}
 use Rattle.std.specs.List.{filter, onto_first}
 use Rattle.data_types.specs.Table.{Column, Row}
@@ -12,7 +12,7 @@ pub record Chunks : Type 0 where
 
 -- ---- cutting
 
--- the rows in batches of so many, where the first batch still takes `room` rows; the last may be smaller
+-- the rows in batches of this many, where the first batch still takes `room` rows; the last may be smaller
 abbrev pub cut : ℕ → ℕ → List Row → List (List Row)
 cut batch room [] = []
 cut batch room (row ∷ rows) = if room == 1 then (row ∷ []) ∷ cut batch batch rows else onto_first row (cut batch (room - 1) rows)

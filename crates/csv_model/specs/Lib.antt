@@ -4,3 +4,4 @@ pub mod Batches
 pub mod Header
 pub mod Examples
 pub mod FaultTexts
+pub mod Made

@@ -9,7 +9,7 @@ use Rattle.col_build.specs.Encoding.{Fits}
 use Rattle.layout_rules.specs.Values.{each, tree_items, values_of}
 use Rattle.layout_rules.specs.Walk.{LayoutOk}
 use Rattle.arr_export.specs.ArrayTrees.{AreLawful, HaveValues, column_tree, flat_type, rows_of_values}
-use Rattle.kind_tree.specs.ColumnKinds.{type_of_kind, types_of_columns}
+use Rattle.data_types.specs.ColumnKinds.{type_of_kind, types_of_columns}
 use Rattle.csv_read.specs.Body.{column_values}
 use Rattle.csv_read.specs.Chunks.{FitFrom, FitsKind, column_array, column_arrays}
 

@@ -16,7 +16,7 @@ use Rattle.field_codec.specs.declared.form.FieldForm.TheVariants.{Truths}
 abbrev no_column : Column
 no_column = record { name = []; kind = Columns no_members }
 
--- the first builders, so many, are emptied, and the others are as they were
+-- the first builders, this many, are emptied, and the others are as they were
 pub record EmptiedSoFar (j : ℕ) (old now : List Builder) : Type 0 where
   pub count : length now ≡ length old
   pub others : (k : ℕ) (b : Builder) → j ≤ k → get_or now k b ≡ get_or old k b

@@ -5,7 +5,8 @@ use Rattle.std.specs.List.{find}
 use Rattle.std.specs.Str.{bytes_eq}
 use Rattle.csv_model.specs.Header.{first_unknown, is_among, kind_or_text, type_for}
 use Rattle.stage_plan.specs.declared.types.TypeEntry.{TypeEntry}
-use Rattle.csv_read.specs.Entries.{entries_of, entry_of, has_text}
+use Rattle.csv_read.specs.Entries.{has_text}
+use Rattle.stage_plan.specs.Entries.{entries_of, entry_of}
 use Rattle.csv_read.proofs.Remaining.{find-of-map, position-of-map, position-same}
 
 pub unknown-is : (entries : List TypeEntry) (keys : List (Bor (List ℕ))) (names : List (List ℕ)) → ((name : List ℕ) → has_text keys name ≡ is_among names name)

@@ -14,7 +14,7 @@ use Rattle.field_codec.specs.declared.form.FieldForm.{FieldForm}
 use Rattle.field_codec.specs.declared.form.FieldForm.TheVariants as field_form
 use Rattle.csv_read.proofs.BodyRows.{field-more, field-refused, field-room, no-fields}
 
--- the first columns, so many, hold the values of their fields, and the others are as they were
+-- the first columns, this many, hold the values of their fields, and the others are as they were
 pub record FieldsSoFar (mark : List ℕ) (forms : List FieldForm) (fields : Record) (number j : ℕ) (old now : List Builder) : Type 0 where
   pub count : length now ≡ length old
   pub others : (k : ℕ) (b : Builder) → j ≤ k → get_or now k b ≡ get_or old k b

@@ -16,7 +16,7 @@ use Rattle.csv_model.specs.Reading.{Record}
 use Rattle.csv_model.specs.declared.fault.HeaderFault.{HeaderFault}
 use Rattle.csv_model.specs.declared.fault.HeaderFault.TheVariants as faults
 use Rattle.stage_plan.specs.declared.types.TypeEntry.{TypeEntry}
-use Rattle.csv_read.specs.Entries.{entries_of}
+use Rattle.stage_plan.specs.Entries.{entries_of}
 use Rattle.field_codec.specs.TextColumns.{IsFlatOf, NamesDiffer}
 
 -- ---- names

@@ -36,7 +36,7 @@ at_end s = record { columns = s.columns; mark = s.mark; read = s.read; records =
 abbrev pub with_builders : List Builder → BatchesLeft → BatchesLeft
 with_builders builders s = record { columns = s.columns; mark = s.mark; read = s.read; records = s.records; builders = builders }
 
--- the builders hold the rows of the next records, so many or all that are left; they were read, and the others are left
+-- the builders hold the rows of the next records, this many or all that are left; they were read, and the others are left
 pub record IsNextBatch (batch : ℕ) (builders : List Builder) (old new : BatchesLeft) : Type 0 where
   pub rows : List Row
   pub spelled : body_from old.mark (old.read + 1) (columns_in old) (take batch old.records) ≡ Ok rows
@@ -46,8 +46,8 @@ pub record IsNextBatch (batch : ℕ) (builders : List Builder) (old new : Batche
   pub read : new.read ≡ old.read + length rows
   pub left : new.records ≡ drop batch old.records
 
--- the fault is that of the first of the next records, so many or all that are left, that spells no row, by its number behind
--- the header; want of memory says nothing of them
+-- the fault is that of the first of the next records, this many or all that are left, that spells no row, by its number behind
+-- the header; out of memory says nothing of them
 abbrev pub IsNextFault : BodyFault → ℕ → BatchesLeft → Type 0
 IsNextFault fault batch s = IsRowsFault fault (body_from s.mark (s.read + 1) (columns_in s) (take batch s.records))
 

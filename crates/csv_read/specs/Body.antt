@@ -31,7 +31,7 @@ pub record HoldsBody (mark : List ℕ) (builders : List Builder) (columns : List
   pub few : length rows ≤ 2 ^ 30
   pub held : HoldRows builders columns rows
 
--- the fault is that of the first record that spells no row; want of memory says nothing of the records
+-- the fault is that of the first record that spells no row; out of memory says nothing of the records
 abbrev pub IsBodyFault : BodyFault → List ℕ → List Column → List Record → Type 0
 IsBodyFault (faults.Row fault) mark columns records = body mark columns records ≡ Err fault
 IsBodyFault faults.NoMemory mark columns records = Unit {0}

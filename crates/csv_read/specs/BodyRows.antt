@@ -31,7 +31,7 @@ TakesSome builder found = (value : Value) → found ≡ Some value → Takes bui
 abbrev pub AddsSome : Option Value → Builder → Builder → Type 0
 AddsSome found old new = (value : Value) × (found ≡ Some value) × Adds value old new
 
--- the column of this form has room for a field of so many bytes
+-- the column of this form has room for a field of this many bytes
 pub record HasRoom (form : FieldForm) (builder : Builder) (size : ℕ) : Type 0 where
   pub kind : DataType
   pub values : List Value
@@ -94,12 +94,12 @@ pub record HasFields (mark : List ℕ) (forms : List FieldForm) (builders : List
       → IsColumnOf (get_or forms j f) (get_or builders j b) (get_or columns j c) (column_values j rows ++ get_or values j Null ∷ [])
   pub short : (j : ℕ) → j < count → length (bytes_of (get_or values j Null)) ≤ length (get_or fields j [])
 
--- so many fields of a record are added
+-- this many fields of a record are added
 abbrev pub AddsFields : List ℕ → List FieldForm → Record → ℕ → ℕ → List Builder → List Builder → Type 0
 AddsFields mark forms fields number count old new =
     (columns : List Column) (rows : List Row) → HoldRows forms old columns rows → HasFields mark forms new columns rows fields number count
 
--- the fault is why a row isn't spelled; want of memory says nothing of it
+-- the fault is why a row isn't spelled; out of memory says nothing of it
 abbrev pub IsRowFault : BodyFault → Result Row RowFault → Type 0
 IsRowFault (faults.Row fault) spelled = spelled ≡ Err fault
 IsRowFault faults.NoMemory spelled = Unit {0}
@@ -132,7 +132,7 @@ RefusesRow fault number fields old =
 
 -- ---- the rows of the next records
 
--- the fault is why the rows aren't spelled; want of memory says nothing of it
+-- the fault is why the rows aren't spelled; out of memory says nothing of it
 abbrev pub IsRowsFault : BodyFault → Result (List Row) RowFault → Type 0
 IsRowsFault (faults.Row fault) spelled = spelled ≡ Err fault
 IsRowsFault faults.NoMemory spelled = Unit {0}
@@ -141,7 +141,7 @@ abbrev pub with_rows : List Row → Result (List Row) RowFault → Result (List 
 with_rows rows (Ok others) = Ok (rows ++ others)
 with_rows rows (Err fault) = Err fault
 
--- of the next records, so many or all that are left, the columns hold the rows of those that were read, and there is room
+-- of the next records, this many or all that are left, the columns hold the rows of those that were read, and there is room
 -- for the others; the first record has this number
 pub record RowsSoFar (mark : List ℕ) (number batch : ℕ) (columns : List Column) (from : RecordsLeft) (made : BodyColumns) (to : RecordsLeft) : Type 0 where
   pub rows : List Row
@@ -156,7 +156,7 @@ pub record RowsSoFar (mark : List ℕ) (number batch : ℕ) (columns : List Colu
   pub few : length rows + to.size ≤ from.size
   pub short : (j : ℕ) → j < length columns → byte_total (column_values j rows) + to.size ≤ from.size
 
--- the columns hold the rows of the next records, so many or all that are left, and those behind them are left
+-- the columns hold the rows of the next records, this many or all that are left, and those behind them are left
 pub record HasBatch (mark : List ℕ) (number batch : ℕ) (columns : List Column) (from : RecordsLeft) (made : BodyColumns) (to : RecordsLeft) : Type 0 where
   pub rows : List Row
   pub holds : HasRows made columns rows

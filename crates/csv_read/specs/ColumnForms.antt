@@ -14,7 +14,7 @@ abbrev pub is_text_form : FieldForm → Bool
 is_text_form forms.Text = true
 is_text_form _ = false
 
--- so many columns have one of their own each
+-- this many columns have one of their own each
 pub record EachOf {X : Type 0} (IsOf : X → Column → Type 0) (xs : List X) (columns : List Column) (count : ℕ) : Type 0 where
   pub long : length xs ≡ count
   pub each : (j : ℕ) (x : X) (c : Column) → j < count → IsOf (get_or xs j x) (get_or columns j c)

@@ -30,7 +30,7 @@ field_bytes (fields ∷ records) = length (concat fields) + field_bytes records
 
 -- ---- the reader, over a source that tells which bytes it has still to give
 
--- the bytes that a source has still to give, where it tells them
+-- the bytes that a source has still to give, where it states them
 abbrev pub told_by : Option (List ℕ) → List ℕ
 told_by told = unwrap_or told []
 

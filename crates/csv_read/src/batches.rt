@@ -12,9 +12,9 @@ ghost use Rattle.csv_read.specs.Emptied.{AreEmptied, AreSpent};
 use crate::batch_laws::batches_are_read_in_turn;
 use crate::body::{BodyFault, read_rows};
 use crate::body_columns::BodyColumns;
-use crate::held::HeldRows;
+use crate::held::BatchRows;
 use crate::records::Records;
-use col_build::{Builder, Spares};
+use col_build::{Builder, SpareBuffers};
 use data_types::ColumnType;
 use raw_array::RawArray;
 use std::alloc::Global;
@@ -169,7 +169,11 @@ impl<R: Read> BatchReader<R> {
 
     /// Reads the next `batch` records, or all that are left where they are fewer, as [`next`](BatchReader::next) does, and takes
     /// their rows out; `None` where no record is left.
-    pub fn next_held(&mut self, alloc: Global, batch: u64) -> Result<Option<HeldRows<R>>, BodyFault>
+    pub fn next_batch(
+        &mut self,
+        alloc: Global,
+        batch: u64,
+    ) -> Result<Option<BatchRows<R>>, BodyFault>
         requires some { 1 ≤ batch }
         requires some_columns { 1 ≤ length self.old.columns }
         ensures columns { self.new.columns ≡ self.old.columns }
@@ -191,7 +195,7 @@ impl<R: Read> BatchReader<R> {
             return Ok(None);
         }
         let builders = replace(&mut self.body.builders, Vec::new(alloc));
-        Ok(Some(HeldRows::of(builders, from, batch)))
+        Ok(Some(BatchRows::of(builders, from, batch)))
     }
 
     /// The chunk of the rows that were read last, as [`export_rows`](crate::export_rows) makes it of the builders.
@@ -199,7 +203,7 @@ impl<R: Read> BatchReader<R> {
         &mut self,
         alloc: Global,
         rows: i64,
-        spares: &mut Spares,
+        spares: &mut SpareBuffers,
         pass: &mut Pass,
     ) -> Result<RawArray, NoMemory>
         requires held { (values : List Row) × HoldRows self.old.builders (columns_in self.old) values × (rows ≡ pos (length values))
@@ -209,7 +213,7 @@ impl<R: Read> BatchReader<R> {
         ensures stays { self.new ≡ with_builders self.new.builders self.old }
         ensures chunk { IfOk result (λ chunk. (values : List Row) → HoldRows self.old.builders (columns_in self.old) values → rows ≡ pos (length values)
             → chunk ≡ chunk_of (columns_in self.old) values) }
-        // The builders hold nothing then; on want of memory each holds nothing or what it held.
+        // The builders hold nothing then; where memory runs out each holds nothing or what it held.
         ensures emptied { OnOk result (AreEmptied self.old.builders self.new.builders) }
         ensures spent { OnErr result (AreSpent self.old.builders self.new.builders) }
         ensures units { IfOk result (λ chunk. pass.new.units + Cost chunk ≡ pass.old.units) }

@@ -76,7 +76,7 @@ pub fn read_body<R: Read + Drop>(
     Ok(made.builders)
 }
 
-/// Reads the next records into columns without rows, so many or all that are left; `read` were read before.
+/// Reads the next records into columns without rows, this many or all that are left; `read` were read before.
 #[inline(never)]
 pub(crate) fn read_rows<R: Read>(
     records: &mut Records<R>,

@@ -15,7 +15,7 @@ ghost use Rattle.field_codec.specs.TextColumns.{AreAllowed, AreProper, IsAllowed
 use crate::body::BodyFault;
 use crate::chunk::export_rows;
 use crate::field_push::push_row;
-use col_build::{Builder, Spares};
+use col_build::{Builder, SpareBuffers};
 use csv::ByteRecord;
 use data_types::{ColKind, ColumnType, DataType, RowFault, clone_kind};
 use field_codec::{FieldForm, flat_form};
@@ -68,7 +68,7 @@ fn only_text(forms: &[FieldForm]) -> bool
     forms.iter().all(|form| is_text_form(form))
 }
 
-/// A column of this type without values, with room for so many items and bytes.
+/// A column of this type without values, with room for this many items and bytes.
 fn fresh(alloc: Global, kind: &DataType, used: (usize, usize)) -> Result<Builder, NoMemory>
     requires kind { KindOk kind.now }
     requires flat { HasForm (form_of kind.now) }
@@ -203,7 +203,7 @@ impl BodyColumns {
         Ok(())
     }
 
-    /// Notes how much room the rows took, where they are so many that it is worth; the next ones will have as much.
+    /// Notes how much room the rows took, where they are enough to be worth it; the next ones will have as much.
     pub(crate) fn note(&mut self)
         requires held { (columns : List Column) × (rows : List Row) × HasRows self.old columns rows }
         ensures builders { self.new.builders.items ≡ self.old.builders.items }
@@ -221,7 +221,7 @@ impl BodyColumns {
         &mut self,
         alloc: Global,
         rows: i64,
-        spares: &mut Spares,
+        spares: &mut SpareBuffers,
         pass: &mut Pass,
     ) -> Result<RawArray, NoMemory>
         requires held { (columns : List Column) × (values : List Row) × HoldRows self.old.builders.items columns values × (rows ≡ pos (length values))

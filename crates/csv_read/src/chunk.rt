@@ -1,25 +1,23 @@
 //! The chunk of the rows that builders hold.
-ghost use Rattle.std.specs.Prelude.{◌≡◌, ◌+◌, ◌-◌, ◌*◌, ◌<◌, ◌≤◌, ◌^◌, ◌++◌, ◌∷◌, [], List, None, pos, length, All, IfOk, OnOk, OnErr, count_by, is_some};
+ghost use Rattle.std.specs.Prelude.{◌≡◌, ◌+◌, ◌-◌, ◌*◌, ◌<◌, ◌≤◌, ◌^◌, ◌++◌, ◌∷◌, [], List, None, pos, length, All, IfOk, OnOk, OnErr};
 ghost use Rattle.data_types.specs.Table.{Column, Row};
 ghost use Rattle.tree_model.specs.Tree.{trees};
 ghost use Rattle.unit_pass.specs.Tally.{risen};
-ghost use Rattle.unit_pass.specs.declared.pass.TheConstants.{SUPPLY};
 ghost use Rattle.raw_array.specs.Members.{Cost, cost_of_all};
 ghost use Rattle.col_build.specs.Holding.{HoldsSome};
 ghost use Rattle.col_build.specs.declared.builder.Builder.{Builder as ABuilder};
 ghost use Rattle.layout_rules.specs.Values.{rows_of};
 ghost use Rattle.layout_rules.specs.Walk.{ChunkOk};
-ghost use Rattle.kind_tree.specs.ColumnKinds.{type_of_columns};
+ghost use Rattle.data_types.specs.ColumnKinds.{type_of_columns};
 ghost use Rattle.csv_read.specs.Body.{HoldRows};
 ghost use Rattle.csv_read.specs.Emptied.{AreEmptied, AreSpent, IsEmptied, IsSpent};
 ghost use Rattle.csv_read.specs.Chunks.{AreColumnsOf, FitFrom, IsColumnOf, all_blocks, chunk_blocks, chunk_of, own_blocks};
 
-use arr_export::{export_laid, export_table};
-use buf_block::let_go_all;
-use col_build::{Builder, Laid, Spares};
+use arr_export::{export_column, export_table, let_go_column};
+use col_build::{Builder, SpareBuffers};
 use raw_array::{RawArray, release_all};
 use std::alloc::Global;
-use unit_pass::{NoMemory, Pass, SUPPLY};
+use unit_pass::{NoMemory, Pass};
 
 /// A law: the chunk of rows meets the rules of a chunk, and its rows are these ("Arrow Columnar Format", "Struct Layout").
 pub fn chunks_have_their_rows()
@@ -33,7 +31,7 @@ pub fn chunks_have_their_rows()
 }
 
 /// A law: builders that hold rows hold a column each, and the columns of these rows have an encoding.
-pub fn held_rows_fit()
+pub fn batch_rows_fit()
     ensures some { (builders : List ABuilder) (columns : List Column) (rows : List Row) → HoldRows builders columns rows → All HoldsSome builders }
     ensures fit { (builders : List ABuilder) (columns : List Column) (rows : List Row) → HoldRows builders columns rows → FitFrom 0 columns rows }
 {}
@@ -44,7 +42,7 @@ pub fn count_rows(builders: &[Builder]) -> i64
     requires held { (columns : List Column) × (rows : List Row) × HoldRows builders.now columns rows × (length rows ≤ 2 ^ 30) }
     ensures { (columns : List Column) (rows : List Row) → HoldRows builders.now columns rows → result ≡ pos (length rows) }
 {
-    held_rows_fit();
+    batch_rows_fit();
     builders[0].len()
 }
 
@@ -52,7 +50,7 @@ pub fn count_rows(builders: &[Builder]) -> i64
 fn column_array(
     alloc: Global,
     builder: &mut Builder,
-    spares: &mut Spares,
+    spares: &mut SpareBuffers,
     pass: &mut Pass,
 ) -> Result<RawArray, NoMemory>
     requires holds { HoldsSome builder.old }
@@ -66,30 +64,14 @@ fn column_array(
     ensures blocks { IfOk result (λ array. pass.new.blocks ≡ risen pass.old.blocks (own_blocks array)) }
     ensures nodes { OnOk result (pass.new.nodes ≡ risen pass.old.nodes 1) }
 {
-    let laid = builder.finish_here(alloc, spares, pass)?;
-    match export_laid(alloc, laid, pass) {
+    let column = builder.finish(alloc, spares, pass)?;
+    match export_column(alloc, column, None, pass) {
         Ok(array) => Ok(array),
-        Err((laid, NoMemory)) => {
-            give_up(laid, pass);
+        Err((column, dictionary, NoMemory)) => {
+            let_go_column(column, dictionary, pass);
             Err(NoMemory)
         }
     }
-}
-
-/// Lets the buffers of a finished column go.
-#[inline(never)]
-fn give_up(laid: Laid, pass: &mut Pass)
-    requires units { pass.old.units + count_by is_some laid.buffers.items ≤ SUPPLY }
-    ensures units { pass.new.units ≡ pass.old.units + count_by is_some laid.buffers.items }
-    ensures blocks { pass.new.blocks ≡ pass.old.blocks }
-    ensures nodes { pass.new.nodes ≡ pass.old.nodes }
-{
-    let Laid {
-        length: _,
-        null_count: _,
-        buffers,
-    } = laid;
-    let_go_all(buffers, pass);
 }
 
 /// The arrays of the columns, one after the other.
@@ -97,7 +79,7 @@ fn give_up(laid: Laid, pass: &mut Pass)
 fn column_arrays(
     alloc: Global,
     builders: &mut [Builder],
-    spares: &mut Spares,
+    spares: &mut SpareBuffers,
     pass: &mut Pass,
 ) -> Result<Vec<RawArray>, NoMemory>
     requires holds { All HoldsSome builders.old }
@@ -127,14 +109,14 @@ fn column_arrays(
 }
 
 /// The chunk of the rows that builders hold: their buffers are moved into blocks, and no byte is copied. It draws a unit for
-/// each structure and each buffer, and counts them. `NoMemory` comes for want of memory alone, and gives all units back. The
+/// each structure and each buffer, and counts them. `NoMemory` comes only where memory runs out, and gives all units back. The
 /// spares are room that serves for many chunks.
 #[inline(always)]
 pub fn export_rows(
     alloc: Global,
     builders: &mut [Builder],
     rows: i64,
-    spares: &mut Spares,
+    spares: &mut SpareBuffers,
     pass: &mut Pass,
 ) -> Result<RawArray, NoMemory>
     requires held { (columns : List Column) × (values : List Row) × HoldRows builders.old columns values × (rows ≡ pos (length values))
@@ -143,7 +125,7 @@ pub fn export_rows(
     requires units { 1 + 4 * length builders.old ≤ pass.old.units }
     ensures chunk { IfOk result (λ chunk. (columns : List Column) (values : List Row) → HoldRows builders.old columns values → rows ≡ pos (length values)
         → chunk ≡ chunk_of columns values) }
-    // The builders are of the same columns, and hold nothing; on want of memory each holds nothing or what it held.
+    // The builders are of the same columns, and hold nothing; where memory runs out each holds nothing or what it held.
     ensures emptied { OnOk result (AreEmptied builders.old builders.new) }
     ensures spent { OnErr result (AreSpent builders.old builders.new) }
     ensures units { IfOk result (λ chunk. pass.new.units + Cost chunk ≡ pass.old.units) }

@@ -11,7 +11,7 @@ ghost use Rattle.csv_read.specs.BodyRows.{AddsField, AddsFields, AddsSome, HasRo
 ghost use Rattle.csv_read.specs.ColumnForms.{is_text_form};
 ghost use Rattle.csv_read.specs.Texts.{AreTexts};
 ghost use Rattle.csv_read.specs.declared.body.BodyFault.TheVariants as fault;
-ghost use Rattle.csv_read.specs.declared.field_push.Pushed.TheVariants.{Added, Refused};
+ghost use Rattle.csv_read.specs.declared.field_push.PushOutcome.TheVariants.{Added, Refused};
 ghost use Rattle.field_codec.specs.FieldForms.{IsProper, form_in};
 ghost use Rattle.field_codec.specs.declared.form.FieldForm.TheVariants as field_form;
 
@@ -21,13 +21,14 @@ use col_build::{Builder, is_text};
 use csv::ByteRecord;
 use data_types::RowFault;
 use field_codec::{
-    FieldForm, read_bits, read_bytes, read_decimal, read_eight, read_truth, read_whole,
+    FieldForm, read_bits, read_bytes, read_decimal, read_eight_bytes, read_sixteen, read_truth,
+    read_whole,
 };
 use unit_pass::NoMemory;
 
 /// What became of a field.
 #[derive(Clone, Copy)]
-enum Pushed {
+enum PushOutcome {
     Added,
     // It spells no value of its column.
     Refused,
@@ -36,13 +37,13 @@ enum Pushed {
 
 /// What an add of a value that the column takes comes to.
 #[inline(always)]
-fn outcome(added: Result<(), NoMemory>) -> Pushed
+fn outcome(added: Result<(), NoMemory>) -> PushOutcome
     ensures added { result ≡ Added → is_err added ≡ false }
     ensures taken { result ≢ Refused }
 {
     match added {
-        Ok(()) => Pushed::Added,
-        Err(NoMemory) => Pushed::NoMemory,
+        Ok(()) => PushOutcome::Added,
+        Err(NoMemory) => PushOutcome::NoMemory,
     }
 }
 
@@ -57,21 +58,21 @@ fn is_utf8(text: &[u8], known: bool) -> bool
 
 /// Adds a text where it is UTF-8.
 #[inline(always)]
-fn push_text(text: &[u8], known: bool, builder: &mut Builder) -> Pushed
+fn push_text(text: &[u8], known: bool, builder: &mut Builder) -> PushOutcome
     requires known { known ≡ true → is_utf8 text.now ≡ true }
     requires takes { TakesSome builder.old (read_form Text text.now) }
     ensures added { result ≡ Added → AddsSome (read_form Text text.now) builder.old builder.new }
     ensures none { result ≡ Refused → read_form Text text.now ≡ None }
 {
     if !is_utf8(text, known) {
-        return Pushed::Refused;
+        return PushOutcome::Refused;
     }
     outcome(builder.add_bytes(text))
 }
 
-/// Adds a whole number of so many bits where a field spells one. They are a constant where it stands in line.
+/// Adds a whole number of this many bits where a field spells one. They are a constant where it stands in line.
 #[inline(always)]
-fn push_whole(bits: u8, signed: bool, text: &[u8], builder: &mut Builder) -> Pushed
+fn push_whole(bits: u8, signed: bool, text: &[u8], builder: &mut Builder) -> PushOutcome
     requires flat { IsFlatForm (Wholes bits signed) }
     requires width { HoldsWholes (bits / 8) builder.old }
     requires takes { TakesSome builder.old (read_form (Wholes bits signed) text.now) }
@@ -80,13 +81,13 @@ fn push_whole(bits: u8, signed: bool, text: &[u8], builder: &mut Builder) -> Pus
 {
     match read_whole(bits, signed, text) {
         Some(number) => outcome(builder.add_whole(usize::from(bits / 8), number)),
-        None => Pushed::Refused,
+        None => PushOutcome::Refused,
     }
 }
 
 /// The same of the widths and signs that are rarer.
 #[inline(never)]
-fn push_other_whole(bits: u8, signed: bool, text: &[u8], builder: &mut Builder) -> Pushed
+fn push_other_whole(bits: u8, signed: bool, text: &[u8], builder: &mut Builder) -> PushOutcome
     requires flat { IsFlatForm (Wholes bits signed) }
     requires width { HoldsWholes (bits / 8) builder.old }
     requires takes { TakesSome builder.old (read_form (Wholes bits signed) text.now) }
@@ -107,25 +108,27 @@ fn push_other_whole(bits: u8, signed: bool, text: &[u8], builder: &mut Builder) 
 
 /// Adds a whole number where a field spells one.
 #[inline(always)]
-fn push_number(bits: u8, signed: bool, text: &[u8], builder: &mut Builder) -> Pushed
+fn push_number(bits: u8, signed: bool, text: &[u8], builder: &mut Builder) -> PushOutcome
     requires flat { IsFlatForm (Wholes bits signed) }
     requires width { HoldsWholes (bits / 8) builder.old }
     requires takes { TakesSome builder.old (read_form (Wholes bits signed) text.now) }
     ensures added { result ≡ Added → AddsSome (read_form (Wholes bits signed) text.now) builder.old builder.new }
     ensures none { result ≡ Refused → read_form (Wholes bits signed) text.now ≡ None }
 {
-    if signed && bits == 64 {
-        return push_whole(64, true, text, builder);
-    }
-    if signed && bits == 32 {
-        return push_whole(32, true, text, builder);
+    if signed {
+        if bits == 64 {
+            return push_whole(64, true, text, builder);
+        }
+        if bits == 32 {
+            return push_whole(32, true, text, builder);
+        }
     }
     push_other_whole(bits, signed, text, builder)
 }
 
 /// Adds a decimal where a field spells one.
 #[inline(always)]
-fn push_decimal(precision: u8, places: u32, text: &[u8], builder: &mut Builder) -> Pushed
+fn push_decimal(precision: u8, places: u32, text: &[u8], builder: &mut Builder) -> PushOutcome
     requires flat { IsFlatForm (Decimals precision places) }
     requires width { HoldsWholes 16 builder.old }
     requires takes { TakesSome builder.old (read_form (Decimals precision places) text.now) }
@@ -134,26 +137,26 @@ fn push_decimal(precision: u8, places: u32, text: &[u8], builder: &mut Builder) 
 {
     match read_decimal(precision, places, text) {
         Some(number) => outcome(builder.add_whole(16, number)),
-        None => Pushed::Refused,
+        None => PushOutcome::Refused,
     }
 }
 
 /// Adds a truth value where a field spells one.
 #[inline(always)]
-fn push_truth(text: &[u8], builder: &mut Builder) -> Pushed
+fn push_truth(text: &[u8], builder: &mut Builder) -> PushOutcome
     requires takes { TakesSome builder.old (read_form Truths text.now) }
     ensures added { result ≡ Added → AddsSome (read_form Truths text.now) builder.old builder.new }
     ensures none { result ≡ Refused → read_form Truths text.now ≡ None }
 {
     match read_truth(text) {
         Some(truth) => outcome(builder.add_truth(truth)),
-        None => Pushed::Refused,
+        None => PushOutcome::Refused,
     }
 }
 
-/// Adds so many bits of a float where a field spells them. Their number is a constant where it stands in line.
+/// Adds this many bits of a float where a field spells them. Their number is a constant where it stands in line.
 #[inline(always)]
-fn push_bits(bits: u8, text: &[u8], builder: &mut Builder) -> Pushed
+fn push_bits(bits: u8, text: &[u8], builder: &mut Builder) -> PushOutcome
     requires flat { IsFlatForm (FloatBits bits) }
     requires width { HoldsFloats (bits / 8) builder.old }
     requires takes { TakesSome builder.old (read_form (FloatBits bits) text.now) }
@@ -162,13 +165,13 @@ fn push_bits(bits: u8, text: &[u8], builder: &mut Builder) -> Pushed
 {
     match read_bits(bits, text) {
         Some(number) => outcome(builder.add_bits(usize::from(bits / 8), number)),
-        None => Pushed::Refused,
+        None => PushOutcome::Refused,
     }
 }
 
 /// Adds the bits of a float where a field spells them.
 #[inline(always)]
-fn push_float(bits: u8, text: &[u8], builder: &mut Builder) -> Pushed
+fn push_float(bits: u8, text: &[u8], builder: &mut Builder) -> PushOutcome
     requires flat { IsFlatForm (FloatBits bits) }
     requires width { HoldsFloats (bits / 8) builder.old }
     requires takes { TakesSome builder.old (read_form (FloatBits bits) text.now) }
@@ -186,45 +189,51 @@ fn push_float(bits: u8, text: &[u8], builder: &mut Builder) -> Pushed
 
 /// Adds bytes where there are some.
 #[inline(always)]
-fn push_found(found: Option<&[u8]>, builder: &mut Builder) -> Pushed
+fn push_found(found: Option<&[u8]>, builder: &mut Builder) -> PushOutcome
     requires { TakesSome builder.old (option_map Bytes (option_map (λ b. b.now) found)) }
     ensures added { result ≡ Added → AddsSome (option_map Bytes (option_map (λ b. b.now) found.entry)) builder.old builder.new }
     ensures none { result ≡ Refused → option_map Bytes (option_map (λ b. b.now) found.entry) ≡ None }
 {
     match found {
         Some(bytes) => outcome(builder.add_bytes(bytes)),
-        None => Pushed::Refused,
+        None => PushOutcome::Refused,
     }
 }
 
-/// Adds the bytes that a field spells, of which eight are copied at once.
+/// Adds the bytes that a field spells: eight or sixteen of them by a copy of a constant size.
 #[inline(never)]
-fn push_bytes(text: &[u8], room: &mut Vec<u8>, builder: &mut Builder) -> Pushed
+fn push_bytes(text: &[u8], room: &mut Vec<u8>, builder: &mut Builder) -> PushOutcome
     requires takes { TakesSome builder.old (read_form HexBytes text.now) }
     ensures added { result ≡ Added → AddsSome (read_form HexBytes text.now) builder.old builder.new }
     ensures none { result ≡ Refused → read_form HexBytes text.now ≡ None }
 {
     if text.len() == 16 {
-        return match read_eight(text) {
+        return match read_eight_bytes(text) {
             Some(eight) => outcome(builder.add_bytes(&eight)),
-            None => Pushed::Refused,
+            None => PushOutcome::Refused,
+        };
+    }
+    if text.len() == 32 {
+        return match read_sixteen(text) {
+            Some(sixteen) => outcome(builder.add_bytes(&sixteen)),
+            None => PushOutcome::Refused,
         };
     }
     match read_bytes(text, room) {
         Ok(found) => push_found(found, builder),
-        Err(NoMemory) => Pushed::NoMemory,
+        Err(NoMemory) => PushOutcome::NoMemory,
     }
 }
 
-/// Adds so many bytes that a field spells.
+/// Adds this many bytes that a field spells.
 #[inline(always)]
-fn push_sized(size: u32, text: &[u8], room: &mut Vec<u8>, builder: &mut Builder) -> Pushed
+fn push_sized(size: u32, text: &[u8], room: &mut Vec<u8>, builder: &mut Builder) -> PushOutcome
     requires takes { TakesSome builder.old (read_form (SizedHex size) text.now) }
     ensures added { result ≡ Added → AddsSome (read_form (SizedHex size) text.now) builder.old builder.new }
     ensures none { result ≡ Refused → read_form (SizedHex size) text.now ≡ None }
 {
     if text.len() as u64 != 2 * u64::from(size) {
-        return Pushed::Refused;
+        return PushOutcome::Refused;
     }
     push_bytes(text, room, builder)
 }
@@ -233,20 +242,20 @@ fn push_sized(size: u32, text: &[u8], room: &mut Vec<u8>, builder: &mut Builder)
 /// is UTF-8 may be known.
 #[inline(always)]
 fn push_spelled(
-    form: FieldForm,
+    form: &FieldForm,
     text: &[u8],
     known: bool,
     room: &mut Vec<u8>,
     builder: &mut Builder,
-) -> Pushed
-    requires proper { IsProper form }
+) -> PushOutcome
+    requires proper { IsProper form.now }
     requires known { known ≡ true → is_utf8 text.now ≡ true }
-    requires reads { IsOfForm form builder.old }
-    requires takes { TakesSome builder.old (read_form (form_in form) text.now) }
-    ensures added { result ≡ Added → AddsSome (read_form (form_in form) text.now) builder.old builder.new }
-    ensures none { result ≡ Refused → read_form (form_in form) text.now ≡ None }
+    requires reads { IsOfForm form.now builder.old }
+    requires takes { TakesSome builder.old (read_form (form_in form.now) text.now) }
+    ensures added { result ≡ Added → AddsSome (read_form (form_in form.now) text.now) builder.old builder.new }
+    ensures none { result ≡ Refused → read_form (form_in form.now) text.now ≡ None }
 {
-    match form {
+    match *form {
         FieldForm::Text => push_text(text, known, builder),
         FieldForm::Wholes { bits, signed } => push_number(bits, signed, text, builder),
         FieldForm::Decimals { precision, places } => {
@@ -270,18 +279,18 @@ fn is_mark(text: &[u8], mark: &[u8]) -> bool
 /// Adds the value that a field spells, where it spells one. A field that equals the mark is null.
 #[inline(always)]
 fn push_field(
-    form: FieldForm,
+    form: &FieldForm,
     text: &[u8],
     mark: &[u8],
     known: bool,
     room: &mut Vec<u8>,
     builder: &mut Builder,
-) -> Pushed
-    requires proper { IsProper form }
-    requires fits { HasRoom form builder.old (length text.now) }
+) -> PushOutcome
+    requires proper { IsProper form.now }
+    requires fits { HasRoom form.now builder.old (length text.now) }
     requires known { known ≡ true → is_utf8 text.now ≡ true }
-    ensures added { result ≡ Added → AddsField mark.now form text.now builder.old builder.new }
-    ensures none { result ≡ Refused → SpellsNone mark.now form text.now }
+    ensures added { result ≡ Added → AddsField mark.now form.now text.now builder.old builder.new }
+    ensures none { result ≡ Refused → SpellsNone mark.now form.now text.now }
 {
     if is_mark(text, mark) {
         return outcome(builder.add_null());
@@ -319,10 +328,17 @@ fn push_fields(
     ensures fault { IfErr result (λ fault. RefusesFields fault mark.now forms.now (fields_of row.now) number builders.old) }
 {
     for j in 0..forms.len() {
-        match push_field(forms[j], field(row, j), mark, texts, room, &mut builders[j]) {
-            Pushed::Added => {}
-            Pushed::Refused => return Err(refused(number, j)),
-            Pushed::NoMemory => return Err(BodyFault::NoMemory),
+        match push_field(
+            &forms[j],
+            field(row, j),
+            mark,
+            texts,
+            room,
+            &mut builders[j],
+        ) {
+            PushOutcome::Added => {}
+            PushOutcome::Refused => return Err(refused(number, j)),
+            PushOutcome::NoMemory => return Err(BodyFault::NoMemory),
         }
     }
     Ok(())

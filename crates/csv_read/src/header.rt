@@ -5,7 +5,7 @@ ghost use Rattle.data_types.specs.ColumnView.{column_of};
 ghost use Rattle.data_types.specs.Kinds.{KindOk};
 ghost use Rattle.csv_model.specs.Header.{header_of, most_columns};
 ghost use Rattle.csv_model.specs.Reading.{behind_header};
-ghost use Rattle.csv_read.specs.Entries.{entries_of};
+ghost use Rattle.stage_plan.specs.Entries.{entries_of};
 ghost use Rattle.field_codec.specs.TextColumns.{AreAllowed, AreProper, IsAllowed, NamesDiffer};
 
 use crate::columns::columns;
@@ -22,7 +22,7 @@ use std::io::Read;
 /// The columns that the header of a text names, each of the type of the first entry of its name, and of text where there is
 /// none. The header is the first of the records, and those behind it are left.
 ///
-/// The first fault counts, in the order of the variants of [`HeaderFault`]; want of memory alone is free. After an error no
+/// The first fault counts, in the order of the variants of [`HeaderFault`]; out of memory alone is free. After an error no
 /// record is left.
 pub fn read_header<R: Read>(
     alloc: Global,

@@ -1,7 +1,7 @@
 //! The rows of a batch apart from its reader.
 ghost use Rattle.std.specs.Prelude.{◌≡◌, ◌≤◌, ◌<◌, ◌+◌, ◌*◌, ◌^◌, length, map, IfOk, OnErr, OnOk};
 ghost use Rattle.data_types.specs.ColumnView.{column_of};
-ghost use Rattle.kind_tree.specs.ColumnKinds.{type_of_columns};
+ghost use Rattle.data_types.specs.ColumnKinds.{type_of_columns};
 ghost use Rattle.layout_rules.specs.Values.{rows_of};
 ghost use Rattle.layout_rules.specs.Walk.{ChunkOk};
 ghost use Rattle.raw_array.specs.Members.{Cost};
@@ -11,8 +11,8 @@ ghost use Rattle.csv_read.specs.Body.{HoldRows};
 ghost use Rattle.csv_read.specs.Chunks.{chunk_blocks, chunk_of};
 
 use crate::batches::BatchReader;
-use crate::chunk::{chunks_have_their_rows, count_rows, export_rows, held_rows_fit};
-use col_build::{Builder, Spares};
+use crate::chunk::{batch_rows_fit, chunks_have_their_rows, count_rows, export_rows};
+use col_build::{Builder, SpareBuffers};
 use raw_array::RawArray;
 use std::alloc::Global;
 use std::io::Read;
@@ -23,7 +23,7 @@ use unit_pass::{NoMemory, Pass};
 /// The rows of a batch, taken out of their reader. Contracts see them as a table. They hold no block and no unit, so they may be
 /// dropped, and go to another thread.
 #[derive(Drop)]
-pub struct HeldRows<R: Read> {
+pub struct BatchRows<R: Read> {
     builders: Vec<Builder>,
     // The reader as it was before the batch, and how many records a batch has. The first has no bytes: clauses tell by it which
     // rows these are.
@@ -31,7 +31,7 @@ pub struct HeldRows<R: Read> {
     batch: u64,
 }
 
-impl<R: Read> Model for HeldRows<R> {
+impl<R: Read> Model for BatchRows<R> {
     ghost use Rattle.std.specs.Prelude.{◌≤◌, ◌^◌, length};
     ghost use Rattle.csv_read.specs.BatchesLeft.{columns_in, next_rows};
     ghost use Rattle.csv_read.specs.Body.{HoldRows};
@@ -47,20 +47,20 @@ impl<R: Read> Model for HeldRows<R> {
         × (length (next_rows h.batch h.from.value) ≤ 2 ^ 30) × (1 ≤ length h.from.value.columns) };
 }
 
-impl<R: Read> HeldRows<R> {
+impl<R: Read> BatchRows<R> {
     /// The rows that builders hold: those of the first batch of a reader.
     pub(crate) fn of(
         builders: Vec<Builder>,
         from: Snapshot<BatchReader<R>>,
         batch: u64,
-    ) -> HeldRows<R>
+    ) -> BatchRows<R>
         requires held { HoldRows builders.items (columns_in from.value) (next_rows batch from.value) }
         requires few { length (next_rows batch from.value) ≤ 2 ^ 30 }
         requires some { 1 ≤ length from.value.columns }
         ensures columns { result.columns ≡ from.value.columns }
         ensures rows { result.rows ≡ next_rows batch from.value }
     {
-        HeldRows {
+        BatchRows {
             builders,
             from,
             batch,
@@ -71,7 +71,7 @@ impl<R: Read> HeldRows<R> {
     pub fn export(
         self,
         alloc: Global,
-        spares: &mut Spares,
+        spares: &mut SpareBuffers,
         pass: &mut Pass,
     ) -> Result<RawArray, NoMemory>
         requires few { length self.columns < 2 ^ 31 }
@@ -86,13 +86,13 @@ impl<R: Read> HeldRows<R> {
         ensures blocks { OnOk result (pass.new.blocks ≡ risen pass.old.blocks (chunk_blocks (map column_of self.columns) self.rows)) }
         ensures nodes { OnOk result (pass.new.nodes ≡ risen pass.old.nodes (1 + length self.columns)) }
     {
-        let HeldRows {
+        let BatchRows {
             mut builders,
             from: _,
             batch: _,
         } = self;
         chunks_have_their_rows();
-        held_rows_fit();
+        batch_rows_fit();
         let rows = count_rows(builders.as_slice());
         match export_rows(alloc, builders.as_mut_slice(), rows, spares, pass) {
             Ok(chunk) => Ok(chunk),

@@ -1,7 +1,8 @@
 //! The names of columns: that they are text, that none is there twice, and that entries know them.
 ghost use Rattle.std.specs.Prelude.{◌≡◌, ◌≢◌, ◌≤◌, ◌<◌, ℕ, List, [], map, length, IfOk, IfErr, OnOk, IfSome, None, Some};
 ghost use Rattle.csv_model.specs.Header.{first_not_text, first_twice, first_unknown, names_fault, is_among};
-ghost use Rattle.csv_read.specs.Entries.{entries_of, has_text, texts};
+ghost use Rattle.csv_read.specs.Entries.{has_text, texts};
+ghost use Rattle.stage_plan.specs.Entries.{entries_of};
 
 use col_build::is_text;
 use csv_model::HeaderFault;

@@ -142,7 +142,7 @@ impl<R: Read> Records<R> {
 
     /// A law: the records that are left are no more than the bytes that are left of the text, nor are the bytes of their
     /// fields. The call does nothing.
-    pub fn are_short(&self)
+    pub fn are_within_the_text(&self)
         ensures count { length self.now.records ≤ self.now.size }
         ensures bytes { field_bytes self.now.records ≤ self.now.size }
     {
@@ -189,7 +189,7 @@ fn next_record<R: Read>(reader: &mut Reader<R>, row: &mut ByteRecord) -> Result<
     }
 }
 
-/// A reader over a text in memory fails for want of memory alone, or for a fault that no such text has.
+/// A reader over a text in memory fails only where memory runs out, or for a fault that no such text has.
 fn want_of_memory(_error: &Error) -> NoMemory
     requires { stops_reader (error_kind _error.now) ≡ true }
 {

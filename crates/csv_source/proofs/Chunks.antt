@@ -12,21 +12,21 @@ use Rattle.csv_read.specs.declared.body.BodyFault.TheVariants as faults
 use Rattle.data_types.specs.ColumnView.{column_of}
 use Rattle.data_types.specs.Table.{Row}
 use Rattle.data_types.specs.declared.row_fault.RowFault.{RowFault}
-use Rattle.kind_tree.specs.ColumnKinds.{type_of_columns}
+use Rattle.data_types.specs.ColumnKinds.{type_of_columns}
 use Rattle.layout_rules.specs.Values.{rows_of}
 use Rattle.layout_rules.specs.Walk.{ChunkOk}
 use Rattle.raw_array.specs.Members.{ArrayTree, Cost}
 use Rattle.stream_face.specs.Lawful.{IsTable}
 use Rattle.unit_pass.specs.Tally.{Tally, risen}
-use Rattle.csv_chunks.specs.SourceStreams.{AreShort, no_batches}
+use Rattle.csv_source.specs.SourceStreams.{AreShort, no_batches}
 use Rattle.csv_source.specs.NextChunks.{EndsAt, IsNextChunk}
-use Rattle.csv_chunks.specs.Refusals.{TellsOf}
-use Rattle.csv_chunks.specs.declared.refused.Refused.{Refused}
-use Rattle.csv_chunks.specs.declared.refused.Refused.TheVariants as refused
-use Rattle.csv_chunks.proofs.Blocks.{blocks-are}
-use Rattle.csv_chunks.proofs.ChunkFacts.{is-chunk, live-chunk, nodes-are}
-use Rattle.csv_chunks.proofs.PlainKinds.{IsPlain}
-use Rattle.csv_chunks.proofs.Tables.{left-lawful}
+use Rattle.csv_source.specs.Refusals.{TellsOf}
+use Rattle.csv_source.specs.declared.refused.Refused.{Refused}
+use Rattle.csv_source.specs.declared.refused.Refused.TheVariants as refused
+use Rattle.csv_source.proofs.Blocks.{blocks-are}
+use Rattle.csv_source.proofs.ChunkFacts.{is-chunk, live-chunk, nodes-are}
+use Rattle.csv_source.proofs.PlainKinds.{IsPlain}
+use Rattle.csv_source.proofs.Tables.{left-lawful}
 
 -- ---- what is left of the records
 

@@ -1,3 +1,15 @@
 pub mod Chunks
 pub mod Streams
 pub mod Replies
+pub mod PlainKinds
+pub mod Rows
+pub mod Tables
+pub mod Blocks
+pub mod ChunkFacts
+pub mod ChunkStreams
+pub mod ChunkReplies
+pub mod Pieces
+pub mod LastPieces
+pub mod NextTables
+pub mod AheadReplies
+pub mod SameColumns

@@ -1,7 +1,7 @@
 -- What a call for the next chunk counts.
 use Rattle.std.proofs.Common.{◌≡◌, ◌<◌, ◌^◌, ℕ, List, ◌∷◌, map, None, sym, ap, subst}
-use Rattle.csv_chunks.proofs.Streams.{end-counts, made-counts}
-use Rattle.csv_chunks.specs.SourceStreams.{chunks_traffic, no_batches}
+use Rattle.csv_source.proofs.ChunkStreams.{end-counts, made-counts}
+use Rattle.csv_source.specs.SourceStreams.{chunks_traffic, no_batches}
 use Rattle.csv_model.specs.Batches.{Chunks}
 use Rattle.csv_read.specs.BatchesLeft.{BatchesLeft, batches_left, columns_in}
 use Rattle.data_types.specs.ColumnView.{column_of}

@@ -1,8 +1,8 @@
 -- The chunk of the next batch of a text, and what it counts.
 use Rattle.std.specs.Prelude.{◌≡◌, ℕ, List, [], None, Option, Some}
-use Rattle.csv_chunks.specs.Refusals.{row_of}
-use Rattle.csv_chunks.specs.SourceStreams.{no_batches}
-use Rattle.csv_chunks.specs.declared.refused.Refused.{Refused}
+use Rattle.csv_source.specs.Refusals.{row_of}
+use Rattle.csv_source.specs.SourceStreams.{no_batches}
+use Rattle.csv_source.specs.declared.refused.Refused.{Refused}
 use Rattle.csv_read.specs.BatchesLeft.{BatchesLeft, batches_left, behind, columns_in}
 use Rattle.data_types.specs.Table.{Row}
 use Rattle.data_types.specs.declared.row_fault.RowFault.{RowFault}

@@ -3,8 +3,8 @@ use Rattle.std.specs.Prelude.{true, not, None}
 use Rattle.std.specs.declared.io.traits.Read.{Ghosts}
 use Rattle.csv_read.specs.BatchesLeft.{batches_left, columns_in}
 use Rattle.stream_face.specs.Streams.{Stream}
-use Rattle.csv_chunks.specs.Refusals.{refusal_in, row_in, said_by}
-pub use Rattle.csv_chunks.specs.SourceStreams.{chunks_traffic, no_joints, stream_of}
+use Rattle.csv_source.specs.Refusals.{refusal_in, row_in, said_by}
+pub use Rattle.csv_source.specs.SourceStreams.{chunks_traffic, no_joints, stream_of}
 use Rattle.csv_source.specs.declared.source.CsvSource.{CsvSource}
 
 -- the batches that are left are ahead, and they end as the whole of them did at the start; a refusal stays

@@ -1,19 +1,31 @@
-//! The rows of a CSV text as a stream of chunks.
+//! The rows of a CSV text as a stream of chunks, whose batches are read when they are asked for, or ahead by a thread.
 //!
 //! What this crate owns: [`CsvSource`], which keeps the contract of [`stream_face::ArrayStream`] over the batches that
 //! [`csv_read::BatchReader`] reads. Its schema is that of its columns, and each of its chunks has the rows of the next batch.
+//! And [`CsvAhead`], which keeps it over the [`Piece`]s that a [`CsvMaker`] makes in a thread beside the caller's: the rows of
+//! a batch, or the record at which they end. [`Refused`] is why one of the two refused.
 //!
-//! What it promises (`specs/Sources.antt`): its tables and its ending are the batches of the records behind the header, as
-//! `csv_model` defines them. It is lawful: a text of at most 2^30 bytes has at most 2^30 rows, whose texts and bytes are at
-//! most 2^30 a column, and each of their values is one of its column's type. A record that spells no row is answered 22, by
-//! its number behind the header; want of memory alone is free; both stay. The source keeps no structure between two calls,
-//! and what its calls still count is the traffic of a source's chunks in `stage_model`.
+//! What it promises: at its start a stream means the batches of the records behind the header, as `csv_model` defines them:
+//! their columns, their rows in chunks, their ending (`specs/SourceStreams.antt`). Both streams mean the same, and are lawful:
+//! a text of at most 2^30 bytes has at most 2^30 rows, whose texts and bytes are at most 2^30 a column, and each of their
+//! values is one of its column's type. A record that spells no row is answered 22, by its number behind the header; out of
+//! memory alone is free; both stay. A stream keeps no structure between two calls, and what its calls still count is the
+//! traffic of a source's chunks in `stage_model`. What crosses the threads is columns in the making, which hold no block and no
+//! unit (`specs/Pieces.antt`).
 //!
-//! What it leaves to others: reading and numbering of records (`csv_read`), and the check of what it gives
-//! ([`stream_face::RawStream`]).
+//! What it leaves to others: reading and numbering of records (`csv_read`), the thread and its ring (`ahead_ring`), and the
+//! check of what it gives ([`stream_face::RawStream`]).
 #![tactic(auto)]
 
+mod ahead;
+mod columns;
+mod maker;
+mod next_ahead;
 mod next_chunk;
+mod refused;
 mod source;
 
+pub use ahead::CsvAhead;
+pub use maker::{CsvMaker, Piece};
+pub use refused::{LastAnswer, Refused, RefusedRecord};
 pub use source::CsvSource;

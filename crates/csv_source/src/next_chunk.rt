@@ -3,17 +3,17 @@ ghost use Rattle.std.specs.Prelude.{◌≡◌, ◌≤◌, ◌+◌, ◌*◌, ◌^
 ghost use Rattle.csv_model.specs.Header.{most_columns};
 ghost use Rattle.csv_read.specs.BatchesLeft.{batches_left, columns_in};
 ghost use Rattle.csv_read.specs.Body.{HoldRows};
-ghost use Rattle.csv_chunks.specs.SourceStreams.{AreShort, no_batches};
+ghost use Rattle.csv_source.specs.SourceStreams.{AreShort, no_batches};
 ghost use Rattle.csv_source.specs.NextChunks.{EndsAt, IsNextChunk, ending_of};
 ghost use Rattle.data_types.specs.Table.{Column, Row};
 ghost use Rattle.raw_array.specs.Members.{Cost};
 ghost use Rattle.tree_model.specs.Tree.{IsLive, Released};
 ghost use Rattle.unit_pass.specs.declared.pass.TheConstants.{CHUNK};
 
-use col_build::Spares;
-use csv_chunks::Refused;
+use crate::Refused;
+use col_build::SpareBuffers;
 use csv_read::{
-    BatchReader, batches_are_read_in_turn, chunks_have_their_rows, count_rows, held_rows_fit,
+    BatchReader, batch_rows_fit, batches_are_read_in_turn, chunks_have_their_rows, count_rows,
 };
 use raw_array::RawArray;
 use std::alloc::Global;
@@ -26,7 +26,7 @@ pub(crate) fn next_chunk<B: Read>(
     batches: &mut BatchReader<B>,
     alloc: Global,
     batch: u64,
-    spares: &mut Spares,
+    spares: &mut SpareBuffers,
     out: &mut RawArray,
     pass: &mut Pass,
 ) -> Result<(), Refused>
@@ -50,7 +50,7 @@ pub(crate) fn next_chunk<B: Read>(
 {
     batches_are_read_in_turn();
     chunks_have_their_rows();
-    held_rows_fit();
+    batch_rows_fit();
     let _columns = batches.columns();
     match batches.next(alloc, batch) {
         Ok(true) => {}

@@ -3,21 +3,21 @@ ghost use Rattle.std.specs.Prelude.{◌≡◌, ◌≤◌, ◌^◌, None, Some, m
 ghost use Rattle.std.specs.Coded.{codes};
 ghost use Rattle.csv_model.specs.Batches.{batches_in};
 ghost use Rattle.csv_model.specs.Header.{most_columns};
-ghost use Rattle.csv_chunks.specs.SourceStreams.{AreShort};
+ghost use Rattle.csv_source.specs.SourceStreams.{AreShort};
 ghost use Rattle.csv_source.specs.NextChunks.{ending_of};
-ghost use Rattle.csv_chunks.specs.Refusals.{refusal_in, row_in};
+ghost use Rattle.csv_source.specs.Refusals.{refusal_in, row_in};
 ghost use Rattle.field_codec.specs.TextColumns.{AreAllowed, AreProper, NamesDiffer};
 ghost use Rattle.data_types.specs.ColumnView.{column_of};
 ghost use Rattle.data_types.specs.contracts.row_fault.RowFault as faults;
 ghost use Rattle.data_types.specs.declared.row_fault.RowFault.{RowFault as RowValue};
 
 use crate::next_chunk::next_chunk;
+use crate::{LastAnswer, Refused};
 use arr_export::{column_schemas_are_lawful, export_schema, schema_size};
-use col_build::Spares;
-use csv_chunks::{Refused, Word};
+use col_build::SpareBuffers;
 use csv_read::{BatchReader, Records};
 use data_types::{ColumnType, RowFault};
-use edge_face::Gate;
+use edge_io::Gate;
 use raw_array::{Acted, RawArray};
 use raw_schema::RawSchema;
 use std::alloc::Global;
@@ -27,7 +27,7 @@ use std::thread::Threads;
 use stream_face::{ArrayStream, Tap};
 use unit_pass::{NoMemory, Pass};
 
-/// The records of a text behind its header, as a stream of chunks of at most so many rows. It keeps no structure between two
+/// The records of a text behind its header, as a stream of chunks of at most this many rows. It keeps no structure between two
 /// calls. It can't be dropped.
 pub struct CsvSource<B: Read + Drop> {
     batches: BatchReader<B>,
@@ -36,9 +36,9 @@ pub struct CsvSource<B: Read + Drop> {
     whole: Snapshot<BatchReader<B>>,
     batch: u32,
     // Room that serves for all chunks.
-    spares: Spares,
+    spares: SpareBuffers,
     refused: Option<Refused>,
-    word: Word,
+    word: LastAnswer,
     released: bool,
     ghost some: { 1 ≤ length batches.columns },
     ghost few: { length batches.columns ≤ most_columns },
@@ -69,21 +69,20 @@ impl<B: Read + Drop> CsvSource<B> {
         requires proper { AreProper (map column_of columns.items) }
         requires allowed { AreAllowed (map column_of columns.items) }
         requires some_rows { 1 ≤ batch }
-        requires few_rows { batch ≤ 1000000 }
         // The stream has the batches of the records.
         ensures { IfOk result (λ source. source_state source
             ≡ stream_of (map column_of columns.items) (batches_in mark.now (map column_of columns.items) records.records batch)) }
     {
-        records.are_short();
+        records.are_within_the_text();
         let batches = BatchReader::start(alloc, records, columns, mark)?;
         let whole = Snapshot::of(&batches);
         Ok(CsvSource {
             batches,
             whole,
             batch,
-            spares: Spares::of(alloc, 64),
+            spares: SpareBuffers::of(alloc, 64),
             refused: None,
-            word: Word::Nothing,
+            word: LastAnswer::Nothing,
             released: false,
         })
     }
@@ -99,11 +98,11 @@ impl<B: Read + Drop> ArrayStream for CsvSource<B> {
         match export_schema(alloc, self.batches.columns(), pass) {
             Ok(schema) => {
                 out.put(schema);
-                self.word = Word::Nothing;
+                self.word = LastAnswer::Nothing;
                 0
             }
             Err(NoMemory) => {
-                self.word = Word::Memory;
+                self.word = LastAnswer::Memory;
                 12
             }
         }
@@ -120,7 +119,7 @@ impl<B: Read + Drop> ArrayStream for CsvSource<B> {
     ) -> i32 {
         if let Some(refused) = &self.refused {
             let code = refused.code();
-            self.word = Word::Refusal;
+            self.word = LastAnswer::Refusal;
             return code;
         }
         match next_chunk(
@@ -132,13 +131,13 @@ impl<B: Read + Drop> ArrayStream for CsvSource<B> {
             pass,
         ) {
             Ok(()) => {
-                self.word = Word::Nothing;
+                self.word = LastAnswer::Nothing;
                 0
             }
             Err(refused) => {
                 let code = refused.code();
                 self.refused = Some(refused);
-                self.word = Word::Refusal;
+                self.word = LastAnswer::Refusal;
                 code
             }
         }
@@ -146,8 +145,8 @@ impl<B: Read + Drop> ArrayStream for CsvSource<B> {
 
     fn get_last_error(&self) -> Option<&str> {
         match (self.word, &self.refused) {
-            (Word::Memory, _) => Some("out of memory"),
-            (Word::Refusal, Some(refused)) => Some(refused.text()),
+            (LastAnswer::Memory, _) => Some("out of memory"),
+            (LastAnswer::Refusal, Some(refused)) => Some(refused.text()),
             _ => None,
         }
     }

@@ -1,14 +1,14 @@
 //! Tests of a text that is read ahead: its pieces, its chunks and how they end, however many are made ahead.
 ghost use Rattle.std.specs.Prelude.{◌≡◌, ◌≤◌, ◌^◌, IsTrue, length, map, vec_len};
-ghost use Rattle.csv_ahead.specs.Sources.{ahead_state};
+ghost use Rattle.csv_source.specs.AheadSources.{ahead_state};
 ghost use Rattle.csv_model.specs.Header.{most_columns};
 ghost use Rattle.data_types.specs.ColumnView.{column_of};
 ghost use Rattle.field_codec.specs.TextColumns.{AreAllowed, AreProper, NamesDiffer};
 
 use crate::sources::{CASES, Case, closed, end, expect_chunks, expect_end, same};
 use ahead_ring::{Ahead, Given};
-use csv_ahead::{CsvAhead, CsvMaker, Piece};
 use csv_read::{Records, SharedText, read_header};
+use csv_source::{CsvAhead, CsvMaker, Piece};
 use data_types::{ColumnType, RowFault};
 use stage_plan::read_types;
 use std::alloc::Global;
@@ -106,7 +106,7 @@ fn a_text_comes_in_pieces_and_ends_at_a_bad_record(rt: HostRuntime) {
 
 // ---- the stream
 
-/// The source of a text, so many batches of which are read a round.
+/// The source of a text, this many batches of which are read a round.
 fn source_of<'r, R: Abort + Threads>(
     rt: &'r R,
     alloc: Global,

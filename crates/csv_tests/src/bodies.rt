@@ -26,7 +26,7 @@ fn columns_of(alloc: Global, records: &mut Records<&[u8]>) -> Result<Vec<ColumnT
     }
 }
 
-/// Expects two columns of so many values.
+/// Expects two columns of this many values.
 fn expect_lengths(rt: &impl Abort, builders: &[Builder], rows: i64)
     requires { (columns : List Column) × (rows : List Row) × HoldEach builders.now columns rows }
 {

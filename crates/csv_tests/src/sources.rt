@@ -6,9 +6,8 @@ ghost use Rattle.unit_pass.specs.declared.pass.TheConstants.{ROOM};
 
 use csv_read::{Records, read_header};
 use csv_source::CsvSource;
-use data_types::RowFault;
+use data_types::{RowFault, Typed};
 use edge_io::OpenGate;
-use kind_tree::Typed;
 use raw_array::{Acted, RawArray};
 use raw_schema::RawSchema;
 use stage_plan::read_types;
@@ -147,7 +146,7 @@ fn expect_reply<R: Abort + Threads + Sync, S: ArrayStream>(
     same(rt, &reply, &wanted);
 }
 
-/// Expects chunks of so many rows.
+/// Expects chunks of this many rows.
 pub(crate) fn expect_chunks<R: Abort + Threads + Sync, S: ArrayStream>(
     rt: &R,
     alloc: Global,
@@ -425,7 +424,7 @@ fn joint<'a>(
     }
 }
 
-/// Expects this of the next call, whose units are back then: its code is 0, and its chunk has so many rows.
+/// Expects this of the next call, whose units are back then: its code is 0, and its chunk has this many rows.
 fn expect_next<R: Abort + Threads + Sync>(
     rt: &R,
     alloc: Global,

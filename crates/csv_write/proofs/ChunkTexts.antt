@@ -15,9 +15,9 @@ use Rattle.data_types.specs.Table.{Column, Kind, Flat, Dict, Columns}
 use Rattle.data_types.specs.Value.{Value, Null, Truth, Whole, Bits, Bytes, Items, Fields}
 use Rattle.csv_model.specs.Text.{row_fields, rows_text}
 use Rattle.tree_model.specs.Tree.{children_of, tree_list, trees}
-use Rattle.kind_tree.specs.Kinds.{KindTree}
+use Rattle.data_types.specs.KindTrees.{KindTree}
 use Rattle.layout_rules.specs.Values.{each, row_items}
-use Rattle.kind_tree.specs.ColumnKinds.{type_of_column, type_of_columns, types_of_columns}
+use Rattle.data_types.specs.ColumnKinds.{type_of_column, type_of_columns, types_of_columns}
 use Rattle.arr_import.specs.Cols.{window_of}
 use Rattle.arr_import.specs.Window.{Window, child_window, item_at}
 use Rattle.csv_write.specs.ChunkTexts.{AreChildren, HasRow, IsChild, row_at, rows_at, text_in}

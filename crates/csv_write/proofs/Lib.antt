@@ -1,3 +1,4 @@
 pub mod Lines
 pub mod ChunkTexts
 pub mod Readings
+pub mod RunLemmas

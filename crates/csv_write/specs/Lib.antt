@@ -3,3 +3,5 @@ pub mod CsvTexts
 pub mod ChunkTexts
 pub mod Readings
 pub mod Ways
+pub mod Faults
+pub mod Runs

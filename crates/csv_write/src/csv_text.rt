@@ -9,7 +9,7 @@ ghost use Rattle.std.specs.Prelude.{◌≡◌, ◌++◌, ℕ, List, map, IfOk, O
 ghost use Rattle.data_types.specs.ColumnView.{column_of};
 ghost use Rattle.data_types.specs.Table.{Column};
 ghost use Rattle.csv_model.specs.Text.{header_text, rows_text};
-ghost use Rattle.kind_tree.specs.ColumnKinds.{type_of_columns};
+ghost use Rattle.data_types.specs.ColumnKinds.{type_of_columns};
 ghost use Rattle.arr_import.specs.Cols.{window_of};
 ghost use Rattle.csv_write.specs.CsvTexts.{HasText, rows_in};
 ghost use Rattle.csv_write.specs.Readings.{ReadsChildren};
@@ -41,8 +41,8 @@ pub struct CsvText {
 }
 
 impl CsvText {
-    /// The text of a table of these columns and no rows yet: the header. A null will be written as the mark. `NoMemory` comes for
-    /// want of memory alone.
+    /// The text of a table of these columns and no rows yet: the header. A null will be written as the mark. `NoMemory` comes only
+    /// where memory runs out.
     pub fn new(alloc: Global, columns: &[ColumnType], mark: &[u8]) -> Result<CsvText, NoMemory>
         requires { HaveTexts (map column_of columns.now) }
         ensures { IfOk result (λ text. HasText text mark.now (map column_of columns.now) (header_text (map column_of columns.now))) }
@@ -61,7 +61,7 @@ impl CsvText {
     }
 
     /// Writes the rows of a chunk, read in place: a column with a dictionary by its values, a null as the mark.
-    /// `NoMemory` comes for want of memory alone.
+    /// `NoMemory` comes only where memory runs out.
     pub fn add(&mut self, alloc: Global, chunk: Col<'_>) -> Result<(), NoMemory>
         requires { (mark : List ℕ) × (columns : List Column) × (written : List ℕ) × HasText self.old mark columns written
             × ((window_of chunk).typed ≡ type_of_columns columns) }
@@ -105,7 +105,7 @@ impl CsvText {
         Ok(())
     }
 
-    /// The text. `NoMemory` comes for want of memory alone.
+    /// The text. `NoMemory` comes only where memory runs out.
     pub fn finish(self) -> Result<Vec<u8>, NoMemory>
         ensures { IfOk result (λ text. (mark : List ℕ) (columns : List Column) (written : List ℕ) → HasText self mark columns written → text.items ≡ written) }
     {

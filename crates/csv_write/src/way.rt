@@ -34,7 +34,7 @@ pub(crate) enum Way {
     Bytes,
     /// Bytes between offsets of 64 bits.
     WideBytes,
-    /// So many bytes each.
+    /// This many bytes each.
     Sized { size: u32 },
 }
 

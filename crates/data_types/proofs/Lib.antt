@@ -3,3 +3,5 @@ pub mod FieldValues
 pub mod StructColumns
 pub mod HexPairs
 pub mod ColumnCopies
+pub mod Levels
+pub mod MadeTypes

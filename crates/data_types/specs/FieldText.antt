@@ -22,16 +22,16 @@ use Rattle.data_types.specs.Value.{Value, Null, Truth, Whole, Bits, Bytes}
 pub data Form : Type 0 where
   -- `true` or `false`
   Truths : Form
-  -- a whole number of so many bits, with a sign or without
+  -- a whole number of this many bits, with a sign or without
   Wholes : ℕ → Bool → Form
-  -- so many bits, by hexadecimal digits
+  -- this many bits, by hexadecimal digits
   FloatBits : ℕ → Form
   -- UTF-8
   Text : Form
-  -- bytes by pairs of hexadecimal digits, and so many of them
+  -- bytes by pairs of hexadecimal digits, and this many of them
   HexBytes : Form
   SizedHex : ℕ → Form
-  -- a decimal of so many digits, so many of them behind the point
+  -- a decimal of this many digits, this many of them behind the point
   Decimals : ℕ → ℕ → Form
 
 -- a scale below 0 is read and written as 0
@@ -73,7 +73,7 @@ read_truth text =
 abbrev pub is_numeral : List ℕ → Bool
 is_numeral text = nat_lt 0 (length text) && all_ascii_digits text
 
--- a whole number is in the range of so many bits, with a sign or without
+-- a whole number is in the range of this many bits, with a sign or without
 abbrev pub in_range : ℕ → Bool → ℤ → Bool
 in_range bits true (pos n) = nat_lt n (2 ^ (bits - 1))
 in_range bits true (negsuc n) = nat_lt n (2 ^ (bits - 1))
@@ -85,7 +85,7 @@ abbrev pub read_whole : ℕ → Bool → List ℕ → Option Value
 read_whole bits signed text =
     if is_numeral (without_leading_sign text) && in_range bits signed (signed_digits_value 10 text) then Some (Whole (signed_digits_value 10 text)) else None
 
--- exactly so many hexadecimal digits, most significant first
+-- exactly this many hexadecimal digits, most significant first
 abbrev pub read_bits : ℕ → List ℕ → Option Value
 read_bits digits text = if (length text == digits) && list_all is_ascii_hexdigit text then Some (Bits (digits_value 16 text)) else None
 
@@ -96,7 +96,7 @@ hex_bytes (high ∷ low ∷ rest) =
     if is_ascii_hexdigit high && is_ascii_hexdigit low then option_map (λ bytes. digits_value 16 (high ∷ low ∷ []) ∷ bytes) (hex_bytes rest) else None
 hex_bytes _ = None
 
--- the digits behind a point where there is one: 1 to so many digits
+-- the digits behind a point where there is one: 1 to this many digits
 abbrev pub fraction_of : ℕ → List ℕ → Option (List ℕ)
 fraction_of most [] = Some []
 fraction_of most (c ∷ digits) = if (c == 46) && is_numeral digits && nat_le (length digits) most then Some digits else None
@@ -137,7 +137,7 @@ read_field mark type text = if bytes_eq text mark then Some Null else read_text 
 
 -- ---- writing
 
--- the lowest so many digits of a number in a base, most significant first, in lower case
+-- the lowest n digits of a number in a base, most significant first, in lower case
 abbrev pub last_digits : ℕ → ℕ → ℕ → List ℕ
 last_digits base zero n = []
 last_digits base (suc count) n = last_digits base count (n / base) ++ (digit_glyph false (n % base) ∷ [])
@@ -145,7 +145,7 @@ last_digits base (suc count) n = last_digits base count (n / base) ++ (digit_gly
 abbrev pub hex_text : List ℕ → List ℕ
 hex_text bytes = flat_map (last_digits 16 2) bytes
 
--- the whole part without leading zeros, and where there are places a point and so many digits
+-- the whole part without leading zeros, and where there are places a point and this many digits
 abbrev pub point_text : ℕ → ℕ → List ℕ
 point_text zero n = decimal n
 point_text (suc more) n = decimal (n / 10 ^ suc more) ++ (46 ∷ last_digits 10 (suc more) n)

@@ -7,3 +7,12 @@ pub mod ColumnView
 pub mod ColumnForms
 pub mod Parts
 pub mod FaultTexts
+pub mod KindTrees
+pub mod TypedView
+pub mod Ways
+pub mod WayTexts
+pub mod ColumnKinds
+pub mod Packed
+pub mod ValueTexts
+pub mod NumberedTexts
+pub mod Groups

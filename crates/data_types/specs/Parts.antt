@@ -9,7 +9,7 @@ use Rattle.data_types.specs.Value.{Value, Null, Fields, Values, no_values, more_
 abbrev pub picked : {X : Type 0} → X → List ℕ → List X → List X
 picked outside picks items = map (λ p. get_or items p outside) picks
 
--- each is the number of one of so many items
+-- each is the number of one of this many items
 abbrev pub AreWithin : ℕ → List ℕ → Type 0
 AreWithin count picks = (k : ℕ) → k < length picks → get_or picks k 0 < count
 

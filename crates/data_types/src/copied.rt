@@ -7,7 +7,7 @@ use crate::{ColKind, ColumnType, clone_kind, struct_of};
 use std::alloc::Global;
 use unit_pass::NoMemory;
 
-/// The same columns once more. `NoMemory` comes for want of memory alone.
+/// The same columns once more. `NoMemory` comes only where memory runs out.
 #[cycle(copy)]
 pub fn clone_columns(alloc: Global, columns: &[ColumnType]) -> Result<Vec<ColumnType>, NoMemory>
     requires { All (λ c. KindsOk (kind_of c.kind)) columns.now }
@@ -20,7 +20,7 @@ pub fn clone_columns(alloc: Global, columns: &[ColumnType]) -> Result<Vec<Column
     Ok(copy)
 }
 
-/// The same column once more. `NoMemory` comes for want of memory alone.
+/// The same column once more. `NoMemory` comes only where memory runs out.
 #[cycle(copy)]
 pub fn clone_column(alloc: Global, column: &ColumnType) -> Result<ColumnType, NoMemory>
     requires { KindsOk (kind_of column.now.kind) }

@@ -13,17 +13,17 @@ pub enum Storage {
     Nothing,
     /// A bit an item.
     Truths,
-    /// Whole numbers of so many bits, with a sign or without.
+    /// Whole numbers of this many bits, with a sign or without.
     Wholes { bits: u8, signed: bool },
-    /// The bits of floats, so many.
+    /// The bits of floats, this many.
     Floats { bits: u8 },
-    /// So many bytes an item.
+    /// This many bytes an item.
     Sized { size: u32 },
     /// Bytes, or text, between offsets of 32 bits or, where they are wide, of 64.
     Between { wide: bool, text: bool },
     /// Lists of items of the one child, between offsets of 32 bits or, where they are wide, of 64.
     Lists { wide: bool },
-    /// So many items of the one child for each item.
+    /// This many items of the one child for each item.
     FixedLists { size: u32 },
     /// An item of each child.
     Children,
@@ -31,7 +31,7 @@ pub enum Storage {
     Views { text: bool },
 }
 
-/// How the values of a type are stored. Decimals of 256 bits and intervals of several numbers are stored as so many bytes.
+/// How the values of a type are stored. Decimals of 256 bits and intervals of several numbers are stored as bytes of one size.
 pub fn storage_of(kind: &DataType) -> Storage
     ensures { result ≡ storage_of kind.now }
 {
@@ -70,7 +70,7 @@ pub fn storage_of(kind: &DataType) -> Storage
     }
 }
 
-/// Whole numbers of so many bits, with a sign.
+/// Whole numbers of this many bits, with a sign.
 fn signed_of(bits: u8) -> Storage
     ensures { result ≡ Wholes bits true }
 {

@@ -13,21 +13,21 @@ use Rattle.tree_model.specs.Tree.{Depth, IsLive, Released, child_at, children_of
 use Rattle.unit_pass.specs.declared.pass.TheConstants.{CHUNK}
 use Rattle.raw_array.specs.Members.{ArrayTree, Cost, members_of}
 use Rattle.col_build.specs.Encoding.{Fits}
-use Rattle.kind_tree.specs.ColumnKinds.{table_type, type_of_column, type_of_columns, type_of_kind, types_of_columns}
+use Rattle.data_types.specs.ColumnKinds.{table_type, type_of_column, type_of_columns, type_of_kind, types_of_columns}
 use Rattle.schema_check.specs.ColumnSchema.{SchemaOf}
-use Rattle.kind_tree.specs.Kinds.{KindTree}
+use Rattle.data_types.specs.KindTrees.{KindTree}
 use Rattle.schema_check.specs.Schemas.{TypedOf}
 use Rattle.raw_schema.specs.Members.{Nodes}
 use Rattle.layout_rules.specs.Values.{rows_of, tree_items, values_of}
 use Rattle.layout_rules.specs.Walk.{ChunkOk, LayoutOk}
 use Rattle.arr_export.specs.ArrayTrees.{AreIndices, column_tree, flat_type, looked_up}
-use Rattle.column_laws.specs.Picking.{AreLive, Replaced, cut_children}
-use Rattle.plan_laws.specs.Structs.{column_structs, structs}
+use Rattle.array_laws.specs.Picking.{AreLive, Replaced, cut_children}
+use Rattle.stages.specs.Structs.{column_structs, structs}
 use Rattle.stage_model.specs.Dictionary.{Dictionary}
 use Rattle.stage_model.specs.Typing.{column, column_at, no_column}
 use Rattle.stream_face.specs.Lawful.{AreItems, AreValues, DictsAreFull, DictsHaveBytes, HasBytes, IsChunkOf, IsTable, LawfulColumns, column_leaves, leaves}
 use Rattle.column_fill.proofs.ValuesTaken.{values-fit}
-use Rattle.work_parts.proofs.CutColumns.{dicts-window}
+use Rattle.stages.proofs.CutColumns.{dicts-window}
 use Rattle.arr_move.proofs.MovedChildren.{cut-at}
 use Rattle.dict_stage.specs.Indices.{Indices, index_type, recoded_tree}
 use Rattle.dict_stage.specs.Recoded.{Recodes, TextsOf, recoded_columns, text_kind}

@@ -15,11 +15,11 @@ use Rattle.layout_rules.specs.Values.{tree_items}
 use Rattle.arr_export.specs.ArrayTrees.{IsColumn, table_tree}
 use Rattle.arr_move.proofs.Filled.{Depth-child_at}
 use Rattle.arr_move.specs.TreeActs.{struct_members}
-use Rattle.column_laws.specs.Picking.{Replaced, cut_children}
-use Rattle.work_parts.specs.Children.{ShowsChildren}
-use Rattle.work_parts.proofs.CutColumns.{ItemsLaw, natural-is, window-live}
+use Rattle.array_laws.specs.Picking.{Replaced, cut_children}
+use Rattle.stages.specs.Children.{ShowsChildren}
+use Rattle.stages.proofs.CutColumns.{ItemsLaw, natural-is, window-live}
 use Rattle.arr_move.proofs.MovedChildren.{cut_to}
-use Rattle.work_parts.proofs.Spliced.{at-behind, at-front, at-middle, each-holds, length-spliced, spliced}
+use Rattle.stages.proofs.Spliced.{at-behind, at-front, at-middle, each-holds, length-spliced, spliced}
 
 -- ---- a list with another item in the place of one
 

@@ -18,18 +18,18 @@ use Rattle.unit_pass.specs.Tally.{Tally, risen}
 use Rattle.unit_pass.specs.declared.pass.TheConstants.{CHUNK}
 use Rattle.raw_array.specs.Members.{ArrayTree}
 use Rattle.raw_schema.specs.Members.{Nodes}
-use Rattle.kind_tree.specs.ColumnKinds.{type_of_columns}
+use Rattle.data_types.specs.ColumnKinds.{type_of_columns}
 use Rattle.schema_check.specs.ColumnSchema.{SchemaOf}
-use Rattle.kind_tree.specs.Kinds.{KindTree}
+use Rattle.data_types.specs.KindTrees.{KindTree}
 use Rattle.schema_check.specs.Schemas.{TypedOf}
 use Rattle.layout_rules.specs.Values.{rows_of}
-use Rattle.column_laws.specs.Picking.{Replaced}
+use Rattle.array_laws.specs.Picking.{Replaced}
 use Rattle.stage_model.specs.Stages.{chunks_after}
 use Rattle.stage_model.specs.Traffic.{Made, column_blocks, kind_blocks, kind_nodes, made_blocks, made_nodes}
 use Rattle.stage_model.specs.Typing.{column_at, is_bytes, is_struct, no_column}
 use Rattle.stream_face.specs.Lawful.{DictsHaveBytes, HasBytes, IsChunkOf, IsTable, LawfulColumns, LawfulTables}
 use Rattle.stages.specs.Steps.{GivesOut, IsNext}
-use Rattle.work_parts.proofs.CodedColumns.{coded_columns, coded_kind}
+use Rattle.stages.proofs.CodedColumns.{coded_columns, coded_kind}
 use Rattle.dict_stage.specs.Indices.{HasColumn, recoded_tree}
 use Rattle.dict_stage.specs.Recoded.{CanRecodeChunk, RecodeFits, Recodes, TextsOf, recode_step, recoded_columns, text_kind, type_in}
 use Rattle.dict_stage.proofs.Remade.{lawful-after, new_column, tables-after, texts-are}

@@ -10,11 +10,11 @@ use Rattle.data_types.specs.declared.kind.DataType.TheVariants as kinds
 use Rattle.data_types.specs.Value.{Value}
 use Rattle.unit_pass.specs.Tally.{Tally, risen}
 use Rattle.raw_array.specs.Members.{ArrayTree, Cost}
-use Rattle.kind_tree.specs.ColumnKinds.{type_of_columns}
-use Rattle.kind_tree.specs.Kinds.{KindTree}
+use Rattle.data_types.specs.ColumnKinds.{type_of_columns}
+use Rattle.data_types.specs.KindTrees.{KindTree}
 use Rattle.layout_rules.specs.Values.{rows_of}
 use Rattle.layout_rules.specs.Walk.{ChunkOk}
-use Rattle.plan_laws.specs.Structs.{column_structs, most_structs}
+use Rattle.stages.specs.Structs.{column_structs, most_structs}
 use Rattle.stage_model.specs.Traffic.{Made, kind_blocks, kind_nodes}
 use Rattle.stage_model.specs.Typing.{column, column_at, is_bytes}
 use Rattle.stage_model.specs.declared.stage.Step.{Step}

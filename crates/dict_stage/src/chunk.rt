@@ -6,10 +6,10 @@ ghost use Rattle.unit_pass.specs.Tally.{risen};
 ghost use Rattle.unit_pass.specs.declared.pass.TheConstants.{SUPPLY};
 ghost use Rattle.tree_model.specs.Tree.{child_at};
 ghost use Rattle.raw_array.specs.Members.{Cost};
-ghost use Rattle.kind_tree.specs.Kinds.{TypedOk};
-ghost use Rattle.kind_tree.specs.TypedView.{typed_of};
+ghost use Rattle.data_types.specs.KindTrees.{TypedOk};
+ghost use Rattle.data_types.specs.TypedView.{typed_of};
 ghost use Rattle.layout_rules.specs.Values.{rows_of};
-ghost use Rattle.column_laws.specs.Picking.{Replaced};
+ghost use Rattle.array_laws.specs.Picking.{Replaced};
 ghost use Rattle.stage_model.specs.Traffic.{Made, kind_blocks, kind_nodes};
 ghost use Rattle.stage_model.specs.Typing.{column_at, is_struct};
 ghost use Rattle.dict_stage.specs.Indices.{recoded_tree};
@@ -18,8 +18,7 @@ ghost use Rattle.dict_stage.specs.Recoded.{CanRecodeChunk, IsRecoded, text_kind,
 use crate::column::recoded_column;
 use crate::replaced::replaced;
 use arr_import::Col;
-use data_types::{ColKind, ColumnType, DataType};
-use kind_tree::Typed;
+use data_types::{ColKind, ColumnType, DataType, Typed};
 use raw_array::RawArray;
 use std::alloc::Global;
 use unit_pass::{NoMemory, Pass, SUPPLY};
@@ -36,7 +35,7 @@ pub(crate) fn type_at(columns: &[ColumnType], place: usize) -> &DataType
     }
 }
 
-/// The array of a chunk's column, of texts or bytes: with a dictionary, or without. On want of memory all units are back.
+/// The array of a chunk's column, of texts or bytes: with a dictionary, or without. Where memory runs out all units are back.
 fn new_column(
     alloc: Global,
     dict: bool,
@@ -60,7 +59,7 @@ fn new_column(
 
 /// The chunk whose column of a place, of texts or bytes, is made anew: with a dictionary (`dict`) of its distinct
 /// values in the order in which they first appear, or without one. The other columns are moved, and the column that was there is
-/// released. Blocks are made for the one column, and a node for the struct and for each array of the column. On want of memory
+/// released. Blocks are made for the one column, and a node for the struct and for each array of the column. Where memory runs out
 /// the chunk is released.
 pub fn recoded_chunk(
     alloc: Global,

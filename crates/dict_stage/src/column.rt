@@ -10,11 +10,11 @@ ghost use Rattle.dict_stage.specs.Recoded.{IsRecoded, text_kind};
 ghost use Rattle.dict_stage.specs.Texts.{HasTexts};
 
 use crate::coder::coded;
-use crate::item::{count, entry_of, item_of};
+use crate::item::{add_item, count, entry_of, item_of};
 use arr_import::{Col, Indexed};
 use col_build::Builder;
-use column_fill::{built_column, push};
-use data_types::{DataType, clone_kind, storage_of};
+use column_fill::built_column;
+use data_types::{DataType, clone_kind};
 use raw_array::RawArray;
 use std::alloc::Global;
 use unit_pass::{NoMemory, Pass, SUPPLY};
@@ -24,15 +24,15 @@ fn own_items(alloc: Global, kind: &DataType, items: &Col<'_>) -> Result<Builder,
     requires { HasTexts kind.now (window_of items.now) }
     ensures { IfOk result (λ builder. Holds builder kind.now (items_of (window_of items.now))) }
 {
-    let mut builder = Builder::new(alloc, clone_kind(alloc, kind)?);
-    let storage = storage_of(kind);
+    let room = count(items) as usize;
+    let mut builder = Builder::with_room(alloc, clone_kind(alloc, kind)?, room, 0)?;
     for i in 0..count(items) {
-        push(&mut builder, storage, item_of(items, i))?;
+        add_item(&mut builder, item_of(items, i))?;
     }
     Ok(builder)
 }
 
-/// A builder that holds so many items of a column with a dictionary, which is all of them.
+/// A builder that holds this many items of a column with a dictionary, which is all of them.
 fn entry_items(
     alloc: Global,
     kind: &DataType,
@@ -43,10 +43,9 @@ fn entry_items(
     requires all { count ≡ (shown_by items.now).count }
     ensures { IfOk result (λ builder. Holds builder kind.now (items_of (shown_by items.now))) }
 {
-    let mut builder = Builder::new(alloc, clone_kind(alloc, kind)?);
-    let storage = storage_of(kind);
+    let mut builder = Builder::with_room(alloc, clone_kind(alloc, kind)?, count as usize, 0)?;
     for i in 0..count {
-        push(&mut builder, storage, entry_of(items, i))?;
+        add_item(&mut builder, entry_of(items, i))?;
     }
     Ok(builder)
 }
@@ -62,7 +61,7 @@ fn plain_items(alloc: Global, kind: &DataType, items: &Col<'_>) -> Result<Builde
     }
 }
 
-/// The array of the items of a column, as they are. On want of memory all units are back.
+/// The array of the items of a column, as they are. Where memory runs out all units are back.
 fn plain_column(
     alloc: Global,
     kind: &DataType,
@@ -83,7 +82,7 @@ fn plain_column(
 }
 
 /// The array of the indices of a column's items into their dictionary, which it owns ("Arrow Columnar Format",
-/// "Dictionary-encoded Layout"). On want of memory all units are back.
+/// "Dictionary-encoded Layout"). Where memory runs out all units are back.
 fn dict_column(
     alloc: Global,
     kind: &DataType,
@@ -104,7 +103,7 @@ fn dict_column(
     }
 }
 
-/// The array of a column's items, of texts or bytes: as their indices into a dictionary, or as they are. On want of memory all
+/// The array of a column's items, of texts or bytes: as their indices into a dictionary, or as they are. Where memory runs out all
 /// units are back.
 pub(crate) fn recoded_column(
     alloc: Global,

@@ -1,5 +1,6 @@
 //! Items that are read from a column of texts or bytes.
-ghost use Rattle.std.specs.Prelude.{◌≡◌, ◌<◌, ◌≤◌, ◌^◌};
+ghost use Rattle.std.specs.Prelude.{◌≡◌, ◌<◌, ◌≤◌, ◌^◌, OnOk};
+ghost use Rattle.col_build.specs.Holding.{Adds, Takes};
 ghost use Rattle.col_build.specs.Items.{value_of};
 ghost use Rattle.arr_import.specs.Cols.{window_of};
 ghost use Rattle.arr_import.specs.Indexing.{shown_by};
@@ -7,7 +8,8 @@ ghost use Rattle.arr_import.specs.Window.{item_at};
 ghost use Rattle.dict_stage.specs.Texts.{IsText};
 
 use arr_import::{Col, Indexed};
-use col_build::Item;
+use col_build::{Builder, Item};
+use unit_pass::NoMemory;
 
 /// The number of items.
 pub(crate) fn count(items: &Col<'_>) -> u32
@@ -40,5 +42,19 @@ pub(crate) fn entry_of<'a>(items: &Indexed<'a>, i: u32) -> Item<'a>
     match items.bytes(i64::from(i)) {
         Some(bytes) => Item::Bytes(bytes),
         None => Item::Null,
+    }
+}
+
+/// Adds an item that is bytes or null. A text isn't tested again.
+#[inline(always)]
+pub(crate) fn add_item(builder: &mut Builder, item: Item<'_>) -> Result<(), NoMemory>
+    requires text { IsText (value_of item) }
+    requires takes { Takes builder.old (value_of item) }
+    ensures { OnOk result (Adds (value_of item.entry) builder.old builder.new) }
+{
+    match item {
+        Item::Bytes(bytes) => builder.add_bytes(bytes),
+        Item::Null => builder.add_null(),
+        _ => unreachable!(),
     }
 }

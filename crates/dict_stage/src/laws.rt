@@ -6,19 +6,20 @@ ghost use Rattle.data_types.specs.Value.{Value, Null};
 ghost use Rattle.data_types.specs.declared.kind.DataType.{DataType as AType};
 ghost use Rattle.tree_model.specs.Tree.{dictionary_at};
 ghost use Rattle.raw_array.specs.Members.{ArrayTree};
-ghost use Rattle.kind_tree.specs.ColumnKinds.{type_of_kind};
+ghost use Rattle.data_types.specs.ColumnKinds.{type_of_kind};
 ghost use Rattle.layout_rules.specs.Values.{values_of};
 ghost use Rattle.layout_rules.specs.Walk.{LayoutOk};
-ghost use Rattle.column_laws.specs.Picking.{Replaced};
+ghost use Rattle.array_laws.specs.Picking.{Replaced};
 ghost use Rattle.stage_model.specs.Dictionary.{Dictionary};
 ghost use Rattle.stream_face.specs.Lawful.{IsChunkOf, IsTable, LawfulColumns};
 ghost use Rattle.dict_stage.specs.Indices.{recoded_tree};
 ghost use Rattle.dict_stage.specs.Recoded.{Recodes, TextsOf, recoded_columns, text_kind};
 
 use arr_export::{encoded_columns_are_lawful, indexed_columns_are_lawful};
-use array_laws::lawful_structs_have_columns;
-use column_laws::{column_types_follow_picks, replaced_columns_make_a_chunk};
-use work_parts::chunks_are_small;
+use array_laws::{
+    column_types_follow_picks, lawful_structs_have_columns, replaced_columns_make_a_chunk,
+};
+use stages::chunks_are_small;
 
 /// A law: an array that is made of values of texts or bytes is lawful and has these values, with a dictionary or without; and the
 /// dictionary has exactly the distinct values, in the order in which they first appear, and no null ("Arrow Columnar Format",

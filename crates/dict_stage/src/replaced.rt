@@ -6,14 +6,16 @@ ghost use Rattle.unit_pass.specs.Tally.{risen};
 ghost use Rattle.unit_pass.specs.declared.pass.TheConstants.{SUPPLY};
 ghost use Rattle.layout_rules.specs.Layout.{natural};
 ghost use Rattle.arr_export.specs.ArrayTrees.{IsColumn};
-ghost use Rattle.column_laws.specs.Picking.{Replaced};
-ghost use Rattle.work_parts.specs.Children.{ShowsChildren};
+ghost use Rattle.array_laws.specs.Picking.{Replaced};
+ghost use Rattle.stages.specs.Children.{ShowsChildren};
 ghost use Rattle.dict_stage.specs.Recoded.{HasPlace};
+ghost use Rattle.layout_rules.specs.Rules.{window_limit};
 
 use arr_export::export_table;
 use arr_move::{count_children, move_children};
-use array_laws::{lawful_structs_have_columns, windows_are_parts};
-use column_laws::{column_types_follow_picks, columns_can_be_taken};
+use array_laws::{
+    column_types_follow_picks, columns_can_be_taken, lawful_structs_have_columns, windows_are_parts,
+};
 use raw_array::{PartlyMoved, RawArray, release_all, windows_keep_measures};
 use std::alloc::Global;
 use unit_pass::{NoMemory, Pass, SUPPLY};
@@ -29,7 +31,7 @@ fn columns_can_be_replaced()
     ensures as_many { (place : ℕ) (chunk column : ArrayTree) → HasPlace place chunk
         → length (children_of (Replaced chunk place column)) ≡ length (children_of chunk) }
     ensures placed { (place : ℕ) (chunk column : ArrayTree) → HasPlace place chunk → child_at (Replaced chunk place column) place ≡ column }
-    ensures few_rows { (place : ℕ) (chunk : ArrayTree) → HasPlace place chunk → (members_of chunk).length ≤ℤ pos (2 ^ 40) }
+    ensures few_rows { (place : ℕ) (chunk : ArrayTree) → HasPlace place chunk → (members_of chunk).length ≤ℤ pos window_limit }
 {
     lawful_structs_have_columns();
     windows_are_parts();
@@ -68,7 +70,7 @@ fn move_replaced_children(
     moved.finish(pass);
 }
 
-/// The columns of an array with another one in the place of one; what is left of the array is released. On want of memory
+/// The columns of an array with another one in the place of one; what is left of the array is released. Where memory runs out
 /// all is released.
 fn replaced_children(
     alloc: Global,
@@ -101,7 +103,7 @@ fn replaced_children(
 
 /// The chunk with another column, which is long enough, in the place of one ("The Arrow C Data Interface", "Moving child
 /// arrays"). The other columns are cut to the items that it shows, and no block is made. The new struct draws one unit; the old
-/// one and the column that was there are released. On want of memory all is released.
+/// one and the column that was there are released. Where memory runs out all is released.
 pub(crate) fn replaced(
     alloc: Global,
     chunk: RawArray,

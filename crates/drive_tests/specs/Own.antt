@@ -108,7 +108,7 @@ abbrev pub due_unless : Bool → Traffic
 due_unless true = record { blocks = 0; nodes = 0 }
 due_unless false = record { blocks = 4; nodes = 4 }
 
--- whether it ends at a record at fault, whether its chunk was given, the refusal that stays, what the last get call told, and whether it
+-- whether it ends at a record at fault, whether its chunk was given, the refusal that stays, what the last get call said, and whether it
 -- is released
 abbrev pub own_stream : Bool → Bool → Option Refused → Option Refused → Bool → Stream
 own_stream bad given failure said released = record {

@@ -59,7 +59,7 @@ fn numbers(alloc: Global) -> Result<Builder, NoMemory>
     Ok(builder)
 }
 
-/// The column k. On want of memory all is released.
+/// The column k. Where memory runs out all is released.
 fn k_column(alloc: Global, pass: &mut Pass) -> Result<RawArray, NoMemory>
     requires room { ROOM ≤ pass.old.units }
     ensures tree { IfOk result (λ array. array ≡ tree_of k_values) }
@@ -75,7 +75,7 @@ fn k_column(alloc: Global, pass: &mut Pass) -> Result<RawArray, NoMemory>
     built_column(alloc, places, Some(dictionary), pass)
 }
 
-/// The column n. On want of memory all is released.
+/// The column n. Where memory runs out all is released.
 fn n_column(alloc: Global, pass: &mut Pass) -> Result<RawArray, NoMemory>
     requires room { 4 ≤ pass.old.units }
     ensures tree { IfOk result (λ array. array ≡ tree_of n_values) }
@@ -89,7 +89,7 @@ fn n_column(alloc: Global, pass: &mut Pass) -> Result<RawArray, NoMemory>
     built_column(alloc, numbers, None, pass)
 }
 
-/// The columns as a table. On want of memory they are released.
+/// The columns as a table. Where memory runs out they are released.
 fn table(alloc: Global, k: RawArray, n: RawArray, pass: &mut Pass) -> Result<RawArray, NoMemory>
     requires room { ROOM ≤ pass.old.units + (Cost k + Cost n) }
     requires supply { pass.old.units + (Cost k + Cost n) ≤ SUPPLY }
@@ -117,7 +117,7 @@ fn table(alloc: Global, k: RawArray, n: RawArray, pass: &mut Pass) -> Result<Raw
     }
 }
 
-/// The chunk: x and 1, y and 2, x and 3. On want of memory all is released.
+/// The chunk: x and 1, y and 2, x and 3. Where memory runs out all is released.
 pub(crate) fn own_chunk(alloc: Global, pass: &mut Pass) -> Result<RawArray, NoMemory>
     requires room { ROOM ≤ pass.old.units }
     ensures tree { IfOk result (λ array. array ≡ own_chunk) }

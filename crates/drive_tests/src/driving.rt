@@ -1,10 +1,11 @@
 //! What `drive` makes of the stream, by a filter and a plain column.
 ghost use Rattle.std.specs.Prelude.{◌≤◌};
+ghost use Rattle.fan_out.specs.Counts.{most_workers};
 
 use crate::own::{OwnStream, own_columns};
 use data_types::RowFault;
 use edge_io::OpenGate;
-use pipe_top::{DriveFault, drive};
+use pipe_top::{DriveFault, Workers, drive};
 use stage_plan::{StageText, read_stage, type_plan};
 use std::alloc::Global;
 use std::process::Abort;
@@ -28,7 +29,7 @@ fn driven<R: Abort + Threads + Sync>(
     bad: bool,
     workers: u32,
 ) -> Result<Result<Vec<u8>, DriveFault>, Fail>
-    requires workers { (1 ≤ workers) × (workers ≤ 64) }
+    requires workers { (1 ≤ workers) × (workers ≤ most_workers) }
 {
     let mut stages = Vec::with_capacity(alloc, 2)?;
     stages.push_reserved(stage_of(rt, alloc, "filter=n,gt,1"));
@@ -43,7 +44,15 @@ fn driven<R: Abort + Threads + Sync>(
     let (desk, mut pass) = open_desk();
     let source = OwnStream::new(bad);
     let text = drive(
-        rt, alloc, source, plan, b"", workers, &mut pass, &mut NoTap, &OpenGate,
+        rt,
+        alloc,
+        source,
+        plan,
+        b"",
+        Workers { count: workers },
+        &mut pass,
+        &mut NoTap,
+        &OpenGate,
     );
     assert_eq!(rt; pass.units(), SUPPLY);
     let _audit = desk.close(pass);

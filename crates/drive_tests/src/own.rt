@@ -18,7 +18,7 @@ use crate::refused::{Refused, own_record};
 use arr_export::{export_schema, schema_size};
 use column_fill::fitting_values_make_a_lawful_chunk;
 use data_types::{ColKind, ColumnType, DataType, RowFault};
-use edge_face::Gate;
+use edge_io::Gate;
 use raw_array::{Acted, RawArray};
 use raw_schema::RawSchema;
 use std::alloc::Global;

@@ -1,16 +1,16 @@
 -- Sources and sinks in memory: which of their calls fail, and what the others give and take.
 use Rattle.std.specs.Prelude.{◌≡◌, ◌+◌, ◌-◌, ◌^◌, ◌==◌, ℕ, zero, suc, Bool, true, false, List, drop, length, min, replicate}
 use Rattle.std.specs.List.{list_any}
-use Rattle.edge_face.specs.declared.Got.{Got}
-use Rattle.edge_face.specs.declared.Got.TheVariants as got
-use Rattle.edge_face.specs.declared.Took.{Took}
-use Rattle.edge_face.specs.declared.Took.TheVariants as took
+use Rattle.edge_io.specs.declared.edge.Got.{Got}
+use Rattle.edge_io.specs.declared.edge.Got.TheVariants as got
+use Rattle.edge_io.specs.declared.edge.Took.{Took}
+use Rattle.edge_io.specs.declared.edge.Took.TheVariants as took
 use Rattle.edge_io.specs.declared.memory.MemSource.{MemSource}
 use Rattle.edge_io.specs.declared.memory.MemSink.{MemSink}
 use Rattle.edge_io.specs.declared.counted.CountSource.{CountSource}
 
 -- ---- calls that fail, and answers
--- the number of the call after so many
+-- the number of the call after this many
 abbrev pub next_call : ℕ → ℕ
 next_call calls = min (calls + 1) (2 ^ 64 - 1)
 
@@ -18,13 +18,13 @@ next_call calls = min (calls + 1) (2 ^ 64 - 1)
 abbrev pub is_failing : List ℕ → ℕ → Bool
 is_failing fails call = list_any (λ n. n == call) fails
 
--- the answer of a read that may give so many bytes
+-- the answer of a read that may give this many bytes
 abbrev pub read_answer : Bool → ℕ → Got
 read_answer true count = got.Failed
 read_answer false zero = got.End
 read_answer false (suc count) = got.Bytes (suc count)
 
--- the answer of a write that may take so many bytes
+-- the answer of a write that may take this many bytes
 abbrev pub write_answer : Bool → ℕ → Took
 write_answer true count = took.Failed
 write_answer false zero = took.Failed

@@ -1,8 +1,8 @@
 -- A source over a reader of the system, and a sink over a writer of it.
 use Rattle.std.specs.Prelude.{ℕ, List, Option, ⊤, take}
 use Rattle.std.specs.Io.KnownBytes.{Appends}
-use Rattle.edge_face.specs.declared.Took.{Took}
-use Rattle.edge_face.specs.declared.Took.TheVariants as took
+use Rattle.edge_io.specs.declared.edge.Took.{Took}
+use Rattle.edge_io.specs.declared.edge.Took.TheVariants as took
 use Rattle.edge_io.specs.declared.standard.StdSink.{StdSink}
 use Rattle.edge_io.specs.declared.standard.StdSource.{StdSource}
 

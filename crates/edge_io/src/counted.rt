@@ -1,11 +1,11 @@
 //! A source of very many bytes that keeps none.
 ghost use Rattle.std.specs.Prelude.{◌≡◌, ◌<◌, ◌≤◌, Some, false, length, min};
-ghost use Rattle.edge_face.specs.Edge.{GivesFirst, GivesWithin};
+ghost use Rattle.edge_io.specs.Edge.{GivesFirst, GivesWithin};
 ghost use Rattle.edge_io.specs.Memory.{count_left, letters, read_answer};
 
-use edge_face::{Got, Source};
+use crate::{Got, Source};
 
-/// A source of so many bytes `a`, which never fails.
+/// A source of this many bytes `a`, which never fails.
 #[derive(Drop)]
 pub struct CountSource {
     left: u64,

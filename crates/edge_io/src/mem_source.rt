@@ -1,10 +1,10 @@
-//! A source in memory, which tells its bytes and fails where it is told to.
+//! A source in memory, which states its bytes and fails where it is asked to.
 ghost use Rattle.std.specs.Prelude.{◌≡◌, ◌<◌, ◌≤◌, Some, drop, length, min};
-ghost use Rattle.edge_face.specs.Edge.{GivesFirst, GivesWithin, ReadFailsFor};
+ghost use Rattle.edge_io.specs.Edge.{GivesFirst, GivesWithin, ReadFailsFor};
 ghost use Rattle.edge_io.specs.Memory.{ReadOnce, bytes_left, failing_reads, is_failing, most_given, next_call, read_answer, reads_failed, reads_made};
 
 use crate::memory::MemSource;
-use edge_face::{Got, Source};
+use crate::{Got, Source};
 
 impl MemSource {
     /// Call n, from 1, fails exactly where n is in `fails`.

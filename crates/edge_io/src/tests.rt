@@ -103,7 +103,7 @@ fn a_sink_keeps_a_prefix_where_a_write_fails(rt: HostRuntime) -> Result<(), Fail
     Ok(())
 }
 
-/// A reader that gives so many letters in turn, and fails where the count is missing.
+/// A reader that gives this many letters in turn, and fails where the count is missing.
 #[derive(Drop)]
 struct Letters {
     counts: [Option<usize>; 4],
@@ -165,7 +165,7 @@ fn texts_of_the_system_are_read_whole_or_failed(rt: HostRuntime) -> Result<(), F
     Ok(())
 }
 
-/// A writer that takes so many bytes in turn and is flushed, and fails where the count is missing or the flush is to fail. It
+/// A writer that takes this many bytes in turn and is flushed, and fails where the count is missing or the flush is to fail. It
 /// keeps what it took.
 #[derive(Drop)]
 struct Takes {

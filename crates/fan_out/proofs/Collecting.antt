@@ -12,7 +12,7 @@ use Rattle.unit_pass.specs.declared.NoMemory.{NoMemory}
 use Rattle.data_types.specs.Table.{Row}
 use Rattle.tree_model.specs.Tree.{Released}
 use Rattle.raw_array.specs.Members.{Cost}
-use Rattle.kind_tree.specs.Kinds.{KindTree}
+use Rattle.data_types.specs.KindTrees.{KindTree}
 use Rattle.layout_rules.specs.Values.{rows_of}
 use Rattle.fan_out.specs.declared.piece.Piece.{Piece}
 use Rattle.fan_out.specs.Pieces.{GivesPiece, GivesPieces}

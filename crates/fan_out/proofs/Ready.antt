@@ -4,7 +4,7 @@ use Rattle.std.proofs.lemmas.List.Elements.{All-push}
 use Rattle.unit_pass.specs.declared.pass.TheConstants.{SUPPLY}
 use Rattle.data_types.specs.Table.{Row}
 use Rattle.raw_array.specs.Members.{ArrayTree, Cost}
-use Rattle.kind_tree.specs.Kinds.{KindTree}
+use Rattle.data_types.specs.KindTrees.{KindTree}
 use Rattle.layout_rules.specs.Values.{rows_of}
 use Rattle.fan_out.specs.declared.piece.Piece.{Piece}
 use Rattle.fan_out.specs.Pieces.{IsChunk}

@@ -2,12 +2,12 @@
 use Rattle.std.specs.Prelude.{◌<◌, slice_index_or, ◌≡◌, ℕ, ℤ, pos, ◌+◌, ◌/◌, min, max, List, length}
 use Rattle.data_types.specs.Table.{Row}
 use Rattle.raw_array.specs.Members.{ArrayTree, Cost}
-use Rattle.kind_tree.specs.Kinds.{KindTree}
+use Rattle.data_types.specs.KindTrees.{KindTree}
 use Rattle.layout_rules.specs.Values.{rows_of}
 use Rattle.layout_rules.specs.Walk.{ChunkOk}
 use Rattle.array_laws.specs.Pieces.{border}
 
--- an answer that a job may give (from, to, answer) on piece w of so many rows, cut for so many workers
+-- an answer that a job may give (from, to, answer) on piece w of this many rows, cut for this many workers
 abbrev pub GivesPiece : {O : Type 0} → (ℤ → ℤ → O → Type 0) → ℕ → ℕ → ℕ → O → Type 0
 GivesPiece gives rows workers w out = gives (pos (border rows workers w)) (pos (border rows workers (w + 1))) out
 
@@ -19,7 +19,7 @@ GivesFirst {O} gives rows workers n outs = (length outs ≡ n) × ((w : ℕ) (e 
 abbrev pub GivesPieces : {O : Type 0} → (ℤ → ℤ → O → Type 0) → ℕ → ℕ → List O → Type 0
 GivesPieces gives rows workers outs = GivesFirst gives rows workers workers outs
 
--- a chunk of these rows, whose release gives back so many units
+-- a chunk of these rows, whose release gives back this many units
 pub record IsChunk (typed : KindTree) (table : List Row) (units : ℕ) (t : ArrayTree) : Type 0 where
   pub lawful : ChunkOk typed t
   pub rows : rows_of typed t ≡ table
@@ -29,6 +29,7 @@ pub record IsChunk (typed : KindTree) (table : List Row) (units : ℕ) (t : Arra
 abbrev pub least_rows : ℕ
 least_rows = 16384
 
--- in how many pieces so many rows are cut: as many as there are workers, but one alone rather than one of fewer rows than the least
-abbrev pub worth_pieces : ℕ → ℕ → ℕ
-worth_pieces rows workers = min workers (max 1 (rows / least_rows))
+-- in how many pieces this many rows are cut: as many as there are workers, but one alone rather than one of fewer rows than the
+-- least
+abbrev pub piece_count : ℕ → ℕ → ℕ
+piece_count rows workers = min workers (max 1 (rows / least_rows))

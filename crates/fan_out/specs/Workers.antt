@@ -5,7 +5,7 @@ use Rattle.unit_pass.specs.declared.pass.TheConstants.{SUPPLY}
 use Rattle.data_types.specs.Table.{Row}
 use Rattle.tree_model.specs.Tree.{Released}
 use Rattle.raw_array.specs.Members.{Cost}
-use Rattle.kind_tree.specs.Kinds.{KindTree}
+use Rattle.data_types.specs.KindTrees.{KindTree}
 use Rattle.layout_rules.specs.Values.{rows_of}
 use Rattle.layout_rules.specs.Walk.{ChunkOk}
 use Rattle.fan_out.specs.Pieces.{GivesPiece, IsChunk}
@@ -26,7 +26,7 @@ module _ {O : Type 0} where
     pub small : Cost p.tree ≤ SUPPLY
     pub units : p.pass.units ≡ 0
 
-  -- a share, or the chunk, whose release gives back so many units, and a pass without units that counted nothing
+  -- a share, or the chunk, whose release gives back this many units, and a pass without units that counted nothing
   abbrev pub IsUnspent : ℕ → Piece O → Type 0
   IsUnspent cost p = (Cost p.tree ≡ cost) × ((p.pass.units ≡ 0) × ((p.pass.blocks ≡ 0) × (p.pass.nodes ≡ 0)))
 

@@ -1,8 +1,8 @@
 //! A chunk read by workers.
 ghost use Rattle.std.specs.Prelude.{◌≡◌, ◌-◌, ◌*◌, ◌<◌, ◌≤◌, length, IfOk, OnOk};
 ghost use Rattle.raw_array.specs.Members.{Cost, LeastAmount, Like, LoweredBy};
-ghost use Rattle.kind_tree.specs.Kinds.{TypedOk};
-ghost use Rattle.kind_tree.specs.TypedView.{typed_of};
+ghost use Rattle.data_types.specs.KindTrees.{TypedOk};
+ghost use Rattle.data_types.specs.TypedView.{typed_of};
 ghost use Rattle.layout_rules.specs.Values.{rows_of};
 ghost use Rattle.layout_rules.specs.Walk.{ChunkOk};
 ghost use Rattle.fan_out.specs.Pieces.{GivesPieces};
@@ -11,9 +11,10 @@ use crate::job::Job;
 use crate::piece::answer;
 use crate::pieces::make_pieces;
 use crate::run::run_pieces;
+use crate::workers::Workers;
 use array_laws::{shares_show_the_same, trees_that_show_the_same};
-use edge_face::Gate;
-use kind_tree::Typed;
+use data_types::Typed;
+use edge_io::Gate;
 use raw_array::{RawArray, like_trees_are_ordered, shares_add_up};
 use std::alloc::Global;
 use std::thread::Threads;
@@ -28,14 +29,14 @@ use unit_pass::{NoMemory, Pass};
 /// amount is less, and for one worker, the caller does all pieces on the chunk in turn, with no share and no thread, and
 /// the chunk is as before. Each worker passes the gate before its job.
 ///
-/// `NoMemory` comes for want of memory alone, in a share, in a job or for the answers. The chunk has the same rows then, and
+/// `NoMemory` comes only where memory runs out, in a share, in a job or for the answers. The chunk has the same rows then, and
 /// no share of it is left, but amounts may be lower. Whatever the answer, every unit is back and nothing is counted.
 pub fn fan_out<R: Threads + Sync, J: Job + Sync>(
     rt: &R,
     alloc: Global,
     chunk: &mut RawArray,
     typed: &Typed,
-    workers: u32,
+    workers: Workers,
     pass: &mut Pass,
     job: &J,
     gate: &(dyn Gate + Sync),
@@ -45,14 +46,13 @@ where
     requires types { TypedOk (typed_of typed.now) }
     requires chunk { ChunkOk (typed_of typed.now) chunk.old }
     requires fits { J.fits job.now (typed_of typed.now) (rows_of (typed_of typed.now) chunk.old) }
-    requires workers { (1 ≤ workers) × (workers ≤ 64) }
-    requires units { workers * Cost chunk.old ≤ pass.old.units }
+    requires units { workers.count * Cost chunk.old ≤ pass.old.units }
     ensures answers { IfOk result (λ outs. GivesPieces (J.gives job.now (typed_of typed.now) (rows_of (typed_of typed.now) chunk.old))
-        (length (rows_of (typed_of typed.now) chunk.old)) workers outs.items) }
+        (length (rows_of (typed_of typed.now) chunk.old)) workers.count outs.items) }
     ensures like { Like chunk.old chunk.new }
-    ensures lowered { OnOk result (workers ≤ LeastAmount chunk.old → chunk.new ≡ LoweredBy (workers - 1) chunk.old) }
-    ensures unchanged { LeastAmount chunk.old < workers → chunk.new ≡ chunk.old }
-    ensures alone { workers ≡ 1 → chunk.new ≡ chunk.old }
+    ensures lowered { OnOk result (workers.count ≤ LeastAmount chunk.old → chunk.new ≡ LoweredBy (workers.count - 1) chunk.old) }
+    ensures unchanged { LeastAmount chunk.old < workers.count → chunk.new ≡ chunk.old }
+    ensures alone { workers.count ≡ 1 → chunk.new ≡ chunk.old }
     ensures lawful { ChunkOk (typed_of typed.now) chunk.new }
     ensures rows { rows_of (typed_of typed.now) chunk.new ≡ rows_of (typed_of typed.now) chunk.old }
     ensures cost { Cost chunk.new ≡ Cost chunk.old }
@@ -65,21 +65,11 @@ where
     like_trees_are_ordered();
     shares_add_up();
     let _supply = pass.units();
-    if workers == 1 || chunk.least_amount() < u64::from(workers) {
-        return in_turn(alloc, typed, chunk, workers as usize, job, gate);
+    if workers.count == 1 || chunk.least_amount() < u64::from(workers.count) {
+        return in_turn(alloc, typed, chunk, workers, job, gate);
     }
     let cost = chunk.cost();
-    in_threads(
-        rt,
-        alloc,
-        chunk,
-        typed,
-        workers as usize,
-        cost,
-        pass,
-        job,
-        gate,
-    )
+    in_threads(rt, alloc, chunk, typed, workers, cost, pass, job, gate)
 }
 
 /// Each piece in turn, on the chunk itself.
@@ -87,7 +77,7 @@ fn in_turn<J: Job>(
     alloc: Global,
     typed: &Typed,
     chunk: &RawArray,
-    workers: usize,
+    workers: Workers,
     job: &J,
     gate: &(dyn Gate + Sync),
 ) -> Result<Vec<J::Out>, NoMemory>
@@ -96,13 +86,13 @@ where
     requires types { TypedOk (typed_of typed.now) }
     requires chunk { ChunkOk (typed_of typed.now) chunk.now }
     requires fits { J.fits job.now (typed_of typed.now) (rows_of (typed_of typed.now) chunk.now) }
-    requires workers { (1 ≤ workers) × (workers ≤ 64) }
     ensures { IfOk result (λ v. GivesPieces (J.gives job.now (typed_of typed.now) (rows_of (typed_of typed.now) chunk.now))
-        (length (rows_of (typed_of typed.now) chunk.now)) workers v.items) }
+        (length (rows_of (typed_of typed.now) chunk.now)) workers.count v.items) }
 {
     let mut outs = Vec::new(alloc);
-    for worker in 0..workers {
-        let out = answer(job, typed, gate, workers, worker, chunk)?;
+    let count = workers.count as usize;
+    for worker in 0..count {
+        let out = answer(job, typed, gate, count, worker, chunk)?;
         if outs.push(out).is_err() {
             return Err(NoMemory);
         }
@@ -116,7 +106,7 @@ fn in_threads<R: Threads + Sync, J: Job + Sync>(
     alloc: Global,
     chunk: &mut RawArray,
     typed: &Typed,
-    workers: usize,
+    workers: Workers,
     cost: u64,
     pass: &mut Pass,
     job: &J,
@@ -127,14 +117,13 @@ where
     requires types { TypedOk (typed_of typed.now) }
     requires chunk { ChunkOk (typed_of typed.now) chunk.old }
     requires fits { J.fits job.now (typed_of typed.now) (rows_of (typed_of typed.now) chunk.old) }
-    requires workers { (1 ≤ workers) × (workers ≤ 64) }
-    requires amounts { workers ≤ LeastAmount chunk.old }
+    requires amounts { workers.count ≤ LeastAmount chunk.old }
     requires cost { Cost chunk.old ≡ cost }
-    requires units { workers * cost ≤ pass.old.units }
+    requires units { workers.count * cost ≤ pass.old.units }
     ensures answers { IfOk result (λ v. GivesPieces (J.gives job.now (typed_of typed.now) (rows_of (typed_of typed.now) chunk.old))
-        (length (rows_of (typed_of typed.now) chunk.old)) workers v.items) }
+        (length (rows_of (typed_of typed.now) chunk.old)) workers.count v.items) }
     ensures like { Like chunk.old chunk.new }
-    ensures lowered { OnOk result (chunk.new ≡ LoweredBy (workers - 1) chunk.old) }
+    ensures lowered { OnOk result (chunk.new ≡ LoweredBy (workers.count - 1) chunk.old) }
     ensures units { pass.new.units ≡ pass.old.units }
     ensures blocks { pass.new.blocks ≡ pass.old.blocks }
     ensures nodes { pass.new.nodes ≡ pass.old.nodes }

@@ -1,12 +1,12 @@
 //! What is done on a window of a chunk's rows.
 ghost use Rattle.std.specs.Prelude.{◌≤ℤ◌, ℤ, pos, List, length, IfOk};
 ghost use Rattle.data_types.specs.Table.{Row};
-ghost use Rattle.kind_tree.specs.Kinds.{KindTree, TypedOk};
-ghost use Rattle.kind_tree.specs.TypedView.{typed_of};
+ghost use Rattle.data_types.specs.KindTrees.{KindTree, TypedOk};
+ghost use Rattle.data_types.specs.TypedView.{typed_of};
 ghost use Rattle.layout_rules.specs.Values.{rows_of};
 ghost use Rattle.layout_rules.specs.Walk.{ChunkOk};
 
-use kind_tree::Typed;
+use data_types::Typed;
 use raw_array::RawArray;
 use unit_pass::NoMemory;
 
@@ -24,7 +24,7 @@ pub trait Job {
     /// The chunks that the job can read, by their types and rows.
     ghost fits: { Self → KindTree → List Row → Type 0 };
 
-    /// The answer for the rows from `from` on, up to `to` and without it. `NoMemory` comes for want of memory alone.
+    /// The answer for the rows from `from` on, up to `to` and without it. `NoMemory` comes only where memory runs out.
     fn run(
         &self,
         typed: &Typed,

@@ -17,9 +17,11 @@ mod piece;
 mod pieces;
 mod run;
 mod share;
+mod workers;
 mod worth;
 
 pub use fan::fan_out;
 pub use job::Job;
 pub use laws::pieces_are_in_order;
-pub use worth::worth_pieces;
+pub use workers::Workers;
+pub use worth::piece_count;

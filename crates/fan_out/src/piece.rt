@@ -1,17 +1,18 @@
 //! One worker's piece.
 ghost use Rattle.std.specs.Prelude.{◌≡◌, ℕ, pos, ◌+◌, ◌<◌, ◌≤◌, ◌≤ℤ◌, length, IfOk};
-ghost use Rattle.kind_tree.specs.Kinds.{TypedOk};
+ghost use Rattle.data_types.specs.KindTrees.{TypedOk};
 ghost use Rattle.layout_rules.specs.Layout.{natural};
-ghost use Rattle.kind_tree.specs.TypedView.{typed_of};
+ghost use Rattle.data_types.specs.TypedView.{typed_of};
 ghost use Rattle.layout_rules.specs.Values.{rows_of};
 ghost use Rattle.layout_rules.specs.Walk.{ChunkOk};
 ghost use Rattle.array_laws.specs.Pieces.{border};
+ghost use Rattle.fan_out.specs.Counts.{most_workers};
 ghost use Rattle.fan_out.specs.Pieces.{GivesPiece};
 ghost use Rattle.fan_out.specs.Workers.{CanRun, IsDone};
 
 use crate::job::Job;
-use edge_face::Gate;
-use kind_tree::Typed;
+use data_types::Typed;
+use edge_io::Gate;
 use layout_check::count_rows;
 use raw_array::RawArray;
 use unit_pass::{NoMemory, Pass};
@@ -24,10 +25,10 @@ pub struct Piece<O> {
     pub answer: Option<Result<O, NoMemory>>,
 }
 
-/// Where piece `at` of so many rows begins, and the piece before it ends.
+/// Where piece `at` of this many rows begins, and the piece before it ends.
 fn border_at(rows: i64, workers: usize, at: usize) -> i64
     requires rows { pos 0 ≤ℤ rows }
-    requires workers { (1 ≤ workers) × (workers ≤ 64) × (at ≤ workers) }
+    requires workers { (1 ≤ workers) × (at ≤ workers) }
     ensures border { result ≡ pos (border (natural rows) workers at) }
     ensures within { result ≤ℤ rows }
 {
@@ -35,7 +36,7 @@ fn border_at(rows: i64, workers: usize, at: usize) -> i64
 }
 
 fn whole_border(rows: u64, workers: usize, at: usize) -> u64
-    requires { (1 ≤ workers) × (workers ≤ 64) × (at ≤ workers) }
+    requires { (1 ≤ workers) × (at ≤ workers) }
     ensures border { result ≡ border rows workers at }
     ensures within { result ≤ rows }
 {
@@ -51,7 +52,7 @@ pub(crate) fn answer<J: Job>(
     worker: usize,
     chunk: &RawArray,
 ) -> Result<J::Out, NoMemory>
-    requires worker { (worker < workers) × (workers ≤ 64) }
+    requires worker { (worker < workers) × (workers ≤ most_workers) }
     requires types { TypedOk (typed_of typed.now) }
     requires chunk { ChunkOk (typed_of typed.now) chunk.now }
     requires fits { J.fits job.now (typed_of typed.now) (rows_of (typed_of typed.now) chunk.now) }
@@ -77,7 +78,7 @@ pub(crate) fn work<J: Job>(
 )
 where
     J::Out: Drop,
-    requires worker { (worker < workers) × (workers ≤ 64) }
+    requires worker { (worker < workers) × (workers ≤ most_workers) }
     requires types { TypedOk (typed_of typed.now) }
     requires piece { CanRun (J.fits job.now (typed_of typed.now)) (typed_of typed.now) piece.old }
     ensures { IsDone (J.gives job.now (typed_of typed.now)) (typed_of typed.now) workers worker piece.old piece.new }

@@ -5,7 +5,7 @@ ghost use Rattle.std.specs.List.{AllWithin};
 ghost use Rattle.unit_pass.specs.declared.pass.TheConstants.{SUPPLY};
 ghost use Rattle.tree_model.specs.Tree.{Released};
 ghost use Rattle.raw_array.specs.Members.{Cost, LeastAmount, Like, LoweredBy};
-ghost use Rattle.kind_tree.specs.TypedView.{typed_of};
+ghost use Rattle.data_types.specs.TypedView.{typed_of};
 ghost use Rattle.layout_rules.specs.Values.{rows_of};
 ghost use Rattle.layout_rules.specs.Walk.{ChunkOk};
 ghost use Rattle.fan_out.specs.Workers.{Collected, IsReady, IsReleased, IsUnspent, SameTrees};
@@ -13,7 +13,8 @@ ghost use Rattle.fan_out.specs.declared.piece.Piece.{Piece};
 
 use crate::piece::Piece;
 use crate::share::shared_chunk;
-use kind_tree::Typed;
+use crate::workers::Workers;
+use data_types::Typed;
 use raw_array::{RawArray, like_trees_are_ordered, shares_add_up};
 use std::alloc::Global;
 use unit_pass::{NoMemory, Pass, SUPPLY};
@@ -31,25 +32,24 @@ fn ready<O>(tree: RawArray, pass: &mut Pass) -> Piece<O>
     }
 }
 
-/// A share for each worker but the last, whose piece is the chunk itself. After want of memory no share is left.
+/// A share for each worker but the last, whose piece is the chunk itself. Where memory ran out no share is left.
 pub(crate) fn make_pieces<O: Drop>(
     typed: &Typed,
     alloc: Global,
     chunk: &mut RawArray,
-    workers: usize,
+    workers: Workers,
     cost: u64,
     pass: &mut Pass,
 ) -> Result<Vec<Piece<O>>, NoMemory>
     requires chunk { ChunkOk (typed_of typed.now) chunk.old }
-    requires workers { (1 ≤ workers) × (workers ≤ 64) }
-    requires amounts { workers ≤ LeastAmount chunk.old }
+    requires amounts { workers.count ≤ LeastAmount chunk.old }
     requires cost { Cost chunk.old ≡ cost }
-    requires units { workers * cost ≤ pass.old.units }
-    ensures len { IfOk result (λ v. vec_len v ≡ workers) }
+    requires units { workers.count * cost ≤ pass.old.units }
+    ensures len { IfOk result (λ v. vec_len v ≡ workers.count) }
     ensures ready { IfOk result (λ v. All (λ p. IsReady (typed_of typed.now) (rows_of (typed_of typed.now) chunk.old) cost p) v.items) }
-    ensures last { IfOk result (λ v. (d : _) → (slice_index_or v.items (workers - 1) d).tree ≡ LoweredBy (workers - 1) chunk.old) }
+    ensures last { IfOk result (λ v. (d : _) → (slice_index_or v.items (workers.count - 1) d).tree ≡ LoweredBy (workers.count - 1) chunk.old) }
     ensures lent { OnOk result (chunk.new ≡ Released) }
-    ensures drawn { OnOk result (pass.new.units + (workers - 1) * cost ≡ pass.old.units) }
+    ensures drawn { OnOk result (pass.new.units + (workers.count - 1) * cost ≡ pass.old.units) }
     ensures refused { OnErr result (Like chunk.old chunk.new × (pass.new.units ≡ pass.old.units)) }
     ensures blocks { pass.new.blocks ≡ pass.old.blocks }
     ensures nodes { pass.new.nodes ≡ pass.old.nodes }
@@ -57,10 +57,11 @@ pub(crate) fn make_pieces<O: Drop>(
     like_trees_are_ordered();
     shares_add_up();
     let _supply = pass.units();
-    let Ok(mut pieces) = Vec::with_capacity(alloc, workers) else {
+    let count = workers.count as usize;
+    let Ok(mut pieces) = Vec::with_capacity(alloc, count) else {
         return Err(NoMemory);
     };
-    for _worker in 1..workers {
+    for _worker in 1..count {
         match shared_chunk(typed, alloc, chunk, pass) {
             Ok(share) => pieces.push_reserved(ready(share, pass)),
             Err(NoMemory) => {

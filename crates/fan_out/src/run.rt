@@ -2,8 +2,9 @@
 ghost use Rattle.std.specs.Prelude.{◌≡◌, ℕ, ◌+◌, ◌-◌, ◌*◌, ◌<◌, ◌≤◌, length, slice_index_or, IfOk, All, vec_len};
 ghost use Rattle.std.specs.List.{AllWithin};
 ghost use Rattle.unit_pass.specs.declared.pass.TheConstants.{SUPPLY};
-ghost use Rattle.kind_tree.specs.Kinds.{TypedOk};
-ghost use Rattle.kind_tree.specs.TypedView.{typed_of};
+ghost use Rattle.data_types.specs.KindTrees.{TypedOk};
+ghost use Rattle.data_types.specs.TypedView.{typed_of};
+ghost use Rattle.fan_out.specs.Counts.{most_workers};
 ghost use Rattle.fan_out.specs.Pieces.{GivesPieces};
 ghost use Rattle.fan_out.specs.Workers.{CanRun, IsDone, IsReady, IsReleased, IsUnspent};
 ghost use Rattle.fan_out.specs.declared.piece.Piece.{Piece};
@@ -11,8 +12,8 @@ ghost use Rattle.fan_out.specs.declared.piece.Piece.{Piece};
 use crate::job::Job;
 use crate::piece::{Piece, work};
 use crate::pieces::{collect, end_pieces};
-use edge_face::Gate;
-use kind_tree::Typed;
+use data_types::Typed;
+use edge_io::Gate;
 use raw_array::RawArray;
 use std::alloc::Global;
 use std::thread;
@@ -30,7 +31,7 @@ fn run_all<R: Threads + Sync, J: Job + Sync>(
 )
 where
     J::Out: Send + Drop,
-    requires workers { (1 ≤ length pieces.old) × (length pieces.old ≤ 64) }
+    requires workers { (1 ≤ length pieces.old) × (length pieces.old ≤ most_workers) }
     requires types { TypedOk (typed_of typed.now) }
     requires pieces { All (λ p. CanRun (J.fits job.now (typed_of typed.now)) (typed_of typed.now) p) pieces.old }
     ensures { (w : ℕ) (d : _) → w < length pieces.old → IsDone (J.gives job.now (typed_of typed.now)) (typed_of typed.now) (length pieces.old) w
@@ -42,7 +43,7 @@ where
         pieces,
         workers,
         &|worker: usize, piece: &mut Piece<J::Out>|
-            requires { (worker < workers) × (workers ≤ 64) × TypedOk (typed_of typed.now)
+            requires { (worker < workers) × (workers ≤ most_workers) × TypedOk (typed_of typed.now)
                 × CanRun (J.fits job.now (typed_of typed.now)) (typed_of typed.now) piece.now }
             ensures { IsDone (J.gives job.entry.now (typed_of typed.entry.now)) (typed_of typed.entry.now) workers worker piece.entry.now piece.exit.now }
         { work(job, typed, gate, workers, worker, piece) },
@@ -61,7 +62,7 @@ fn run_and_collect<R: Threads + Sync, J: Job + Sync>(
 ) -> Result<Vec<J::Out>, NoMemory>
 where
     J::Out: Send + Drop,
-    requires workers { (1 ≤ length pieces.old) × (length pieces.old ≤ 64) }
+    requires workers { (1 ≤ length pieces.old) × (length pieces.old ≤ most_workers) }
     requires types { TypedOk (typed_of typed.now) }
     requires pieces { All (λ p. CanRun (J.fits job.now (typed_of typed.now)) (typed_of typed.now) p) pieces.old }
     requires unspent { All (λ p. IsUnspent cost p) pieces.old }
@@ -91,7 +92,7 @@ pub(crate) fn run_pieces<R: Threads + Sync, J: Job + Sync>(
 ) -> (RawArray, Result<Vec<J::Out>, NoMemory>)
 where
     J::Out: Send + Drop,
-    requires workers { (1 ≤ vec_len pieces) × (vec_len pieces ≤ 64) }
+    requires workers { (1 ≤ vec_len pieces) × (vec_len pieces ≤ most_workers) }
     requires types { TypedOk (typed_of typed.now) }
     requires pieces { All (λ p. CanRun (J.fits job.now (typed_of typed.now)) (typed_of typed.now) p) pieces.items }
     requires unspent { All (λ p. IsUnspent cost p) pieces.items }

@@ -2,13 +2,13 @@
 ghost use Rattle.std.specs.Prelude.{◌≡◌, ◌+◌, ◌≤◌, if◌then◌else◌, is_ok, IfOk, OnOk};
 ghost use Rattle.tree_model.specs.Tree.{IsLive};
 ghost use Rattle.raw_array.specs.Members.{Cost, LeastAmount, Like, Lowered};
-ghost use Rattle.kind_tree.specs.TypedView.{typed_of};
+ghost use Rattle.data_types.specs.TypedView.{typed_of};
 ghost use Rattle.layout_rules.specs.Values.{rows_of};
 ghost use Rattle.layout_rules.specs.Walk.{ChunkOk};
 ghost use Rattle.fan_out.specs.Pieces.{IsChunk};
 
 use array_laws::{shares_show_the_same, trees_that_show_the_same};
-use kind_tree::Typed;
+use data_types::Typed;
 use layout_rules::lawful_root;
 use raw_array::RawArray;
 use std::alloc::Global;

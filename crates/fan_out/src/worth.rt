@@ -1,11 +1,12 @@
 //! In how many pieces the rows of a chunk are worth being cut.
 ghost use Rattle.std.specs.Prelude.{◌≡◌, ◌*◌, ◌≤◌, ℕ, length};
-ghost use Rattle.kind_tree.specs.TypedView.{typed_of};
+ghost use Rattle.data_types.specs.TypedView.{typed_of};
 ghost use Rattle.layout_rules.specs.Values.{rows_of};
 ghost use Rattle.layout_rules.specs.Walk.{ChunkOk};
-ghost use Rattle.fan_out.specs.Pieces.{worth_pieces};
+ghost use Rattle.fan_out.specs.Pieces.{piece_count};
 
-use kind_tree::Typed;
+use crate::workers::Workers;
+use data_types::Typed;
 use layout_check::count_rows;
 use raw_array::RawArray;
 
@@ -14,29 +15,27 @@ const LEAST_ROWS: u64 = 16384;
 
 /// As many pieces as there are workers, but none of fewer than 16,384 rows where there are several. The units for a share
 /// for each worker are also enough for a share for each piece.
-pub fn worth_pieces(typed: &Typed, chunk: &RawArray, workers: u32) -> u32
+pub fn piece_count(typed: &Typed, chunk: &RawArray, workers: Workers) -> Workers
     requires chunk { ChunkOk (typed_of typed.now) chunk.now }
-    requires workers { 1 ≤ workers }
-    ensures pieces { result ≡ worth_pieces (length (rows_of (typed_of typed.now) chunk.now)) workers }
-    ensures some { 1 ≤ result }
-    ensures bound { result ≤ workers }
-    ensures units { (cost : ℕ) → result * cost ≤ workers * cost }
+    ensures pieces { result.count ≡ piece_count (length (rows_of (typed_of typed.now) chunk.now)) workers.count }
+    ensures bound { result.count ≤ workers.count }
+    ensures units { (cost : ℕ) → result.count * cost ≤ workers.count * cost }
 {
     pieces_of(count_rows(typed, chunk) as u64, workers)
 }
 
-fn pieces_of(rows: u64, workers: u32) -> u32
-    requires workers { 1 ≤ workers }
-    ensures pieces { result ≡ worth_pieces rows workers }
-    ensures some { 1 ≤ result }
-    ensures bound { result ≤ workers }
+fn pieces_of(rows: u64, workers: Workers) -> Workers
+    ensures pieces { result.count ≡ piece_count rows workers.count }
+    ensures bound { result.count ≤ workers.count }
 {
     let worth = rows / LEAST_ROWS;
-    if worth >= u64::from(workers) {
+    if worth >= u64::from(workers.count) {
         workers
     } else if worth == 0 {
-        1
+        Workers { count: 1 }
     } else {
-        worth as u32
+        Workers {
+            count: worth as u32,
+        }
     }
 }

@@ -138,7 +138,7 @@ power_of_2 (suc k) =
       power_of_2 k,
     ))
 
--- one digit more of a number, of which so many are behind it
+-- one digit more of a number, of which this many are behind it
 pub next_digit : (place behind left number : ℕ) (text : List ℕ) → text ≡ last_digits 16 place (number / 16 ^ left) → left ≡ suc behind
     → text ++ (digit_glyph false (number / 16 ^ behind % 16) ∷ []) ≡ last_digits 16 (suc place) (number / 16 ^ behind)
 next_digit place behind left number text e is =
@@ -265,7 +265,7 @@ none_before (suc k) (high ∷ low ∷ more) rest len none = elim (cases_Bool (is
 
 -- ---- bytes by eights
 
--- the bytes of so many eights stand in the room
+-- the bytes of this many eights stand in the room
 pub record Eights (text : List ℕ) (place size : ℕ) (room : List ℕ) : Type 0 where
   pub len : length room ≡ size
   pub read : hex_bytes (take (16 * place) text) ≡ Some (take (8 * place) room)

@@ -106,7 +106,7 @@ read_behind_more number text count value all digit next within few is_digit e re
 one_more : (a p : ℕ) → (a + 1) * p ≡ a * p + p
 one_more a p = grind arith
 
--- a number of so many digits leaves room for digits behind it
+-- a number of this many digits leaves room for digits behind it
 pub room_behind : (whole count places : ℕ) → whole < 10 ^ count → count + places ≤ 18 → (whole + 1) * 10 ^ places ≤ 10 ^ 18
 room_behind whole count places small few =
     omega (
@@ -132,7 +132,7 @@ pub still_below : (number : Option ℕ) (below most : ℕ) → below ≤ most �
 still_below None below most few small = tt
 still_below (Some n) below most few small = omega (arith, few, small)
 
--- ---- a point before exactly so many bytes
+-- ---- a point before exactly this many bytes
 
 module _ (places point : ℕ) (text : List ℕ) (some : 0 < places) (len : length text ≡ point + 1 + places) (is : get_or text point 0 ≡ 46) where
   whole_len : length (take point text) ≡ point

@@ -1,4 +1,4 @@
--- The text of a decimal: the digits of its number, with a point before so many of them.
+-- The text of a decimal: the digits of its number, with a point before this many of them.
 use Rattle.std.proofs.Common.{◌≡◌, ℕ, zero, suc, ◌+◌, ◌-◌, ◌/◌, ◌%◌, ◌^◌, ◌<◌, ◌≤◌, false, List, [], ◌∷◌, ◌++◌, length, take, drop, replicate, refl, sym, ap}
 use Rattle.std.proofs.Common.{◌∙◌, subst, arith, inl, inr, append_assoc, length-append}
 use Rattle.std.specs.Fmt.{decimal, digit_glyph}
@@ -27,7 +27,7 @@ length_one n small = ap (λ (ds : List ℕ). length ds) (one n small)
 length_steps : (n : ℕ) → 10 ≤ n → n < 10 ^ 64 → length (decimal n) ≡ length (decimal (n / 10)) + 1
 length_steps n some small = ap (λ (ds : List ℕ). length ds) (steps n some small) ∙ length-append (decimal (n / 10)) (digit_glyph false (n % 10) ∷ [])
 
--- a text of more digits than so many ends with these
+-- a text of more digits than this many ends with these
 pub split_digits : (places n : ℕ) → n < 10 ^ 64 → places < length (decimal n) → decimal n ≡ decimal (n / 10 ^ places) ++ last_digits 10 places n
 split_digits zero n small long =
     let same : n / 1 ≡ n = omega arith in
@@ -58,7 +58,7 @@ unfolding one_zero
 no_digits zero = refl
 no_digits (suc count) = ap (λ (ds : List ℕ). ds ++ one_zero) (no_digits count) ∙ zeros_more count
 
--- and one of at most so many has zeros before it
+-- and one of at most this many has zeros before it
 pub padded_digits : (places n : ℕ) → n < 10 ^ 64 → length (decimal n) ≤ places
     → last_digits 10 places n ≡ replicate (places - length (decimal n)) 48 ++ decimal n
 padded_digits zero n small short = elim (cases_lt n 10) [
@@ -85,7 +85,7 @@ padded_digits (suc more) n small short = elim (cases_lt n 10) [
       ∙ ap (λ (k : ℕ). replicate k 48 ++ decimal n) count
 ]
 
--- a number of at most so many digits has none before the point
+-- a number of at most this many digits has none before the point
 pub none_before : (places n : ℕ) → n < 10 ^ 64 → length (decimal n) ≤ places → n / 10 ^ places ≡ 0
 none_before places n small short =
     let numeral = decimal_is_IsNumeral_wide n small in

@@ -1,7 +1,7 @@
 -- The parts of a decimal's text.
 use Rattle.std.specs.Prelude.{ℕ, ◌^◌, ◌≤◌, nat_le, nat_lt, ◌==◌, ◌&&◌, if◌then◌else◌, List, [], ◌∷◌, length, Option, None, Some}
 
--- what may be the digits behind a point: 1 to so many bytes
+-- what may be the digits behind a point: 1 to this many bytes
 abbrev pub fraction_text : ℕ → List ℕ → Option (List ℕ)
 fraction_text most [] = Some []
 fraction_text most (c ∷ digits) = if (c == 46) && nat_lt 0 (length digits) && nat_le (length digits) most then Some digits else None

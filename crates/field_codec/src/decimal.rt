@@ -1,6 +1,7 @@
 //! Decimals: digits before a point and behind it.
 ghost use Rattle.std.specs.Prelude.{◌≡◌, pos, neg_ℤ, if◌then◌else◌, ◌+◌, ◌-◌, ◌*◌, ◌<◌, ◌≤◌, ◌^◌, get_or, length, take, option_map, true, false, IfSome, IfNone, MatchOption};
-ghost use Rattle.std.specs.Prelude.{Some, None};
+ghost use Rattle.std.specs.Prelude.{Some, None, nat_lt};
+ghost use Rattle.std.specs.Option.{option_and_then};
 ghost use Rattle.std.specs.Char.{is_ascii_digit};
 ghost use Rattle.std.specs.List.{prefix_len};
 ghost use Rattle.std.specs.Str.Parse.{digits_value};
@@ -30,6 +31,10 @@ fn rare_decimal(precision: u8, places: u32, text: &[u8]) -> Option<i128>
     requires { precision ≤ 38 }
     ensures { option_map Whole result ≡ read_decimal precision places text.now }
 {
+    let (minus, digits) = split_sign(text);
+    if digits.len() <= SHORT && is_placed(places as usize, digits) {
+        return Some(i128::from(placed_decimal(precision, places, minus, digits)?));
+    }
     match long_decimal(precision, places, text) {
         Some(number) => Some(number),
         None => None,
@@ -43,7 +48,30 @@ fn short_decimal(precision: u8, places: u32, text: &[u8]) -> Option<i64>
     ensures { option_map (λ n. Whole n) result ≡ read_decimal precision places text.now }
 {
     let (minus, digits) = split_sign(text);
-    let number = quick_unscaled(places as usize, digits)?;
+    within(precision, minus, quick_unscaled(places as usize, digits))
+}
+
+/// The decimal of digits that have their point in its place.
+#[inline(never)]
+fn placed_decimal(precision: u8, places: u32, minus: bool, text: &[u8]) -> Option<i64>
+    requires some { 0 < places }
+    requires room { places + 2 ≤ length text.now }
+    requires few { length text.now ≤ SHORT }
+    requires point { get_or text.now (length text.now - 1 - places) 0 ≡ 46 }
+    ensures { option_map (λ n. Whole n) result ≡ option_and_then
+        (λ n. if nat_lt n (10 ^ precision) then Some (Whole (if minus then neg_ℤ (pos n) else pos n)) else None) (read_unscaled places text.now) }
+{
+    within(precision, minus, placed_unscaled(places as usize, text))
+}
+
+/// The number with its sign, where it has at most `precision` digits.
+#[inline(always)]
+fn within(precision: u8, minus: bool, number: Option<u64>) -> Option<i64>
+    requires { IfSome number (λ n. n < 10 ^ 18) }
+    ensures { option_map (λ n. Whole n) result ≡ option_and_then
+        (λ n. if nat_lt n (10 ^ precision) then Some (Whole (if minus then neg_ℤ (pos n) else pos n)) else None) number }
+{
+    let number = number?;
     if precision < 18 && number >= power(precision as usize) {
         return None;
     }
@@ -101,7 +129,7 @@ fn unscaled(places: usize, text: &[u8]) -> Option<u128>
     long_unscaled(places, text)
 }
 
-/// The number without sign of a short text, at once where the point stands before exactly so many bytes.
+/// The number without sign of a short text, at once where the point stands before exactly this many bytes.
 #[inline(always)]
 fn quick_unscaled(places: usize, text: &[u8]) -> Option<u64>
     requires { length text.now + places ≤ 18 }
@@ -114,7 +142,7 @@ fn quick_unscaled(places: usize, text: &[u8]) -> Option<u64>
     short_unscaled(places, text)
 }
 
-/// Whether a point stands before exactly so many bytes, and some before it.
+/// Whether a point stands before exactly this many bytes, and some before it.
 #[inline(always)]
 fn is_placed(places: usize, text: &[u8]) -> bool
     ensures some { result ≡ true → 0 < places }
@@ -195,7 +223,7 @@ fn long_unscaled(places: usize, text: &[u8]) -> Option<u128>
     Some(whole + fraction)
 }
 
-/// What may be the digits behind a point: of the empty text none, and else from 1 to so many bytes behind a point.
+/// What may be the digits behind a point: of the empty text none, and else from 1 to this many bytes behind a point.
 fn fraction_text(most: usize, text: &[u8]) -> Option<&[u8]>
     ensures { option_map (λ t. t.now) result ≡ fraction_text most text.now }
 {
@@ -206,7 +234,7 @@ fn fraction_text(most: usize, text: &[u8]) -> Option<&[u8]>
     }
 }
 
-/// The number with so many zeros behind it, where it then has at most 38 digits.
+/// The number with this many zeros behind it, where it then has at most 38 digits.
 fn shifted(number: u128, zeros: usize) -> Option<u128>
     ensures some { IfSome result (λ n. n ≡ number * 10 ^ zeros) }
     ensures small { IfSome result (λ n. n < 10 ^ 38) }

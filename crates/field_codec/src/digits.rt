@@ -19,7 +19,7 @@ static DIGITS: [u8; 256] = [
     16, 16, 16, 16, 16, 16, 16, 16, 16, 16, 16, 16, 16, 16,
 ];
 
-/// A number with the digits of a text behind it. Two, as of hundredths, go without a loop.
+/// A number with the digits of a text behind it. Two or ten, as of hundredths and of fractions that fill a decimal, go without a loop.
 #[inline(always)]
 pub fn with_digits(number: u64, text: &[u8]) -> Option<u64>
     requires { (number + 1) * 10 ^ length text.now ≤ 10 ^ 18 }
@@ -30,6 +30,7 @@ pub fn with_digits(number: u64, text: &[u8]) -> Option<u64>
 {
     match text.len() {
         2 => with_so_many(number, 2, text),
+        10 => with_so_many(number, 10, text),
         count => with_so_many(number, count, text),
     }
 }
@@ -55,7 +56,7 @@ pub fn with_few_digits(number: u64, text: &[u8]) -> Option<u64>
     }
 }
 
-/// A number with the digits of a text of so many bytes behind it.
+/// A number with the digits of a text of this many bytes behind it.
 #[inline(always)]
 fn with_so_many(number: u64, count: usize, text: &[u8]) -> Option<u64>
     requires count { count ≡ length text.now }

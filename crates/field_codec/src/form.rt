@@ -13,7 +13,7 @@ use data_types::{DataType, Storage, storage_of};
 pub enum FieldForm {
     /// `true` or `false`.
     Truths,
-    /// A whole number, stored in so many bits.
+    /// A whole number, stored in this many bits.
     Wholes { bits: u8, signed: bool },
     /// The bits of a float, by hexadecimal digits.
     FloatBits { bits: u8 },
@@ -21,7 +21,7 @@ pub enum FieldForm {
     Text,
     /// Bytes by pairs of hexadecimal digits.
     HexBytes,
-    /// So many bytes by pairs of hexadecimal digits.
+    /// This many bytes by pairs of hexadecimal digits.
     SizedHex { size: u32 },
     /// A decimal of at most `precision` digits, `places` of them behind the point.
     Decimals { precision: u8, places: u32 },

@@ -49,7 +49,7 @@ static PAIRS: [u8; 512] = *b"\
     e0e1e2e3e4e5e6e7e8e9eaebecedeeef\
     f0f1f2f3f4f5f6f7f8f9fafbfcfdfeff";
 
-/// The number that exactly as many digits as so many bits have write, most significant first.
+/// The number that exactly as many digits as this many bits have write, most significant first.
 #[inline(always)]
 pub fn read_bits(bits: u8, text: &[u8]) -> Option<u64>
     requires { bits ≤ 64 }
@@ -63,11 +63,25 @@ pub fn read_bits(bits: u8, text: &[u8]) -> Option<u64>
 
 /// The eight bytes that 16 digits write.
 #[inline(always)]
-pub fn read_eight(text: &[u8]) -> Option<[u8; 8]>
+pub fn read_eight_bytes(text: &[u8]) -> Option<[u8; 8]>
     requires { length text.now ≡ 16 }
     ensures { result ≡ hex_bytes text.now }
 {
     Some(read_digits(text)?.to_be_bytes())
+}
+
+/// The sixteen bytes that 32 digits write.
+#[inline(always)]
+pub fn read_sixteen(text: &[u8]) -> Option<[u8; 16]>
+    requires { length text.now ≡ 32 }
+    ensures { result ≡ hex_bytes text.now }
+{
+    let first = read_eight_bytes(&text[..16])?;
+    let last = read_eight_bytes(&text[16..])?;
+    let mut bytes = [0; 16];
+    put_eight(&mut bytes, 0, &first);
+    put_eight(&mut bytes, 8, &last);
+    Some(bytes)
 }
 
 /// The number that a text of digits writes.
@@ -98,7 +112,7 @@ fn digit(byte: u8) -> u8
     DIGITS[usize::from(byte)]
 }
 
-/// The digits of a number of so many bits, in lower case.
+/// The digits of a number of this many bits, in lower case.
 #[inline(always)]
 pub fn bits_text<'a>(bits: u8, number: u64, room: &'a mut Vec<u8>) -> Result<&'a [u8], NoMemory>
     requires { bits ≤ 64 }
@@ -106,7 +120,7 @@ pub fn bits_text<'a>(bits: u8, number: u64, room: &'a mut Vec<u8>) -> Result<&'a
 {
     sized(room, usize::from(bits / 4))?;
     match bits {
-        64 => write_pairs(&number.to_be_bytes(), room.as_mut_slice()),
+        64 => write_pairs(8, &number.to_be_bytes(), room.as_mut_slice()),
         _ => write_bits(number, room.as_mut_slice()),
     }
     Ok(room.as_slice())
@@ -155,7 +169,7 @@ fn decode(text: &[u8], room: &mut [u8]) -> bool
 {
     let eights = text.len() / 16;
     for place in 0..eights {
-        match read_eight(&text[16 * place..16 * place + 16]) {
+        match read_eight_bytes(&text[16 * place..16 * place + 16]) {
             Some(eight) => put_eight(room, 8 * place, &eight),
             None => return false,
         }
@@ -183,28 +197,27 @@ pub fn bytes_text<'a>(bytes: &[u8], room: &'a mut Vec<u8>) -> Result<&'a [u8], N
     Ok(room.as_slice())
 }
 
-/// Writes the pairs of digits of bytes. Of eight bytes, which are copied, the count is a constant where its loop stands in line.
+/// Writes the pairs of digits of bytes. Eight and sixteen, which are common, are constants where their loops stand in line.
 #[inline(always)]
 fn write_bytes(bytes: &[u8], text: &mut [u8])
     requires { length text.old ≡ 2 * length bytes.now }
     ensures { text.new ≡ hex_text bytes.now }
 {
-    if bytes.len() != 8 {
-        write_pairs(bytes, text);
-        return;
+    match bytes.len() {
+        8 => write_pairs(8, bytes, text),
+        16 => write_pairs(16, bytes, text),
+        count => write_pairs(count, bytes, text),
     }
-    let mut eight = [0; 8];
-    eight.copy_from_slice(bytes);
-    write_pairs(&eight, text);
 }
 
-/// Writes the pairs of digits of bytes.
+/// Writes the pairs of digits of this many bytes.
 #[inline(always)]
-fn write_pairs(bytes: &[u8], text: &mut [u8])
-    requires { length text.old ≡ 2 * length bytes.now }
+fn write_pairs(count: usize, bytes: &[u8], text: &mut [u8])
+    requires count { length bytes.now ≡ count }
+    requires room { length text.old ≡ 2 * count }
     ensures { text.new ≡ hex_text bytes.now }
 {
-    for place in 0..bytes.len() {
+    for place in 0..count {
         let (high, low) = pair(bytes[place]);
         text[2 * place] = high;
         text[2 * place + 1] = low;

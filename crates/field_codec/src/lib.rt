@@ -4,8 +4,8 @@
 //! [`FieldForm`] is found once, by [`form_of`] or [`flat_form`]; each form then has a call a direction: truth values
 //! ([`read_truth`], [`truth_text`]), whole numbers ([`read_whole`], [`whole_text`]), decimals ([`read_decimal`],
 //! [`decimal_text`]), the bits of floats ([`read_bits`], [`bits_text`]) and bytes by hexadecimal digits ([`read_bytes`],
-//! [`bytes_text`], and [`read_eight`] of eight). A text of a text column stands as it is, and whether it is UTF-8 is for
-//! `col_build::is_text`.
+//! [`bytes_text`], and of eight and sixteen bytes [`read_eight_bytes`], [`read_sixteen`]). A text of a text column stands as it is, and
+//! whether it is UTF-8 is for `col_build::is_text`.
 //!
 //! Left to others: which text stands for a null, where the fields come from and where their values go.
 #![tactic(auto)]
@@ -23,7 +23,9 @@ mod whole;
 
 pub use decimal::read_decimal;
 pub use form::{FieldForm, flat_form, form_of};
-pub use hexadecimal::{bits_text, bytes_text, read_bits, read_bytes, read_eight};
+pub use hexadecimal::{
+    bits_text, bytes_text, read_bits, read_bytes, read_eight_bytes, read_sixteen,
+};
 pub use number_text::{decimal_text, whole_text};
 pub use truth::{read_truth, truth_text};
 pub use whole::read_whole;

@@ -113,7 +113,7 @@ fn signed_decimal_text<'a>(
     Ok(&room.as_slice()[start..])
 }
 
-/// Writes a number at the end of a text, with a point before so many of its digits, and says where it starts.
+/// Writes a number at the end of a text, with a point before this many of its digits, and says where it starts.
 #[inline(always)]
 fn write_decimal(minus: bool, number: u64, places: usize, text: &mut [u8]) -> usize
     requires few { places ≤ 18 }
@@ -186,7 +186,7 @@ fn long_decimal_text<'a>(
     Ok(room.as_slice())
 }
 
-/// Appends a number, with a point before so many of its digits.
+/// Appends a number, with a point before this many of its digits.
 fn push_point(places: usize, number: u128, room: &mut Vec<u8>) -> Result<(), NoMemory>
     ensures { IfOk result (λ _. room.new.items ≡ room.old.items ++ point_text places number) }
 {
@@ -209,7 +209,7 @@ fn push_point(places: usize, number: u128, room: &mut Vec<u8>) -> Result<(), NoM
     Ok(())
 }
 
-/// Appends so many zeros.
+/// Appends this many zeros.
 fn push_zeros(count: usize, room: &mut Vec<u8>) -> Result<(), NoMemory>
     ensures { IfOk result (λ _. room.new.items ≡ room.old.items ++ replicate count 48) }
 {

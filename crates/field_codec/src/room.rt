@@ -3,7 +3,7 @@ ghost use Rattle.std.specs.Prelude.{◌≡◌, length, IfOk};
 
 use unit_pass::NoMemory;
 
-/// Gives a room so many bytes. A room that has them already stays as it is.
+/// Gives a room this many bytes. A room that has them already stays as it is.
 #[inline(always)]
 pub fn sized(room: &mut Vec<u8>, count: usize) -> Result<(), NoMemory>
     ensures { IfOk result (λ _. length room.new.items ≡ count) }

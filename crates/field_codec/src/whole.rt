@@ -5,7 +5,7 @@ ghost use Rattle.data_types.specs.Value.{Whole};
 
 use crate::number::{magnitude, split_sign};
 
-/// The whole number that a text spells, where so many bits hold it.
+/// The whole number that a text spells, where this many bits hold it.
 #[inline(always)]
 pub fn read_whole(bits: u8, signed: bool, text: &[u8]) -> Option<i128>
     requires { IsFlatForm (Wholes bits signed) }
@@ -37,7 +37,7 @@ fn within(bits: u8, signed: bool, minus: bool, number: u64) -> Option<i128>
     }
 }
 
-/// The greatest number of so many bits, of which one may be that of the sign.
+/// The greatest number of this many bits, of which one may be that of the sign.
 #[inline(always)]
 fn most(bits: u8, signed: bool) -> u64
     requires { IsFlatForm (Wholes bits signed) }

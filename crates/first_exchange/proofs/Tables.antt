@@ -3,7 +3,7 @@ use Rattle.std.proofs.Common.{◌<◌, ℕ, zero, suc, length, get_or, arith}
 use Rattle.data_types.specs.declared.kind.DataType.{DataType}
 use Rattle.tree_model.specs.Tree.{Released, Live, IsLive, Trees, no_trees, more_trees, tree_list, children_of, child_at}
 use Rattle.raw_array.specs.Members.{ArrayTree}
-use Rattle.kind_tree.specs.Kinds.{KindTree, NodesOk, AllNodesOk}
+use Rattle.data_types.specs.KindTrees.{KindTree, NodesOk, AllNodesOk}
 use Rattle.layout_rules.specs.Lawful.{PartsHold, RootHolds}
 use Rattle.layout_rules.specs.Walk.{LayoutOk}
 

@@ -1,8 +1,8 @@
 //! The consumer: it takes a table over, checks it, reads it in place, shares it, and moves a column out of it.
 ghost use Rattle.std.specs.Prelude.{◌≡◌, ◌+◌, ◌≤◌, if◌then◌else◌, is_ok, IfOk};
 ghost use Rattle.unit_pass.specs.declared.pass.TheConstants.{SUPPLY};
-ghost use Rattle.kind_tree.specs.Kinds.{TypedOk};
-ghost use Rattle.kind_tree.specs.TypedView.{typed_of};
+ghost use Rattle.data_types.specs.KindTrees.{TypedOk};
+ghost use Rattle.data_types.specs.TypedView.{typed_of};
 ghost use Rattle.raw_schema.specs.Members.{Nodes};
 ghost use Rattle.raw_array.specs.Members.{Cost, LeastAmount};
 ghost use Rattle.layout_rules.specs.Walk.{LayoutOk};
@@ -14,7 +14,7 @@ use crate::produce::Table;
 use crate::threads::read_in_threads;
 use arr_move::slice;
 use array_laws::{shares_show_the_same, trees_that_show_the_same, windows_are_parts};
-use kind_tree::Typed;
+use data_types::Typed;
 use layout_rules::{lawful_root, lawful_trees};
 use raw_array::{Gone, PartlyMoved, RawArray};
 use std::alloc::Global;

@@ -1,13 +1,12 @@
 //! The rows of a table, read in place and printed.
 ghost use Rattle.std.specs.Prelude.{◌≤ℤ◌, ◌<ℤ◌, pos, IsTrue, OnOk};
-ghost use Rattle.kind_tree.specs.TypedView.{typed_of};
+ghost use Rattle.data_types.specs.TypedView.{typed_of};
 ghost use Rattle.arr_import.specs.Cols.{window_of};
 ghost use Rattle.first_exchange.specs.Tables.{IsOfTwo};
 
 use crate::fault::Fault;
 use arr_import::Col;
-use data_types::DataType;
-use kind_tree::kinds_of_typed;
+use data_types::{DataType, kinds_of_typed};
 use std::str::from_utf8;
 use tree_import::Imported;
 

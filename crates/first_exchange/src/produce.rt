@@ -1,5 +1,5 @@
 //! The producer: two columns, and the table of them.
-ghost use Rattle.std.specs.Prelude.{◌≡◌, ◌+◌, ◌<◌, ◌≤◌, ◌^◌, [], ◌∷◌, length, map, None, IfOk, OnErr, count_by, is_some};
+ghost use Rattle.std.specs.Prelude.{◌≡◌, ◌+◌, ◌<◌, ◌≤◌, [], ◌∷◌, length, map, None, IfOk, OnErr};
 ghost use Rattle.unit_pass.specs.declared.pass.TheConstants.{CHUNK, SUPPLY};
 ghost use Rattle.data_types.specs.FieldText.{form_of};
 ghost use Rattle.data_types.specs.Kinds.{KindOk};
@@ -13,11 +13,11 @@ ghost use Rattle.schema_check.specs.ColumnSchema.{SchemaOf};
 ghost use Rattle.arr_export.specs.ArrayTrees.{IsColumn, column_tree, table_tree};
 ghost use Rattle.arr_export.specs.ValueColumns.{plain_tree};
 ghost use Rattle.first_exchange.specs.People.{columns, ids, names, people};
+ghost use Rattle.layout_rules.specs.Rules.{window_limit};
 
 use crate::fault::Fault;
-use arr_export::{export_column, export_schema, export_table};
-use buf_block::let_go_all;
-use col_build::{Builder, Built, Item, PushFault};
+use arr_export::{export_column, export_schema, export_table, let_go_column};
+use col_build::{Builder, Item, PushFault, SpareBuffers};
 use data_types::{ColKind, ColumnType, DataType};
 use raw_array::{RawArray, release_all};
 use raw_schema::RawSchema;
@@ -132,7 +132,7 @@ fn names_column(alloc: Global, pass: &mut Pass) -> Result<RawArray, Fault>
     column(alloc, DataType::Utf8 { wide: false }, &names, pass)
 }
 
-/// The table of two columns. On want of memory they are released.
+/// The table of two columns. Where memory runs out they are released.
 fn table_of(
     alloc: Global,
     ids: RawArray,
@@ -173,23 +173,23 @@ fn column(
 ) -> Result<RawArray, Fault>
     requires kind { KindOk kind }
     requires flat { HasForm (form_of kind) }
-    requires few { length items.now < 2 ^ 40 }
+    requires few { length items.now < window_limit }
     requires buffers { 3 ≤ pass.old.units }
     requires units { Cost (column_tree kind (map value_of items.now) None) ≤ pass.old.units }
     ensures array { IfOk result (λ array. array ≡ column_tree kind (map value_of items.now) None) }
     ensures units { IfOk result (λ array. pass.new.units + Cost array ≡ pass.old.units) }
     ensures units_back { OnErr result (pass.new.units ≡ pass.old.units) }
 {
-    let builder = filled(alloc, kind, items)?;
-    match builder.finish(alloc, pass) {
-        Ok(built) => match export_column(alloc, built, None, pass) {
+    let mut builder = filled(alloc, kind, items)?;
+    match builder.finish(alloc, &mut SpareBuffers::new(alloc), pass) {
+        Ok(column) => match export_column(alloc, column, None, pass) {
             Ok(array) => Ok(array),
-            Err((built, dictionary, NoMemory)) => {
-                give_up(built, dictionary, pass);
+            Err((column, dictionary, NoMemory)) => {
+                let_go_column(column, dictionary, pass);
                 Err(Fault::NoMemory)
             }
         },
-        Err((_builder, NoMemory)) => Err(Fault::NoMemory),
+        Err(NoMemory) => Err(Fault::NoMemory),
     }
 }
 
@@ -197,7 +197,7 @@ fn column(
 fn filled(alloc: Global, kind: DataType, items: &[Item<'_>]) -> Result<Builder, PushFault>
     requires kind { KindOk kind }
     requires flat { HasForm (form_of kind) }
-    requires few { length items.now < 2 ^ 40 }
+    requires few { length items.now < window_limit }
     ensures { IfOk result (λ builder. Holds builder kind (map value_of items.now)) }
 {
     let mut builder = Builder::new(alloc, kind);
@@ -205,24 +205,4 @@ fn filled(alloc: Global, kind: DataType, items: &[Item<'_>]) -> Result<Builder, 
         builder.push(*item)?;
     }
     Ok(builder)
-}
-
-/// Lets the blocks of a finished column go, which came back without a dictionary. Its buffers hold them, so neither may be
-/// dropped.
-fn give_up(built: Built, dictionary: Option<RawArray>, pass: &mut Pass)
-    requires none { dictionary ≡ None }
-    requires room { pass.old.units + count_by is_some built.buffers.items ≤ SUPPLY }
-    ensures { pass.new.units ≡ pass.old.units + count_by is_some built.buffers.items }
-{
-    match dictionary {
-        None => {}
-        Some(_tree) => unreachable!(),
-    }
-    let Built {
-        kind: _,
-        length: _,
-        null_count: _,
-        buffers,
-    } = built;
-    let_go_all(buffers, pass);
 }

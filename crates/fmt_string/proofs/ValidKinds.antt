@@ -44,23 +44,7 @@ valid_is (kinds.Float bits) h =
 valid_is (kinds.FixedBinary size) h = absurd cc
 valid_is (kinds.FixedList size) h = absurd cc
 valid_is (kinds.Decimal precision scale wide) h = absurd cc
-valid_is kinds.Null h = tt
-valid_is kinds.Bool h = tt
-valid_is (kinds.Binary wide) h = tt
-valid_is (kinds.Utf8 wide) h = tt
-valid_is kinds.DateDay h = tt
-valid_is kinds.DateMilli h = tt
-valid_is (kinds.TimeOfDay tick) h = tt
-valid_is (kinds.Timestamp tick zone) h = tt
-valid_is (kinds.Duration tick) h = tt
-valid_is kinds.IntervalMonths h = tt
-valid_is kinds.IntervalDayTime h = tt
-valid_is kinds.IntervalMonthDayNano h = tt
-valid_is (kinds.List wide) h = tt
-valid_is kinds.Struct h = tt
-valid_is kinds.Map h = tt
-valid_is kinds.BinaryView h = tt
-valid_is kinds.Utf8View h = tt
+valid_is _ h = tt
 
 passes : (test : Keyword → Bool) (ks : List Keyword) (i : ℕ) (d : Keyword) → list_all test ks ≡ true → i < length ks → test (get_or ks i d) ≡ true
 passes test [] i d all lt = absurd (omega arith)

@@ -2,7 +2,7 @@
 use Rattle.std.specs.Prelude.{◌≡◌, ℕ, ◌+◌, List, [], ◌∷◌, ◌++◌, Option, None, Some, Result, Ok, Err}
 use Rattle.data_types.specs.Table.{Row}
 use Rattle.raw_array.specs.Members.{ArrayTree}
-use Rattle.kind_tree.specs.Kinds.{KindTree}
+use Rattle.data_types.specs.KindTrees.{KindTree}
 use Rattle.layout_rules.specs.Found.{fault_of}
 use Rattle.layout_rules.specs.Values.{rows_of}
 use Rattle.layout_rules.specs.Walk.{Fault, first_chunk_fault}
@@ -32,7 +32,7 @@ abbrev pub tables_before : KindTree → List ArrayTree → List (List Row)
 tables_before typed [] = []
 tables_before typed (chunk ∷ more) = table_if (first_chunk_fault typed chunk) (rows_of typed chunk) (tables_before typed more)
 
--- what a visitor has seen, where it tells it, after it was shown more
+-- what a visitor has seen, where it states it, after it was shown more
 abbrev pub grown : Option (List (List Row)) → List (List Row) → Option (List (List Row))
 grown None more = None
 grown (Some before) more = Some (before ++ more)

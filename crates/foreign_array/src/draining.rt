@@ -1,8 +1,8 @@
 //! Chunks of a foreign producer, shown one after another and released.
 ghost use Rattle.std.specs.Prelude.{◌≡◌, ◌+◌, ◌≤◌, List, [], ◌∷◌, Option, map, OnErr, OnOk};
 ghost use Rattle.data_types.specs.Table.{Row};
-ghost use Rattle.kind_tree.specs.Kinds.{TypedOk};
-ghost use Rattle.kind_tree.specs.TypedView.{typed_of};
+ghost use Rattle.data_types.specs.KindTrees.{TypedOk};
+ghost use Rattle.data_types.specs.TypedView.{typed_of};
 ghost use Rattle.layout_rules.specs.Values.{rows_of};
 ghost use Rattle.layout_rules.specs.Walk.{ChunkOk};
 ghost use Rattle.unit_pass.specs.declared.pass.TheConstants.{SUPPLY};
@@ -11,7 +11,7 @@ ghost use Rattle.foreign_array.specs.Drained.{Drained, ShownAfter, grown};
 
 use crate::foreign::Foreign;
 use crate::owner::Owner;
-use kind_tree::Typed;
+use data_types::Typed;
 use layout_check::check_chunk;
 use layout_rules::LayoutFault;
 use raw_array::RawArray;
@@ -20,7 +20,7 @@ use unit_pass::{NoMemory, Pass, SUPPLY};
 
 /// Who is shown chunks.
 pub trait Visit {
-    /// The rows of each chunk that it was shown, where it tells them.
+    /// The rows of each chunk that it was shown, where it states them.
     ghost seen: { Self → Option (List (List Row)) };
 
     /// Shows a chunk that passes the check under these kinds. After `NoMemory` nothing is kept of it.

@@ -3,8 +3,8 @@ ghost use Rattle.std.specs.Prelude.{◌≡◌, ◌≢◌, ◌+◌, [], ◌∷◌
 ghost use Rattle.foreign_array.specs.Kept.{units_in};
 
 use crate::owned::{Kept, owner, trees};
+use data_types::Typed;
 use foreign_array::{DrainFault, Foreign, Visit, drain};
-use kind_tree::Typed;
 use layout_check::count_rows;
 use layout_rules::LayoutRule;
 use raw_array::RawArray;
@@ -78,8 +78,8 @@ fn owned(rt: &impl Abort, alloc: Global, text: &str, pass: &mut Pass) -> Foreign
     Foreign::new(array, owner)
 }
 
-/// Drains the trees of three texts, each with an owner that owes 1, by a visitor that has room for so many chunks. No unit is out
-/// behind it, or the desk couldn't be closed.
+/// Drains the trees of three texts, each with an owner that owes 1, by a visitor that has room for this many chunks. No unit is
+/// out behind it, or the desk couldn't be closed.
 fn outcome(
     rt: &impl Abort,
     alloc: Global,

@@ -23,7 +23,7 @@ number_of texts text = position_or_len (λ t. bytes_eq t text) texts
 
 -- ---- how they are found
 
--- so many slots in a row are looked at
+-- this many slots in a row are looked at
 abbrev pub most_steps : ℕ
 most_steps = 8
 

@@ -11,6 +11,6 @@ hash_in text = folding.finish (folding.write folding.initial text) / 2 ^ 32
 abbrev pub second_hash_in : List ℕ → ℕ
 second_hash_in text = sipping.finish (sipping.write sipping.initial text)
 
--- of so many slots, the one that comes so many steps behind the first one of a hash
+-- of this many slots, the one that comes this many steps behind the first one of a hash
 abbrev pub slot_in : ℕ → ℕ → ℕ → ℕ
 slot_in slots hash step = bit_and (hash + step) (slots - 1)

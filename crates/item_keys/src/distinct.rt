@@ -46,7 +46,7 @@ fn free_slots(alloc: Global, count: usize) -> Result<Vec<u32>, NoMemory>
 }
 
 impl<'a> Distinct<'a> {
-    /// No texts yet. So many at most are found fast; there may be more.
+    /// No texts yet. This many at most are found fast; there may be more.
     ///
     /// # Errors
     ///

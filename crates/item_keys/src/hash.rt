@@ -24,7 +24,7 @@ pub(crate) fn second_hash_of(text: &[u8]) -> u64
     hasher.finish()
 }
 
-/// The slot that comes so many steps behind the first one of a hash.
+/// The slot that comes this many steps behind the first one of a hash.
 #[inline(always)]
 pub(crate) fn slot_at(hash: u32, step: usize, slots: usize) -> usize
     requires some { 0 < slots }
@@ -35,7 +35,7 @@ pub(crate) fn slot_at(hash: u32, step: usize, slots: usize) -> usize
     (hash as usize + step) & (slots - 1)
 }
 
-/// How many slots there are for so many texts: at least twice as many, a power of two from 16 to 2^22.
+/// How many slots there are for this many texts: at least twice as many, a power of two from 16 to 2^22.
 pub(crate) fn slots_for(most: u32) -> usize
     ensures { 0 < result }
 {

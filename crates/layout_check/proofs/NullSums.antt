@@ -1,7 +1,7 @@
 -- The number of null items is that of clear bits.
 use Rattle.std.proofs.Common.{length, ◌≡◌, ℕ, zero, suc, ◌+◌, ◌-◌, ◌<◌, List, None, Some, refl, ap, ◌∙◌, arith}
 use Rattle.std.specs.Prelude.{if◌then◌else◌, ◌==◌}
-use Rattle.bit_pack.specs.Packed.{bit, clear_count}
+use Rattle.data_types.specs.Packed.{bit, clear_count}
 use Rattle.raw_array.specs.Members.{ArrayMembers}
 use Rattle.layout_rules.specs.declared.layout.Layout.{Layout}
 use Rattle.layout_rules.specs.declared.layout.Layout.TheVariants.{NoBuffers, FixedWidth, TruthBits, ByOffsets, ListOffsets, FixedItems, ByChildren, Views}

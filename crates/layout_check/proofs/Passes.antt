@@ -6,13 +6,13 @@ use Rattle.std.specs.Prelude.{is_none}
 use Rattle.std.specs.Option.{option_or}
 use Rattle.tree_model.specs.Tree.{Released, IsLive, children_of, dictionary_of}
 use Rattle.raw_array.specs.Members.{ArrayTree}
-use Rattle.kind_tree.specs.declared.typed.Typed.{Typed, out-Typed}
+use Rattle.data_types.specs.declared.typed.Typed.{Typed, out-Typed}
 use Rattle.layout_rules.specs.declared.rule.LayoutRule.{LayoutRule}
 use Rattle.layout_rules.specs.declared.rule.Numbers.{Numbers}
-use Rattle.kind_tree.specs.TypedView.{typed_of, kids_of, dict_in}
+use Rattle.data_types.specs.TypedView.{typed_of, kids_of, dict_in}
 use Rattle.layout_check.specs.NodeView.{live_node}
 use Rattle.layout_rules.specs.Rules.{Node, fails, first_below, form_rules, buffer_rules, item_rules}
-use Rattle.kind_tree.specs.Ways.{Steps}
+use Rattle.data_types.specs.Ways.{Steps}
 use Rattle.layout_rules.specs.Walk.{rules_fault, fault_by, fault_at, fault_from, own_fault, children_fault, dictionary_fault}
 use Rattle.layout_check.proofs.Faults.{fault_from-typed, fault_from-typed_own, own_fault-typed, children_fault-step}
 

@@ -2,7 +2,7 @@
 use Rattle.std.specs.Prelude.{Option, None, Some, Result, Ok, Err}
 use Rattle.layout_check.specs.declared.failing.Failing.{Failing}
 use Rattle.layout_rules.specs.Walk.{Fault}
-use Rattle.kind_tree.specs.Ways.{Steps}
+use Rattle.data_types.specs.Ways.{Steps}
 
 -- the fault of a rule that fails at the node there
 abbrev pub fault_there : Steps → Failing → Fault

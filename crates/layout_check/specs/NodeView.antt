@@ -5,11 +5,11 @@ use Rattle.raw_array.specs.Members.{ArrayMembers, ArrayTree, members_of}
 use Rattle.layout_rules.specs.Layout.{buffer_count}
 use Rattle.layout_rules.specs.declared.layout.Layout.{Layout}
 use Rattle.layout_rules.specs.Rules.{Node, buffer_absent, buffer_short, first_below}
-use Rattle.layout_check.specs.declared.node.FormedNode.{FormedNode}
-use Rattle.kind_tree.specs.declared.typed.Typed.{Typed, out-Typed}
-use Rattle.kind_tree.specs.TypedView.{kind_of, kids_of, dict_in}
+use Rattle.layout_check.specs.declared.node.WellFormedNode.{WellFormedNode}
+use Rattle.data_types.specs.declared.typed.Typed.{Typed, out-Typed}
+use Rattle.data_types.specs.TypedView.{kind_of, kids_of, dict_in}
 
-abbrev pub own_of : FormedNode → ArrayMembers
+abbrev pub own_of : WellFormedNode → ArrayMembers
 own_of node = members_of node.array.now
 
 -- no buffer that is needed is absent, and none is shorter than its need

@@ -1,7 +1,7 @@
 -- What the scans over whole buffers look at.
 use Rattle.std.specs.Prelude.{◌≡◌, ℕ, ◌+◌, ◌-◌, ◌*◌, ◌<◌, ◌≤◌, ℤ, Bool, List, length, take, drop, get_or, Option, IsUtf8}
 use Rattle.std.specs.Str.{IsCharBoundary}
-use Rattle.bit_pack.specs.Packed.{meant, number_at}
+use Rattle.data_types.specs.Packed.{meant, number_at}
 use Rattle.raw_array.specs.Members.{ArrayMembers}
 use Rattle.layout_rules.specs.declared.rule.Numbers.{Numbers}
 use Rattle.layout_check.specs.declared.marks.Mark.{Mark}
@@ -13,7 +13,7 @@ use Rattle.layout_rules.specs.Rules.{fault_if, is_outside}
 abbrev pub used_data : Bool → ArrayMembers → List ℕ
 used_data wide a = data_between wide a (first a) (end a)
 
--- an index behind a place, valid or not, that is no place of a dictionary of so many items
+-- an index behind a place, valid or not, that is no place of a dictionary of this many items
 abbrev pub outside_in : ℕ → Bool → List ℕ → ℕ → ℤ → ℕ → Option Numbers
 outside_in width signed stored start total i =
     let index = meant width signed (number_at stored ((start + i) * width) width) in

@@ -1,7 +1,7 @@
 //! What an array needs of its buffers, and whether it has that: buffers that are there, long enough, and with offsets
 //! that rise.
 ghost use Rattle.std.specs.Prelude.{◌≡◌, ◌↔◌, None, is_none, IsTrue, not, ◌&&◌, is_some, nat_lt, if◌then◌else◌, ◌==◌, int_lt, ◌+◌, ◌*◌, ◌^◌, ◌<◌, ◌≤◌, pos, length, Option};
-ghost use Rattle.bit_pack.specs.Packed.{offset_width};
+ghost use Rattle.data_types.specs.Packed.{offset_width};
 ghost use Rattle.tree_model.specs.Tree.{IsLive};
 ghost use Rattle.raw_array.specs.Members.{ArrayTree, members_of};
 ghost use Rattle.layout_check.specs.NodeView.{AreReadable, own_of};
@@ -9,7 +9,7 @@ ghost use Rattle.layout_rules.specs.Layout.{natural, items, offset, end, bytes, 
 ghost use Rattle.layout_rules.specs.Rules.{missing, too_short, offsets_fall_if, is_behind_offsets, buffer_absent, fault_if, offset_falls, offsets_fall};
 ghost use Rattle.layout_rules.specs.Rules.{buffer_short, first_below};
 
-use crate::node::FormedNode;
+use crate::node::WellFormedNode;
 use crate::scans::offsets_rise;
 use crate::views::{data_buffers, data_length};
 use bit_pack::offset_at;
@@ -30,7 +30,7 @@ fn offsets_need(wide: bool, end: u128) -> u128
     }
 }
 
-fn data_need(wide: bool, node: &FormedNode) -> u128
+fn data_need(wide: bool, node: &WellFormedNode) -> u128
     requires offsets { 1 < length (own_of node.now).buffers }
     ensures need { result ≡ data_need wide (own_of node.now) }
     ensures bound { result < 2 ^ 68 }
@@ -55,7 +55,7 @@ pub fn wide_need(end: u64, width: u32) -> u128
 }
 
 /// What a data buffer of views needs, counted from the first, and the lengths behind the last.
-fn named_need(node: &FormedNode, k: usize) -> u128
+fn named_need(node: &WellFormedNode, k: usize) -> u128
     requires buffers { 3 ≤ length (own_of node.now).buffers }
     ensures need { result ≡ named_need (own_of node.now) k }
     ensures bound { result < 2 ^ 64 }
@@ -73,7 +73,7 @@ fn named_need(node: &FormedNode, k: usize) -> u128
 
 /// How many bytes of its k-th buffer an array needs.
 #[tactic(auto, using(layout_rules::proofs::Long::some_views))]
-fn need(node: &FormedNode, k: usize) -> u128
+fn need(node: &WellFormedNode, k: usize) -> u128
     ensures need { result ≡ need node.now.layout (own_of node.now) k }
     ensures bound { result < 2 ^ 97 }
 {
@@ -103,7 +103,7 @@ fn need(node: &FormedNode, k: usize) -> u128
     }
 }
 
-/// An absent buffer of which so many bytes are needed: at the buffer, 0 and the need.
+/// An absent buffer of which this many bytes are needed: at the buffer, 0 and the need.
 pub fn missing(needed: u128, array: &RawArray, k: usize) -> Option<Numbers>
     requires live { IsLive array.now }
     requires inside { k < length (members_of array.now).buffers }
@@ -150,7 +150,7 @@ pub fn too_short(needed: u128, array: &RawArray, k: usize) -> Option<Numbers>
     }
 }
 
-fn buffer_short(node: &FormedNode, k: usize) -> Option<Numbers>
+fn buffer_short(node: &WellFormedNode, k: usize) -> Option<Numbers>
     requires { k < length (own_of node.now).buffers }
     ensures { result ≡ buffer_short node.now.layout (own_of node.now) k }
 {
@@ -160,7 +160,7 @@ fn buffer_short(node: &FormedNode, k: usize) -> Option<Numbers>
     }
 }
 
-fn buffer_absent(node: &FormedNode, k: usize) -> Option<Numbers>
+fn buffer_absent(node: &WellFormedNode, k: usize) -> Option<Numbers>
     requires { k < length (own_of node.now).buffers }
     ensures { result ≡ buffer_absent node.now.layout (own_of node.now) k }
 {
@@ -172,7 +172,7 @@ fn buffer_absent(node: &FormedNode, k: usize) -> Option<Numbers>
 }
 
 /// The first absent buffer of which something is needed.
-pub fn buffers_absent(node: &FormedNode) -> Option<Numbers>
+pub fn buffers_absent(node: &WellFormedNode) -> Option<Numbers>
     ensures { result ≡ first_below (buffer_absent node.now.layout (own_of node.now)) (buffer_count node.now.layout (length (own_of node.now).buffers)) }
 {
     for k in 0..node.buffer_count() {
@@ -184,7 +184,7 @@ pub fn buffers_absent(node: &FormedNode) -> Option<Numbers>
 }
 
 /// The first buffer that is shorter than its need.
-pub fn buffers_short(node: &FormedNode) -> Option<Numbers>
+pub fn buffers_short(node: &WellFormedNode) -> Option<Numbers>
     ensures { result ≡ first_below (buffer_short node.now.layout (own_of node.now)) (buffer_count node.now.layout (length (own_of node.now).buffers)) }
 {
     for k in 0..node.buffer_count() {
@@ -197,7 +197,7 @@ pub fn buffers_short(node: &FormedNode) -> Option<Numbers>
 
 /// Whether each buffer is there of which something is needed, and is as long as its need.
 #[inline(always)]
-pub fn buffers_pass(node: &FormedNode) -> bool
+pub fn buffers_pass(node: &WellFormedNode) -> bool
     ensures { IsTrue result ↔ AreReadable node.now.layout (own_of node.now) }
 {
     for k in 0..node.buffer_count() {
@@ -210,7 +210,7 @@ pub fn buffers_pass(node: &FormedNode) -> bool
 
 /// The same of one buffer.
 #[inline(always)]
-fn buffer_passes(node: &FormedNode, k: usize) -> bool
+fn buffer_passes(node: &WellFormedNode, k: usize) -> bool
     requires { k < length (own_of node.now).buffers }
     ensures { IsTrue result ↔ (buffer_absent node.now.layout (own_of node.now) k ≡ None) × (buffer_short node.now.layout (own_of node.now) k ≡ None) }
 {
@@ -221,7 +221,7 @@ fn buffer_passes(node: &FormedNode, k: usize) -> bool
 }
 
 /// The offset at a place of the offsets buffer.
-pub fn offset_of(wide: bool, node: &FormedNode, place: u64) -> i64
+pub fn offset_of(wide: bool, node: &WellFormedNode, place: u64) -> i64
     requires offsets { 1 < length (own_of node.now).buffers }
     requires long { (place + 1) * offset_width wide ≤ length (bytes (own_of node.now) 1) }
     ensures { result ≡ offset wide (own_of node.now) place }
@@ -230,7 +230,7 @@ pub fn offset_of(wide: bool, node: &FormedNode, place: u64) -> i64
 }
 
 /// The offset at the window's end, and 0 where no place lies before it.
-pub fn last_offset(wide: bool, node: &FormedNode) -> u128
+pub fn last_offset(wide: bool, node: &WellFormedNode) -> u128
     requires offsets { 1 < length (own_of node.now).buffers }
     requires long { offsets_need wide (end (own_of node.now)) ≤ length (bytes (own_of node.now) 1) }
     ensures last { result ≡ (if end (own_of node.now) == 0 then 0 else natural (offset wide (own_of node.now) (end (own_of node.now)))) }
@@ -258,7 +258,7 @@ fn fall(i: u64, here: i64, next: i64) -> Option<Numbers>
     }
 }
 
-fn offset_falls(wide: bool, node: &FormedNode, i: u64) -> Option<Numbers>
+fn offset_falls(wide: bool, node: &WellFormedNode, i: u64) -> Option<Numbers>
     requires offsets { 1 < length (own_of node.now).buffers }
     requires inside { i < items (own_of node.now) }
     requires long { (end (own_of node.now) + 1) * offset_width wide ≤ length (bytes (own_of node.now) 1) }
@@ -271,7 +271,7 @@ fn offset_falls(wide: bool, node: &FormedNode, i: u64) -> Option<Numbers>
 }
 
 /// An offset below 0 at the first item, or the first item whose offset is above the next one.
-pub fn offsets_fall(wide: bool, node: &FormedNode) -> Option<Numbers>
+pub fn offsets_fall(wide: bool, node: &WellFormedNode) -> Option<Numbers>
     requires offsets { 1 < length (own_of node.now).buffers }
     requires long { offsets_need wide (end (own_of node.now)) ≤ length (bytes (own_of node.now) 1) }
     ensures { result ≡ offsets_fall wide (own_of node.now) }
@@ -299,7 +299,7 @@ pub fn offsets_fall(wide: bool, node: &FormedNode) -> Option<Numbers>
 }
 
 /// Whether the first offset isn't below 0, and no offset is above the next one.
-fn offsets_pass(wide: bool, node: &FormedNode) -> bool
+fn offsets_pass(wide: bool, node: &WellFormedNode) -> bool
     requires offsets { 1 < length (own_of node.now).buffers }
     requires long { offsets_need wide (end (own_of node.now)) ≤ length (bytes (own_of node.now) 1) }
     ensures { result ≡ is_none (offsets_fall wide (own_of node.now)) }
@@ -317,7 +317,7 @@ fn offsets_pass(wide: bool, node: &FormedNode) -> bool
 /// Whether the offsets of a layout that has some pass, once its buffers are long enough.
 #[inline(always)]
 #[tactic(auto, using(layout_rules::proofs::Long::long))]
-pub fn layout_passes(node: &FormedNode) -> bool
+pub fn layout_passes(node: &WellFormedNode) -> bool
     requires buffers { AreReadable node.now.layout (own_of node.now) }
     ensures { result ≡ is_none (offsets_fall_if (is_behind_offsets node.now.layout) (own_of node.now)) }
 {
@@ -330,7 +330,7 @@ pub fn layout_passes(node: &FormedNode) -> bool
 
 /// The offsets of a layout that has some, once its buffers are long enough.
 #[tactic(auto, using(layout_rules::proofs::Long::long))]
-pub fn layout_falls(node: &FormedNode) -> Option<Numbers>
+pub fn layout_falls(node: &WellFormedNode) -> Option<Numbers>
     requires buffers { AreReadable node.now.layout (own_of node.now) }
     ensures { result ≡ offsets_fall_if (is_behind_offsets node.now.layout) (own_of node.now) }
 {
@@ -342,7 +342,7 @@ pub fn layout_falls(node: &FormedNode) -> Option<Numbers>
 }
 
 /// The first item whose offset is above the next one, item by item.
-pub(crate) fn first_fall(wide: bool, node: &FormedNode) -> Option<Numbers>
+pub(crate) fn first_fall(wide: bool, node: &WellFormedNode) -> Option<Numbers>
     requires offsets { 1 < length (own_of node.now).buffers }
     requires long { (end (own_of node.now) + 1) * offset_width wide ≤ length (bytes (own_of node.now) 1) }
     ensures { result ≡ first_below (offset_falls wide (own_of node.now)) (items (own_of node.now)) }

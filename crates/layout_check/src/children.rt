@@ -7,13 +7,13 @@ ghost use Rattle.layout_rules.specs.Layout.{buffer_count};
 ghost use Rattle.layout_rules.specs.Rules.{items_need, short_child, live_length, child_short};
 
 use crate::buffers::{last_offset, wide_need};
-use crate::node::FormedNode;
+use crate::node::WellFormedNode;
 use layout_rules::{Layout, Numbers};
 use raw_array::RawArray;
 
 /// How many items an array needs of each child.
 #[tactic(auto, using(layout_rules::proofs::Long::long))]
-fn items_need(node: &FormedNode) -> u128
+fn items_need(node: &WellFormedNode) -> u128
     requires buffers { AreReadable node.now.layout (own_of node.now) }
     ensures need { result ≡ items_need node.now.layout (own_of node.now) }
     ensures bound { result < 2 ^ 97 }
@@ -61,7 +61,7 @@ pub fn first_short(needed: u128, array: &RawArray) -> Option<Numbers>
 }
 
 /// The first child that is too short.
-pub fn children_short(node: &FormedNode) -> Option<Numbers>
+pub fn children_short(node: &WellFormedNode) -> Option<Numbers>
     requires buffers { AreReadable node.now.layout (own_of node.now) }
     ensures { result ≡ child_short (items_need node.now.layout (own_of node.now)) 0 (children_of node.now.array.now) }
 {

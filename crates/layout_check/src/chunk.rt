@@ -1,20 +1,19 @@
 //! Chunks: what is asked of an array that holds rows.
 ghost use Rattle.std.specs.Prelude.{◌≡◌, None, Some, IsOk, IsTrue, is_none, is_some, not, ◌&&◌, ◌↔◌, pos, ℕ, length, Option};
 ghost use Rattle.raw_array.specs.Members.{ArrayTree};
-ghost use Rattle.kind_tree.specs.Kinds.{TypedOk};
-ghost use Rattle.kind_tree.specs.declared.typed.Typed.{out-Typed};
-ghost use Rattle.kind_tree.specs.TypedView.{typed_of};
+ghost use Rattle.data_types.specs.KindTrees.{TypedOk};
+ghost use Rattle.data_types.specs.declared.typed.Typed.{out-Typed};
+ghost use Rattle.data_types.specs.TypedView.{typed_of};
 ghost use Rattle.layout_rules.specs.Layout.{layout_of, buffer_count};
 ghost use Rattle.layout_rules.specs.Found.{found};
 ghost use Rattle.layout_rules.specs.Values.{rows_of};
 ghost use Rattle.layout_rules.specs.Walk.{LayoutOk, ChunkOk, root_fault, first_chunk_fault, top_fault, is_struct, is_table, nulls_in};
 
 use crate::failing::Failing;
-use crate::node::FormedNode;
+use crate::node::WellFormedNode;
 use crate::nulls::null_total;
 use crate::walk::{check_array, passes};
-use data_types::DataType;
-use kind_tree::{Path, Typed};
+use data_types::{DataType, Path, Typed};
 use layout_rules::{LayoutFault, LayoutRule, Numbers, lawful_root, layout_of};
 use raw_array::RawArray;
 
@@ -46,7 +45,7 @@ pub fn nulls_of(typed: &Typed, array: &RawArray) -> i64
     ensures { result ≡ pos (nulls_in (typed_of typed.now) array.now) }
 {
     lawful_root(typed, array);
-    let node = FormedNode::of(layout_of(&typed.kind), array);
+    let node = WellFormedNode::of(layout_of(&typed.kind), array);
     if node.buffer_count() == 0 {
         array.length()
     } else {
@@ -90,7 +89,7 @@ fn check_top(typed: &Typed, array: &RawArray) -> Result<(), LayoutFault>
     if !is_table(typed) {
         return top_ruled(LayoutRule::TopKind, 0);
     }
-    let nulls = null_total(&FormedNode::of(layout_of(&typed.kind), array));
+    let nulls = null_total(&WellFormedNode::of(layout_of(&typed.kind), array));
     if nulls > 0 {
         return top_ruled(LayoutRule::TopNulls, nulls);
     }
@@ -105,7 +104,7 @@ fn top_passes(typed: &Typed, array: &RawArray) -> bool
     ensures { result ≡ is_none (top_fault (typed_of typed.now) array.now) }
 {
     lawful_root(typed, array);
-    is_table(typed) && null_total(&FormedNode::of(layout_of(&typed.kind), array)) == 0
+    is_table(typed) && null_total(&WellFormedNode::of(layout_of(&typed.kind), array)) == 0
 }
 
 fn top_ruled(rule: LayoutRule, left: u64) -> Result<(), LayoutFault>

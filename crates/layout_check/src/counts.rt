@@ -6,7 +6,7 @@ ghost use Rattle.std.specs.Global.{Box};
 ghost use Rattle.tree_model.specs.Tree.{IsLive, children_of, dictionary_of};
 ghost use Rattle.raw_array.specs.Members.{ArrayTree, members_of};
 
-use kind_tree::Typed;
+use data_types::Typed;
 use layout_rules::{Layout, Numbers, buffer_count};
 use raw_array::RawArray;
 

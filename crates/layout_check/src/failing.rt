@@ -3,9 +3,9 @@ ghost use Rattle.std.specs.Prelude.{◌≡◌, None, OnOk};
 ghost use Rattle.layout_rules.specs.Found.{fault_of};
 ghost use Rattle.layout_check.specs.FoundAt.{fault_there, found_at};
 ghost use Rattle.layout_rules.specs.Walk.{fault_at};
-ghost use Rattle.kind_tree.specs.Ways.{Steps, steps_of};
+ghost use Rattle.data_types.specs.Ways.{Steps, steps_of};
 
-use kind_tree::Path;
+use data_types::Path;
 use layout_rules::{LayoutFault, LayoutRule, Numbers};
 
 /// The rule that fails at a node, with the rule's place and numbers. It has no way to the node, so that it is small: a walk has

@@ -1,6 +1,6 @@
 //! The rule on the indices of a dictionary-encoded array.
 ghost use Rattle.std.specs.Prelude.{◌≡◌, None, ◌⊎◌, ◌+◌, ◌*◌, ◌/◌, ◌<◌, ◌≤◌, pos, length, Option};
-ghost use Rattle.bit_pack.specs.Packed.{IsWidth};
+ghost use Rattle.data_types.specs.Packed.{IsWidth};
 ghost use Rattle.data_types.specs.Kinds.{KindOk};
 ghost use Rattle.tree_model.specs.Tree.{IsLive, dictionary_of};
 ghost use Rattle.raw_array.specs.Members.{ArrayTree};
@@ -8,7 +8,7 @@ ghost use Rattle.layout_check.specs.NodeView.{AreReadable, own_of};
 ghost use Rattle.layout_rules.specs.Layout.{IsLongIfPresent, layout_of, items, end, stored_number, bytes};
 ghost use Rattle.layout_rules.specs.Rules.{fault_if, is_outside, first_below, index_wrong, indices_wrong, length_if};
 
-use crate::node::FormedNode;
+use crate::node::WellFormedNode;
 use crate::nulls::is_valid;
 use crate::scans::indices_inside;
 use bit_pack::int_at;
@@ -17,7 +17,7 @@ use layout_rules::Numbers;
 use raw_array::RawArray;
 
 /// The stored index of an item.
-fn index_of(width: usize, signed: bool, node: &FormedNode, i: u64) -> i128
+fn index_of(width: usize, signed: bool, node: &WellFormedNode, i: u64) -> i128
     requires buffers { 1 < length (own_of node.now).buffers }
     requires width { (width ≡ 1) ⊎ (width ≡ 2) ⊎ (width ≡ 4) ⊎ (width ≡ 8) }
     requires inside { i < items (own_of node.now) }
@@ -42,7 +42,13 @@ fn outside(i: u64, index: i128, total: i64) -> Option<Numbers>
     }
 }
 
-fn bad_index(width: usize, signed: bool, node: &FormedNode, total: i64, i: u64) -> Option<Numbers>
+fn bad_index(
+    width: usize,
+    signed: bool,
+    node: &WellFormedNode,
+    total: i64,
+    i: u64,
+) -> Option<Numbers>
     requires buffers { 1 < length (own_of node.now).buffers }
     requires width { (width ≡ 1) ⊎ (width ≡ 2) ⊎ (width ≡ 4) ⊎ (width ≡ 8) }
     requires inside { i < items (own_of node.now) }
@@ -57,11 +63,11 @@ fn bad_index(width: usize, signed: bool, node: &FormedNode, total: i64, i: u64) 
     }
 }
 
-/// The first valid index that is no place of a dictionary of so many items, item by item.
+/// The first valid index that is no place of a dictionary of this many items, item by item.
 pub(crate) fn first_bad_index(
     width: usize,
     signed: bool,
-    node: &FormedNode,
+    node: &WellFormedNode,
     total: i64,
 ) -> Option<Numbers>
     requires buffers { 1 < length (own_of node.now).buffers }
@@ -78,9 +84,9 @@ pub(crate) fn first_bad_index(
     None
 }
 
-/// The first valid index that is no place of a dictionary of so many items.
+/// The first valid index that is no place of a dictionary of this many items.
 #[tactic(auto, using(crate::proofs::Scanned::indices))]
-fn index_wrong(width: usize, signed: bool, node: &FormedNode, total: i64) -> Option<Numbers>
+fn index_wrong(width: usize, signed: bool, node: &WellFormedNode, total: i64) -> Option<Numbers>
     requires buffers { 1 < length (own_of node.now).buffers }
     requires width { (width ≡ 1) ⊎ (width ≡ 2) ⊎ (width ≡ 4) ⊎ (width ≡ 8) }
     requires validity { IsLongIfPresent (own_of node.now) }
@@ -111,7 +117,7 @@ fn dictionary_total(array: &RawArray) -> Option<i64>
 
 /// The first valid index that is no place of the dictionary.
 #[tactic(auto, using(layout_rules::proofs::Long::valid))]
-pub fn indices_wrong(kind: &DataType, node: &FormedNode) -> Option<Numbers>
+pub fn indices_wrong(kind: &DataType, node: &WellFormedNode) -> Option<Numbers>
     requires layout { node.now.layout ≡ layout_of kind.now }
     requires type_ok { KindOk kind.now }
     requires buffers { AreReadable node.now.layout (own_of node.now) }

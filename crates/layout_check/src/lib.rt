@@ -12,7 +12,7 @@
 //!
 //! The calls on arrays take no memory, and none writes. Numbers of bytes and places are computed without bounds, so no sum
 //! wraps. What the rules say, and what a lawful array promises to its reader, is in `layout_rules`, whose types are named here
-//! too. Left to others: the check of schemas (`schema_check`), the kinds that it answers (`kind_tree`, whose names are here
+//! too. Left to others: the check of schemas (`schema_check`), the kinds that it answers (`data_types`, whose names are here
 //! too), and whether an array is released, moved or shared in the right order.
 #![tactic(auto)]
 
@@ -36,6 +36,6 @@ pub use buffers::{missing, too_short};
 pub use children::first_short;
 pub use chunk::{check_chunk, chunk_passes, count_rows, nulls_of};
 pub use counts::{negative, window_too_long, wrong_count};
-pub use kind_tree::{DICTIONARY_STEP, Path, Typed, kinds_of_typed};
+pub use data_types::{DICTIONARY_STEP, Path, Typed, kinds_of_typed};
 pub use layout_rules::{Layout, LayoutFault, LayoutRule, Numbers};
 pub use walk::check_array;

@@ -8,7 +8,7 @@ ghost use Rattle.layout_rules.specs.Within.{AreThere};
 ghost use Rattle.layout_check.specs.NodeView.{own_of};
 ghost use Rattle.layout_check.specs.Scans.{sized_data, IsRun, AreMarks, MarksIn};
 
-use crate::node::FormedNode;
+use crate::node::WellFormedNode;
 use crate::runs::{Run, goes_on, rest_of, run_from};
 use crate::texts::is_text;
 use crate::views::{data_buffers, data_length, sized_data};
@@ -30,7 +30,7 @@ pub const NO_MARK: Mark = Mark {
 };
 
 /// The length of the blocks.
-fn block_size(node: &FormedNode) -> usize
+fn block_size(node: &WellFormedNode) -> usize
     requires buffers { 3 ≤ length (own_of node.now).buffers }
     requires lengths { lengths_need (own_of node.now) ≤ length (data_lengths (own_of node.now)) }
     ensures some { 1 ≤ result }
@@ -79,7 +79,7 @@ fn note_buffer(bytes: &[u8], k: usize, block: usize, marks: &mut [Mark], first: 
 }
 
 /// Notes the texts of all data buffers.
-pub fn note_all(node: &FormedNode, marks: &mut [Mark])
+pub fn note_all(node: &WellFormedNode, marks: &mut [Mark])
     requires buffers { 3 ≤ length (own_of node.now).buffers }
     requires lengths { lengths_need (own_of node.now) ≤ length (data_lengths (own_of node.now)) }
     requires named { AreThere (own_of node.now) }
@@ -114,7 +114,7 @@ fn lies_in_text(bytes: &[u8], k: usize, marks: &[Mark], from: usize, to: usize) 
     goes_on(bytes, marks[entry].run, from, to)
 }
 
-/// So many bytes of a data buffer from a place on are text: by the table where it says so, else read as a whole.
+/// This many bytes of a data buffer from a place on are text: by the table where it says so, else read as a whole.
 pub fn part_is_text(bytes: &[u8], k: usize, marks: &[Mark], from: usize, size: usize) -> bool
     requires within { from + size ≤ length bytes.now }
     requires marks { MarksIn bytes.now k marks.now }

@@ -11,7 +11,7 @@ use raw_array::RawArray;
 /// A live array of a layout: its length and its offset aren't below 0, and it has as many buffers as the layout wants.
 /// Where its window begins and ends is computed once.
 #[derive(Clone, Copy)]
-pub struct FormedNode<'a> {
+pub struct WellFormedNode<'a> {
     pub array: &'a RawArray,
     pub layout: Layout,
     /// The place of the window's first item.
@@ -24,13 +24,13 @@ pub struct FormedNode<'a> {
     ghost counted: { length (members_of array.now).buffers ≡ buffer_count layout (length (members_of array.now).buffers) },
 }
 
-impl<'a> FormedNode<'a> {
+impl<'a> WellFormedNode<'a> {
     ghost use Rattle.std.specs.Prelude.{◌<◌};
     ghost use Rattle.layout_rules.specs.Layout.{items, bytes};
     ghost use Rattle.layout_check.specs.NodeView.{own_of};
 
     /// The node of an array that the first rules hold of.
-    pub fn of(layout: Layout, array: &'a RawArray) -> FormedNode<'a>
+    pub fn of(layout: Layout, array: &'a RawArray) -> WellFormedNode<'a>
         requires live { IsLive array.now }
         requires length { pos 0 ≤ℤ (members_of array.now).length }
         requires offset { pos 0 ≤ℤ (members_of array.now).offset }
@@ -39,7 +39,7 @@ impl<'a> FormedNode<'a> {
         ensures layout { result.layout ≡ layout }
     {
         let start = array.offset() as u64;
-        FormedNode {
+        WellFormedNode {
             array,
             layout,
             start,

@@ -1,19 +1,19 @@
 //! The null items of a window, and the rule on their number.
 ghost use Rattle.std.specs.Prelude.{◌≡◌, None, not, ◌&&◌, ◌+◌, ◌*◌, ◌<◌, ◌==◌, pos, negsuc, length, Option};
 ghost use Rattle.std.specs.Ordering.{int_eq};
-ghost use Rattle.bit_pack.specs.Packed.{bit};
+ghost use Rattle.data_types.specs.Packed.{bit};
 ghost use Rattle.layout_check.specs.NodeView.{own_of};
 ghost use Rattle.layout_rules.specs.Layout.{items, is_valid, buffer_count, IsLongIfPresent};
 ghost use Rattle.layout_rules.specs.Rules.{fault_if, null_total, null_count_wrong, null_count_wrong_in, first_below, buffer_short};
 
-use crate::node::FormedNode;
+use crate::node::WellFormedNode;
 use bit_pack::{bit_at, count_clear};
 use layout_rules::Numbers;
 
 /// How many items of the window are null.
 #[inline(always)]
 #[tactic(auto, using(crate::proofs::NullSums::nulls))]
-pub fn null_total(node: &FormedNode) -> u64
+pub fn null_total(node: &WellFormedNode) -> u64
     requires validity { 0 < length (own_of node.now).buffers }
     requires long { IsLongIfPresent (own_of node.now) }
     ensures { result ≡ null_total (own_of node.now) (items (own_of node.now)) }
@@ -28,7 +28,7 @@ pub fn null_total(node: &FormedNode) -> u64
 }
 
 /// An item is null where its bit is clear.
-pub fn is_valid(node: &FormedNode, i: u64) -> bool
+pub fn is_valid(node: &WellFormedNode, i: u64) -> bool
     requires inside { i < items (own_of node.now) }
     requires buffers { 0 < length (own_of node.now).buffers }
     requires long { IsLongIfPresent (own_of node.now) }
@@ -63,7 +63,7 @@ fn known_count_wrong(found: i64, nulls: u64) -> Option<Numbers>
 }
 
 /// A number of nulls that is known has to be right. Nothing is counted where it isn't known.
-fn null_count_wrong(node: &FormedNode) -> Option<Numbers>
+fn null_count_wrong(node: &WellFormedNode) -> Option<Numbers>
     requires validity { 0 < length (own_of node.now).buffers }
     requires long { IsLongIfPresent (own_of node.now) }
     ensures { result ≡ null_count_wrong (own_of node.now) }
@@ -77,7 +77,7 @@ fn null_count_wrong(node: &FormedNode) -> Option<Numbers>
 
 /// The number of nulls, which is not tried where the layout has no buffer.
 #[tactic(auto, using(layout_rules::proofs::Long::valid, crate::proofs::NullSums::by_layout))]
-pub fn nulls_wrong(node: &FormedNode) -> Option<Numbers>
+pub fn nulls_wrong(node: &WellFormedNode) -> Option<Numbers>
     requires enough { first_below (buffer_short node.now.layout (own_of node.now)) (buffer_count node.now.layout (length (own_of node.now).buffers)) ≡ None }
     ensures { result ≡ null_count_wrong_in node.now.layout (own_of node.now) }
 {

@@ -1,7 +1,7 @@
 //! Scans over whole buffers that pass what is in order, so that items are looked at one by one only for a fault.
 ghost use Rattle.std.specs.Prelude.{◌≡◌, None, is_none, IsTrue, true, false, ◌⊎◌, ◌+◌, ◌-◌, ◌*◌, ◌^◌, ◌<◌, ◌≤◌, length, Option};
 ghost use Rattle.std.specs.Str.{IsCharBoundary};
-ghost use Rattle.bit_pack.specs.Packed.{offset_width};
+ghost use Rattle.data_types.specs.Packed.{offset_width};
 ghost use Rattle.layout_rules.specs.Layout.{natural};
 ghost use Rattle.layout_rules.specs.Rules.{first_below, falls_in};
 ghost use Rattle.layout_check.specs.Scans.{outside_in, AreBorders};
@@ -84,7 +84,7 @@ pub fn cut_between_characters(
     true
 }
 
-/// Each index, valid or not, is a place of a dictionary of so many items.
+/// Each index, valid or not, is a place of a dictionary of this many items.
 #[inline(always)]
 fn inside(width: usize, signed: bool, stored: &[u8], start: usize, len: usize, total: i64) -> bool
     requires fits { start + len < 2 ^ 64 }
@@ -102,7 +102,7 @@ fn inside(width: usize, signed: bool, stored: &[u8], start: usize, len: usize, t
     inside
 }
 
-/// Each index, valid or not, is a place of a dictionary of so many items.
+/// Each index, valid or not, is a place of a dictionary of this many items.
 pub fn indices_inside(
     width: usize,
     signed: bool,

@@ -2,7 +2,7 @@
 ghost use Rattle.std.specs.Prelude.{◌≡◌, ◌↔◌, None, is_none, IsTrue, IsUtf8, MatchResult, not, ◌+◌, ◌*◌, ◌^◌, ◌<◌, ◌≤◌, ◌≤ℤ◌, pos, length, Option};
 ghost use Rattle.std.specs.Str.{is_utf8};
 ghost use Rattle.std.specs.Str.Lossy.{utf8_valid_len};
-ghost use Rattle.bit_pack.specs.Packed.{offset_width};
+ghost use Rattle.data_types.specs.Packed.{offset_width};
 ghost use Rattle.layout_check.specs.NodeView.{AreReadable, own_of};
 ghost use Rattle.layout_rules.specs.Layout.{IsLongIfPresent, natural, data_between, layout_of, first, items, offset, end, data_of, bytes, offsets_need};
 ghost use Rattle.layout_rules.specs.Layout.{data_need};
@@ -11,7 +11,7 @@ ghost use Rattle.layout_rules.specs.Rules.{fault_if, first_below, offsets_fall, 
 ghost use Rattle.layout_rules.specs.Rules.{texts_wrong, views_misplaced};
 
 use crate::buffers::offset_of;
-use crate::node::FormedNode;
+use crate::node::WellFormedNode;
 use crate::nulls::is_valid;
 use crate::runs::is_border;
 use crate::scans::cut_between_characters;
@@ -20,7 +20,7 @@ use data_types::DataType;
 use layout_rules::Numbers;
 
 /// The place in the data at which an offset is.
-fn data_place(wide: bool, node: &FormedNode, place: u64) -> usize
+fn data_place(wide: bool, node: &WellFormedNode, place: u64) -> usize
     requires buffers { 1 < length (own_of node.now).buffers }
     requires long { (place + 1) * offset_width wide ≤ length (bytes (own_of node.now) 1) }
     requires from { pos 0 ≤ℤ offset wide (own_of node.now) place }
@@ -31,7 +31,7 @@ fn data_place(wide: bool, node: &FormedNode, place: u64) -> usize
 
 /// The data between the offsets at two places.
 #[tactic(auto, using(layout_rules::proofs::TextData::naturals))]
-fn data_between<'a>(wide: bool, node: &FormedNode<'a>, from: u64, to: u64) -> &'a [u8]
+fn data_between<'a>(wide: bool, node: &WellFormedNode<'a>, from: u64, to: u64) -> &'a [u8]
     requires buffers { 2 < length (own_of node.now).buffers }
     requires order { from ≤ to }
     requires long { (to + 1) * offset_width wide ≤ length (bytes (own_of node.now) 1) }
@@ -46,7 +46,7 @@ fn data_between<'a>(wide: bool, node: &FormedNode<'a>, from: u64, to: u64) -> &'
 }
 
 /// The data of an item.
-fn item_data<'a>(wide: bool, node: &FormedNode<'a>, i: u64) -> &'a [u8]
+fn item_data<'a>(wide: bool, node: &WellFormedNode<'a>, i: u64) -> &'a [u8]
     requires buffers { 2 < length (own_of node.now).buffers }
     requires inside { i < items (own_of node.now) }
     requires long { (end (own_of node.now) + 1) * offset_width wide ≤ length (bytes (own_of node.now) 1) }
@@ -96,7 +96,7 @@ pub fn not_utf8(i: u64, text: &[u8]) -> Option<Numbers>
     }
 }
 
-fn bad_text(wide: bool, node: &FormedNode, i: u64) -> Option<Numbers>
+fn bad_text(wide: bool, node: &WellFormedNode, i: u64) -> Option<Numbers>
     requires buffers { 2 < length (own_of node.now).buffers }
     requires inside { i < items (own_of node.now) }
     requires validity { IsLongIfPresent (own_of node.now) }
@@ -115,7 +115,7 @@ fn bad_text(wide: bool, node: &FormedNode, i: u64) -> Option<Numbers>
 
 /// The first valid item that isn't UTF-8, item by item.
 #[tactic(auto, using(layout_rules::proofs::TextData::items_lie))]
-pub(crate) fn first_bad_text(wide: bool, node: &FormedNode) -> Option<Numbers>
+pub(crate) fn first_bad_text(wide: bool, node: &WellFormedNode) -> Option<Numbers>
     requires buffers { 2 < length (own_of node.now).buffers }
     requires validity { IsLongIfPresent (own_of node.now) }
     requires long { offsets_need wide (end (own_of node.now)) ≤ length (bytes (own_of node.now) 1) }
@@ -133,7 +133,7 @@ pub(crate) fn first_bad_text(wide: bool, node: &FormedNode) -> Option<Numbers>
 
 /// The data between the offsets at the window's borders.
 #[tactic(auto, using(layout_rules::proofs::TextData::borders_lie))]
-fn used_data<'a>(wide: bool, node: &FormedNode<'a>) -> &'a [u8]
+fn used_data<'a>(wide: bool, node: &WellFormedNode<'a>) -> &'a [u8]
     requires buffers { 2 < length (own_of node.now).buffers }
     requires some { 0 < items (own_of node.now) }
     requires long { offsets_need wide (end (own_of node.now)) ≤ length (bytes (own_of node.now) 1) }
@@ -146,7 +146,7 @@ fn used_data<'a>(wide: bool, node: &FormedNode<'a>) -> &'a [u8]
 
 /// The used data is UTF-8: it lies between characters of a block that is marked as text, or it is read.
 #[tactic(auto, using(layout_rules::proofs::TextData::borders_lie))]
-fn used_is_text(wide: bool, node: &FormedNode, used: &[u8]) -> bool
+fn used_is_text(wide: bool, node: &WellFormedNode, used: &[u8]) -> bool
     requires buffers { 2 < length (own_of node.now).buffers }
     requires some { 0 < items (own_of node.now) }
     requires long { offsets_need wide (end (own_of node.now)) ≤ length (bytes (own_of node.now) 1) }
@@ -166,7 +166,7 @@ fn used_is_text(wide: bool, node: &FormedNode, used: &[u8]) -> bool
 
 /// The used data is UTF-8, and each item ends between two characters of it.
 #[tactic(auto, using(crate::proofs::Scanned::texts, layout_rules::proofs::TextData::borders_lie))]
-fn is_text_in_items(wide: bool, node: &FormedNode, used: &[u8]) -> bool
+fn is_text_in_items(wide: bool, node: &WellFormedNode, used: &[u8]) -> bool
     requires buffers { 2 < length (own_of node.now).buffers }
     requires some { 0 < items (own_of node.now) }
     requires long { offsets_need wide (end (own_of node.now)) ≤ length (bytes (own_of node.now) 1) }
@@ -190,7 +190,7 @@ fn is_text_in_items(wide: bool, node: &FormedNode, used: &[u8]) -> bool
 /// The used data passes as a whole: there is none, it is ASCII, or it is UTF-8 that is cut between characters.
 #[inline(always)]
 #[tactic(auto, using(crate::proofs::Scanned::texts))]
-fn passes_whole(wide: bool, node: &FormedNode) -> bool
+fn passes_whole(wide: bool, node: &WellFormedNode) -> bool
     requires buffers { 2 < length (own_of node.now).buffers }
     requires long { offsets_need wide (end (own_of node.now)) ≤ length (bytes (own_of node.now) 1) }
     requires data { data_need wide (own_of node.now) ≤ length (bytes (own_of node.now) 2) }
@@ -208,7 +208,7 @@ fn passes_whole(wide: bool, node: &FormedNode) -> bool
 }
 
 /// The first valid item that isn't UTF-8.
-fn text_wrong(wide: bool, node: &FormedNode) -> Option<Numbers>
+fn text_wrong(wide: bool, node: &WellFormedNode) -> Option<Numbers>
     requires buffers { 2 < length (own_of node.now).buffers }
     requires validity { IsLongIfPresent (own_of node.now) }
     requires long { offsets_need wide (end (own_of node.now)) ≤ length (bytes (own_of node.now) 1) }
@@ -225,7 +225,7 @@ fn text_wrong(wide: bool, node: &FormedNode) -> Option<Numbers>
 
 /// Whether each valid item is UTF-8, item by item. The place of a fault gets its room here, and so not at each node.
 #[inline(never)]
-fn all_are_texts(wide: bool, node: &FormedNode) -> bool
+fn all_are_texts(wide: bool, node: &WellFormedNode) -> bool
     requires buffers { 2 < length (own_of node.now).buffers }
     requires validity { IsLongIfPresent (own_of node.now) }
     requires long { offsets_need wide (end (own_of node.now)) ≤ length (bytes (own_of node.now) 1) }
@@ -238,7 +238,7 @@ fn all_are_texts(wide: bool, node: &FormedNode) -> bool
 
 /// Whether each valid text is UTF-8.
 #[tactic(auto, using(layout_rules::proofs::Long::long))]
-pub fn texts_pass(kind: &DataType, node: &FormedNode) -> bool
+pub fn texts_pass(kind: &DataType, node: &WellFormedNode) -> bool
     requires layout { node.now.layout ≡ layout_of kind.now }
     requires buffers { AreReadable node.now.layout (own_of node.now) }
     requires rise { offsets_fall_if (is_behind_offsets node.now.layout) (own_of node.now) ≡ None }
@@ -254,7 +254,7 @@ pub fn texts_pass(kind: &DataType, node: &FormedNode) -> bool
 
 /// The first valid text that isn't UTF-8.
 #[tactic(auto, using(layout_rules::proofs::Long::long))]
-pub fn texts_wrong(kind: &DataType, node: &FormedNode) -> Option<Numbers>
+pub fn texts_wrong(kind: &DataType, node: &WellFormedNode) -> Option<Numbers>
     requires layout { node.now.layout ≡ layout_of kind.now }
     requires buffers { AreReadable node.now.layout (own_of node.now) }
     requires rise { offsets_fall_if (is_behind_offsets node.now.layout) (own_of node.now) ≡ None }

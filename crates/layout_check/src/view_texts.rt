@@ -8,7 +8,7 @@ ghost use Rattle.layout_rules.specs.Within.{DataWithin, AreThere};
 ghost use Rattle.layout_check.specs.Scans.{AreTexts, AreMarks};
 
 use crate::marks::{ENTRIES, Mark, NO_MARK, note_all, part_is_text};
-use crate::node::FormedNode;
+use crate::node::WellFormedNode;
 use crate::nulls::is_valid;
 use crate::runs::is_border;
 use crate::texts::{is_text, not_utf8};
@@ -17,7 +17,7 @@ use crate::views::{
 };
 use layout_rules::Numbers;
 
-fn view_not_text(node: &FormedNode, i: u64) -> Option<Numbers>
+fn view_not_text(node: &WellFormedNode, i: u64) -> Option<Numbers>
     requires buffers { 3 ≤ length (own_of node.now).buffers }
     requires inside { i < items (own_of node.now) }
     requires long { end (own_of node.now) * view_width ≤ length (bytes_at (own_of node.now) 1) }
@@ -34,7 +34,7 @@ fn view_not_text(node: &FormedNode, i: u64) -> Option<Numbers>
 
 /// The first valid view whose bytes aren't UTF-8, from an item on before which there is none.
 #[tactic(auto, using(layout_rules::proofs::Placed::placed))]
-fn first_bad_text(node: &FormedNode, from: u64) -> Option<Numbers>
+fn first_bad_text(node: &WellFormedNode, from: u64) -> Option<Numbers>
     requires buffers { 3 ≤ length (own_of node.now).buffers }
     requires validity { IsLongIfPresent (own_of node.now) }
     requires long { end (own_of node.now) * view_width ≤ length (bytes_at (own_of node.now) 1) }
@@ -54,7 +54,7 @@ fn first_bad_text(node: &FormedNode, from: u64) -> Option<Numbers>
 
 /// Each data buffer is UTF-8, as far as its length goes.
 #[tactic(auto, using(crate::proofs::ViewsScanned::buffers))]
-fn are_texts(node: &FormedNode) -> bool
+fn are_texts(node: &WellFormedNode) -> bool
     requires buffers { 3 ≤ length (own_of node.now).buffers }
     requires lengths { lengths_need (own_of node.now) ≤ length (data_lengths (own_of node.now)) }
     requires named { AreThere (own_of node.now) }
@@ -70,7 +70,7 @@ fn are_texts(node: &FormedNode) -> bool
 
 /// A view of a text is a text: it is short and UTF-8, or cut from a data buffer that is.
 #[tactic(auto, using(crate::proofs::ViewsScanned::views))]
-fn is_cut_well(node: &FormedNode, i: u64) -> bool
+fn is_cut_well(node: &WellFormedNode, i: u64) -> bool
     requires buffers { 3 ≤ length (own_of node.now).buffers }
     requires inside { i < items (own_of node.now) }
     requires validity { IsLongIfPresent (own_of node.now) }
@@ -95,7 +95,7 @@ fn is_cut_well(node: &FormedNode, i: u64) -> bool
 
 /// Each view of a text is a text.
 #[tactic(auto, using(layout_rules::proofs::Placed::placed, layout_rules::proofs::Firsts::one_more))]
-fn are_cut_well(node: &FormedNode) -> bool
+fn are_cut_well(node: &WellFormedNode) -> bool
     requires buffers { 3 ≤ length (own_of node.now).buffers }
     requires validity { IsLongIfPresent (own_of node.now) }
     requires long { end (own_of node.now) * view_width ≤ length (bytes_at (own_of node.now) 1) }
@@ -117,7 +117,7 @@ fn are_cut_well(node: &FormedNode) -> bool
 
 /// A view is a text, where the table of the data buffers' texts says so or its bytes are read.
 #[tactic(auto, using(crate::proofs::ViewsScanned::views, crate::proofs::TextRuns::marked))]
-fn passes(node: &FormedNode, marks: &[Mark], i: u64) -> bool
+fn passes(node: &WellFormedNode, marks: &[Mark], i: u64) -> bool
     requires buffers { 3 ≤ length (own_of node.now).buffers }
     requires inside { i < items (own_of node.now) }
     requires validity { IsLongIfPresent (own_of node.now) }
@@ -142,7 +142,7 @@ fn passes(node: &FormedNode, marks: &[Mark], i: u64) -> bool
 
 /// How many views, from the first on, are texts, by the table of the data buffers' texts.
 #[tactic(auto, using(layout_rules::proofs::Placed::placed, layout_rules::proofs::Firsts::one_more))]
-fn passed_by(node: &FormedNode, marks: &[Mark]) -> u64
+fn passed_by(node: &WellFormedNode, marks: &[Mark]) -> u64
     requires buffers { 3 ≤ length (own_of node.now).buffers }
     requires validity { IsLongIfPresent (own_of node.now) }
     requires long { end (own_of node.now) * view_width ≤ length (bytes_at (own_of node.now) 1) }
@@ -163,7 +163,7 @@ fn passed_by(node: &FormedNode, marks: &[Mark]) -> u64
 
 /// How many views, from the first on, are texts.
 #[inline(never)]
-fn passed(node: &FormedNode) -> u64
+fn passed(node: &WellFormedNode) -> u64
     requires buffers { 3 ≤ length (own_of node.now).buffers }
     requires validity { IsLongIfPresent (own_of node.now) }
     requires long { end (own_of node.now) * view_width ≤ length (bytes_at (own_of node.now) 1) }
@@ -180,7 +180,7 @@ fn passed(node: &FormedNode) -> u64
 
 /// The first valid view whose bytes aren't UTF-8: none where the data buffers as a whole
 /// pass, else item by item, once those before it are passed by the table of the buffers' texts.
-pub fn view_text_wrong(node: &FormedNode) -> Option<Numbers>
+pub fn view_text_wrong(node: &WellFormedNode) -> Option<Numbers>
     requires buffers { 3 ≤ length (own_of node.now).buffers }
     requires validity { IsLongIfPresent (own_of node.now) }
     requires long { end (own_of node.now) * view_width ≤ length (bytes_at (own_of node.now) 1) }
@@ -198,7 +198,7 @@ pub fn view_text_wrong(node: &FormedNode) -> Option<Numbers>
 
 /// Whether each valid view's bytes are UTF-8. The place of a fault gets its room here, and so not at each node.
 #[inline(never)]
-pub fn view_texts_pass(node: &FormedNode) -> bool
+pub fn view_texts_pass(node: &WellFormedNode) -> bool
     requires buffers { 3 ≤ length (own_of node.now).buffers }
     requires validity { IsLongIfPresent (own_of node.now) }
     requires long { end (own_of node.now) * view_width ≤ length (bytes_at (own_of node.now) 1) }

@@ -1,6 +1,6 @@
 //! The rules on the places and the prefixes of views, item by item.
 ghost use Rattle.std.specs.Prelude.{◌≡◌, ◌==◌, is_none, ◌&&◌, not, nat_lt, None, IsTrue, true, ◌+◌, ◌*◌, ◌^◌, ◌<◌, ◌≤◌, ◌≤ℤ◌, pos, length, Option};
-ghost use Rattle.bit_pack.specs.Packed.{meant};
+ghost use Rattle.data_types.specs.Packed.{meant};
 ghost use Rattle.layout_check.specs.NodeView.{AreReadable, own_of};
 ghost use Rattle.layout_check.specs.Scans.{sized_data};
 ghost use Rattle.layout_rules.specs.Layout.{layout_of, items, end, bytes, is_valid, IsLongIfPresent, view_width, data_buffers, data_lengths};
@@ -10,7 +10,7 @@ ghost use Rattle.layout_rules.specs.Rules.{fault, fault_if, is_outside, first_be
 ghost use Rattle.layout_rules.specs.Rules.{prefixes_wrong};
 ghost use Rattle.layout_rules.specs.Within.{DataWithin, AreThere};
 
-use crate::node::FormedNode;
+use crate::node::WellFormedNode;
 use crate::nulls::is_valid;
 use bit_pack::{offset_at, unsigned_at};
 use layout_rules::{Layout, Numbers};
@@ -19,7 +19,7 @@ use layout_rules::{Layout, Numbers};
 pub const MOST_IN_VIEW: i64 = 12;
 
 /// How many data buffers there are.
-pub fn data_buffers(node: &FormedNode) -> usize
+pub fn data_buffers(node: &WellFormedNode) -> usize
     requires buffers { 3 ≤ length (own_of node.now).buffers }
     ensures count { result ≡ data_buffers (own_of node.now) }
     ensures few { result < 2 ^ 32 }
@@ -28,7 +28,7 @@ pub fn data_buffers(node: &FormedNode) -> usize
 }
 
 /// What the lengths say of a data buffer.
-pub fn data_length(node: &FormedNode, k: usize) -> u64
+pub fn data_length(node: &WellFormedNode, k: usize) -> u64
     requires buffers { 3 ≤ length (own_of node.now).buffers }
     requires inside { k < data_buffers (own_of node.now) }
     requires lengths { lengths_need (own_of node.now) ≤ length (data_lengths (own_of node.now)) }
@@ -40,7 +40,7 @@ pub fn data_length(node: &FormedNode, k: usize) -> u64
 }
 
 /// A data buffer as far as its length goes.
-pub fn sized_data<'a>(node: &FormedNode<'a>, k: usize) -> &'a [u8]
+pub fn sized_data<'a>(node: &WellFormedNode<'a>, k: usize) -> &'a [u8]
     requires buffers { 3 ≤ length (own_of node.now).buffers }
     requires inside { k < data_buffers (own_of node.now) }
     requires few { k < 2 ^ 63 }
@@ -52,7 +52,7 @@ pub fn sized_data<'a>(node: &FormedNode<'a>, k: usize) -> &'a [u8]
 }
 
 /// One of the four numbers of an item's view.
-fn view_word(node: &FormedNode, i: u64, word: usize) -> i64
+fn view_word(node: &WellFormedNode, i: u64, word: usize) -> i64
     requires buffers { 3 ≤ length (own_of node.now).buffers }
     requires inside { i < items (own_of node.now) }
     requires long { end (own_of node.now) * view_width ≤ length (bytes (own_of node.now) 1) }
@@ -63,7 +63,7 @@ fn view_word(node: &FormedNode, i: u64, word: usize) -> i64
     offset_at(node.bytes(1), place * 4 + word, false)
 }
 
-pub fn view_length(node: &FormedNode, i: u64) -> i64
+pub fn view_length(node: &WellFormedNode, i: u64) -> i64
     requires buffers { 3 ≤ length (own_of node.now).buffers }
     requires inside { i < items (own_of node.now) }
     requires long { end (own_of node.now) * view_width ≤ length (bytes (own_of node.now) 1) }
@@ -72,7 +72,7 @@ pub fn view_length(node: &FormedNode, i: u64) -> i64
     view_word(node, i, 0)
 }
 
-pub fn view_buffer(node: &FormedNode, i: u64) -> i64
+pub fn view_buffer(node: &WellFormedNode, i: u64) -> i64
     requires buffers { 3 ≤ length (own_of node.now).buffers }
     requires inside { i < items (own_of node.now) }
     requires long { end (own_of node.now) * view_width ≤ length (bytes (own_of node.now) 1) }
@@ -81,7 +81,7 @@ pub fn view_buffer(node: &FormedNode, i: u64) -> i64
     view_word(node, i, 2)
 }
 
-pub fn view_offset(node: &FormedNode, i: u64) -> i64
+pub fn view_offset(node: &WellFormedNode, i: u64) -> i64
     requires buffers { 3 ≤ length (own_of node.now).buffers }
     requires inside { i < items (own_of node.now) }
     requires long { end (own_of node.now) * view_width ≤ length (bytes (own_of node.now) 1) }
@@ -100,7 +100,7 @@ fn fault(i: u64, left: i128, right: i128) -> Option<Numbers>
     })
 }
 
-/// A number that is no place of so many.
+/// A number that is no place of this many.
 fn is_outside(total: usize, index: i64) -> bool
     requires { total < 2 ^ 32 }
     ensures { result ≡ is_outside (pos total) index }
@@ -108,7 +108,7 @@ fn is_outside(total: usize, index: i64) -> bool
     index < 0 || index >= total as i64
 }
 
-/// Data that end behind so many bytes.
+/// Data that end behind this many bytes.
 fn ends_behind(i: u64, size: u64, to: u64) -> Option<Numbers>
     ensures { result ≡ fault_if (nat_lt size to) i (pos to) (pos size) }
 {
@@ -121,7 +121,7 @@ fn ends_behind(i: u64, size: u64, to: u64) -> Option<Numbers>
 
 /// A long view that names no data.
 #[tactic(auto, using(layout_rules::proofs::Named::named))]
-fn named_outside(node: &FormedNode, i: u64) -> Option<Numbers>
+fn named_outside(node: &WellFormedNode, i: u64) -> Option<Numbers>
     requires buffers { 3 ≤ length (own_of node.now).buffers }
     requires inside { i < items (own_of node.now) }
     requires long { end (own_of node.now) * view_width ≤ length (bytes (own_of node.now) 1) }
@@ -143,7 +143,7 @@ fn named_outside(node: &FormedNode, i: u64) -> Option<Numbers>
 }
 
 /// A view with a length below 0, or a long one that names no data.
-fn view_outside(node: &FormedNode, i: u64) -> Option<Numbers>
+fn view_outside(node: &WellFormedNode, i: u64) -> Option<Numbers>
     requires buffers { 3 ≤ length (own_of node.now).buffers }
     requires inside { i < items (own_of node.now) }
     requires long { end (own_of node.now) * view_width ≤ length (bytes (own_of node.now) 1) }
@@ -160,7 +160,7 @@ fn view_outside(node: &FormedNode, i: u64) -> Option<Numbers>
     }
 }
 
-fn misplaced(node: &FormedNode, i: u64) -> Option<Numbers>
+fn misplaced(node: &WellFormedNode, i: u64) -> Option<Numbers>
     requires buffers { 3 ≤ length (own_of node.now).buffers }
     requires validity { IsLongIfPresent (own_of node.now) }
     requires inside { i < items (own_of node.now) }
@@ -176,7 +176,7 @@ fn misplaced(node: &FormedNode, i: u64) -> Option<Numbers>
 }
 
 /// The first valid view that names no data.
-pub fn first_misplaced(node: &FormedNode) -> Option<Numbers>
+pub fn first_misplaced(node: &WellFormedNode) -> Option<Numbers>
     requires buffers { 3 ≤ length (own_of node.now).buffers }
     requires validity { IsLongIfPresent (own_of node.now) }
     requires long { end (own_of node.now) * view_width ≤ length (bytes (own_of node.now) 1) }
@@ -192,7 +192,7 @@ pub fn first_misplaced(node: &FormedNode) -> Option<Numbers>
 }
 
 /// The bytes of an item.
-pub fn view_data<'a>(node: &FormedNode<'a>, i: u64) -> &'a [u8]
+pub fn view_data<'a>(node: &WellFormedNode<'a>, i: u64) -> &'a [u8]
     requires buffers { 3 ≤ length (own_of node.now).buffers }
     requires inside { i < items (own_of node.now) }
     requires long { end (own_of node.now) * view_width ≤ length (bytes (own_of node.now) 1) }
@@ -212,7 +212,7 @@ pub fn view_data<'a>(node: &FormedNode<'a>, i: u64) -> &'a [u8]
     }
 }
 
-fn view_prefix(node: &FormedNode, i: u64) -> u64
+fn view_prefix(node: &WellFormedNode, i: u64) -> u64
     requires buffers { 3 ≤ length (own_of node.now).buffers }
     requires inside { i < items (own_of node.now) }
     requires long { end (own_of node.now) * view_width ≤ length (bytes (own_of node.now) 1) }
@@ -233,7 +233,7 @@ fn other_prefix(i: u64, prefix: u64, begin: u64) -> Option<Numbers>
     }
 }
 
-fn prefix_wrong(node: &FormedNode, i: u64) -> Option<Numbers>
+fn prefix_wrong(node: &WellFormedNode, i: u64) -> Option<Numbers>
     requires buffers { 3 ≤ length (own_of node.now).buffers }
     requires inside { i < items (own_of node.now) }
     requires long { end (own_of node.now) * view_width ≤ length (bytes (own_of node.now) 1) }
@@ -251,7 +251,7 @@ fn prefix_wrong(node: &FormedNode, i: u64) -> Option<Numbers>
 
 /// The first valid long view whose prefix isn't how its data begin, once each valid view names some.
 #[tactic(auto, using(layout_rules::proofs::Placed::placed))]
-pub fn first_wrong_prefix(node: &FormedNode) -> Option<Numbers>
+pub fn first_wrong_prefix(node: &WellFormedNode) -> Option<Numbers>
     requires buffers { 3 ≤ length (own_of node.now).buffers }
     requires validity { IsLongIfPresent (own_of node.now) }
     requires long { end (own_of node.now) * view_width ≤ length (bytes (own_of node.now) 1) }
@@ -269,7 +269,7 @@ pub fn first_wrong_prefix(node: &FormedNode) -> Option<Numbers>
 
 /// Whether each valid view names data. The place of a fault gets its room here, and so not at each node that has no views.
 #[inline(never)]
-fn all_are_placed(node: &FormedNode) -> bool
+fn all_are_placed(node: &WellFormedNode) -> bool
     requires buffers { 3 ≤ length (own_of node.now).buffers }
     requires validity { IsLongIfPresent (own_of node.now) }
     requires long { end (own_of node.now) * view_width ≤ length (bytes (own_of node.now) 1) }
@@ -281,7 +281,7 @@ fn all_are_placed(node: &FormedNode) -> bool
 
 /// Whether each valid long view has the prefix of its data, once each valid view names some.
 #[inline(never)]
-fn all_prefixes_pass(node: &FormedNode) -> bool
+fn all_prefixes_pass(node: &WellFormedNode) -> bool
     requires buffers { 3 ≤ length (own_of node.now).buffers }
     requires validity { IsLongIfPresent (own_of node.now) }
     requires long { end (own_of node.now) * view_width ≤ length (bytes (own_of node.now) 1) }
@@ -295,7 +295,7 @@ fn all_prefixes_pass(node: &FormedNode) -> bool
 /// Whether views name data and have its prefixes, once the buffers are long enough.
 #[inline(always)]
 #[tactic(auto, using(layout_rules::proofs::Long::long))]
-pub fn views_pass(node: &FormedNode) -> bool
+pub fn views_pass(node: &WellFormedNode) -> bool
     requires buffers { AreReadable node.now.layout (own_of node.now) }
     ensures exact { result ≡ (is_none (views_misplaced node.now.layout (own_of node.now)) && is_none (prefixes_wrong node.now.layout (own_of node.now))) }
     ensures placed { IsTrue result → views_misplaced node.now.layout (own_of node.now) ≡ None }
@@ -308,7 +308,7 @@ pub fn views_pass(node: &FormedNode) -> bool
 
 /// The rule on the places of views, once the buffers are long enough.
 #[tactic(auto, using(layout_rules::proofs::Long::long))]
-pub fn views_misplaced(node: &FormedNode) -> Option<Numbers>
+pub fn views_misplaced(node: &WellFormedNode) -> Option<Numbers>
     requires buffers { AreReadable node.now.layout (own_of node.now) }
     ensures { result ≡ views_misplaced node.now.layout (own_of node.now) }
 {
@@ -320,7 +320,7 @@ pub fn views_misplaced(node: &FormedNode) -> Option<Numbers>
 
 /// The rule on prefixes, once each valid view names data.
 #[tactic(auto, using(layout_rules::proofs::Long::long))]
-pub fn prefixes_wrong(node: &FormedNode) -> Option<Numbers>
+pub fn prefixes_wrong(node: &WellFormedNode) -> Option<Numbers>
     requires buffers { AreReadable node.now.layout (own_of node.now) }
     requires placed { views_misplaced node.now.layout (own_of node.now) ≡ None }
     ensures { result ≡ prefixes_wrong node.now.layout (own_of node.now) }

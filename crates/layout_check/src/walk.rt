@@ -3,16 +3,16 @@ ghost use Rattle.std.specs.Prelude.{◌≡◌, IsOk, IsTrue, is_none, ◌↔◌,
 ghost use Rattle.std.specs.Global.{Box};
 ghost use Rattle.tree_model.specs.Tree.{IsLive, children_of, dictionary_of, trees, maybe_tree, Depth, depth_of_all, depth_of_maybe};
 ghost use Rattle.raw_array.specs.Members.{ArrayTree, members_of};
-ghost use Rattle.kind_tree.specs.Kinds.{NodesOk, AllNodesOk, DictNodesOk, TypedOk};
+ghost use Rattle.data_types.specs.KindTrees.{NodesOk, AllNodesOk, DictNodesOk, TypedOk, most_levels};
 ghost use Rattle.data_types.specs.Kinds.{KindOk};
 ghost use Rattle.layout_rules.specs.Rules.{one_if, indices_wrong, length_if};
-ghost use Rattle.kind_tree.specs.declared.typed.Typed.{out-Typed};
-ghost use Rattle.kind_tree.specs.TypedView.{typed_of, kids_of, dict_in};
+ghost use Rattle.data_types.specs.declared.typed.Typed.{out-Typed};
+ghost use Rattle.data_types.specs.TypedView.{typed_of, kids_of, dict_in};
 ghost use Rattle.layout_check.specs.NodeView.{live_node};
 ghost use Rattle.layout_rules.specs.Layout.{layout_of, buffer_count};
 ghost use Rattle.layout_rules.specs.Rules.{buffer_rules, form_rules, item_rules, offsets_fall_if, is_behind_offsets};
 ghost use Rattle.layout_check.specs.NodeView.{AreReadable, own_of};
-ghost use Rattle.kind_tree.specs.Ways.{steps_of, Steps};
+ghost use Rattle.data_types.specs.Ways.{steps_of, Steps};
 ghost use Rattle.layout_rules.specs.Found.{found};
 ghost use Rattle.layout_check.specs.FoundAt.{found_at};
 ghost use Rattle.layout_rules.specs.Walk.{LayoutOk, rules_fault, first_fault, fault_from, own_fault, children_fault, dictionary_fault};
@@ -22,12 +22,11 @@ use crate::children::children_short;
 use crate::counts::{buffers_wrong, children_wrong, dictionary_wrong, negative, window_too_long};
 use crate::failing::{Failing, ruled};
 use crate::indices::indices_wrong;
-use crate::node::FormedNode;
+use crate::node::WellFormedNode;
 use crate::nulls::nulls_wrong;
 use crate::texts::{texts_pass, texts_wrong};
 use crate::views::{prefixes_wrong, views_misplaced, views_pass};
-use data_types::DataType;
-use kind_tree::{DICTIONARY_STEP, Path, Typed};
+use data_types::{DICTIONARY_STEP, DataType, Path, Typed};
 use layout_rules::{LayoutFault, LayoutRule, Numbers, layout_of};
 use raw_array::RawArray;
 
@@ -74,14 +73,14 @@ fn own_passes(typed: &Typed, array: &RawArray) -> bool
     if !form_passes(typed, array) {
         return false;
     }
-    let node = FormedNode::of(layout_of(&typed.kind), array);
+    let node = WellFormedNode::of(layout_of(&typed.kind), array);
     readable_passes(typed, &node) && items_pass(typed, &node)
 }
 
 /// Whether the rules of a live node's buffers hold.
 #[inline(always)]
 #[tactic(auto, using(crate::proofs::Passes::node))]
-fn readable_passes(typed: &Typed, node: &FormedNode) -> bool
+fn readable_passes(typed: &Typed, node: &WellFormedNode) -> bool
     requires layout { node.now.layout ≡ layout_of (out-Typed typed.now).kind }
     ensures exact { (path : Steps) → result ≡ is_none (rules_fault buffer_rules path (live_node typed.now node.now.array.now)) }
     ensures buffers { IsTrue result → AreReadable node.now.layout (own_of node.now) }
@@ -93,7 +92,7 @@ fn readable_passes(typed: &Typed, node: &FormedNode) -> bool
 /// Whether the rules of a live node's items hold, once its buffers are long enough.
 #[inline(always)]
 #[tactic(auto, using(crate::proofs::Passes::node))]
-fn items_pass(typed: &Typed, node: &FormedNode) -> bool
+fn items_pass(typed: &Typed, node: &WellFormedNode) -> bool
     requires type_ok { KindOk (out-Typed typed.now).kind }
     requires layout { node.now.layout ≡ layout_of (out-Typed typed.now).kind }
     requires buffers { AreReadable node.now.layout (own_of node.now) }
@@ -111,7 +110,7 @@ fn items_pass(typed: &Typed, node: &FormedNode) -> bool
 
 /// Whether each valid index is a place of the dictionary. Nothing is looked at where the type has none.
 #[inline(always)]
-fn indices_pass(typed: &Typed, node: &FormedNode) -> bool
+fn indices_pass(typed: &Typed, node: &WellFormedNode) -> bool
     requires type_ok { KindOk (out-Typed typed.now).kind }
     requires layout { node.now.layout ≡ layout_of (out-Typed typed.now).kind }
     requires buffers { AreReadable node.now.layout (own_of node.now) }
@@ -123,7 +122,7 @@ fn indices_pass(typed: &Typed, node: &FormedNode) -> bool
 
 /// Whether each valid index is a place of the dictionary. The place of a fault gets its room here, and so not at each node.
 #[inline(never)]
-fn all_indices_pass(kind: &DataType, node: &FormedNode) -> bool
+fn all_indices_pass(kind: &DataType, node: &WellFormedNode) -> bool
     requires layout { node.now.layout ≡ layout_of kind.now }
     requires type_ok { KindOk kind.now }
     requires buffers { AreReadable node.now.layout (own_of node.now) }
@@ -184,7 +183,7 @@ fn dictionary_passes(dict: &Option<Box<Typed>>, array: &RawArray) -> bool
 #[cycle(check)]
 #[tactic(auto, using(crate::proofs::Faults::walks))]
 fn check_from(typed: &Typed, array: &RawArray, path: &mut Path) -> Result<(), Failing>
-    requires levels { path.old.depth + Depth (typed_of typed.now) ≤ 64 }
+    requires levels { path.old.depth + Depth (typed_of typed.now) ≤ most_levels }
     requires types { NodesOk (typed_of typed.now) }
     ensures fault { found_at (steps_of path.new) result ≡ fault_from (typed_of typed.now) (steps_of path.old) array.now }
     ensures way { OnOk result (steps_of path.new ≡ steps_of path.old) }
@@ -213,13 +212,13 @@ fn check_own(typed: &Typed, array: &RawArray) -> Result<(), Failing>
         return ruled(LayoutRule::Released, Some(none));
     }
     check_form(typed, array)?;
-    let node = FormedNode::of(layout_of(&typed.kind), array);
+    let node = WellFormedNode::of(layout_of(&typed.kind), array);
     check_buffers(typed, &node)?;
     check_items(typed, &node)
 }
 
 /// The rules of a live node's buffers.
-fn check_buffers(typed: &Typed, node: &FormedNode) -> Result<(), Failing>
+fn check_buffers(typed: &Typed, node: &WellFormedNode) -> Result<(), Failing>
     requires layout { node.now.layout ≡ layout_of (out-Typed typed.now).kind }
     ensures fault { (path : Steps) → found_at path result ≡ rules_fault buffer_rules path (live_node typed.now node.now.array.now) }
     ensures buffers { OnOk result (AreReadable node.now.layout (own_of node.now)) }
@@ -231,7 +230,7 @@ fn check_buffers(typed: &Typed, node: &FormedNode) -> Result<(), Failing>
 }
 
 /// The rules of a live node's items, once its buffers are long enough.
-fn check_items(typed: &Typed, node: &FormedNode) -> Result<(), Failing>
+fn check_items(typed: &Typed, node: &WellFormedNode) -> Result<(), Failing>
     requires type_ok { KindOk (out-Typed typed.now).kind }
     requires layout { node.now.layout ≡ layout_of (out-Typed typed.now).kind }
     requires buffers { AreReadable node.now.layout (own_of node.now) }
@@ -272,7 +271,7 @@ fn check_form(typed: &Typed, array: &RawArray) -> Result<(), Failing>
 /// The same of a part of the node, to which this step leads.
 #[cycle(check)]
 fn check_part(typed: &Typed, array: &RawArray, path: &mut Path, step: u32) -> Result<(), Failing>
-    requires levels { path.old.depth + 1 + Depth (typed_of typed.now) ≤ 64 }
+    requires levels { path.old.depth + 1 + Depth (typed_of typed.now) ≤ most_levels }
     requires types { NodesOk (typed_of typed.now) }
     ensures fault { found_at (steps_of path.new) result ≡ fault_from (typed_of typed.now) (steps_of path.old ++ step ∷ []) array.now }
     ensures way { OnOk result (steps_of path.new ≡ steps_of path.old) }
@@ -286,7 +285,7 @@ fn check_part(typed: &Typed, array: &RawArray, path: &mut Path, step: u32) -> Re
 
 #[cycle(check)]
 fn check_children(kids: &[Typed], array: &RawArray, path: &mut Path) -> Result<(), Failing>
-    requires levels { path.old.depth + 1 + depth_of_all (trees (map typed_of kids.now)) ≤ 64 }
+    requires levels { path.old.depth + 1 + depth_of_all (trees (map typed_of kids.now)) ≤ most_levels }
     requires types { AllNodesOk (trees (map typed_of kids.now)) }
     requires few { length kids.now < 2 ^ 32 - 1 }
     requires live { IsLive array.now }
@@ -307,7 +306,7 @@ fn check_dictionary(
     array: &RawArray,
     path: &mut Path,
 ) -> Result<(), Failing>
-    requires levels { path.old.depth + 1 + depth_of_maybe (maybe_tree (dict_in dict.now)) ≤ 64 }
+    requires levels { path.old.depth + 1 + depth_of_maybe (maybe_tree (dict_in dict.now)) ≤ most_levels }
     requires types { DictNodesOk (maybe_tree (dict_in dict.now)) }
     requires live { IsLive array.now }
     ensures fault { found_at (steps_of path.new) result ≡ dictionary_fault (dict_in dict.now) (steps_of path.old) (dictionary_of array.now) }

@@ -1,6 +1,7 @@
 pub mod Walks
 pub mod Firsts
 pub mod Lawful
+pub mod NamedRules
 pub mod Long
 pub mod TextData
 pub mod Roots

@@ -1,27 +1,26 @@
 -- The root of a lawful array, over one level of a tree of kinds.
-use Rattle.std.proofs.Common.{◌≡◌, ℕ, zero, suc, ◌<◌, ◌≤◌, ℤ, pos, negsuc, List, [], ◌∷◌, length, drop, Option, Some, None, refl, ap, ◌∙◌, sym, subst, arith}
+use Rattle.std.proofs.Common.{◌≡◌, ℕ, zero, suc, ◌<◌, ◌≤◌, ℤ, pos, negsuc, List, [], ◌∷◌, length, Option, Some, None, refl, ap, ◌∙◌, sym, subst, arith}
 use Rattle.std.specs.Prelude.{nat_lt, ◌≤ℤ◌, ◌^◌}
 use Rattle.data_types.specs.declared.kind.DataType.{DataType}
 use Rattle.tree_model.specs.Tree.{Released, Live, IsLive, Trees, trees, MaybeTree, maybe_tree, absent, present, tree_list, option_tree, children_of}
 use Rattle.tree_model.specs.Tree.{dictionary_of}
 use Rattle.tree_model.proofs.Lists.{tree_list-trees, trees-tree_list}
 use Rattle.raw_array.specs.Members.{ArrayMembers, ArrayTree, members_of}
-use Rattle.kind_tree.specs.declared.typed.Typed.{Typed, out-Typed}
-use Rattle.layout_rules.specs.declared.rule.LayoutRule.{LayoutRule}
+use Rattle.data_types.specs.declared.typed.Typed.{Typed, out-Typed}
 use Rattle.layout_rules.specs.declared.rule.LayoutRule.TheVariants as rules
-use Rattle.layout_rules.specs.declared.rule.Numbers.{Numbers}
-use Rattle.kind_tree.specs.Kinds.{KindTree}
-use Rattle.kind_tree.specs.TypedView.{typed_of, kids_of, kind_of, dict_in}
+use Rattle.data_types.specs.KindTrees.{KindTree}
+use Rattle.data_types.specs.TypedView.{typed_of, kids_of, kind_of, dict_in}
 use Rattle.layout_rules.specs.Layout.{layout_of, buffer_count, items, end, IsLongIfPresent}
-use Rattle.layout_rules.specs.Rules.{Node, fails, fault_if, count_wrong, is_negative, in_order, one_if, window_limit, first_below, buffer_absent, buffer_short}
+use Rattle.layout_rules.specs.Rules.{Node, fault_if, count_wrong, is_negative, in_order, one_if, window_limit, first_below, buffer_absent, buffer_short}
 use Rattle.layout_rules.specs.Rules.{offsets_fall_if, is_behind_offsets, items_need, child_short, length_if, indices_wrong, views_misplaced}
 use Rattle.layout_rules.specs.Values.{tree_items}
-use Rattle.kind_tree.specs.Ways.{Steps}
-use Rattle.layout_rules.specs.Walk.{LayoutOk, fault_from, own_fault, rules_fault, first_some, fault_by, fault_at, visit_fault, walk_below, walks_of}
+use Rattle.data_types.specs.Ways.{Steps}
+use Rattle.layout_rules.specs.Walk.{LayoutOk, fault_from, own_fault, rules_fault, first_some, visit_fault, walk_below, walks_of}
 use Rattle.layout_rules.specs.Walk.{walk_of}
-use Rattle.kind_tree.proofs.Levels.{typed_out}
+use Rattle.data_types.proofs.Levels.{typed_out}
 use Rattle.layout_rules.proofs.Long.{long-validity}
-use Rattle.layout_rules.proofs.Lawful.{lawful-first_fault, left-none, right-none}
+use Rattle.layout_rules.proofs.NamedRules.{AreMet, are-met}
+use Rattle.layout_rules.proofs.Lawful.{lawful-first_fault, left-none}
 
 -- ---- one level of a tree of kinds
 
@@ -98,27 +97,12 @@ is-live : (kind : DataType) (kids : Trees DataType) (dict : MaybeTree DataType) 
 is-live kind kids dict Released e = absurd (grind arith)
 is-live kind kids dict (Live own children dictionary) e = tt
 
-pub head : (node : Node) (rule : LayoutRule) (others : List LayoutRule) → rules_fault (rule ∷ others) [] node ≡ None → fails rule node ≡ None
-head node rule others e = not-at rule (fails rule node) (left-none (fault_by [] node rule) (rules_fault others [] node) e)
-  where
-    not-at : (rule : LayoutRule) (numbers : Option Numbers) → fault_at [] rule numbers ≡ None → numbers ≡ None
-    not-at rule None e = refl
-    not-at rule (Some numbers) e = grind arith
-
-pub tail : (node : Node) (rule : LayoutRule) (others : List LayoutRule) → rules_fault (rule ∷ others) [] node ≡ None → rules_fault others [] node ≡ None
-tail node rule others e = right-none (fault_by [] node rule) (rules_fault others [] node) (left-none (fault_by [] node rule) (rules_fault others [] node) e) e
-
 not_negative : (z : ℤ) → fault_if (is_negative z) 0 z (pos 0) ≡ None → pos 0 ≤ℤ z
 not_negative (pos n) e = grind arith
 not_negative (negsuc n) e = grind arith
 
 same_count : (found needed : ℕ) → count_wrong found needed ≡ None → found ≡ needed
 same_count found needed e = grind arith
-
-drop-none : (node : Node) (n : ℕ) (some : List LayoutRule) → rules_fault some [] node ≡ None → rules_fault (drop n some) [] node ≡ None
-drop-none node zero some e = e
-drop-none node (suc n) [] e = e
-drop-none node (suc n) (rule ∷ others) e = drop-none node n others (tail node rule others e)
 
 within_limit : (n limit : ℕ) → fault_if (nat_lt limit n) 0 (pos n) (pos limit) ≡ None → n ≤ limit
 within_limit n limit e = grind arith
@@ -145,66 +129,46 @@ module _ (t : Level) (array : ArrayTree) (h : LayoutOk (tree_in t) array) where
   pub root-live : IsLive array
   root-live = is-live t.kind (trees t.kids) (maybe_tree t.dict) array own-none
 
-  pub root-rules : rules_fault in_order [] (node_in t array) ≡ None
-  root-rules = sym (own_fault-level t [] array root-live) ∙ own-none
+  pub root-met : AreMet (node_in t array)
+  root-met = are-met [] (node_in t array) (sym (own_fault-level t [] array root-live) ∙ own-none)
 
   pub root-length : pos 0 ≤ℤ (members_of array).length
-  root-length = not_negative (members_of array).length (head (node_in t array) rules.NegativeLength (drop 1 in_order) root-rules)
+  root-length = not_negative (members_of array).length (root-met rules.NegativeLength)
 
   pub root-offset : pos 0 ≤ℤ (members_of array).offset
-  root-offset =
-      let node = node_in t array in
-      not_negative (members_of array).offset (head node rules.NegativeOffset (drop 2 in_order) (tail node rules.NegativeLength (drop 1 in_order) root-rules))
-
-  root-form : rules_fault (drop 2 in_order) [] (node_in t array) ≡ None
-  root-form =
-      let node = node_in t array in
-      tail node rules.NegativeOffset (drop 2 in_order) (tail node rules.NegativeLength (drop 1 in_order) root-rules)
+  root-offset = not_negative (members_of array).offset (root-met rules.NegativeOffset)
 
   pub root-count : length (members_of array).buffers ≡ buffer_count (layout_of t.kind) (length (members_of array).buffers)
-  root-count = same_count (length (members_of array).buffers) (buffer_count (layout_of t.kind) (length (members_of array).buffers))
-      (head (node_in t array) rules.BufferCount (drop 3 in_order) root-form)
+  root-count =
+      same_count (length (members_of array).buffers) (buffer_count (layout_of t.kind) (length (members_of array).buffers)) (root-met rules.BufferCount)
 
   pub root-short : first_below (buffer_short (layout_of t.kind) (members_of array)) (buffer_count (layout_of t.kind) (length (members_of array).buffers)) ≡ None
-  root-short =
-      let node = node_in t array in
-      head node rules.BufferShort (drop 7 in_order) (tail node rules.BufferAbsent (drop 6 in_order)
-      (tail node rules.Dictionary (drop 5 in_order)
-      (tail node rules.ChildCount (drop 4 in_order) (tail node rules.BufferCount (drop 3 in_order) root-form))))
+  root-short = root-met rules.BufferShort
 
   pub root-long : 0 < buffer_count (layout_of t.kind) (length (members_of array).buffers) → IsLongIfPresent (members_of array)
   root-long some = long-validity (layout_of t.kind) (members_of array) root-short some
 
-  root-dictionary_count : count_wrong (one_if (dictionary_of array)) (one_if t.dict) ≡ None
-  root-dictionary_count = head (node_in t array) rules.Dictionary (drop 5 in_order) (drop-none (node_in t array) 4 in_order root-rules)
-
-  root-child_count : count_wrong (length (children_of array)) (length t.kids) ≡ None
-  root-child_count = head (node_in t array) rules.ChildCount (drop 4 in_order) (drop-none (node_in t array) 3 in_order root-rules)
-
   pub root-absent : first_below (buffer_absent (layout_of t.kind) (members_of array)) (buffer_count (layout_of t.kind) (length (members_of array).buffers))
       ≡ None
-  root-absent = head (node_in t array) rules.BufferAbsent (drop 6 in_order) (drop-none (node_in t array) 5 in_order root-rules)
+  root-absent = root-met rules.BufferAbsent
 
   pub root-falls : offsets_fall_if (is_behind_offsets (layout_of t.kind)) (members_of array) ≡ None
-  root-falls = head (node_in t array) rules.OffsetsFall (drop 8 in_order) (drop-none (node_in t array) 7 in_order root-rules)
+  root-falls = root-met rules.OffsetsFall
 
   pub root-child_short : child_short (items_need (layout_of t.kind) (members_of array)) 0 (children_of array) ≡ None
-  root-child_short = head (node_in t array) rules.ChildShort (drop 9 in_order) (drop-none (node_in t array) 8 in_order root-rules)
+  root-child_short = root-met rules.ChildShort
 
   pub root-indices : indices_wrong t.kind (members_of array) (length_if (dictionary_of array)) ≡ None
-  root-indices = head (node_in t array) rules.IndexRange (drop 14 in_order) (drop-none (node_in t array) 13 in_order root-rules)
-
-  root-window : fault_if (nat_lt window_limit (end (members_of array))) 0 (pos (end (members_of array))) (pos window_limit) ≡ None
-  root-window = head (node_in t array) rules.WindowTooLong [] (drop-none (node_in t array) 14 in_order root-rules)
+  root-indices = root-met rules.IndexRange
 
   pub root-end : end (members_of array) ≤ 2 ^ 40
-  root-end = within_limit (end (members_of array)) window_limit root-window
+  root-end = within_limit (end (members_of array)) window_limit (root-met rules.WindowTooLong)
 
   pub root-children : length (children_of array) ≡ length t.kids
-  root-children = same_count (length (children_of array)) (length t.kids) root-child_count
+  root-children = same_count (length (children_of array)) (length t.kids) (root-met rules.ChildCount)
 
   pub root-dictionary : one_if (dictionary_of array) ≡ one_if t.dict
-  root-dictionary = same_count (one_if (dictionary_of array)) (one_if t.dict) root-dictionary_count
+  root-dictionary = same_count (one_if (dictionary_of array)) (one_if t.dict) (root-met rules.Dictionary)
 
   pub root-validity : length (members_of array).buffers ≡ buffer_count (layout_of t.kind) (length (members_of array).buffers)
       → IsLongIfPresent (members_of array)
@@ -212,4 +176,4 @@ module _ (t : Level) (array : ArrayTree) (h : LayoutOk (tree_in t) array) where
       (long-validity (layout_of t.kind) (members_of array) root-short)
 
   pub views-placed : views_misplaced (layout_of t.kind) (members_of array) ≡ None
-  views-placed = head (node_in t array) rules.ViewPlace (drop 11 in_order) (drop-none (node_in t array) 10 in_order root-rules)
+  views-placed = root-met rules.ViewPlace

@@ -5,7 +5,7 @@ use Rattle.data_types.specs.declared.kind.DataType.{DataType}
 use Rattle.data_types.specs.declared.kind.DataType.TheVariants as kinds
 use Rattle.tree_model.specs.Tree.{Tree, Released, Live, IsLive, MaybeTree, absent, present, option_tree, child_at}
 use Rattle.raw_array.specs.Members.{ArrayTree}
-use Rattle.kind_tree.specs.Kinds.{KindTree}
+use Rattle.data_types.specs.KindTrees.{KindTree}
 use Rattle.layout_rules.specs.Layout.{items, natural}
 use Rattle.layout_rules.specs.Rules.{null_total}
 use Rattle.layout_rules.specs.Walk.{LayoutOk, ChunkOk, root_fault, is_struct, is_absent}

@@ -4,9 +4,9 @@ use Rattle.std.specs.Option.{option_or}
 use Rattle.data_types.specs.declared.kind.DataType.{DataType}
 use Rattle.tree_model.specs.Tree.{Live, Released, trees, maybe_tree, IsLive, children_of, dictionary_of}
 use Rattle.raw_array.specs.Members.{ArrayTree}
-use Rattle.kind_tree.specs.Kinds.{KindTree}
-use Rattle.kind_tree.specs.Ways.{Steps}
-use Rattle.layout_rules.specs.Walk.{Fault, visits, walks_of, walk_of, walk_children, walk_dictionary, first_some}
+use Rattle.data_types.specs.KindTrees.{KindTree}
+use Rattle.data_types.specs.Ways.{Steps}
+use Rattle.layout_rules.specs.Walk.{visits, walks_of, walk_of, walk_children, walk_dictionary, first_some}
 use Rattle.layout_rules.specs.Walk.{visit_fault, fault_from, own_fault, children_fault, dictionary_fault}
 
 option_or-assoc : {X : Type 0} → (a b c : Option X) → option_or (option_or a b) c ≡ option_or a (option_or b c)

@@ -4,8 +4,8 @@ use Rattle.std.specs.Fmt.{signed_decimal}
 use Rattle.layout_rules.specs.declared.rule.LayoutFault.{LayoutFault}
 use Rattle.layout_rules.specs.declared.rule.LayoutRule.{LayoutRule}
 use Rattle.layout_rules.specs.declared.rule.LayoutRule.TheVariants as rules
-use Rattle.kind_tree.specs.WayTexts.{way_text}
-use Rattle.kind_tree.specs.Ways.{steps_of}
+use Rattle.data_types.specs.WayTexts.{way_text}
+use Rattle.data_types.specs.Ways.{steps_of}
 
 -- a rule's name
 abbrev pub rule_text : LayoutRule → List ℕ

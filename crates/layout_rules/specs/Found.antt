@@ -2,7 +2,7 @@
 use Rattle.std.specs.Prelude.{Option, None, Some, Result, Ok, Err}
 use Rattle.layout_rules.specs.declared.rule.LayoutFault.{LayoutFault}
 use Rattle.layout_rules.specs.Walk.{Fault}
-use Rattle.kind_tree.specs.Ways.{steps_of}
+use Rattle.data_types.specs.Ways.{steps_of}
 
 abbrev pub fault_of : LayoutFault → Fault
 fault_of f = record { path = steps_of f.path; rule = f.rule; numbers = record { place = f.place; left = f.left; right = f.right } }

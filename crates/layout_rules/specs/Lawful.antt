@@ -3,7 +3,7 @@ use Rattle.std.specs.Prelude.{◌≡◌, ℕ, ◌+◌, ◌^◌, ◌<◌, ◌≤�
 use Rattle.data_types.specs.declared.kind.DataType.TheVariants as kinds
 use Rattle.tree_model.specs.Tree.{IsLive, children_of, dictionary_of, child_at}
 use Rattle.raw_array.specs.Members.{ArrayTree, members_of}
-use Rattle.kind_tree.specs.Kinds.{KindTree, kind_in}
+use Rattle.data_types.specs.KindTrees.{KindTree, kind_in}
 use Rattle.layout_rules.specs.Layout.{layout_of, buffer_count, IsLongIfPresent, first, items, end}
 use Rattle.layout_rules.specs.Rules.{one_if, items_need, null_total}
 use Rattle.layout_rules.specs.Walk.{LayoutOk}

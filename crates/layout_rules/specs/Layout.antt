@@ -3,11 +3,10 @@
 use Rattle.std.specs.Prelude.{ℕ, zero, suc, ◌+◌, ◌-◌, ◌*◌, ◌≤◌, ◌/◌, ℤ, pos, negsuc, Bool, true, nat_lt, max, ◌==◌, ◌||◌, if◌then◌else◌, List, [], length, take}
 use Rattle.std.specs.Prelude.{drop, get_or, Option, Some, None}
 use Rattle.data_types.specs.declared.kind.DataType.{DataType}
-use Rattle.data_types.specs.declared.kind.Tick.{Tick}
 use Rattle.data_types.specs.declared.storage.Storage.{Storage}
 use Rattle.data_types.specs.declared.storage.Storage.TheVariants as stored
-use Rattle.data_types.specs.Storage.{storage_of, time_bits}
-use Rattle.bit_pack.specs.Packed.{bit, number_at, meant, offset_width}
+use Rattle.data_types.specs.Storage.{storage_of}
+use Rattle.data_types.specs.Packed.{bit, number_at, meant, offset_width}
 use Rattle.raw_array.specs.Members.{ArrayMembers, bytes_in}
 use Rattle.layout_rules.specs.declared.layout.Layout.{Layout}
 use Rattle.layout_rules.specs.declared.layout.Layout.TheVariants.{NoBuffers, FixedWidth, TruthBits, ByOffsets, ListOffsets, FixedItems, ByChildren, Views}
@@ -28,10 +27,7 @@ laid_out (stored.Views text) = Views
 abbrev pub layout_of : DataType → Layout
 layout_of kind = laid_out (storage_of kind)
 
-abbrev pub time_width : Tick → ℕ
-time_width tick = time_bits tick / 8
-
--- how many buffers an array with so many must have: of views as many as it has, and at least validity, the views and the
+-- how many buffers an array with this many must have: of views as many as it has, and at least validity, the views and the
 -- lengths
 abbrev pub buffer_count : Layout → ℕ → ℕ
 buffer_count NoBuffers found = 0

@@ -7,13 +7,13 @@ use Rattle.std.specs.Str.{is_utf8}
 use Rattle.std.specs.Str.Lossy.{utf8_valid_len}
 use Rattle.data_types.specs.declared.kind.DataType.{DataType}
 use Rattle.data_types.specs.declared.kind.DataType.TheVariants as kinds
-use Rattle.bit_pack.specs.Packed.{number_at}
+use Rattle.data_types.specs.Packed.{number_at}
 use Rattle.tree_model.specs.Tree.{Released, Live}
 use Rattle.raw_array.specs.Members.{ArrayMembers, ArrayTree}
 use Rattle.layout_rules.specs.declared.rule.LayoutRule.{LayoutRule}
 use Rattle.layout_rules.specs.declared.rule.LayoutRule.TheVariants as rules
 use Rattle.layout_rules.specs.declared.rule.Numbers.{Numbers}
-use Rattle.kind_tree.specs.Kinds.{KindTree}
+use Rattle.data_types.specs.KindTrees.{KindTree}
 use Rattle.layout_rules.specs.Layout.{is_valid, layout_of, buffer_count, need, bytes, buffer, offset, offset_in, first, items, end, natural, data_of}
 use Rattle.layout_rules.specs.Layout.{data_buffers, data_length, stored_number}
 use Rattle.layout_rules.specs.Views.{view_length, view_prefix, view_buffer, view_offset, view_data, is_long}
@@ -49,7 +49,7 @@ one_if (Some x) = 1
 one_if None = 0
 
 -- ---- buffers
--- an absent buffer of which so many bytes are needed
+-- an absent buffer of which this many bytes are needed
 abbrev pub missing : ℕ → ArrayMembers → ℕ → Option Numbers
 missing needed own k = fault_if (not (is_some (buffer own k)) && nat_lt 0 needed) k (pos 0) (pos needed)
 
@@ -163,7 +163,7 @@ texts_wrong (kinds.Utf8 wide) own = first_below (not_text wide own) (items own)
 texts_wrong kinds.Utf8View own = first_below (view_not_text own) (items own)
 texts_wrong _ own = None
 
--- an index, valid or not, that is no place of a dictionary of so many items
+-- an index, valid or not, that is no place of a dictionary of this many items
 abbrev pub is_outside : ℤ → ℤ → Bool
 is_outside total index = is_negative index || not (int_lt index total)
 

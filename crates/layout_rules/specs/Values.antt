@@ -1,24 +1,24 @@
 -- The values of a lawful array ("Arrow Columnar Format").
-use Rattle.std.specs.Prelude.{ℕ, zero, suc, ◌+◌, ◌-◌, ◌*◌, ◌/◌, Bool, true, false, ◌==◌, if◌then◌else◌, List, [], ◌∷◌, Option, Some, None}
+use Rattle.std.specs.Prelude.{ℕ, zero, suc, ◌+◌, ◌-◌, ◌*◌, ◌/◌, Bool, false, ◌==◌, if◌then◌else◌, List, [], ◌∷◌, Option, Some, None}
 use Rattle.data_types.specs.declared.kind.DataType.{DataType}
 use Rattle.data_types.specs.declared.kind.DataType.TheVariants as kinds
-use Rattle.bit_pack.specs.Packed.{bit}
+use Rattle.data_types.specs.declared.storage.Storage.{Storage}
+use Rattle.data_types.specs.declared.storage.Storage.TheVariants as stored
+use Rattle.data_types.specs.Storage.{storage_of}
+use Rattle.data_types.specs.Packed.{bit}
 use Rattle.data_types.specs.Table.{Row}
 use Rattle.data_types.specs.Value.{Value, values}
 use Rattle.data_types.specs.Value.Value.{Null, Truth, Whole, Bits, Bytes, Items, Fields}
 use Rattle.tree_model.specs.Tree.{Released, Live, Trees, no_trees, more_trees, MaybeTree, absent, present, tree_list, option_tree}
 use Rattle.raw_array.specs.Members.{ArrayMembers, ArrayTree}
-use Rattle.kind_tree.specs.Kinds.{KindTree}
-use Rattle.layout_rules.specs.Layout.{first, items, bytes, is_valid, natural, offset, data_of, time_width, stored_bytes, stored_number}
+use Rattle.data_types.specs.KindTrees.{KindTree}
+use Rattle.layout_rules.specs.Layout.{first, items, bytes, is_valid, natural, offset, data_of, stored_bytes, stored_number}
 use Rattle.layout_rules.specs.Views.{view_data}
 
--- f at each of the numbers from a on, so many of them
+-- f at each of the numbers from a on, this many of them
 abbrev pub each : {X : Type 0} → (ℕ → X) → ℕ → ℕ → List X
 each f a zero = []
 each f a (suc n) = f a ∷ each f (suc a) n
-
-abbrev pub whole : ℕ → ArrayMembers → ℕ → Value
-whole width a i = Whole (stored_number width true a i)
 
 -- ---- any item
 
@@ -49,31 +49,22 @@ listed wide kids a children i =
     let next = natural (offset wide a (first a + i + 1)) in
     Items (values (each (child_item kids children) here (next - here)))
 
--- an item that isn't null
+-- an item that isn't null, by how the items are stored
+abbrev pub stored_item : Storage → List Reader → ArrayMembers → List ArrayTree → ℕ → Value
+stored_item stored.Nothing kids a children i = Null
+stored_item stored.Truths kids a children i = Truth (bit (bytes a 1) (first a + i) == 1)
+stored_item (stored.Wholes bits signed) kids a children i = Whole (stored_number (bits / 8) signed a i)
+stored_item (stored.Floats bits) kids a children i = Bits (natural (stored_number (bits / 8) false a i))
+stored_item (stored.Sized size) kids a children i = Bytes (stored_bytes size a i)
+stored_item (stored.Between wide text) kids a children i = Bytes (data_of wide a i)
+stored_item (stored.Views text) kids a children i = Bytes (view_data a i)
+stored_item (stored.Lists wide) kids a children i = listed wide kids a children i
+stored_item (stored.FixedLists size) kids a children i = Items (values (each (child_item kids children) ((first a + i) * size) size))
+stored_item stored.Children kids a children i = Fields (values (field_items kids children (first a + i)))
+
+-- the same of a type
 abbrev pub item : DataType → List Reader → ArrayMembers → List ArrayTree → ℕ → Value
-item kinds.Null kids a children i = Null
-item kinds.Bool kids a children i = Truth (bit (bytes a 1) (first a + i) == 1)
-item (kinds.Int width signed) kids a children i = Whole (stored_number (width / 8) signed a i)
-item (kinds.Float width) kids a children i = Bits (natural (stored_number (width / 8) false a i))
-item (kinds.Binary wide) kids a children i = Bytes (data_of wide a i)
-item (kinds.Utf8 wide) kids a children i = Bytes (data_of wide a i)
-item (kinds.FixedBinary size) kids a children i = Bytes (stored_bytes size a i)
-item (kinds.Decimal precision scale false) kids a children i = whole 16 a i
-item (kinds.Decimal precision scale true) kids a children i = Bytes (stored_bytes 32 a i)
-item kinds.DateDay kids a children i = whole 4 a i
-item kinds.DateMilli kids a children i = whole 8 a i
-item (kinds.TimeOfDay tick) kids a children i = whole (time_width tick) a i
-item (kinds.Timestamp tick zone) kids a children i = whole 8 a i
-item (kinds.Duration tick) kids a children i = whole 8 a i
-item kinds.IntervalMonths kids a children i = whole 4 a i
-item kinds.IntervalDayTime kids a children i = Bytes (stored_bytes 8 a i)
-item kinds.IntervalMonthDayNano kids a children i = Bytes (stored_bytes 16 a i)
-item (kinds.List wide) kids a children i = listed wide kids a children i
-item (kinds.FixedList size) kids a children i = Items (values (each (child_item kids children) ((first a + i) * size) size))
-item kinds.Struct kids a children i = Fields (values (field_items kids children (first a + i)))
-item kinds.Map kids a children i = listed false kids a children i
-item kinds.BinaryView kids a children i = Bytes (view_data a i)
-item kinds.Utf8View kids a children i = Bytes (view_data a i)
+item kind kids a children i = stored_item (storage_of kind) kids a children i
 
 -- ---- the items of an array
 -- the item of an array with a dictionary is the dictionary's item at the stored index

@@ -2,7 +2,7 @@
 -- length. Of an item of at most 12 bytes the others are these bytes, padded; of a longer one they are its first four bytes,
 -- the number of a data buffer, and where in that buffer the item begins.
 use Rattle.std.specs.Prelude.{ℕ, ◌+◌, ◌*◌, ℤ, pos, Bool, true, int_lt, if◌then◌else◌, List, take, drop}
-use Rattle.bit_pack.specs.Packed.{number_at, meant}
+use Rattle.data_types.specs.Packed.{number_at, meant}
 use Rattle.raw_array.specs.Members.{ArrayMembers}
 use Rattle.layout_rules.specs.Layout.{natural, first, bytes, view_width, data_place}
 

@@ -8,8 +8,8 @@ use Rattle.raw_array.specs.Members.{ArrayTree}
 use Rattle.layout_rules.specs.declared.rule.LayoutRule.{LayoutRule}
 use Rattle.layout_rules.specs.declared.rule.LayoutRule.TheVariants as rules
 use Rattle.layout_rules.specs.declared.rule.Numbers.{Numbers}
-use Rattle.kind_tree.specs.Kinds.{KindTree}
-use Rattle.kind_tree.specs.Ways.{Steps, dictionary_step}
+use Rattle.data_types.specs.KindTrees.{KindTree}
+use Rattle.data_types.specs.Ways.{Steps, dictionary_step}
 use Rattle.layout_rules.specs.Layout.{items, layout_of}
 use Rattle.layout_rules.specs.Rules.{Node, fails, in_order, null_total, null_items}
 

@@ -3,7 +3,7 @@
 use Rattle.std.specs.Prelude.{ℕ, ◌+◌, ◌*◌, ◌/◌, ◌<◌, ◌≤◌, ◌≤ℤ◌, pos, Bool, IsTrue, List, length}
 use Rattle.data_types.specs.declared.kind.DataType.{DataType}
 use Rattle.data_types.specs.declared.kind.DataType.TheVariants as kinds
-use Rattle.bit_pack.specs.Packed.{offset_width}
+use Rattle.data_types.specs.Packed.{offset_width}
 use Rattle.raw_array.specs.Members.{ArrayMembers, ArrayTree}
 use Rattle.layout_rules.specs.declared.layout.Layout.{Layout}
 use Rattle.layout_rules.specs.declared.layout.Layout.TheVariants.{NoBuffers, FixedWidth, TruthBits, ByOffsets, ListOffsets, FixedItems, ByChildren, Views}
@@ -28,7 +28,7 @@ StoredWithin (FixedItems size) own place = Unit {0}
 StoredWithin ByChildren own place = Unit {0}
 StoredWithin Views own place = (place + 1) * view_width ≤ length (bytes own 1)
 
--- what a child of so many items has of the item at a place
+-- what a child of this many items has of the item at a place
 abbrev pub ItemsWithin : Layout → ArrayMembers → ℕ → ℕ → Type 0
 ItemsWithin (ListOffsets wide) own place total = natural (offset wide own (place + 1)) ≤ total
 ItemsWithin (FixedItems size) own place total = (place + 1) * size ≤ total

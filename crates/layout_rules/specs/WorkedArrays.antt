@@ -6,8 +6,8 @@ use Rattle.tree_model.specs.Tree.{Live, no_trees, more_trees, absent, present}
 use Rattle.raw_array.specs.declared.array.ReleaseKind.TheVariants.{Exported}
 use Rattle.raw_array.specs.Members.{ArrayTree, ArrayMembers, Buffer}
 use Rattle.layout_rules.specs.declared.rule.LayoutRule.{LayoutRule}
-use Rattle.kind_tree.specs.Kinds.{KindTree}
-use Rattle.kind_tree.specs.Ways.{Steps}
+use Rattle.data_types.specs.KindTrees.{KindTree}
+use Rattle.data_types.specs.Ways.{Steps}
 use Rattle.layout_rules.specs.Walk.{Fault}
 
 abbrev pub faulty : Steps → LayoutRule → ℕ → ℤ → ℤ → Option Fault

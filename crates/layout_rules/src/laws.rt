@@ -2,9 +2,9 @@
 ghost use Rattle.std.specs.Prelude.{◌≡◌, ◌↔◌, None, Some, IsTrue, is_none, ◌≤ℤ◌, pos, ℕ, ◌+◌, ◌^◌, ◌<◌, ◌≤◌, length, get_or};
 ghost use Rattle.tree_model.specs.Tree.{Released, IsLive, child_at, children_of, dictionary_of};
 ghost use Rattle.raw_array.specs.Members.{ArrayTree, members_of};
-ghost use Rattle.kind_tree.specs.declared.typed.Typed.{out-Typed};
-ghost use Rattle.kind_tree.specs.Kinds.{KindTree};
-ghost use Rattle.kind_tree.specs.TypedView.{typed_of, kind_of, kids_of, dict_in};
+ghost use Rattle.data_types.specs.declared.typed.Typed.{out-Typed};
+ghost use Rattle.data_types.specs.KindTrees.{KindTree};
+ghost use Rattle.data_types.specs.TypedView.{typed_of, kind_of, kids_of, dict_in};
 ghost use Rattle.layout_rules.specs.Layout.{layout_of, buffer_count, IsLongIfPresent, first, items, end};
 ghost use Rattle.layout_rules.specs.Rules.{one_if, items_need};
 ghost use Rattle.layout_rules.specs.Walk.{LayoutOk, ChunkOk, first_fault};
@@ -12,7 +12,7 @@ ghost use Rattle.layout_rules.specs.Values.{tree_items, rows_of};
 ghost use Rattle.layout_rules.specs.Lawful.{RootHolds, PartsHold, ItemsHold, ChunkHolds};
 ghost use Rattle.layout_rules.specs.Within.{StoredWithin, ViewWithin, ItemsWithin, IndexWithin};
 
-use kind_tree::Typed;
+use data_types::Typed;
 use raw_array::RawArray;
 
 /// A law: an array is lawful exactly where it has no first fault.

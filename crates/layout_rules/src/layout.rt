@@ -10,7 +10,7 @@ use data_types::{DataType, Storage, storage_of};
 pub enum Layout {
     /// No buffer at all, and each item is null.
     NoBuffers,
-    /// Validity, and items of so many bytes.
+    /// Validity, and items of this many bytes.
     FixedWidth { width: u32 },
     /// Validity, and a bit an item.
     TruthBits,
@@ -18,7 +18,7 @@ pub enum Layout {
     ByOffsets { wide: bool },
     /// Validity, and offsets into the one child.
     ListOffsets { wide: bool },
-    /// Validity, and so many items of the one child for each item.
+    /// Validity, and this many items of the one child for each item.
     FixedItems { size: u32 },
     /// Validity, and an item of each child.
     ByChildren,
@@ -45,7 +45,7 @@ pub fn layout_of(kind: &DataType) -> Layout
     }
 }
 
-/// How many buffers an array with so many must have.
+/// How many buffers an array with this many must have.
 pub fn buffer_count(layout: Layout, found: usize) -> usize
     ensures { result ≡ buffer_count layout found }
 {

@@ -9,7 +9,7 @@
 //!
 //! What the rules say stands in `specs/Rules.antt`, the walk over arrays in `specs/Walk.antt`, and what the values of a lawful
 //! array are in `specs/Values.antt`; [`small_arrays`] computes them on examples. Left to others: the check itself
-//! (`layout_check`), the kinds of a schema (`kind_tree`), and reading the values (`arr_import`).
+//! (`layout_check`), the kinds of a schema (`data_types`), and reading the values (`arr_import`).
 #![tactic(auto)]
 
 mod fault_text;

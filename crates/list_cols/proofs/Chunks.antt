@@ -9,13 +9,13 @@ use Rattle.data_types.specs.declared.kind.DataType.{DataType}
 use Rattle.data_types.specs.declared.kind.DataType.TheVariants as kinds
 use Rattle.tree_model.specs.Tree.{Released, Live, IsLive, Trees, no_trees, more_trees, tree_list, child_at, children_of}
 use Rattle.raw_array.specs.Members.{ArrayTree, members_of}
-use Rattle.kind_tree.specs.Kinds.{KindTree, kind_in}
+use Rattle.data_types.specs.KindTrees.{KindTree, kind_in}
 use Rattle.layout_rules.specs.Layout.{first, layout_of}
 use Rattle.layout_rules.specs.Lawful.{ChunkHolds, ItemsHold, PartsHold, RootHolds}
 use Rattle.layout_rules.specs.Rules.{items_need}
 use Rattle.layout_rules.specs.Values.{each, field_items, readers, row_items, rows_of, tree_items, value_at}
 use Rattle.layout_rules.specs.Walk.{ChunkOk, LayoutOk}
-use Rattle.column_gather.specs.Gathered.{values_of_runs}
+use Rattle.column_fill.specs.Gathered.{values_of_runs}
 use Rattle.list_cols.specs.Exploded.{exploded_kinds, item_kind}
 use Rattle.list_cols.specs.Listed.{listed, run_of}
 use Rattle.list_cols.specs.Nested.{Explode, items_in}

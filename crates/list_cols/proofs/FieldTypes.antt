@@ -6,7 +6,7 @@ use Rattle.data_types.specs.declared.kind.DataType.TheVariants as kinds
 use Rattle.tree_model.specs.Tree.{Released, Live, Trees, IsLive, no_trees, more_trees, absent, present, trees, tree_list, child_at, children_of, dictionary_of}
 use Rattle.tree_model.proofs.Lists.{trees-tree_list}
 use Rattle.raw_schema.specs.Members.{SchemaMembers, SchemaTree}
-use Rattle.kind_tree.specs.Kinds.{KindTree, kind_in}
+use Rattle.data_types.specs.KindTrees.{KindTree, kind_in}
 use Rattle.schema_check.specs.Schemas.{KidsTyped, NodeIs, TypedFrom, TypedOf}
 use Rattle.arr_export.specs.ArrayTrees.{flat_type}
 use Rattle.list_cols.specs.Exploded.{exploded_type, item_kind}

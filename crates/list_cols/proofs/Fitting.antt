@@ -11,14 +11,15 @@ use Rattle.data_types.specs.declared.kind.DataType.TheVariants as kinds
 use Rattle.tree_model.specs.Tree.{Released, Live, no_trees, more_trees, child_at, children_of}
 use Rattle.raw_array.specs.Members.{ArrayTree}
 use Rattle.col_build.specs.Encoding.{Fits, HasForm, are_bounded, are_within, is_wide}
-use Rattle.kind_tree.specs.ColumnKinds.{type_of_kind}
-use Rattle.kind_tree.specs.Kinds.{KindTree}
+use Rattle.data_types.specs.ColumnKinds.{type_of_kind}
+use Rattle.data_types.specs.KindTrees.{KindTree}
 use Rattle.layout_rules.specs.Values.{rows_of}
-use Rattle.lawful_values.specs.Items.{IsItemOf}
+use Rattle.array_laws.specs.Items.{IsItemOf}
 use Rattle.list_cols.specs.declared.fault.ListFault.{ListFault}
 use Rattle.list_cols.specs.declared.fault.ListFault.TheVariants.{WrongKind, TooLong, NoMemory}
 use Rattle.list_cols.specs.Exploded.{exploded_kinds}
-use Rattle.list_cols.specs.Faults.{explodes, first_wrong, is_flat_column, is_flat_list}
+use Rattle.list_cols.specs.Faults.{explodes, first_wrong, is_flat_list}
+use Rattle.column_fill.specs.FlatColumns.{is_flat_column}
 use Rattle.list_cols.specs.Listed.{HasTotal}
 use Rattle.list_cols.specs.Nested.{Explode}
 use Rattle.list_cols.specs.Reaching.{IsHeld, IsLong, IsReached, OffsetsAre, wide_of}
@@ -105,7 +106,7 @@ item-flat (Live _ kids dict) e = absurd (cc)
 
 -- ---- a column of values of these kinds
 
--- what `lawful_values` says of an array's items
+-- what `lawful_values_fit` says of an array's items
 abbrev pub FitLaw : KindTree → ArrayTree → Type 0
 FitLaw typed array =
     (kind : DataType) (values : List Value) → typed ≡ type_of_kind (Flat kind) → HasForm (form_of kind) → All (IsItemOf typed array) values

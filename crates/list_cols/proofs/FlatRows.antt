@@ -8,8 +8,8 @@ use Rattle.data_types.specs.Parts.{column_values}
 use Rattle.data_types.specs.Table.{Row}
 use Rattle.data_types.specs.Value.{Value, Null}
 use Rattle.col_build.specs.Encoding.{Fits}
-use Rattle.kind_tree.specs.ColumnKinds.{table_type}
-use Rattle.kind_tree.specs.Kinds.{KindTree}
+use Rattle.data_types.specs.ColumnKinds.{table_type}
+use Rattle.data_types.specs.KindTrees.{KindTree}
 use Rattle.layout_rules.specs.Values.{rows_of}
 use Rattle.layout_rules.specs.Walk.{ChunkOk}
 use Rattle.arr_export.specs.ArrayTrees.{flat_type, rows_of_values, table_tree}

@@ -11,10 +11,11 @@ use Rattle.tree_model.specs.Tree.{Depth, Released, Live, IsLive, no_trees, more_
 use Rattle.tree_model.proofs.Lists.{tree_list-trees}
 use Rattle.arr_import.proofs.Reading.{kid-tree}
 use Rattle.arr_move.proofs.Filled.{Depth-child_at}
-use Rattle.kind_tree.specs.Kinds.{AllNodesOk, KindTree, NodesOk, TypedOk, kind_in}
-use Rattle.kind_tree.specs.TypedView.{dict_in, kids_of, kind_of, typed_of}
-use Rattle.kind_tree.specs.declared.typed.Typed.{Typed, out-Typed}
-use Rattle.list_cols.specs.Faults.{first_wrong, is_flat_column, is_flat_list}
+use Rattle.data_types.specs.KindTrees.{AllNodesOk, KindTree, NodesOk, TypedOk, kind_in}
+use Rattle.data_types.specs.TypedView.{dict_in, kids_of, kind_of, typed_of}
+use Rattle.data_types.specs.declared.typed.Typed.{Typed, out-Typed}
+use Rattle.list_cols.specs.Faults.{first_wrong, is_flat_list}
+use Rattle.column_fill.specs.FlatColumns.{is_flat_column}
 
 -- ---- none is at fault
 
@@ -37,7 +38,7 @@ none-wrong p k (kid ∷ kids) e (suc j) lt =
     ap (λ n. p n (get_or kids j Released)) here
     ∙ none-wrong p (suc k) kids (wrong-rest (p k kid) (first_wrong p (suc k) kids) k e) j (omega (arith, lt))
 
--- the first so many aren't
+-- the first n aren't
 pub step-wrong : (p : ℕ → KindTree → Bool) (k : ℕ) (kid : KindTree) (kids : List KindTree) (b : Bool) → p k kid ≡ b
     → first_wrong p k (kid ∷ kids) ≡ (if b then first_wrong p (suc k) kids else Some k)
 step-wrong p k kid kids b e = ap (λ c. if c then first_wrong p (suc k) kids else Some k) e

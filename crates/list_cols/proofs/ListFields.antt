@@ -12,14 +12,15 @@ use Rattle.raw_array.specs.Members.{ArrayTree}
 use Rattle.raw_schema.specs.Members.{SchemaMembers, SchemaTree}
 use Rattle.col_build.specs.Encoding.{Fits}
 use Rattle.arr_move.proofs.Filled.{Depth-child_at}
-use Rattle.kind_tree.specs.ColumnKinds.{type_of_kind}
-use Rattle.kind_tree.specs.Kinds.{AllNodesOk, KindTree, NodesOk, TypedOk, kind_in}
+use Rattle.data_types.specs.ColumnKinds.{type_of_kind}
+use Rattle.data_types.specs.KindTrees.{AllNodesOk, KindTree, NodesOk, TypedOk, kind_in}
 use Rattle.layout_rules.specs.Values.{rows_of}
 use Rattle.layout_rules.specs.Walk.{ChunkOk}
 use Rattle.schema_check.specs.Schemas.{KidsTyped, TypedFrom, TypedOf}
 use Rattle.arr_export.specs.ArrayTrees.{flat_type}
 use Rattle.list_cols.specs.Exploded.{exploded_array, exploded_kinds, exploded_type, item_kind}
-use Rattle.list_cols.specs.Faults.{explodes, first_wrong, is_flat_column}
+use Rattle.list_cols.specs.Faults.{explodes, first_wrong}
+use Rattle.column_fill.specs.FlatColumns.{is_flat_column}
 use Rattle.list_cols.specs.Fields.{HasList, exploded_schema, item_field}
 use Rattle.list_cols.specs.FlatTables.{flat_table, flat_table_type}
 use Rattle.list_cols.specs.Nested.{Explode}

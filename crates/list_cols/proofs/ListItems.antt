@@ -7,11 +7,11 @@ use Rattle.data_types.specs.Value.{Value, Null, Items, values}
 use Rattle.data_types.specs.declared.kind.DataType.TheVariants as kinds
 use Rattle.tree_model.specs.Tree.{Released, Live, no_trees, more_trees, absent, child_at, tree_list}
 use Rattle.raw_array.specs.Members.{ArrayTree}
-use Rattle.kind_tree.specs.Kinds.{KindTree}
+use Rattle.data_types.specs.KindTrees.{KindTree}
 use Rattle.layout_rules.specs.Layout.{first, is_valid, natural, offset}
 use Rattle.layout_rules.specs.Lawful.{ItemsHold, RootHolds}
 use Rattle.layout_rules.specs.Values.{child_item, each, tree_items, value_at}
-use Rattle.lawful_values.specs.Items.{IsItemOf}
+use Rattle.array_laws.specs.Items.{IsItemOf}
 use Rattle.arr_import.specs.Window.{Window, items_of}
 use Rattle.list_cols.specs.Nested.{items_in}
 

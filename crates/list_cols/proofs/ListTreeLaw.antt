@@ -10,9 +10,9 @@ use Rattle.data_types.specs.declared.kind.DataType.TheVariants as kinds
 use Rattle.data_types.specs.Value.{Value, Null, Items, values}
 use Rattle.tree_model.specs.Tree.{absent, trees}
 use Rattle.raw_array.specs.Members.{ArrayMembers, ArrayTree}
-use Rattle.kind_tree.specs.Ways.{Steps}
+use Rattle.data_types.specs.Ways.{Steps}
 use Rattle.layout_rules.specs.Layout.{end, natural, offset_in, offsets_need}
-use Rattle.layout_rules.specs.Rules.{fault, fault_if, first_below, in_order, is_negative, null_total, offset_falls, offsets_fall, short_child}
+use Rattle.layout_rules.specs.Rules.{Node, fault, fault_if, first_below, in_order, is_negative, null_total, offset_falls, offsets_fall, short_child}
 use Rattle.layout_rules.specs.Values.{each, tree_items, value_at, values_of}
 use Rattle.layout_rules.specs.Walk.{LayoutOk, node_fault, node_of, first_some, visit_fault, visits, walk_children, walks_of}
 use Rattle.layout_rules.specs.declared.rule.Numbers.{Numbers}
@@ -20,9 +20,11 @@ use Rattle.layout_rules.proofs.Lawful.{first_fault-lawful, lawful-first_fault}
 use Rattle.arr_export.specs.ArrayTrees.{column_tree, flat_type}
 use Rattle.arr_export.proofs.ColumnLaw.{column-lawful, column-values}
 use Rattle.arr_export.proofs.Each.{each-is, length-each, value-there}
-use Rattle.arr_export.proofs.NodeRules.{below-none, both-none, no-fault, passes}
+use Rattle.layout_rules.specs.declared.rule.LayoutRule.TheVariants as rules
+use Rattle.layout_rules.proofs.NamedRules.{AreMet, none-fails}
+use Rattle.arr_export.proofs.NodeRules.{below-none, both-none, no-fault}
 use Rattle.arr_export.proofs.Steady.{first_some-append, steady}
-use Rattle.row_groups.specs.Groups.{sums_from}
+use Rattle.data_types.specs.Groups.{sums_from}
 use Rattle.list_cols.specs.ListTrees.{FitLists, joined, list_kind, list_lengths, list_members, list_offsets, list_tree, list_value}
 use Rattle.list_cols.proofs.ListEnds.{between-ends, length-offsets, offset-first, offset-is, offset-last, offsets-rise}
 
@@ -74,48 +76,37 @@ module _ (kind : DataType) (lists : List (List Value)) (fit : FitLists kind list
   last-is : offset_in false offsets (0 + length lists) ≡ pos (length (joined lists))
   last-is = ap (offset_in false offsets) (from-start (length lists)) ∙ offset-last lists fit.reached
 
-  node-passes : (path : Steps) → node_fault path (node_of (kinds.List false) (trees (flat_type kind None ∷ [])) absent (list_tree kind lists)) ≡ None
-  node-passes path =
+  abbrev root : Node
+  root = record {
+    kind = kinds.List false;
+    kids = flat_type kind None ∷ [];
+    dict = None;
+    own = own;
+    children = child ∷ [];
+    dictionary = None;
+  }
+
+  met : AreMet root
+  met rules.BufferShort =
       let long : offsets_need false (0 + length lists) ≤ length offsets =
       omega (arith, offsets-need (0 + length lists), length-offsets lists fit.reached) in
       let short : nat_lt (length offsets) (offsets_need false (0 + length lists)) ≡ false = le-ltb _ _ long in
+      no-fault _ 1 _ _ short
+  met rules.OffsetsFall = rise-all
+  met rules.ChildShort =
       let last : natural (offset_in false offsets (0 + length lists)) ≤ length (joined lists) = omega (arith, ap natural last-is) in
       let need = if end own == 0 then 0 else natural (offset_in false offsets (0 + length lists)) in
       let most : need ≤ length (joined lists) = nothing-or (end own == 0) _ (length (joined lists)) last in
       let children : short_child need 0 (Some (pos (length (joined lists)))) ≡ None =
       no-fault (int_lt (pos (length (joined lists))) (pos need)) 0 (pos (length (joined lists))) (pos need) (le-ltb (length (joined lists)) need most) in
-      let nulls = null-count (null_total own (length lists)) (no-nulls (length lists) offsets (length lists)) in
-      let window : fault_if (nat_lt (2 ^ 40) (0 + length lists)) 0 (pos (0 + length lists)) (pos (2 ^ 40)) ≡ None =
-      no-fault (nat_lt (2 ^ 40) (0 + length lists)) 0 (pos (0 + length lists)) (pos (2 ^ 40)) (le-ltb (2 ^ 40) (0 + length lists) (omega (arith, fit.few))) in
-      passes path (record {
-        kind = kinds.List false;
-        kids = flat_type kind None ∷ [];
-        dict = None;
-        own = own;
-        children = child ∷ [];
-        dictionary = None;
-      }) in_order (
-        refl,
-        (
-          refl,
-          (
-            refl,
-            (
-              refl,
-              (
-                refl,
-                (
-                  refl,
-                  (
-                    no-fault _ 1 _ _ short,
-                    (rise-all, (both-none _ None children refl, (nulls, (refl, (refl, (refl, (refl, (window, tt)))))))),
-                  ),
-                ),
-              ),
-            ),
-          ),
-        ),
-      )
+      both-none _ None children refl
+  met rules.NullCount = null-count (null_total own (length lists)) (no-nulls (length lists) offsets (length lists))
+  met rules.WindowTooLong =
+      no-fault (nat_lt (2 ^ 40) (0 + length lists)) 0 (pos (0 + length lists)) (pos (2 ^ 40)) (le-ltb (2 ^ 40) (0 + length lists) (omega (arith, fit.few)))
+  met _ = refl
+
+  node-passes : (path : Steps) → node_fault path (node_of (kinds.List false) (trees (flat_type kind None ∷ [])) absent (list_tree kind lists)) ≡ None
+  node-passes path = none-fails path root in_order met
 
   pub list-lawful : LayoutOk (list_kind kind) (list_tree kind lists)
   list-lawful =

@@ -11,13 +11,13 @@ use Rattle.data_types.specs.declared.kind.DataType.TheVariants as kinds
 use Rattle.tree_model.specs.Tree.{Released, IsLive, child_at, children_of, dictionary_of}
 use Rattle.raw_array.specs.Members.{ArrayTree, members_of}
 use Rattle.col_build.specs.Encoding.{Fits}
-use Rattle.kind_tree.specs.ColumnKinds.{type_of_kind}
-use Rattle.kind_tree.specs.Kinds.{KindTree, TypedOk, kind_in}
+use Rattle.data_types.specs.ColumnKinds.{type_of_kind}
+use Rattle.data_types.specs.KindTrees.{KindTree, TypedOk, kind_in}
 use Rattle.layout_rules.specs.Layout.{first}
 use Rattle.layout_rules.specs.Values.{row_items, rows_of, tree_items, value_at}
 use Rattle.layout_rules.specs.Walk.{LayoutOk}
-use Rattle.column_gather.specs.Gathered.{values_at}
-use Rattle.row_groups.specs.Groups.{distinct, order_of}
+use Rattle.column_fill.specs.Gathered.{values_at}
+use Rattle.data_types.specs.Groups.{distinct, order_of}
 use Rattle.row_groups.specs.Items.{items_from}
 use Rattle.list_cols.specs.ListTrees.{FitLists}
 use Rattle.list_cols.specs.NestFaults.{nests}

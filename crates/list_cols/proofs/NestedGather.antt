@@ -2,7 +2,7 @@
 use Rattle.std.proofs.Common.{◌≡◌, ◌∙◌, ◌≤◌, ◌<◌, ◌+◌, ℕ, List, [], ◌∷◌, All, length, map, None, ap, sym, subst, arith}
 use Rattle.std.proofs.lemmas.List.Elements.{All-weaker}
 use Rattle.std.specs.List.{flat_map}
-use Rattle.bit_pack.specs.Packed.{le_bytes}
+use Rattle.data_types.specs.Packed.{le_bytes}
 use Rattle.data_types.specs.ColumnForms.{HasForm}
 use Rattle.data_types.specs.FieldText.{form_of}
 use Rattle.data_types.specs.Table.{Flat}
@@ -11,14 +11,14 @@ use Rattle.data_types.specs.declared.kind.DataType.{DataType}
 use Rattle.tree_model.specs.Tree.{Live, absent, trees}
 use Rattle.raw_array.specs.Members.{ArrayTree}
 use Rattle.col_build.specs.Encoding.{Fits}
-use Rattle.kind_tree.specs.ColumnKinds.{type_of_kind}
-use Rattle.kind_tree.specs.Kinds.{KindTree}
+use Rattle.data_types.specs.ColumnKinds.{type_of_kind}
+use Rattle.data_types.specs.KindTrees.{KindTree}
 use Rattle.layout_rules.specs.Values.{tree_items, value_at}
 use Rattle.layout_rules.specs.Walk.{LayoutOk}
-use Rattle.lawful_values.specs.Items.{AreApart}
+use Rattle.array_laws.specs.Items.{AreApart}
 use Rattle.arr_export.specs.ArrayTrees.{column_tree}
-use Rattle.column_gather.specs.Gathered.{CanGather, values_at}
-use Rattle.row_groups.specs.Groups.{distinct, offsets_of, order_of, sums_from}
+use Rattle.column_fill.specs.Gathered.{CanGather, values_at}
+use Rattle.data_types.specs.Groups.{distinct, offsets_of, order_of, sums_from}
 use Rattle.list_cols.specs.ListTrees.{list_members, list_tree}
 use Rattle.list_cols.specs.NestedGroups.{grouped_lists}
 use Rattle.list_cols.proofs.NestedRows.{all-lists, lists-lengths, many-lists}
@@ -48,7 +48,7 @@ can-pick typed array once kind start count kept type form ok inside long apart =
   items = once-fit typed array once kind start count kept type form inside long apart;
 }
 
--- so many lists between the groups' offsets, over the items in the groups' order
+-- this many lists between the groups' offsets, over the items in the groups' order
 pub group-tree : (kind : DataType) (typed : KindTree) (array : ArrayTree) (start : ℕ) (vs : List Value) (count : ℕ) (offsets : List ℕ) (order : List ℕ)
     → count ≡ length (distinct vs) → offsets ≡ flat_map (le_bytes 4) (offsets_of vs) → order ≡ order_of vs
     → Live (list_members count offsets) (trees (column_tree kind (values_at typed array start order) None ∷ [])) absent

@@ -13,19 +13,19 @@ use Rattle.data_types.specs.declared.kind.DataType.{DataType}
 use Rattle.tree_model.specs.Tree.{Released, child_at, children_of}
 use Rattle.raw_array.specs.Members.{ArrayTree, members_of}
 use Rattle.col_build.specs.Encoding.{Fits}
-use Rattle.kind_tree.specs.ColumnKinds.{type_of_kind}
-use Rattle.kind_tree.specs.Kinds.{KindTree, TypedOk, kind_in}
-use Rattle.kind_tree.specs.TypedView.{kids_of, kind_of, typed_of}
-use Rattle.kind_tree.specs.declared.typed.Typed.{Typed, out-Typed}
+use Rattle.data_types.specs.ColumnKinds.{type_of_kind}
+use Rattle.data_types.specs.KindTrees.{KindTree, TypedOk, kind_in}
+use Rattle.data_types.specs.TypedView.{kids_of, kind_of, typed_of}
+use Rattle.data_types.specs.declared.typed.Typed.{Typed, out-Typed}
 use Rattle.layout_rules.specs.Layout.{first}
 use Rattle.layout_rules.specs.Values.{row_items, rows_of, tree_items, value_at}
 use Rattle.layout_rules.specs.Walk.{LayoutOk}
 use Rattle.arr_export.specs.ArrayTrees.{column_tree}
 use Rattle.arr_export.proofs.Each.{length-each}
-use Rattle.lawful_values.specs.Items.{AreApart}
-use Rattle.column_gather.specs.Gathered.{CanGather, CanGatherRuns, values_at, values_of_runs}
-use Rattle.column_gather.specs.declared.runs.Run.{Run}
-use Rattle.row_groups.specs.Groups.{distinct, firsts_of, offsets_of, order_of, same as same_as}
+use Rattle.array_laws.specs.Items.{AreApart}
+use Rattle.column_fill.specs.Gathered.{CanGather, CanGatherRuns, values_at, values_of_runs}
+use Rattle.column_fill.specs.declared.runs.Run.{Run}
+use Rattle.data_types.specs.Groups.{distinct, firsts_of, offsets_of, order_of, same as same_as}
 use Rattle.row_groups.specs.Items.{items_from}
 use Rattle.row_groups.specs.declared.groups.Groups.{Groups}
 use Rattle.list_cols.specs.ListTrees.{FitLists, list_tree}

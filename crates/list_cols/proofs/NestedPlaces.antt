@@ -3,7 +3,7 @@ use Rattle.std.proofs.Common.{◌≡◌, ◌∙◌, ◌≤◌, ◌<◌, ◌+◌,
 use Rattle.std.specs.Prelude.{if◌then◌else◌, ◌==◌}
 use Rattle.tree_model.specs.Tree.{Depth, Released, child_at, children_of, depth_of_all, trees}
 use Rattle.raw_schema.specs.Members.{Nodes, SchemaTree, nodes_of_all}
-use Rattle.field_move.specs.Fields.{fields_over, new_or_old}
+use Rattle.arr_move.specs.Fields.{fields_over, new_or_old}
 use Rattle.layout_rules.specs.Values.{each}
 use Rattle.list_cols.specs.NestedFields.{list_field, nested_field, new_field}
 

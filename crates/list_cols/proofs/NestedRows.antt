@@ -7,10 +7,10 @@ use Rattle.data_types.specs.Parts.{column_values}
 use Rattle.data_types.specs.Table.{Row}
 use Rattle.data_types.specs.Value.{Value, Null}
 use Rattle.raw_array.specs.Members.{ArrayTree}
-use Rattle.kind_tree.specs.Kinds.{KindTree}
+use Rattle.data_types.specs.KindTrees.{KindTree}
 use Rattle.layout_rules.specs.Values.{each}
-use Rattle.column_gather.specs.Gathered.{values_at}
-use Rattle.row_groups.specs.Groups.{distinct, distinct_behind, order_of, places, places_of, same}
+use Rattle.column_fill.specs.Gathered.{values_at}
+use Rattle.data_types.specs.Groups.{distinct, distinct_behind, order_of, places, places_of, same}
 use Rattle.list_cols.specs.ListTrees.{joined, list_lengths}
 use Rattle.list_cols.specs.Nested.{rows_with}
 use Rattle.list_cols.specs.NestedGroups.{grouped_lists}

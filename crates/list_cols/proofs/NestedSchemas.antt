@@ -6,8 +6,8 @@ use Rattle.data_types.specs.declared.kind.DataType.{DataType}
 use Rattle.tree_model.specs.Tree.{IsLive, Released, Live, Trees, no_trees, more_trees, absent, present, tree_list, child_at, children_of, dictionary_of}
 use Rattle.arr_move.proofs.Filled.{Depth-child_at}
 use Rattle.raw_schema.specs.Members.{SchemaMembers, SchemaTree}
-use Rattle.kind_tree.specs.ColumnKinds.{type_of_kind}
-use Rattle.kind_tree.specs.Kinds.{AllNodesOk, KindTree, NodesOk, TypedOk, kind_in}
+use Rattle.data_types.specs.ColumnKinds.{type_of_kind}
+use Rattle.data_types.specs.KindTrees.{AllNodesOk, KindTree, NodesOk, TypedOk, kind_in}
 use Rattle.schema_check.specs.Schemas.{KidsTyped, TypedOf}
 use Rattle.list_cols.specs.Faults.{IsRefusedBy, fault_of, first_wrong}
 use Rattle.list_cols.specs.NestFaults.{is_nest_too_long, nest_fault, nests}

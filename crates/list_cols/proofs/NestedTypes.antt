@@ -9,7 +9,7 @@ use Rattle.fmt_string.specs.FormatString.{FormatIs}
 use Rattle.tree_model.specs.Tree.{Released, Live, Trees, no_trees, more_trees, absent, present, trees, tree_list, child_at, children_of, dictionary_of}
 use Rattle.tree_model.proofs.Lists.{trees-tree_list}
 use Rattle.raw_schema.specs.Members.{SchemaMembers, SchemaTree}
-use Rattle.kind_tree.specs.Kinds.{KindTree, kind_in}
+use Rattle.data_types.specs.KindTrees.{KindTree, kind_in}
 use Rattle.layout_rules.specs.Values.{each}
 use Rattle.schema_check.specs.Schemas.{KidsTyped, NodeIs, TypedFrom, TypedOf}
 use Rattle.arr_export.specs.ArrayTrees.{flat_type}

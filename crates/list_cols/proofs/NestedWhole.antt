@@ -9,7 +9,7 @@ use Rattle.data_types.specs.declared.kind.DataType.{DataType}
 use Rattle.data_types.specs.Value.{Value, Null}
 use Rattle.tree_model.specs.Tree.{children_of}
 use Rattle.raw_array.specs.Members.{ArrayTree}
-use Rattle.kind_tree.specs.Kinds.{KindTree, kind_in}
+use Rattle.data_types.specs.KindTrees.{KindTree, kind_in}
 use Rattle.layout_rules.specs.Values.{each, row_items, rows_of, tree_items}
 use Rattle.arr_export.specs.ArrayTrees.{IsColumn, column_tree, table_tree}
 use Rattle.arr_export.proofs.Each.{length-each}

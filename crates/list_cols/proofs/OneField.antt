@@ -4,7 +4,7 @@ use Rattle.tree_model.specs.Tree.{Depth, Released, Live, IsLive, children_of, de
 use Rattle.arr_move.proofs.Vacant.{cost_of_released, depth_of_released}
 use Rattle.arr_move.specs.TreeActs.{with_children}
 use Rattle.raw_schema.specs.Members.{Nodes, SchemaMembers, SchemaTree, no_holds, nodes_of_all}
-use Rattle.field_move.specs.Fields.{fields_over}
+use Rattle.arr_move.specs.Fields.{fields_over}
 
 abbrev pub among : ℕ → SchemaTree → ℕ → List SchemaTree
 among a f b = replicate a Released ++ f ∷ replicate b Released

@@ -5,7 +5,7 @@ use Rattle.data_types.specs.declared.kind.DataType.{DataType}
 use Rattle.tree_model.specs.Tree.{child_at, children_of}
 use Rattle.raw_array.specs.Members.{ArrayTree}
 use Rattle.col_build.specs.Finished.{blocks_of}
-use Rattle.kind_tree.specs.Kinds.{KindTree, kind_in}
+use Rattle.data_types.specs.KindTrees.{KindTree, kind_in}
 use Rattle.layout_rules.specs.Values.{rows_of}
 use Rattle.arr_export.specs.ValueColumns.{ValueColumn}
 use Rattle.list_cols.specs.FlatTables.{columns_from, flat_table, flat_table_type}

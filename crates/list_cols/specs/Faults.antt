@@ -2,13 +2,13 @@
 use Rattle.std.specs.Prelude.{◌≡◌, ◌≤◌, ◌<◌, ℕ, suc, ◌==◌, ◌^◌, ◌-◌, nat_lt, Bool, true, false, not, ◌||◌, if◌then◌else◌, List, [], ◌∷◌, length, Option, None, Some}
 use Rattle.std.specs.List.{list_any}
 use Rattle.data_types.specs.FieldText.{form_of}
-use Rattle.data_types.specs.Kinds.{is_flat}
 use Rattle.data_types.specs.Table.{Row}
 use Rattle.data_types.specs.declared.kind.DataType.{DataType}
 use Rattle.data_types.specs.declared.kind.DataType.TheVariants as kinds
-use Rattle.tree_model.specs.Tree.{Released, Live, Trees, no_trees, more_trees, absent, present, children_of}
+use Rattle.tree_model.specs.Tree.{Live, Trees, no_trees, more_trees, children_of}
 use Rattle.col_build.specs.Encoding.{are_within, byte_total, is_wide}
-use Rattle.kind_tree.specs.Kinds.{KindTree}
+use Rattle.data_types.specs.KindTrees.{KindTree}
+use Rattle.column_fill.specs.FlatColumns.{is_flat_column}
 use Rattle.arr_export.specs.ValueColumns.{ValueColumn}
 use Rattle.list_cols.specs.FlatTables.{columns_from}
 use Rattle.list_cols.specs.Exploded.{exploded_kinds}
@@ -17,12 +17,6 @@ use Rattle.list_cols.specs.declared.fault.ListFault.{ListFault}
 use Rattle.list_cols.specs.declared.fault.ListFault.TheVariants.{WrongKind, TooLong, NoMemory}
 
 -- ---- the kinds of columns
-
--- values of a flat column kind, behind which no dictionary stands
-abbrev pub is_flat_column : KindTree → Bool
-is_flat_column Released = false
-is_flat_column (Live kind kids absent) = is_flat kind
-is_flat_column (Live kind kids (present dict)) = false
 
 abbrev pub is_flat_child : Trees DataType → Bool
 is_flat_child no_trees = false
@@ -44,7 +38,7 @@ first_wrong is_so k (typed ∷ others) = if is_so k typed then first_wrong is_so
 
 -- ---- what is too long
 
--- so many rows, items of a list column, or bytes between narrow offsets are named
+-- this many rows, items of a list column, or bytes between narrow offsets are named
 abbrev pub most_named : ℕ
 most_named = 2 ^ 31 - 1
 

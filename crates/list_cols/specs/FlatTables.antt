@@ -5,8 +5,8 @@ use Rattle.data_types.specs.Parts.{column_values}
 use Rattle.data_types.specs.Table.{Row}
 use Rattle.data_types.specs.Value.{Value}
 use Rattle.raw_array.specs.Members.{ArrayTree}
-use Rattle.kind_tree.specs.ColumnKinds.{table_type}
-use Rattle.kind_tree.specs.Kinds.{KindTree}
+use Rattle.data_types.specs.ColumnKinds.{table_type}
+use Rattle.data_types.specs.KindTrees.{KindTree}
 use Rattle.arr_export.specs.ArrayTrees.{flat_type, table_tree}
 use Rattle.arr_export.specs.ValueColumns.{ValueColumn, tree_of}
 

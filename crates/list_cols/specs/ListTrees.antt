@@ -1,7 +1,7 @@
 -- A column of lists as an array tree, between offsets of 32 bits ("Arrow Columnar Format", "Variable-size List Layout").
 use Rattle.std.specs.Prelude.{◌<◌, ◌≤◌, ◌^◌, ℕ, pos, false, List, [], ◌∷◌, length, map, None, Some}
 use Rattle.std.specs.List.{flat_map}
-use Rattle.bit_pack.specs.Packed.{le_bytes, offset_width}
+use Rattle.data_types.specs.Packed.{le_bytes, offset_width}
 use Rattle.data_types.specs.declared.kind.DataType.{DataType}
 use Rattle.data_types.specs.declared.kind.DataType.TheVariants as kinds
 use Rattle.data_types.specs.Value.{Value, Items, values}
@@ -9,9 +9,10 @@ use Rattle.tree_model.specs.Tree.{Live, trees, absent}
 use Rattle.raw_array.specs.Members.{ArrayMembers, ArrayTree}
 use Rattle.raw_array.specs.declared.array.ReleaseKind.TheVariants.{Exported}
 use Rattle.col_build.specs.Encoding.{Fits}
-use Rattle.kind_tree.specs.Kinds.{KindTree}
+use Rattle.data_types.specs.KindTrees.{KindTree}
 use Rattle.arr_export.specs.ArrayTrees.{column_tree, flat_type, made}
-use Rattle.row_groups.specs.Groups.{sums_from}
+use Rattle.layout_rules.specs.Rules.{window_limit}
+use Rattle.data_types.specs.Groups.{sums_from}
 
 -- the offsets of lists of these lengths that stand one behind the other: where each begins, and where the last one ends
 abbrev pub list_offsets : List ℕ → List ℕ
@@ -24,7 +25,7 @@ list_lengths lists = map (λ list. length list) lists
 abbrev pub joined : List (List Value) → List Value
 joined lists = flat_map (λ list. list) lists
 
--- so many lists, none of them null
+-- this many lists, none of them null
 abbrev pub list_members : ℕ → List ℕ → ArrayMembers
 list_members count offsets = record {
   length = pos count;
@@ -51,4 +52,4 @@ list_value list = Items (values list)
 pub record FitLists (kind : DataType) (lists : List (List Value)) : Type 0 where
   pub values : Fits kind (joined lists)
   pub reached : length (joined lists) < 2 ^ 31
-  pub few : length lists ≤ 2 ^ 40
+  pub few : length lists ≤ window_limit

@@ -9,10 +9,10 @@ use Rattle.col_build.specs.Encoding.{Fits}
 use Rattle.col_build.specs.Holding.{Holds}
 use Rattle.col_build.specs.declared.builder.Builder.{Builder}
 use Rattle.layout_rules.specs.Values.{each}
-use Rattle.column_gather.specs.declared.runs.Run.{Run}
+use Rattle.column_fill.specs.declared.runs.Run.{Run}
 use Rattle.list_cols.specs.Nested.{items_in}
 
--- the items of so many lists
+-- the items of this many lists
 abbrev pub listed : (ℕ → Value) → ℕ → List Value
 listed lists count = flat_map items_in (each lists 0 count)
 
@@ -20,11 +20,11 @@ listed lists count = flat_map items_in (each lists 0 count)
 abbrev pub run_of : ℕ → Value → Run
 run_of item list = record { item = item; times = length (items_in list) }
 
--- the runs of so many rows: row i is item `first + i` of each column
+-- the runs of this many rows: row i is item `first + i` of each column
 abbrev pub list_runs : ℕ → (ℕ → Value) → ℕ → List Run
 list_runs first lists count = each (λ i. run_of (first + i) (lists i)) 0 count
 
--- a number of bytes, and where it is not told, 2^63 at least
+-- a number of bytes, and where it is not answered, 2^63 at least
 abbrev pub HasTotal : ℕ → Option ℕ → Type 0
 HasTotal bytes (Some total) = (total ≡ bytes) × (bytes < 2 ^ 63)
 HasTotal bytes None = 2 ^ 63 ≤ bytes

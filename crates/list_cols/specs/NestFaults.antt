@@ -2,8 +2,9 @@
 use Rattle.std.specs.Prelude.{ℕ, nat_lt, Bool, ◌&&◌, ◌||◌, List, length, Option}
 use Rattle.data_types.specs.Table.{Row}
 use Rattle.tree_model.specs.Tree.{children_of}
-use Rattle.kind_tree.specs.Kinds.{KindTree}
-use Rattle.list_cols.specs.Faults.{fault_of, first_wrong, is_flat_column, most_named}
+use Rattle.data_types.specs.KindTrees.{KindTree}
+use Rattle.list_cols.specs.Faults.{fault_of, first_wrong, most_named}
+use Rattle.column_fill.specs.FlatColumns.{is_flat_column}
 use Rattle.list_cols.specs.NestedTables.{keys_of}
 use Rattle.list_cols.specs.declared.fault.ListFault.{ListFault}
 

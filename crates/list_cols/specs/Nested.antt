@@ -6,7 +6,7 @@ use Rattle.data_types.specs.Table.{Row}
 use Rattle.data_types.specs.Value.{Value, Null, Items, values}
 use Rattle.layout_rules.specs.Values.{each}
 -- which values are the same, and the distinct ones in order of first appearance
-pub use Rattle.row_groups.specs.Groups.{same, distinct}
+pub use Rattle.data_types.specs.Groups.{same, distinct}
 
 -- the rows with this value in a column, in order
 abbrev pub rows_with : ℕ → Value → List Row → List Row
@@ -16,7 +16,7 @@ rows_with column key rows = filter (λ row. same key (get_or row column Null)) r
 abbrev pub nested_value : ℕ → Value → List Row → ℕ → Value
 nested_value column key rows k = if k == column then key else Items (values (column_values k (rows_with column key rows)))
 
--- rows of so many columns, grouped by one of them: a row for each of its distinct values
+-- rows of this many columns, grouped by one of them: a row for each of its distinct values
 abbrev pub Nest : ℕ → ℕ → List Row → List Row
 Nest width column rows = map (λ key. each (nested_value column key rows) 0 width) (distinct (column_values column rows))
 

@@ -6,15 +6,15 @@ use Rattle.data_types.specs.Value.{Value}
 use Rattle.data_types.specs.declared.kind.DataType.{DataType}
 use Rattle.tree_model.specs.Tree.{child_at, children_of}
 use Rattle.raw_array.specs.Members.{ArrayTree, members_of}
-use Rattle.kind_tree.specs.ColumnKinds.{type_of_kind}
-use Rattle.kind_tree.specs.Kinds.{KindTree}
+use Rattle.data_types.specs.ColumnKinds.{type_of_kind}
+use Rattle.data_types.specs.KindTrees.{KindTree}
 use Rattle.layout_rules.specs.Layout.{first}
 use Rattle.layout_rules.specs.Values.{rows_of, tree_items}
 use Rattle.layout_rules.specs.Walk.{ChunkOk, LayoutOk}
-use Rattle.lawful_values.specs.Items.{AreApart}
-use Rattle.column_gather.specs.Gathered.{values_at}
-use Rattle.column_gather.specs.declared.runs.Run.{Run}
-use Rattle.row_groups.specs.Groups.{distinct, offsets_of, order_of, places_of}
+use Rattle.array_laws.specs.Items.{AreApart}
+use Rattle.column_fill.specs.Gathered.{values_at}
+use Rattle.column_fill.specs.declared.runs.Run.{Run}
+use Rattle.data_types.specs.Groups.{distinct, offsets_of, order_of, places_of}
 use Rattle.row_groups.specs.declared.groups.Groups.{Groups}
 use Rattle.list_cols.specs.Faults.{first_wrong}
 use Rattle.list_cols.specs.NestFaults.{nests}

@@ -1,5 +1,5 @@
 -- The table of rows that are grouped by the values of a column: a column of its distinct values, and a list column for each other one.
-use Rattle.std.specs.Prelude.{◌≡◌, ◌≢◌, ◌<◌, ◌≤◌, ◌^◌, ℕ, ◌==◌, if◌then◌else◌, List, get_or, length, map, None}
+use Rattle.std.specs.Prelude.{◌≡◌, ◌≢◌, ◌<◌, ◌≤◌, ℕ, ◌==◌, if◌then◌else◌, List, get_or, length, map, None}
 use Rattle.data_types.specs.declared.kind.DataType.{DataType}
 use Rattle.data_types.specs.declared.kind.DataType.TheVariants as kinds
 use Rattle.data_types.specs.Parts.{column_values}
@@ -8,10 +8,11 @@ use Rattle.data_types.specs.Value.{Value}
 use Rattle.tree_model.specs.Tree.{children_of}
 use Rattle.raw_array.specs.Members.{ArrayTree}
 use Rattle.col_build.specs.Encoding.{Fits}
-use Rattle.kind_tree.specs.ColumnKinds.{table_type}
-use Rattle.kind_tree.specs.Kinds.{KindTree, kind_in}
+use Rattle.data_types.specs.ColumnKinds.{table_type}
+use Rattle.data_types.specs.KindTrees.{KindTree, kind_in}
 use Rattle.layout_rules.specs.Values.{each, rows_of}
 use Rattle.arr_export.specs.ArrayTrees.{column_tree, flat_type, table_tree}
+use Rattle.layout_rules.specs.Rules.{window_limit}
 use Rattle.list_cols.specs.ListTrees.{FitLists, list_kind, list_tree}
 use Rattle.list_cols.specs.Nested.{distinct, rows_with}
 
@@ -51,7 +52,7 @@ pub record FitColumn (column : ℕ) (types : List DataType) (rows : List Row) (k
 -- and so have all
 pub record FitNested (column : ℕ) (types : List DataType) (rows : List Row) : Type 0 where
   pub columns : (k : ℕ) → k < length types → FitColumn column types rows k
-  pub few : length (keys_of column rows) ≤ 2 ^ 40
+  pub few : length (keys_of column rows) ≤ window_limit
 
 -- ---- of a chunk
 

@@ -14,7 +14,7 @@ wide_of (kinds.Binary wide) = Some wide
 wide_of (kinds.Utf8 wide) = Some wide
 wide_of _ = None
 
--- offsets of this width reach so many bytes
+-- offsets of this width reach this many bytes
 abbrev pub reach : Bool → ℕ → Bool
 reach true total = true
 reach false total = nat_lt total (2 ^ 31)
@@ -24,7 +24,7 @@ abbrev pub OffsetsAre : Bool → Option Form → Option Bool → Type 0
 OffsetsAre wide form (Some broad) = (total : ℕ) → (are_within wide form total ≡ reach broad total) × (are_bounded form total ≡ nat_lt total (2 ^ 63))
 OffsetsAre wide form None = (total : ℕ) → (are_within wide form total ≡ true) × (are_bounded form total ≡ true)
 
--- why offsets don't reach so many bytes
+-- why offsets don't reach this many bytes
 abbrev pub IsReached : Bool → ℕ → Option ListFault → Type 0
 IsReached wide total None = (reach wide total ≡ true) × (nat_lt total (2 ^ 63) ≡ true)
 IsReached wide total (Some TooLong) = reach wide total ≡ false

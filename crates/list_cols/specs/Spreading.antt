@@ -6,12 +6,12 @@ use Rattle.data_types.specs.Value.{Value, Null}
 use Rattle.tree_model.specs.Tree.{children_of}
 use Rattle.raw_array.specs.Members.{ArrayTree, members_of}
 use Rattle.col_build.specs.Encoding.{Fits}
-use Rattle.kind_tree.specs.Kinds.{KindTree}
+use Rattle.data_types.specs.KindTrees.{KindTree}
 use Rattle.layout_rules.specs.Layout.{first}
 use Rattle.layout_rules.specs.Values.{row_items, rows_of, tree_items}
 use Rattle.layout_rules.specs.Walk.{ChunkOk}
 use Rattle.arr_export.specs.ArrayTrees.{column_tree}
-use Rattle.column_gather.specs.declared.runs.Run.{Run}
+use Rattle.column_fill.specs.declared.runs.Run.{Run}
 use Rattle.list_cols.specs.Exploded.{exploded_kinds}
 use Rattle.list_cols.specs.Faults.{explodes, first_wrong}
 use Rattle.list_cols.specs.Listed.{list_runs}

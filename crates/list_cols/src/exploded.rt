@@ -1,8 +1,8 @@
 //! Rows whose lists are spread out.
 ghost use Rattle.std.specs.Prelude.{◌≡◌, ◌≢◌, ◌+◌, ◌<◌, ◌≤◌, ℕ, None, Some, IfOk, IfErr, OnOk, MatchResult, length};
 ghost use Rattle.tree_model.specs.Tree.{children_of};
-ghost use Rattle.kind_tree.specs.Kinds.{TypedOk};
-ghost use Rattle.kind_tree.specs.TypedView.{typed_of};
+ghost use Rattle.data_types.specs.KindTrees.{TypedOk};
+ghost use Rattle.data_types.specs.TypedView.{typed_of};
 ghost use Rattle.layout_rules.specs.Values.{rows_of};
 ghost use Rattle.layout_rules.specs.Walk.{ChunkOk};
 ghost use Rattle.raw_array.specs.Members.{Cost};
@@ -20,7 +20,7 @@ use crate::fields::spread_schema;
 use crate::table::spread_table;
 use crate::trees::exploded_trees_are_lawful;
 use crate::wrong::wrong_to_explode;
-use kind_tree::{Typed, kinds_of_typed};
+use data_types::{Typed, kinds_of_typed};
 use raw_array::RawArray;
 use raw_schema::RawSchema;
 use std::alloc::Global;
@@ -58,10 +58,10 @@ pub fn explode(
     ensures rows { IfOk result (λ made. rows_of (exploded_type column (typed_of typed.now)) made.1 ≡ Explode column (rows_of (typed_of typed.now) array)) }
     // What was handed in comes back.
     ensures back { IfErr result (λ refused. (refused.0 ≡ schema) × (refused.1 ≡ array)) }
-    // Which fault it is, or want of memory.
+    // Which fault it is, or out of memory.
     ensures free { OnOk result (explode_fault column (typed_of typed.now) (rows_of (typed_of typed.now) array) ≡ None) }
     ensures fault { IfErr result (λ refused. IsRefusedBy (explode_fault column (typed_of typed.now) (rows_of (typed_of typed.now) array)) refused.2) }
-    // A column at fault, and too many rows, are told whatever memory there is.
+    // A column at fault, and too many rows, are named whatever memory there is.
     ensures wrong { (k : ℕ) → first_wrong (explodes column) 0 (children_of (typed_of typed.now)) ≡ Some k
         → MatchResult result (λ _. ⊥) (λ refused. refused.2 ≡ ListFault.WrongKind k) }
     ensures many { first_wrong (explodes column) 0 (children_of (typed_of typed.now)) ≡ None

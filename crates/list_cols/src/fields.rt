@@ -8,7 +8,7 @@ ghost use Rattle.unit_pass.specs.Tally.{risen};
 ghost use Rattle.unit_pass.specs.declared.pass.TheConstants.{SUPPLY};
 ghost use Rattle.list_cols.specs.Fields.{exploded_schema, item_field, renamed_field};
 
-use field_move::{built_schema, with_fields};
+use arr_move::{built_schema, with_fields};
 use raw_schema::{RawSchema, SchemaParts};
 use std::alloc::Global;
 use unit_pass::{NoMemory, Pass, SUPPLY};
@@ -50,7 +50,7 @@ pub(crate) fn renamed_field(
     built_schema(alloc, parts, pass)
 }
 
-/// Appends fields that stand released, so many, to a list that has room for them.
+/// Appends fields that stand released, this many, to a list that has room for them.
 fn push_vacant(fields: &mut Vec<RawSchema>, count: usize)
     requires room { vec_len fields.old + count ≤ vec_capacity fields.old }
     ensures fields { fields.new.items ≡ fields.old.items ++ replicate count Released }
@@ -62,7 +62,7 @@ fn push_vacant(fields: &mut Vec<RawSchema>, count: usize)
     }
 }
 
-/// So many fields, which stand released but for one. On want of memory that one is released.
+/// This many fields, which stand released but for one. Where memory runs out that one is released.
 pub(crate) fn one_field(
     alloc: Global,
     count: usize,
@@ -123,7 +123,7 @@ fn item_fields(
     one_field(alloc, count, column, field, pass)
 }
 
-/// The schema with the items of a list column in its place. On want of memory the schema comes back as it was.
+/// The schema with the items of a list column in its place. Where memory runs out the schema comes back as it was.
 pub(crate) fn spread_schema(
     alloc: Global,
     schema: RawSchema,

@@ -1,23 +1,16 @@
 //! The checked kinds of a chunk's columns, and what is read of them.
-ghost use Rattle.std.specs.Prelude.{◌≡◌, ◌<◌, true, length};
+ghost use Rattle.std.specs.Prelude.{◌≡◌, ◌<◌, length};
 ghost use Rattle.arr_import.specs.Cols.{window_of};
 ghost use Rattle.arr_import.specs.Window.{item_at};
-ghost use Rattle.col_build.specs.Encoding.{HasForm};
-ghost use Rattle.data_types.specs.FieldText.{form_of};
-ghost use Rattle.data_types.specs.Table.{Flat};
-ghost use Rattle.kind_tree.specs.ColumnKinds.{type_of_kind};
-ghost use Rattle.kind_tree.specs.Kinds.{TypedOk, kind_in};
-ghost use Rattle.kind_tree.specs.TypedView.{typed_of};
+ghost use Rattle.data_types.specs.KindTrees.{TypedOk};
+ghost use Rattle.data_types.specs.TypedView.{typed_of};
 ghost use Rattle.layout_rules.specs.Values.{tree_items};
 ghost use Rattle.layout_rules.specs.Walk.{ChunkOk};
 ghost use Rattle.tree_model.specs.Tree.{child_at, children_of};
-ghost use Rattle.list_cols.specs.Faults.{is_flat_column};
 ghost use Rattle.list_cols.specs.Spreading.{list_at};
 
 use arr_import::Col;
-use data_types::DataType;
-use kind_tree::{Typed, kinds_of_typed};
-use lawful_values::flat_types_have_no_children;
+use data_types::{Typed, kinds_of_typed};
 use layout_rules::chunks_are_tables;
 use raw_array::RawArray;
 
@@ -38,19 +31,6 @@ pub(crate) fn child_kinds(typed: &Typed, k: usize) -> &Typed
 {
     kinds_of_typed(typed);
     &typed.kids[k]
-}
-
-/// The type of the values of a flat column.
-pub(crate) fn flat_kind(typed: &Typed) -> &DataType
-    requires types { TypedOk (typed_of typed.now) }
-    requires flat { is_flat_column (typed_of typed.now) ≡ true }
-    ensures is { result.now ≡ kind_in (typed_of typed.now) }
-    ensures typed { typed_of typed.now ≡ type_of_kind (Flat result.now) }
-    ensures form { HasForm (form_of result.now) }
-{
-    kinds_of_typed(typed);
-    flat_types_have_no_children();
-    &typed.kind
 }
 
 /// The values of a chunk's rows in a column.

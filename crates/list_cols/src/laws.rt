@@ -1,10 +1,11 @@
 //! What grouping and spreading out give together, and what a table of flat columns is that is made of rows.
-ghost use Rattle.std.specs.Prelude.{◌≡◌, ◌<◌, ◌≤◌, ◌^◌, ℕ, List, length, get_or, All};
+ghost use Rattle.std.specs.Prelude.{◌≡◌, ◌<◌, ◌≤◌, ℕ, List, length, get_or, All};
 ghost use Rattle.col_build.specs.Encoding.{Fits};
 ghost use Rattle.data_types.specs.Parts.{column_values};
 ghost use Rattle.data_types.specs.Table.{Row};
 ghost use Rattle.data_types.specs.declared.kind.DataType.{DataType};
 ghost use Rattle.data_types.specs.declared.kind.DataType.TheVariants as kinds;
+ghost use Rattle.layout_rules.specs.Rules.{window_limit};
 ghost use Rattle.layout_rules.specs.Values.{rows_of};
 ghost use Rattle.layout_rules.specs.Walk.{ChunkOk};
 ghost use Rattle.list_cols.specs.FlatTables.{flat_table, flat_table_type};
@@ -21,7 +22,7 @@ pub fn keys_come_together()
 /// Columnar Format", "Struct Layout").
 pub fn flat_tables_have_their_rows()
     ensures chunk { (types : List DataType) (rows : List Row)
-        → ((k : ℕ) → k < length types → Fits (get_or types k kinds.Null) (column_values k rows)) → length rows ≤ 2 ^ 40
+        → ((k : ℕ) → k < length types → Fits (get_or types k kinds.Null) (column_values k rows)) → length rows ≤ window_limit
         → ChunkOk (flat_table_type types) (flat_table types rows) }
     ensures rows { (types : List DataType) (rows : List Row)
         → ((k : ℕ) → k < length types → Fits (get_or types k kinds.Null) (column_values k rows)) → All (λ row. length row ≡ length types) rows

@@ -1,11 +1,12 @@
 //! Whether a column of the new rows has too many bytes.
-ghost use Rattle.std.specs.Prelude.{◌≡◌, ◌≢◌, ◌<◌, ◌≤◌, ◌^◌, ℕ, true, false, All, IfSome, IfNone, length, get_or, replicate};
+ghost use Rattle.std.specs.Prelude.{◌≡◌, ◌≢◌, ◌<◌, ◌≤◌, ℕ, true, false, All, IfSome, IfNone, length, get_or, replicate};
 ghost use Rattle.std.specs.List.{flat_map};
 ghost use Rattle.arr_import.specs.Cols.{window_of};
 ghost use Rattle.arr_import.specs.Window.{item_at};
 ghost use Rattle.data_types.specs.declared.kind.DataType.TheVariants as kinds;
-ghost use Rattle.kind_tree.specs.Kinds.{TypedOk};
-ghost use Rattle.kind_tree.specs.TypedView.{typed_of};
+ghost use Rattle.data_types.specs.KindTrees.{TypedOk};
+ghost use Rattle.data_types.specs.TypedView.{typed_of};
+ghost use Rattle.layout_rules.specs.Rules.{window_limit};
 ghost use Rattle.layout_rules.specs.Values.{rows_of};
 ghost use Rattle.tree_model.specs.Tree.{children_of};
 ghost use Rattle.list_cols.specs.Exploded.{exploded_kinds};
@@ -15,14 +16,13 @@ ghost use Rattle.list_cols.specs.Reaching.{IsHeld, IsLong, IsReached, wide_of};
 ghost use Rattle.list_cols.specs.Spreading.{AllFit, CanSpread, FitsAt, chunk_runs, spread_values};
 
 use crate::fault::ListFault;
-use crate::kinds::{child_count, child_kinds, flat_kind, list_column};
+use crate::kinds::{child_count, child_kinds, list_column};
 use crate::runs::MOST_NAMED;
 use crate::totals::{lists_bytes, runs_bytes};
 use arr_import::Col;
-use column_gather::Run;
-use data_types::DataType;
-use kind_tree::{Typed, kinds_of_typed};
-use lawful_values::lawful_values_fit;
+use array_laws::lawful_values_fit;
+use column_fill::{Run, flat_kind};
+use data_types::{DataType, Typed, kinds_of_typed};
 use layout_rules::{chunks_are_tables, lawful_trees};
 use raw_array::RawArray;
 
@@ -36,7 +36,7 @@ fn wide_of(kind: &DataType) -> Option<bool>
     }
 }
 
-/// Why offsets of 64 bits don't reach so many bytes: no buffer has 2^63.
+/// Why offsets of 64 bits don't reach this many bytes: no buffer has 2^63.
 fn wide_fault(total: Option<u64>) -> Option<ListFault>
     ensures { (bytes : ℕ) → HasTotal bytes total → IsReached true bytes result }
 {
@@ -62,7 +62,7 @@ fn narrow_fault(total: Option<u64>) -> Option<ListFault>
     }
 }
 
-/// Why offsets don't reach so many bytes.
+/// Why offsets don't reach this many bytes.
 fn reach_fault(wide: bool, total: Option<u64>) -> Option<ListFault>
     ensures { (bytes : ℕ) → HasTotal bytes total → IsReached wide bytes result }
 {
@@ -86,7 +86,7 @@ fn lists_fault(kind: &DataType, lists: &Col<'_>) -> Option<ListFault>
 /// Why the items of runs have more bytes than offsets of this type reach.
 fn runs_fault(kind: &DataType, items: &Col<'_>, runs: &[Run]) -> Option<ListFault>
     requires inside { All (λ run. run.item < (window_of items.now).count) runs.now }
-    requires near { (window_of items.now).count ≤ 2 ^ 40 }
+    requires near { (window_of items.now).count ≤ window_limit }
     ensures { IsHeld kind.now (flat_map (λ run. replicate run.times (item_at (window_of items.now) run.item)) runs.now) result }
 {
     match wide_of(kind) {
@@ -99,7 +99,7 @@ fn runs_fault(kind: &DataType, items: &Col<'_>, runs: &[Run]) -> Option<ListFaul
 fn own_fault(typed: &Typed, array: &RawArray, column: usize) -> Option<ListFault>
     requires types { TypedOk (typed_of typed.now) }
     requires rows { CanSpread column (typed_of typed.now) array.now }
-    requires few { length (Explode column (rows_of (typed_of typed.now) array.now)) ≤ 2 ^ 40 }
+    requires few { length (Explode column (rows_of (typed_of typed.now) array.now)) ≤ window_limit }
     ensures none { IfNone result (FitsAt column (typed_of typed.now) array.now column) }
     ensures some { IfSome result (λ fault. IsLong (get_or (exploded_kinds column (typed_of typed.now)) column kinds.Null)
         (spread_values column (typed_of typed.now) array.now column) fault) }
@@ -127,7 +127,7 @@ fn other_fault(
     requires types { TypedOk (typed_of typed.now) }
     requires rows { CanSpread column (typed_of typed.now) array.now }
     requires runs { runs.now ≡ chunk_runs column (typed_of typed.now) array.now }
-    requires few { length (Explode column (rows_of (typed_of typed.now) array.now)) ≤ 2 ^ 40 }
+    requires few { length (Explode column (rows_of (typed_of typed.now) array.now)) ≤ window_limit }
     requires inside { k < length (children_of (typed_of typed.now)) }
     requires other { k ≢ column }
     ensures none { IfNone result (FitsAt column (typed_of typed.now) array.now k) }
@@ -156,7 +156,7 @@ fn column_fault(
     requires types { TypedOk (typed_of typed.now) }
     requires rows { CanSpread column (typed_of typed.now) array.now }
     requires runs { runs.now ≡ chunk_runs column (typed_of typed.now) array.now }
-    requires few { length (Explode column (rows_of (typed_of typed.now) array.now)) ≤ 2 ^ 40 }
+    requires few { length (Explode column (rows_of (typed_of typed.now) array.now)) ≤ window_limit }
     requires inside { k < length (children_of (typed_of typed.now)) }
     ensures none { IfNone result (FitsAt column (typed_of typed.now) array.now k) }
     ensures some { IfSome result (λ fault. IsLong (get_or (exploded_kinds column (typed_of typed.now)) k kinds.Null)
@@ -179,7 +179,7 @@ pub(crate) fn bytes_fault(
     requires types { TypedOk (typed_of typed.now) }
     requires rows { CanSpread column (typed_of typed.now) array.now }
     requires runs { runs.now ≡ chunk_runs column (typed_of typed.now) array.now }
-    requires few { length (Explode column (rows_of (typed_of typed.now) array.now)) ≤ 2 ^ 40 }
+    requires few { length (Explode column (rows_of (typed_of typed.now) array.now)) ≤ window_limit }
     ensures none { IfNone result (AllFit column (typed_of typed.now) array.now) }
     ensures some { IfSome result (λ fault. (k : ℕ) × (k < length (children_of (typed_of typed.now)))
         × IsLong (get_or (exploded_kinds column (typed_of typed.now)) k kinds.Null) (spread_values column (typed_of typed.now) array.now k) fault) }

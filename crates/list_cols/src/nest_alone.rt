@@ -1,15 +1,16 @@
 //! The array of the distinct values of a column alone.
-ghost use Rattle.std.specs.Prelude.{◌≡◌, ◌≢◌, ◌⊎◌, ◌+◌, ◌<◌, ◌≤◌, ◌^◌, ◌∷◌, [], All, true, false, None, IfOk, IfErr, OnOk, MatchResult, length, map};
+ghost use Rattle.std.specs.Prelude.{◌≡◌, ◌≢◌, ◌⊎◌, ◌+◌, ◌<◌, ◌≤◌, ◌∷◌, [], All, true, false, None, IfOk, IfErr, OnOk, MatchResult, length, map};
 ghost use Rattle.arr_export.specs.ArrayTrees.{IsColumn, column_tree, table_tree};
-ghost use Rattle.column_gather.specs.Gathered.{CanGatherRuns, values_at};
+ghost use Rattle.column_fill.specs.Gathered.{CanGatherRuns, values_at};
 ghost use Rattle.data_types.specs.Table.{Flat};
-ghost use Rattle.kind_tree.specs.ColumnKinds.{type_of_kind};
-ghost use Rattle.kind_tree.specs.Kinds.{TypedOk, kind_in};
-ghost use Rattle.kind_tree.specs.TypedView.{kids_of, kind_of, typed_of};
+ghost use Rattle.data_types.specs.ColumnKinds.{type_of_kind};
+ghost use Rattle.data_types.specs.KindTrees.{TypedOk, kind_in};
+ghost use Rattle.data_types.specs.TypedView.{kids_of, kind_of, typed_of};
+ghost use Rattle.layout_rules.specs.Rules.{window_limit};
 ghost use Rattle.layout_rules.specs.Values.{rows_of};
 ghost use Rattle.raw_array.specs.Members.{Cost};
 ghost use Rattle.tree_model.specs.Tree.{children_of};
-ghost use Rattle.row_groups.specs.Groups.{distinct};
+ghost use Rattle.data_types.specs.Groups.{distinct};
 ghost use Rattle.row_groups.specs.Items.{IsRefusedFor, most_groups};
 ghost use Rattle.unit_pass.specs.declared.pass.TheConstants.{SUPPLY};
 ghost use Rattle.list_cols.specs.NestFaults.{is_nest_too_long};
@@ -20,19 +21,18 @@ use crate::fault::ListFault;
 use crate::nest_columns::{first_row, row_count};
 use crate::nest_lists::one_child;
 use arr_export::export_table;
-use column_fill::built_column;
-use column_gather::{Run, gathered_runs};
-use kind_tree::{Typed, kinds_of_typed};
-use lawful_values::{flat_types_have_no_children, lawful_values_fit};
+use array_laws::{flat_types_have_no_children, lawful_values_fit};
+use column_fill::{Run, built_column, gathered_runs};
+use data_types::{Typed, kinds_of_typed};
 use layout_rules::{chunks_are_tables, lawful_root, lawful_trees};
 use raw_array::{RawArray, release_all};
-use row_groups::{FirstsFault, first_items};
+use row_groups::{GroupFault, first_items};
 use std::alloc::Global;
 use unit_pass::{NoMemory, Pass, SUPPLY};
 
 /// Each of these items once, counted from item `start` on.
 fn once_each(alloc: Global, firsts: &[u64], start: u64) -> Result<Vec<Run>, NoMemory>
-    requires near { All (λ i. start + i < 2 ^ 40) firsts.now }
+    requires near { All (λ i. start + i < window_limit) firsts.now }
     ensures { IfOk result (λ runs. runs.items ≡ map (run_at start) firsts.now) }
 {
     let mut runs = Vec::with_capacity(alloc, firsts.len())?;
@@ -57,7 +57,7 @@ fn far_column(
     requires typed { typed_of kid.now ≡ type_of_kind (Flat (kind_of kid.now)) }
     requires types { TypedOk (typed_of kid.now) }
     requires items { CanGatherRuns (kind_of kid.now) items.now (map (run_at start) firsts.now) }
-    requires near { All (λ i. start + i < 2 ^ 40) firsts.now }
+    requires near { All (λ i. start + i < window_limit) firsts.now }
     requires units { 4 ≤ pass.old.units }
     ensures made { IfOk result (λ made. made ≡ column_tree (kind_of kid.now) (values_at (type_of_kind (Flat (kind_of kid.now))) items.now start firsts.now) None) }
     ensures units { MatchResult result (λ made. pass.new.units + Cost made ≡ pass.old.units) (λ _. pass.new.units ≡ pass.old.units) }
@@ -71,7 +71,7 @@ fn far_column(
     }
 }
 
-/// A table of one column with so many rows. On want of memory the column is released.
+/// A table of one column with this many rows. Where memory runs out the column is released.
 fn table_of_one(
     alloc: Global,
     column: RawArray,
@@ -79,7 +79,7 @@ fn table_of_one(
     pass: &mut Pass,
 ) -> Result<RawArray, NoMemory>
     requires column { IsColumn rows column }
-    requires few { rows ≤ 2 ^ 40 }
+    requires few { rows ≤ window_limit }
     requires unit { 1 ≤ pass.old.units }
     requires room { pass.old.units + Cost column ≤ SUPPLY }
     ensures made { IfOk result (λ made. made ≡ table_tree rows (column ∷ [])) }
@@ -141,7 +141,7 @@ fn only_firsts(
     typed: &Typed,
     array: &RawArray,
     column: usize,
-) -> Result<Vec<u64>, FirstsFault>
+) -> Result<Vec<u64>, GroupFault>
     requires types { TypedOk (typed_of typed.now) }
     requires chunk { CanNest column (typed_of typed.now) array.now }
     requires inside { column < length (kids_of typed.now) }
@@ -193,7 +193,7 @@ pub(crate) fn lone_table(
             Ok(made) => Ok(made),
             Err(NoMemory) => Err(ListFault::NoMemory),
         },
-        Err(FirstsFault::TooMany) => Err(ListFault::TooLong),
-        Err(FirstsFault::NoMemory) => Err(ListFault::NoMemory),
+        Err(GroupFault::TooMany) => Err(ListFault::TooLong),
+        Err(GroupFault::NoMemory) => Err(ListFault::NoMemory),
     }
 }

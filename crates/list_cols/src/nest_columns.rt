@@ -1,7 +1,7 @@
 //! The columns of grouped rows.
 ghost use Rattle.std.specs.Prelude.{◌≡◌, ◌+◌, ◌*◌, ◌<◌, ◌≤◌, ◌≤ℤ◌, ℕ, pos, None, IfOk, OnOk, MatchResult, length, map};
-ghost use Rattle.kind_tree.specs.Kinds.{TypedOk, kind_in};
-ghost use Rattle.kind_tree.specs.TypedView.{kids_of, kind_of, typed_of};
+ghost use Rattle.data_types.specs.KindTrees.{TypedOk, kind_in};
+ghost use Rattle.data_types.specs.TypedView.{kids_of, kind_of, typed_of};
 ghost use Rattle.layout_rules.specs.Layout.{first};
 ghost use Rattle.layout_rules.specs.Values.{each, rows_of, tree_items};
 ghost use Rattle.raw_array.specs.Members.{Cost, cost_of_all, members_of};
@@ -11,8 +11,8 @@ ghost use Rattle.list_cols.specs.NestedGroups.{AreRowGroups, CanNest};
 ghost use Rattle.list_cols.specs.NestedTables.{FitColumn, nested_column};
 
 use crate::nest_lists::{list_column, picked_column};
-use kind_tree::{Typed, kinds_of_typed};
-use lawful_values::{flat_types_have_no_children, lawful_values_fit};
+use array_laws::{flat_types_have_no_children, lawful_values_fit};
+use data_types::{Typed, kinds_of_typed};
 use layout_rules::{chunks_are_tables, lawful_root, lawful_trees};
 use raw_array::{RawArray, release_all};
 use row_groups::Groups;

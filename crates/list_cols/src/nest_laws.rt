@@ -5,7 +5,7 @@ ghost use Rattle.data_types.specs.Table.{Row};
 ghost use Rattle.data_types.specs.Value.{Value};
 ghost use Rattle.data_types.specs.declared.kind.DataType.{DataType};
 ghost use Rattle.data_types.specs.declared.kind.DataType.TheVariants as kinds;
-ghost use Rattle.kind_tree.specs.Kinds.{KindTree, kind_in};
+ghost use Rattle.data_types.specs.KindTrees.{KindTree, kind_in};
 ghost use Rattle.layout_rules.specs.Values.{rows_of, values_of};
 ghost use Rattle.layout_rules.specs.Walk.{ChunkOk, LayoutOk};
 ghost use Rattle.raw_schema.specs.Members.{SchemaTree};

@@ -2,15 +2,15 @@
 ghost use Rattle.std.specs.Prelude.{◌≡◌, ◌+◌, ◌-◌, ◌<◌, ◌≤◌, ◌^◌, ◌≤ℤ◌, ◌∷◌, [], List, None, pos, IfOk, OnOk, MatchResult, if◌then◌else◌, is_ok, length};
 ghost use Rattle.std.specs.List.{flat_map};
 ghost use Rattle.arr_export.specs.ArrayTrees.{column_tree, made};
-ghost use Rattle.bit_pack.specs.Packed.{le_bytes};
+ghost use Rattle.data_types.specs.Packed.{le_bytes};
 ghost use Rattle.col_build.specs.Encoding.{HasForm};
-ghost use Rattle.column_gather.specs.Gathered.{CanGather, values_at};
+ghost use Rattle.column_fill.specs.Gathered.{CanGather, values_at};
 ghost use Rattle.data_types.specs.FieldText.{form_of};
 ghost use Rattle.data_types.specs.Table.{Flat};
 ghost use Rattle.data_types.specs.Value.{Value};
-ghost use Rattle.kind_tree.specs.ColumnKinds.{type_of_kind};
-ghost use Rattle.kind_tree.specs.Kinds.{TypedOk};
-ghost use Rattle.kind_tree.specs.TypedView.{kind_of, typed_of};
+ghost use Rattle.data_types.specs.ColumnKinds.{type_of_kind};
+ghost use Rattle.data_types.specs.KindTrees.{TypedOk};
+ghost use Rattle.data_types.specs.TypedView.{kind_of, typed_of};
 ghost use Rattle.layout_rules.specs.Layout.{natural};
 ghost use Rattle.raw_array.specs.Members.{Cost};
 ghost use Rattle.raw_array.specs.Parts.{tree_of_parts};
@@ -21,11 +21,10 @@ ghost use Rattle.unit_pass.specs.declared.pass.TheConstants.{SUPPLY};
 ghost use Rattle.list_cols.specs.ListTrees.{list_members, list_tree};
 ghost use Rattle.list_cols.specs.NestedGroups.{AreGroups, HasItems, grouped_lists};
 
+use array_laws::lawful_values_fit;
 use buf_block::{BufView, let_go_all, make};
-use column_fill::built_column;
-use column_gather::gathered;
-use kind_tree::Typed;
-use lawful_values::lawful_values_fit;
+use column_fill::{built_column, gathered};
+use data_types::Typed;
 use raw_array::{ArrayParts, RawArray, ReleaseKind, release_all};
 use row_groups::Groups;
 use std::alloc::Global;
@@ -72,7 +71,7 @@ fn list_views(
     }
 }
 
-/// An array alone in a list of children. On want of memory it is released.
+/// An array alone in a list of children. Where memory runs out it is released.
 pub(crate) fn one_child(
     alloc: Global,
     child: RawArray,
@@ -114,7 +113,7 @@ fn end_parts(parts: ArrayParts, pass: &mut Pass)
     }
 }
 
-/// A live array of these parts. On want of memory they are released.
+/// A live array of these parts. Where memory runs out they are released.
 fn built_array(alloc: Global, parts: ArrayParts, pass: &mut Pass) -> Result<RawArray, NoMemory>
     requires unit { 1 ≤ pass.old.units }
     requires room { pass.old.units + Cost (tree_of_parts parts) ≤ SUPPLY + 1 }
@@ -135,7 +134,7 @@ fn built_array(alloc: Global, parts: ArrayParts, pass: &mut Pass) -> Result<RawA
     }
 }
 
-/// So many lists, none of them null, of an array's items between these offsets. On want of memory the array is released.
+/// This many lists, none of them null, of an array's items between these offsets. Where memory runs out the array is released.
 fn lists_over(
     alloc: Global,
     count: i64,

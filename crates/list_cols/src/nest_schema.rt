@@ -7,7 +7,7 @@ ghost use Rattle.unit_pass.specs.declared.pass.TheConstants.{SUPPLY};
 ghost use Rattle.list_cols.specs.NestedFields.{list_field, nested_schema, new_field};
 
 use crate::fields::{NULLABLE, copied, one_field, renamed_field};
-use field_move::{built_schema, with_fields};
+use arr_move::{built_schema, with_fields};
 use raw_schema::{RawSchema, SchemaParts, release_all};
 use std::alloc::Global;
 use unit_pass::{NoMemory, Pass, SUPPLY};
@@ -91,7 +91,7 @@ fn new_fields(
     Ok(fields)
 }
 
-/// The schema with a list over each field but one, which moves whole. On want of memory the schema comes back as it was.
+/// The schema with a list over each field but one, which moves whole. Where memory runs out the schema comes back as it was.
 pub(crate) fn nested_schema(
     alloc: Global,
     schema: RawSchema,

@@ -1,11 +1,11 @@
 //! The array of grouped rows.
 ghost use Rattle.std.specs.Prelude.{◌≡◌, ◌≢◌, ◌⊎◌, ◌+◌, ◌<◌, ◌≤◌, ◌≤ℤ◌, ◌^◌, true, false, pos, IfOk, IfErr, OnOk, MatchResult, length, map};
-ghost use Rattle.kind_tree.specs.Kinds.{TypedOk, kind_in};
-ghost use Rattle.kind_tree.specs.TypedView.{kids_of, typed_of};
+ghost use Rattle.data_types.specs.KindTrees.{TypedOk, kind_in};
+ghost use Rattle.data_types.specs.TypedView.{kids_of, typed_of};
 ghost use Rattle.layout_rules.specs.Values.{rows_of, tree_items};
 ghost use Rattle.raw_array.specs.Members.{Cost, members_of};
 ghost use Rattle.tree_model.specs.Tree.{IsLive, children_of};
-ghost use Rattle.row_groups.specs.Groups.{distinct};
+ghost use Rattle.data_types.specs.Groups.{distinct};
 ghost use Rattle.unit_pass.specs.declared.pass.TheConstants.{CHUNK};
 ghost use Rattle.list_cols.specs.Faults.{most_named};
 ghost use Rattle.list_cols.specs.NestFaults.{is_nest_too_long};
@@ -17,8 +17,8 @@ use crate::nest_alone::lone_table;
 use crate::nest_columns::{first_row, nested_columns, row_count};
 use crate::runs::MOST_NAMED;
 use arr_export::export_table;
-use kind_tree::{Typed, kinds_of_typed};
-use lawful_values::flat_types_have_no_children;
+use array_laws::flat_types_have_no_children;
+use data_types::{Typed, kinds_of_typed};
 use layout_rules::{chunks_are_tables, lawful_root, lawful_trees};
 use raw_array::{RawArray, release_all};
 use row_groups::{Groups, grouped};
@@ -96,7 +96,7 @@ fn grouped_table(
 }
 
 /// The array of a chunk's rows grouped by a column, or why there is none: too many distinct values, or too many items in a list column,
-/// which is told before anything is made.
+/// which is answered before anything is made.
 pub(crate) fn nested_table(
     alloc: Global,
     typed: &Typed,

@@ -1,12 +1,12 @@
 //! Which column is at fault where rows are grouped.
 ghost use Rattle.std.specs.Prelude.{◌≡◌, ◌<◌, ◌^◌, length};
 ghost use Rattle.tree_model.specs.Tree.{children_of};
-ghost use Rattle.kind_tree.specs.TypedView.{kids_of, typed_of};
+ghost use Rattle.data_types.specs.TypedView.{kids_of, typed_of};
 ghost use Rattle.list_cols.specs.Faults.{first_wrong};
 ghost use Rattle.list_cols.specs.NestFaults.{nests};
 
-use crate::wrong::is_flat_column;
-use kind_tree::{Typed, kinds_of_typed};
+use column_fill::is_flat_column;
+use data_types::{Typed, kinds_of_typed};
 
 /// The first column that isn't of a flat column kind, or has a dictionary.
 pub fn wrong_to_nest(typed: &Typed) -> Option<u32>

@@ -1,8 +1,8 @@
 //! Rows that are grouped by the values of a column.
 ghost use Rattle.std.specs.Prelude.{◌≡◌, ◌≢◌, ◌+◌, ◌<◌, ◌≤◌, ℕ, None, Some, IfOk, IfErr, OnOk, MatchResult, length};
 ghost use Rattle.tree_model.specs.Tree.{children_of};
-ghost use Rattle.kind_tree.specs.Kinds.{TypedOk};
-ghost use Rattle.kind_tree.specs.TypedView.{typed_of};
+ghost use Rattle.data_types.specs.KindTrees.{TypedOk};
+ghost use Rattle.data_types.specs.TypedView.{typed_of};
 ghost use Rattle.layout_rules.specs.Values.{rows_of};
 ghost use Rattle.layout_rules.specs.Walk.{ChunkOk};
 ghost use Rattle.raw_array.specs.Members.{Cost};
@@ -20,8 +20,8 @@ use crate::nest_laws::{nested_schemas_have_their_kinds, nested_tables_have_their
 use crate::nest_schema::nested_schema;
 use crate::nest_table::nested_table;
 use crate::nest_wrong::wrong_to_nest;
-use kind_tree::{Typed, kinds_of_typed};
-use lawful_values::flat_types_have_no_children;
+use array_laws::flat_types_have_no_children;
+use data_types::{Typed, kinds_of_typed};
 use layout_rules::chunks_are_tables;
 use raw_array::RawArray;
 use raw_schema::RawSchema;
@@ -35,7 +35,7 @@ use unit_pass::{CHUNK, NoMemory, Pass, SUPPLY};
 ///
 /// # Errors
 ///
-/// What was handed in comes back. The faults are tried in their order, and told before anything is made.
+/// What was handed in comes back. The faults are tried in their order, and answered before anything is made.
 pub fn nest(
     alloc: Global,
     typed: &Typed,
@@ -61,10 +61,10 @@ pub fn nest(
         ≡ Nest (length (children_of (typed_of typed.now))) column (rows_of (typed_of typed.now) array)) }
     // What was handed in comes back.
     ensures back { IfErr result (λ refused. (refused.0 ≡ schema) × (refused.1 ≡ array)) }
-    // Which fault it is, or want of memory.
+    // Which fault it is, or out of memory.
     ensures free { OnOk result (nest_fault column (typed_of typed.now) (rows_of (typed_of typed.now) array) ≡ None) }
     ensures fault { IfErr result (λ refused. IsRefusedBy (nest_fault column (typed_of typed.now) (rows_of (typed_of typed.now) array)) refused.2) }
-    // A column at fault, and more rows than a list column has items, are told whatever memory there is.
+    // A column at fault, and more rows than a list column has items, are named whatever memory there is.
     ensures wrong { (k : ℕ) → first_wrong nests 0 (children_of (typed_of typed.now)) ≡ Some k
         → MatchResult result (λ _. ⊥) (λ refused. refused.2 ≡ ListFault.WrongKind k) }
     ensures many { first_wrong nests 0 (children_of (typed_of typed.now)) ≡ None → 1 < length (children_of (typed_of typed.now))

@@ -2,8 +2,8 @@
 ghost use Rattle.std.specs.Prelude.{◌<◌, length};
 ghost use Rattle.arr_import.specs.Cols.{window_of};
 ghost use Rattle.arr_import.specs.Window.{item_at};
-ghost use Rattle.kind_tree.specs.Kinds.{TypedOk};
-ghost use Rattle.kind_tree.specs.TypedView.{typed_of};
+ghost use Rattle.data_types.specs.KindTrees.{TypedOk};
+ghost use Rattle.data_types.specs.TypedView.{typed_of};
 ghost use Rattle.layout_rules.specs.Values.{rows_of};
 ghost use Rattle.layout_rules.specs.Walk.{ChunkOk};
 ghost use Rattle.tree_model.specs.Tree.{children_of};
@@ -14,7 +14,7 @@ ghost use Rattle.list_cols.specs.Nested.{Explode};
 use crate::kinds::list_column;
 use crate::runs::{MOST_NAMED, count_items, list_length};
 use arr_import::Col;
-use kind_tree::{Typed, kinds_of_typed};
+use data_types::{Typed, kinds_of_typed};
 use layout_rules::{chunks_are_tables, lawful_trees};
 use raw_array::RawArray;
 

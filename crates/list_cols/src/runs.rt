@@ -2,15 +2,16 @@
 ghost use Rattle.std.specs.Prelude.{◌≡◌, ◌+◌, ◌^◌, ◌<◌, ◌≤◌, [], IfNone, IfOk, IfSome, length};
 ghost use Rattle.arr_import.specs.Cols.{window_of};
 ghost use Rattle.arr_import.specs.Window.{item_at, items_of};
+ghost use Rattle.layout_rules.specs.Rules.{window_limit};
 ghost use Rattle.list_cols.specs.Listed.{list_runs};
 ghost use Rattle.list_cols.specs.Nested.{items_in};
 
 use arr_import::{Col, ValueRef};
-use column_gather::Run;
+use column_fill::Run;
 use std::alloc::Global;
 use unit_pass::NoMemory;
 
-/// So many rows, or bytes between offsets of 32 bits, are named at most.
+/// The most rows, or bytes between offsets of 32 bits, that are named.
 pub(crate) const MOST_NAMED: u64 = (1 << 31) - 1;
 
 /// The number of items.
@@ -49,7 +50,7 @@ pub(crate) fn list_length(lists: &Col<'_>, i: u64) -> u64
 
 /// The runs of the rows with these lists, of which the first one is that of item `first` of each column.
 pub(crate) fn list_runs(alloc: Global, lists: &Col<'_>, first: u64) -> Result<Vec<Run>, NoMemory>
-    requires near { first + (window_of lists.now).count ≤ 2 ^ 40 }
+    requires near { first + (window_of lists.now).count ≤ window_limit }
     ensures { IfOk result (λ runs. runs.items ≡ list_runs first (item_at (window_of lists.now)) (window_of lists.now).count) }
 {
     let count = count_items(lists);

@@ -1,7 +1,7 @@
 //! The array of the rows whose lists are spread out.
 ghost use Rattle.std.specs.Prelude.{◌≡◌, ◌⊎◌, ◌<◌, ◌≤◌, ◌^◌, ◌+◌, ◌≤ℤ◌, ◌≢◌, pos, true, false, IfOk, IfErr, OnOk, MatchResult, length};
-ghost use Rattle.kind_tree.specs.Kinds.{TypedOk};
-ghost use Rattle.kind_tree.specs.TypedView.{typed_of};
+ghost use Rattle.data_types.specs.KindTrees.{TypedOk};
+ghost use Rattle.data_types.specs.TypedView.{typed_of};
 ghost use Rattle.layout_rules.specs.Layout.{first};
 ghost use Rattle.layout_rules.specs.Values.{rows_of};
 ghost use Rattle.layout_rules.specs.Walk.{ChunkOk};
@@ -21,8 +21,8 @@ use crate::long::bytes_fault;
 use crate::rows::exploded_rows;
 use crate::runs::list_runs;
 use arr_export::export_table;
-use column_gather::Run;
-use kind_tree::Typed;
+use column_fill::Run;
+use data_types::Typed;
 use layout_rules::lawful_root;
 use raw_array::{RawArray, release_all};
 use std::alloc::Global;
@@ -54,7 +54,7 @@ fn chunk_runs(
     list_runs(alloc, &lists, first_of(array))
 }
 
-/// The table of so many rows, made of new columns.
+/// The table of this many rows, made of new columns.
 fn made_table(
     alloc: Global,
     typed: &Typed,
@@ -89,7 +89,7 @@ fn made_table(
 }
 
 /// The array of a chunk's rows with the lists of a column spread out, or why there is none: too many rows, or too many bytes in a
-/// column, which is told before anything is made.
+/// column, which is answered before anything is made.
 pub(crate) fn spread_table(
     alloc: Global,
     typed: &Typed,

@@ -1,15 +1,16 @@
-//! How many bytes the columns will have, told before anything is made.
+//! How many bytes the columns will have, found before anything is made.
 ghost use Rattle.std.specs.Prelude.{◌≡◌, ◌+◌, ◌*◌, ◌^◌, ◌<◌, ◌≤◌, All, length, replicate};
 ghost use Rattle.std.specs.List.{flat_map};
 ghost use Rattle.arr_import.specs.Cols.{window_of};
 ghost use Rattle.arr_import.specs.Window.{item_at, items_of};
 ghost use Rattle.data_types.specs.Value.{byte_total, bytes_of};
+ghost use Rattle.layout_rules.specs.Rules.{window_limit};
 ghost use Rattle.list_cols.specs.Listed.{HasTotal, listed};
 ghost use Rattle.list_cols.specs.Nested.{items_in};
 
 use crate::runs::{count_items, list_at};
 use arr_import::Col;
-use column_gather::Run;
+use column_fill::Run;
 
 /// No buffer has so many bytes.
 const TOO_MANY: u64 = 1 << 63;
@@ -29,7 +30,7 @@ fn plus(total: u64, more: u128) -> Option<u64>
     }
 }
 
-/// How many bytes so many items have of so many bytes each.
+/// How many bytes this many items have of this many bytes each.
 #[inline(always)]
 fn product(times: u64, bytes: u64) -> u128
     ensures is { result ≡ times * bytes }
@@ -55,7 +56,7 @@ fn item_bytes(items: &Col<'_>, i: u64) -> u64
 /// The bytes of the items of runs, where they are fewer than 2^63.
 pub(crate) fn runs_bytes(items: &Col<'_>, runs: &[Run]) -> Option<u64>
     requires inside { All (λ run. run.item < (window_of items.now).count) runs.now }
-    requires near { (window_of items.now).count ≤ 2 ^ 40 }
+    requires near { (window_of items.now).count ≤ window_limit }
     ensures { HasTotal (byte_total (flat_map (λ run. replicate run.times (item_at (window_of items.now) run.item)) runs.now)) result }
 {
     let mut total = 0u64;

@@ -1,7 +1,8 @@
 //! What the schema and the array are that are made.
-ghost use Rattle.std.specs.Prelude.{◌≡◌, ◌≤◌, ◌^◌, length};
-ghost use Rattle.kind_tree.specs.Kinds.{TypedOk};
-ghost use Rattle.kind_tree.specs.TypedView.{typed_of};
+ghost use Rattle.std.specs.Prelude.{◌≡◌, ◌≤◌, length};
+ghost use Rattle.data_types.specs.KindTrees.{TypedOk};
+ghost use Rattle.data_types.specs.TypedView.{typed_of};
+ghost use Rattle.layout_rules.specs.Rules.{window_limit};
 ghost use Rattle.layout_rules.specs.Values.{rows_of};
 ghost use Rattle.layout_rules.specs.Walk.{ChunkOk};
 ghost use Rattle.raw_schema.specs.Members.{SchemaTree};
@@ -12,8 +13,8 @@ ghost use Rattle.list_cols.specs.Nested.{Explode};
 ghost use Rattle.list_cols.specs.Spreading.{AllFit, CanSpread};
 
 use crate::laws::flat_tables_have_their_rows;
-use kind_tree::{Typed, kinds_of_typed};
-use lawful_values::flat_types_have_no_children;
+use array_laws::flat_types_have_no_children;
+use data_types::{Typed, kinds_of_typed};
 use layout_rules::{chunks_are_tables, lawful_trees};
 use raw_array::RawArray;
 
@@ -25,7 +26,7 @@ pub(crate) fn exploded_trees_are_lawful(typed: &Typed, array: &RawArray, column:
     ensures field { (schema : SchemaTree) → TypedOf schema (typed_of typed.now) → HasList schema column }
     ensures types { (schema : SchemaTree) → TypedOf schema (typed_of typed.now)
         → TypedOf (exploded_schema column schema) (exploded_type column (typed_of typed.now)) }
-    ensures chunk { AllFit column (typed_of typed.now) array.now → length (Explode column (rows_of (typed_of typed.now) array.now)) ≤ 2 ^ 40
+    ensures chunk { AllFit column (typed_of typed.now) array.now → length (Explode column (rows_of (typed_of typed.now) array.now)) ≤ window_limit
         → ChunkOk (exploded_type column (typed_of typed.now)) (exploded_array column (typed_of typed.now) array.now) }
     ensures rows { AllFit column (typed_of typed.now) array.now
         → rows_of (exploded_type column (typed_of typed.now)) (exploded_array column (typed_of typed.now) array.now)

@@ -1,19 +1,11 @@
 //! Which column is at fault.
 ghost use Rattle.std.specs.Prelude.{◌≡◌, ◌<◌, ◌^◌, length};
 ghost use Rattle.tree_model.specs.Tree.{children_of};
-ghost use Rattle.kind_tree.specs.TypedView.{typed_of, kids_of};
-ghost use Rattle.list_cols.specs.Faults.{explodes, first_wrong, is_flat_column, is_flat_list};
+ghost use Rattle.data_types.specs.TypedView.{typed_of, kids_of};
+ghost use Rattle.list_cols.specs.Faults.{explodes, first_wrong, is_flat_list};
 
-use data_types::{DataType, is_flat};
-use kind_tree::{Typed, kinds_of_typed};
-
-/// Whether values are of a flat column kind, without a dictionary.
-pub(crate) fn is_flat_column(typed: &Typed) -> bool
-    ensures { result ≡ is_flat_column (typed_of typed.now) }
-{
-    kinds_of_typed(typed);
-    typed.dict.is_none() && is_flat(&typed.kind)
-}
+use column_fill::is_flat_column;
+use data_types::{DataType, Typed, kinds_of_typed};
 
 /// Whether values are lists of a flat column kind, with offsets.
 fn is_flat_list(typed: &Typed) -> bool

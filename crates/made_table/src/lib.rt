@@ -9,7 +9,7 @@
 #![tactic(auto)]
 
 ghost use Rattle.std.specs.Prelude.{◌≡◌, ◌≤◌, ◌++◌, ℕ, length, codes, IfOk, OnOk};
-ghost use Rattle.made_table.specs.Made.{made, made_row, paid_text};
+ghost use Rattle.csv_model.specs.Made.{made, made_row, paid_text};
 
 use itoa::Buffer;
 use std::alloc::Global;
@@ -18,7 +18,7 @@ use unit_pass::NoMemory;
 /// The line of the names.
 const HEADER: [u8; 20] = *b"id,name,amount,paid\n";
 
-/// The text with so many rows. It answers [`NoMemory`] where the block for the whole text is refused.
+/// The text with this many rows. It answers [`NoMemory`] where the block for the whole text is refused.
 pub fn made(alloc: Global, n: u32) -> Result<Vec<u8>, NoMemory>
     ensures text { IfOk result (λ v. v.items ≡ made n) }
 {
@@ -30,7 +30,7 @@ pub fn made(alloc: Global, n: u32) -> Result<Vec<u8>, NoMemory>
     Ok(text)
 }
 
-/// As many bytes as the text with so many rows takes at most.
+/// As many bytes as the text with this many rows takes at most.
 fn room(n: u32) -> usize
     ensures { length (made n) ≤ result }
 {

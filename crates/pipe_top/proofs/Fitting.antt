@@ -6,13 +6,13 @@ use Rattle.data_types.specs.Parts.{picked}
 use Rattle.data_types.specs.ColumnView.{column_of}
 use Rattle.data_types.specs.Table.{Column}
 use Rattle.data_types.specs.declared.kind.ColumnType.{ColumnType}
-use Rattle.plan_laws.specs.Distinct.{DistinctPicks}
+use Rattle.stages.specs.Distinct.{DistinctPicks}
 use Rattle.dict_stage.specs.Recoded.{RecodeFits}
 use Rattle.stage_filter.specs.Filters.{FilterFits}
 use Rattle.stage_kernels.specs.Packs.{PackFits}
 use Rattle.stage_kernels.specs.Picks.{PickFits}
 use Rattle.stage_kernels.specs.Unpacks.{UnpackFits}
-use Rattle.plan_laws.specs.Structs.{column_structs, most_structs}
+use Rattle.stages.specs.Structs.{column_structs, most_structs}
 use Rattle.stage_model.specs.Typing.{FitsColumns, HasColumns, no_column, totals_columns}
 use Rattle.stage_model.specs.declared.stage.Const.{Const}
 use Rattle.stage_model.specs.declared.stage.Test.{Test}

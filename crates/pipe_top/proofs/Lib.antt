@@ -1,2 +1,12 @@
 mod Fitting
 pub mod Runs
+pub mod Bodies
+mod OneAnswer
+pub mod Unshown
+pub mod Written
+pub mod LinksMade
+pub mod PlanMade
+pub mod Flat
+mod Begun
+pub mod Carried
+mod MemoryFaults

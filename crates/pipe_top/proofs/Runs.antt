@@ -3,7 +3,7 @@ use Rattle.std.proofs.Common.{ℕ, ◌≡◌, ◌⊎◌, ◌++◌, ◌∙◌, Bo
 use Rattle.std.proofs.Common.{sym, subst}
 use Rattle.std.proofs.Common.{append-nil, inl, inr}
 use Rattle.std.proofs.lemmas.Bool.{false≢true}
-use Rattle.edge_face.specs.declared.WriteFault.{WriteFault}
+use Rattle.edge_io.specs.declared.edge.WriteFault.{WriteFault}
 use Rattle.unit_pass.specs.declared.pass.Audit.{Audit}
 use Rattle.stream_face.specs.Shown.{Seen}
 use Rattle.run_model.specs.Answer.{Answer, Asks, Task, Text, Tree, Fault, cause_of, Cause, OfWords, OfTexts, OfPlan, OfRecords}
@@ -11,17 +11,17 @@ use Rattle.run_model.specs.Answer.{OfTree, OfLength, Reading, Writing, Memory}
 use Rattle.run_model.specs.MemoryFaults.{has_memory_inside}
 use Rattle.run_model.specs.Outcomes.{AtWriteFault, AtWriting, asked_of, fault_in, is_decided, task_of}
 use Rattle.run_model.specs.declared.asked.Task.{Task as AsksTask}
-use Rattle.run_model.specs.Told.{Says, Told, Took, audit_if, fault_line}
+use Rattle.run_model.specs.Diagnostics.{Says, Told, Took, audit_if, fault_line}
 use Rattle.run_model.specs.declared.fault.RunFault.{RunFault}
 use Rattle.run_model.specs.declared.fault.RunFault.TheVariants as run
-use Rattle.run_task.specs.Over.{CarriedOver, RanOver}
-use Rattle.run_task.specs.Traffic.{CountsTask, IsShownInPart, IsTraffic, ShowsAsked, ShowsTask}
-use Rattle.words.specs.Words.{made_of}
-use Rattle.run_task.proofs.Carried.{over-fault}
-use Rattle.run_task.proofs.Unshown.{unshown}
-use Rattle.run_task.proofs.Written.{some-bytes}
-use Rattle.run_task.specs.Answer.{AreBytes, AreInput, IsAnswer, IsAnswerTo, input_by}
-use Rattle.run_task.specs.Outcomes.{GotFirst, GotText}
+use Rattle.pipe_top.specs.Over.{CarriedOver, RanOver}
+use Rattle.pipe_top.specs.Traffic.{CountsTask, IsShownInPart, IsTraffic, ShowsAsked, ShowsTask}
+use Rattle.run_model.specs.Words.{made_of}
+use Rattle.pipe_top.proofs.Carried.{over-fault}
+use Rattle.pipe_top.proofs.Unshown.{unshown}
+use Rattle.pipe_top.proofs.Written.{some-bytes}
+use Rattle.run_model.specs.RunAnswer.{AreBytes, AreInput, IsAnswer, IsAnswerTo, input_by}
+use Rattle.run_model.specs.RunOutcomes.{GotFirst, GotText}
 
 -- ---- diagnostics
 
@@ -30,7 +30,7 @@ took : (r : Result (Unit {0}) WriteFault) (old new : Option (List ℕ)) (before 
 took (Ok done) old new before now text says = inl says.0
 took (Err fault) old new before now text says = inr says
 
--- the audit is told where it is asked for, but for want of memory
+-- the audit is written where it is asked for, unless memory runs out
 pub told-all : (r : Result (Unit {0}) WriteFault) (old new : Option (List ℕ)) (before now : ℕ) (fault : Option RunFault) (audit : Audit) (wanted asked : Bool)
     → ((fault ≡ Some run.NoMemory) × (wanted ≡ false)) ⊎ (wanted ≡ asked)
     → Says r old new before now (fault_line fault ++ audit_if wanted audit) → Told old new before now fault (audit_if asked audit)
@@ -41,7 +41,7 @@ told-all r old new before now fault audit wanted asked (inl none) says =
 told-all r old new before now fault audit wanted asked (inr same) says =
     inl (took r old new before now _ (subst (λ w. Says r old new before now (fault_line fault ++ audit_if w audit)) same says))
 
--- want of memory while the words are read is the run's
+-- out of memory while the words are read is the run's
 pub no-memory : (request : Result AsksTask RunFault) (carried : Result (Unit {0}) RunFault) (fault : Option RunFault)
     → request ≡ Err run.NoMemory → IfErr request (λ f. carried ≡ Err f) → fault ≡ fault_in carried → fault ≡ Some run.NoMemory
 no-memory request carried fault is early told = told ∙ ap fault_in (subst (λ e. IfErr e (λ f. carried ≡ Err f)) is early)
@@ -99,7 +99,7 @@ module _ (words : List (List ℕ)) (request : Result AsksTask RunFault) (carried
   memory-carried none = subst (λ e. IfErr e (λ f. carried ≡ Err f)) none early
 
   module _ (f : RunFault) (is : carried ≡ Err f) where
-    -- want of memory while the words are read is the fault
+    -- out of memory while the words are read is the fault
     fault-of-memory : request ≡ Err run.NoMemory → f ≡ run.NoMemory
     fault-of-memory none =
         let same : ◌≡◌ {A = Result (Unit {0}) RunFault} (Err f) (Err run.NoMemory) = sym is ∙ memory-carried none in
@@ -212,7 +212,7 @@ module _ (words : List (List ℕ)) (request : Result AsksTask RunFault) (carried
       refused-at : (f : RunFault) → fault ≡ Some f → is_decided f ≡ true → IsAnswer words bytes (Fault f)
       refused-at f is = subst (λ o. IfSome o (λ f. is_decided f ≡ true → IsAnswer words bytes (Fault f))) is refused
 
-      -- where the answer is a fault, it is told, unless a read fails
+      -- where the answer is a fault, it is reported, unless a read fails
       complete-fault : (old new : Option (List ℕ)) → (fault ≡ None → GotText (IsAnswer words bytes) old new)
           → IfSome fault (λ f. AtWriteFault f (λ n. GotFirst (IsAnswer words bytes) old new n))
           → (other : RunFault) → IsAnswer words bytes (Fault other) → (ReadRose → ⊥) → (fault ≡ Some other) ⊎ (fault ≡ Some run.NoMemory)
@@ -334,7 +334,7 @@ module _ (words : List (List ℕ)) (request : Result AsksTask RunFault) (carried
           complete_fault = complete-fault bytes alone ReadRose WriteRose read-rose refused taken got text first;
         }
 
--- no fault of a run has a want of memory inside it, as none that is an answer has
+-- no fault of a run has an out-of-memory inside it, as none that is an answer has
 pub memory-alone : (words : List (List ℕ)) (bytes : List ℕ) (fault : Option RunFault)
     → ((words : List (List ℕ)) (bytes : List ℕ) (f : RunFault) → (is_decided f ≡ true → IsAnswer words bytes (Fault f)) → has_memory_inside f ≡ false)
     → IfSome fault (λ f. is_decided f ≡ true → IsAnswer words bytes (Fault f)) → IfSome fault (λ f. has_memory_inside f ≡ false)
@@ -347,7 +347,7 @@ if-some : {A : Type 0} (o : Option ℕ) → A → IfSome o (λ n. A)
 if-some None holds = tt
 if-some (Some n) holds = holds
 
--- what holds where rows are made holds where the words ask for that: want of memory while they are read is a refusal
+-- what holds where rows are made holds where the words ask for that: out of memory while they are read is a refusal
 pub made-keeps : (A : Type 0) (words : List (List ℕ)) (rows : Option ℕ) (request : Result AsksTask RunFault)
     → (request ≡ Err run.NoMemory) ⊎ (rows ≡ made_of words) → IfErr request (λ f. A) → IfSome rows (λ n. A) → IfSome (made_of words) (λ n. A)
 made-keeps A words rows request (inl none) early made = if-some (made_of words) (subst (λ r. IfErr r (λ f. A)) none early)

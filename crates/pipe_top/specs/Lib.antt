@@ -1,1 +1,5 @@
 pub mod AnySteps
+pub mod Traffic
+pub mod Begun
+pub mod Over
+pub mod ChainFaults

@@ -1,11 +1,12 @@
 //! A step, whatever its kind is.
 ghost use Rattle.pipe_top.specs.AnySteps.{any_ahead, any_blocks, any_columns, any_fits, any_gives, any_nodes, any_rests, any_takes};
 
+use data_types::Typed;
 use dict_stage::RecodeStep;
-use edge_face::Gate;
-use kind_tree::Typed;
+use edge_io::Gate;
+use fan_out::Workers;
 use raw_array::RawArray;
-use stage_chain::StepOf;
+use stage_chain::PlanStep;
 use stage_filter::FilterStep;
 use stage_kernels::{PackStep, SelectStep, SliceStep, UnpackStep};
 use stage_model::Step;
@@ -113,10 +114,10 @@ impl ChunkStep for AnyStep {
     }
 }
 
-impl StepOf for AnyStep {
-    fn of(alloc: Global, step: Step, out: OutColumns, workers: u32) -> AnyStep {
-        plan_laws::picks_are_distinct();
-        plan_laws::stages_keep_columns();
+impl PlanStep for AnyStep {
+    fn of(alloc: Global, step: Step, out: OutColumns, workers: Workers) -> AnyStep {
+        stages::picks_are_distinct();
+        stages::stages_keep_columns();
         stage_model::stages_fit_their_columns();
         match step {
             Step::Select { picks } => AnyStep::Select(SelectStep::new(picks.into_vec(), out)),

@@ -2,7 +2,7 @@
 ghost use Rattle.std.specs.Prelude.{◌≡◌, ◌≤◌, ◌+◌, ◌*◌, List, None, Some, ℕ, [], IsTrue, IfErr, IfOk, OnErr, OnOk, length};
 ghost use Rattle.csv_model.specs.Text.{table_text};
 ghost use Rattle.data_types.specs.Parts.{joined_rows};
-ghost use Rattle.plan_laws.specs.Structs.{column_structs};
+ghost use Rattle.stages.specs.Structs.{column_structs};
 ghost use Rattle.stage_model.specs.Links.{Whole};
 ghost use Rattle.stage_model.specs.Stages.{table};
 ghost use Rattle.stage_model.specs.declared.stage.StageText.{StageText as AText};
@@ -10,20 +10,21 @@ ghost use Rattle.stage_plan.specs.PlanWords.{IsPlan};
 ghost use Rattle.unit_pass.specs.declared.pass.TheConstants.{ROOM, SUPPLY};
 ghost use Rattle.stream_face.specs.Streams.{kept};
 ghost use Rattle.stage_chain.specs.Chains.{chain_links, chain_traffic, link_shows};
-ghost use Rattle.stage_chain.specs.Plans.{plan_stages};
-ghost use Rattle.stream_text.specs.Faults.{IfRow};
-ghost use Rattle.stream_text.specs.Runs.{Counted, ShowsAll, ShowsSome};
+ghost use Rattle.stage_chain.specs.Plans.{most_stages, plan_stages};
+ghost use Rattle.csv_write.specs.Faults.{IfRow};
+ghost use Rattle.csv_write.specs.Runs.{Counted, ShowsAll, ShowsSome};
 
 use crate::any_step::AnyStep;
-use edge_face::Gate;
-use stage_chain::{DriveFault, drive_by};
+use edge_io::Gate;
+use fan_out::Workers;
+use stage_chain::{DriveFault, drive_steps};
 use stage_plan::Plan;
 use std::alloc::Global;
 use std::thread::Threads;
 use stream_face::{ArrayStream, Tap};
 use unit_pass::{Pass, ROOM, SUPPLY};
 
-/// The text of the table that the stages of a plan make of all rows of a source, a null as the mark: [`drive_by`] by steps of
+/// The text of the table that the stages of a plan make of all rows of a source, a null as the mark: [`drive_steps`] by steps of
 /// all kinds.
 pub fn drive<S: ArrayStream, R: Threads + Sync, T: Tap>(
     rt: &R,
@@ -31,7 +32,7 @@ pub fn drive<S: ArrayStream, R: Threads + Sync, T: Tap>(
     source: S,
     plan: Plan,
     mark: &[u8],
-    workers: u32,
+    workers: Workers,
     pass: &mut Pass,
     tap: &mut T,
     gate: &(dyn Gate + Sync),
@@ -44,14 +45,13 @@ pub fn drive<S: ArrayStream, R: Threads + Sync, T: Tap>(
     requires flat { column_structs (S.state source).columns ≡ 0 }
     // The plan is what stages are over these columns, and they are at most 16.
     requires plan { (texts : List AText) × IsPlan (S.state source).columns texts plan }
-    requires few { length plan.steps.items ≤ 16 }
-    requires workers { (1 ≤ workers) × (workers ≤ 64) }
+    requires few { length plan.steps.items ≤ most_stages }
     requires room { 2 * ROOM ≤ pass.old.units }
     requires supply { pass.old.units + kept (S.state source) ≤ SUPPLY }
     // The text is that of the one table that the stages make of all rows, however they came in chunks.
     ensures text { IfOk result (λ text. text.items
         ≡ table_text mark.now (Whole (table (S.state source).columns (joined_rows (S.state source).ahead)) (plan_stages plan))) }
-    // There is one where the source ends well; else there is its record at fault. Memory may be wanting.
+    // There is one where the source ends well; else there is its record at fault. Memory may run out.
     ensures ends { OnOk result ((S.state source).ending ≡ None) }
     ensures row { IfErr result (λ e. IfRow e (λ fault. (S.state source).ending ≡ Some fault)) }
     ensures units { pass.new.units ≡ pass.old.units + kept (S.state source) }
@@ -60,5 +60,5 @@ pub fn drive<S: ArrayStream, R: Threads + Sync, T: Tap>(
     ensures shows { OnOk result (ShowsAll (link_shows (chain_links (S.state source) (plan_stages plan))) (T.seen tap.old) (T.seen tap.new)) }
     ensures shows_some { OnErr result (ShowsSome (link_shows (chain_links (S.state source) (plan_stages plan))) (T.seen tap.old) (T.seen tap.new)) }
 {
-    drive_by::<AnyStep, _, _, _>(rt, alloc, source, plan, mark, workers, pass, tap, gate)
+    drive_steps::<AnyStep, _, _, _>(rt, alloc, source, plan, mark, workers, pass, tap, gate)
 }

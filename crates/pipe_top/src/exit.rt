@@ -2,19 +2,19 @@
 ghost use Rattle.std.specs.Prelude.{◌≡◌, false, IfSome, Option, ℕ, List};
 ghost use Rattle.std.specs.Io.KnownBytes.{Keeps};
 ghost use Rattle.std.specs.Process.{exit_status};
-ghost use Rattle.edge_face.specs.Edge.{Rose};
-ghost use Rattle.words.specs.Words.{audit_of, texts_of};
+ghost use Rattle.edge_io.specs.Edge.{Rose};
+ghost use Rattle.run_model.specs.Words.{audit_of, texts_of};
 ghost use Rattle.run_model.specs.Answer.{status_of};
 ghost use Rattle.run_model.specs.Outcomes.{is_write_fault};
-ghost use Rattle.run_model.specs.Told.{Told, audit_if};
+ghost use Rattle.run_model.specs.Diagnostics.{Told, audit_if};
 ghost use Rattle.run_model.specs.declared.fault.RunFault.{RunFault as AFault};
-ghost use Rattle.run_task.specs.Answer.{AreInput};
-ghost use Rattle.run_task.specs.Over.{RanOver};
+ghost use Rattle.run_model.specs.RunAnswer.{AreInput};
+ghost use Rattle.pipe_top.specs.Over.{RanOver};
 ghost use Rattle.stream_face.specs.Shown.{Seen};
 ghost use Rattle.unit_pass.specs.declared.pass.Audit.{Audit as AnAudit};
 
 use crate::top::run;
-use edge_face::{OpenGate, Sink, Source};
+use edge_io::{OpenGate, Sink, Source};
 use std::alloc::Global;
 use std::process::ExitCode;
 use std::thread::Threads;

@@ -1,21 +1,21 @@
 //! The top call.
 ghost use Rattle.std.specs.Prelude.{◌≡◌, ◌⊎◌, true, false, Some, None, Ok, Err, IfSome, ℕ, List};
 ghost use Rattle.std.specs.Io.KnownBytes.{Keeps};
-ghost use Rattle.edge_face.specs.Edge.{LosesPrefix, Rose};
-ghost use Rattle.words.specs.Words.{audit_of, made_of, texts_of};
+ghost use Rattle.edge_io.specs.Edge.{LosesPrefix, Rose};
+ghost use Rattle.run_model.specs.Words.{audit_of, made_of, texts_of};
 ghost use Rattle.run_model.specs.Answer.{Asks, Tree, status_of};
 ghost use Rattle.run_model.specs.MemoryFaults.{has_memory_inside};
 ghost use Rattle.run_model.specs.Outcomes.{AtWriteFault, is_early, is_write_fault};
-ghost use Rattle.run_model.specs.Told.{Told, audit_if};
+ghost use Rattle.run_model.specs.Diagnostics.{Told, audit_if};
 ghost use Rattle.run_model.specs.declared.fault.RunFault.{RunFault as AFault};
-ghost use Rattle.run_task.specs.Answer.{AreInput};
-ghost use Rattle.run_task.specs.Outcomes.{IsRead};
-ghost use Rattle.run_task.specs.Over.{RanOver};
+ghost use Rattle.run_model.specs.RunAnswer.{AreInput};
+ghost use Rattle.run_model.specs.RunOutcomes.{IsRead};
+ghost use Rattle.pipe_top.specs.Over.{RanOver};
 
 use crate::any_step::AnyStep;
-use edge_face::{Gate, Sink, Source};
-use run_model::{Asked, Outcome, RunFault, outcome_of, read_asked, tell};
-use run_task::{carry_out, memory_stands_alone, one_answer};
+use crate::{memory_stands_alone, one_answer, run_task};
+use edge_io::{Gate, Sink, Source};
+use run_model::{CommandLine, Outcome, RunFault, outcome_of, read_command_line, write_diagnostics};
 use std::alloc::Global;
 use std::thread::Threads;
 use stream_face::Tap;
@@ -30,16 +30,16 @@ use unit_pass::open_desk;
 /// the mark is a null, by default the empty one, and a null is written as the mark. The header's names are UTF-8 and differ,
 /// there are at most 1,024 of them, and each entry of the schema text names one of them. There are at most 16 stages, each
 /// over the chunks of the one before it; the rows are read in chunks of at most `N` of them, 1,024 by default, and with
-/// `--ahead A` ahead of the stages, in a thread beside them, so many chunks a round.
+/// `--ahead A` ahead of the stages, in a thread beside them, `A` chunks a round.
 ///
-/// The first of these faults is told: of the words, of the stage texts, of the schema text, of reading, of the header, of the
+/// The first of these faults is reported: of the words, of the stage texts, of the schema text, of reading, of the header, of the
 /// stages over its columns, of the records.
 ///
 /// With `--check`, which takes no stage and no schema text, the source is a schema tree and an array tree as lines of text. They
-/// are checked as a stranger's would be, and the text is the report of the array. The first of these faults is told: of the
+/// are checked as a stranger's would be, and the text is the report of the array. The first of these faults is reported: of the
 /// words, of reading, of the text, of the schema, of the array. The tap sees nothing, and `N`, `W`, `A` and the mark change nothing.
 ///
-/// With `--selftest N`, which takes no stage, no schema text and no `--check`, the source is left alone: so many rows are made in
+/// With `--selftest N`, which takes no stage, no schema text and no `--check`, the source is left alone: `N` rows are made in
 /// its place (`made_table`), and go through a chain of stages of their own (`chain_of` in `run_model`). The mark changes nothing.
 ///
 /// Each chunk that passes from the source or from a stage is checked and then shown to the tap: link 0 is the source's, link
@@ -57,18 +57,18 @@ pub fn run<R: Threads + Sync, S: Source, K: Sink, E: Sink, T: Tap>(
     tap: &mut T,
     gate: &(dyn Gate + Sync),
 ) -> Outcome
-    // Of the bytes of one input all of this is so: those that the source tells or that are made in its place; where the source
-    // tells none, of some bytes. Success: the answer is a text, and all of it is in the sink. A fault of the words or of the
-    // input is exactly the answer's; after a failed write the sink has the first bytes of the text. The tap was shown each chunk of
-    // each link, once and in order, or the first ones, and as many blocks and nodes were made as the links or the tree need. Where
-    // no fault rises the answer is given, or there was no memory.
+    // Of the bytes of one input all of this is so: those that the source states or that are made in its place; where the source
+    // states none, of some bytes. Success: the answer is a text, and all of it is in the sink. A fault of the words or of the input
+    // is exactly the answer's; after a failed write the sink has the first bytes of the text. The tap was shown each chunk of each
+    // link, once and in order, or the first ones, and as many blocks and nodes were made as the links or the tree need. Where no
+    // fault rises the answer is given, or there was no memory.
     ensures over { (bytes : List ℕ) × AreInput (texts_of words.now) (S.left source.old) bytes
         × RanOver (texts_of words.now) bytes result.fault (K.taken sink.old) (K.taken sink.new) (T.seen tap.old) (T.seen tap.new)
         result.audit.blocks result.audit.nodes
         (Rose (S.faults source.old) (S.faults source.new)) (Rose (K.faults sink.old) (K.faults sink.new)) }
     // On success the source was read to its end, or rows were made in its place.
     ensures text_read_to_end { result.fault ≡ None → IsRead (made_of (texts_of words.now)) (S.left source.old) (S.left source.new) }
-    // The words and the texts among them are refused exactly where they are at fault, whatever the source tells, which is then
+    // The words and the texts among them are refused exactly where they are at fault, whatever the source states, which is then
     // as before.
     ensures refused_early { (fault : AFault) → Asks (texts_of words.now) (Err fault) → (result.fault ≡ Some fault) ⊎ (result.fault ≡ Some RunFault.NoMemory) }
     ensures refused_early_only { IfSome result.fault (λ fault. is_early fault ≡ true → Asks (texts_of words.now) (Err fault)) }
@@ -102,16 +102,16 @@ pub fn run<R: Threads + Sync, S: Source, K: Sink, E: Sink, T: Tap>(
     one_answer();
     memory_stands_alone();
     let (desk, mut pass) = open_desk();
-    let Asked {
+    let CommandLine {
         audit: wanted,
         made,
         task,
-    } = read_asked(alloc, words);
-    let carried = carry_out::<AnyStep, _, _, _, _>(
+    } = read_command_line(alloc, words);
+    let carried = run_task::<AnyStep, _, _, _, _>(
         rt, alloc, made, task, source, sink, &mut pass, tap, gate,
     );
     let audit = desk.close(pass);
     let outcome = outcome_of(carried, audit);
-    let _told = tell(errs, outcome.fault, &outcome.audit, wanted);
+    let _told = write_diagnostics(errs, outcome.fault, &outcome.audit, wanted);
     outcome
 }

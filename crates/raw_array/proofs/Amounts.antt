@@ -48,7 +48,7 @@ Like-same t = Alike-refl LikeMembers (λ m. like_members m (λ bs. bs) (like_buf
 pub Like-trans : (t u v : ArrayTree) → Like t u → Like u v → Like t v
 Like-trans t u v a b = Alike-trans LikeMembers like_members-trans t u v a b
 
--- ---- one share, a share that was refused, and so many shares
+-- ---- one share, a share that was refused, and any number of shares
 
 like_buffers-one_lower : (bs cs : List (Option Buffer)) → OneLowerBuffers bs cs → LikeBuffers bs cs
 like_buffers-one_lower [] [] a = tt

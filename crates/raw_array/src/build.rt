@@ -24,7 +24,7 @@ struct Placed {
 
 impl RawArray {
     /// A live structure with these members, which it owns from now on, the holds of its buffers among them. It draws one
-    /// unit and counts one node. On want of memory the parts come back, and nothing is drawn or counted.
+    /// unit and counts one node. Where memory runs out the parts come back, and nothing is drawn or counted.
     #[tactic(auto, using(tree_model::proofs::Lists::tree_lists, crate::proofs::Buffers::buffer_lists))]
     #[inline(always)]
     pub fn build(
@@ -92,7 +92,7 @@ impl RawArray {
     }
 }
 
-/// Places the buffers with the node's unit, the children and the dictionary. On want of memory all come back, and no
+/// Places the buffers with the node's unit, the children and the dictionary. Where memory runs out all come back, and no
 /// unit is drawn.
 #[inline(always)]
 fn placed_parts(alloc: Global, owned: Owned, pass: &mut Pass) -> Result<Placed, Owned>

@@ -54,7 +54,7 @@ impl RawArray {
         requires { IsLive self.old }
         ensures tree { IfOk result (λ tree. tree ≡ dictionary_at self.old) }
         ensures tree_live { IfOk result (λ tree. IsLive tree) }
-        ensures gone { OnErr result (dictionary_at self.old ≡ Released) }
+        ensures released { OnErr result (dictionary_at self.old ≡ Released) }
         ensures rest { OnOk result (self.new ≡ without_dictionary self.old) }
         ensures kept { OnErr result (self.new ≡ self.old) }
         ensures live { IsLive self.new }

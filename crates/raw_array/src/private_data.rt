@@ -16,7 +16,7 @@ pub(crate) struct Private {
     unit: Unit,
 }
 
-/// Draws a unit for a node, and places it with the node's buffers. On want of memory the buffers come back.
+/// Draws a unit for a node, and places it with the node's buffers. Where memory runs out the buffers come back.
 #[inline(always)]
 pub(crate) fn placed_private(
     alloc: Global,

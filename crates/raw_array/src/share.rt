@@ -18,7 +18,7 @@ use unit_pass::{NoMemory, Pass, SUPPLY};
 
 impl RawArray {
     /// A second live tree over the same blocks, with the same members and the kind `Shared`. Each hold gives it 1 of its
-    /// amount. Each node and each hold of it draws a unit, and none is counted. After want of memory this tree is as
+    /// amount. Each node and each hold of it draws a unit, and none is counted. Where memory ran out this tree is as
     /// before, but that amounts may be one lower, and every unit that was drawn on the way is back.
     #[tactic(auto, using(crate::proofs::Costs::costs))]
     pub fn share(&mut self, alloc: Global, pass: &mut Pass) -> Result<RawArray, NoMemory>

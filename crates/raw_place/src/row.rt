@@ -43,7 +43,7 @@ impl<T, A: Allocator> Row<T, A> {
         }
     }
 
-    /// A row that has no value yet, in a block from the allocator, whose handle comes back for want of memory.
+    /// A row that has no value yet, in a block from the allocator, whose handle comes back where memory runs out.
     pub fn with_room(heap: A, room: usize) -> Result<Row<T, A>, A>
         requires some { 0 < room }
         requires fits { FitsInBlock T.row room }

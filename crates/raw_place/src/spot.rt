@@ -22,7 +22,7 @@ impl<T, A: Allocator> Model for Room<T, A> {
 }
 
 impl<T, A: Allocator> Room<T, A> {
-    /// A block from the allocator, whose handle comes back for want of memory.
+    /// A block from the allocator, whose handle comes back where memory runs out.
     pub fn take(heap: A) -> Result<Room<T, A>, A>
         ensures { MatchResult result (λ room. room.heap ≡ heap) (λ back. back ≡ heap) }
     {

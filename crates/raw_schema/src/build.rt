@@ -20,8 +20,8 @@ struct Placed {
 }
 
 impl RawSchema {
-    /// A live structure with these members, which it owns from now on. It draws one unit and counts one node. On want of
-    /// memory the parts come back, and nothing is drawn or counted.
+    /// A live structure with these members, which it owns from now on. It draws one unit and counts one node. Where memory runs
+    /// out the parts come back, and nothing is drawn or counted.
     #[tactic(auto, using(tree_model::proofs::Lists::tree_lists))]
     pub fn build(
         alloc: Global,
@@ -94,7 +94,7 @@ pub(crate) fn named(bytes: Option<Vec<u8>>) -> Option<Name>
     }
 }
 
-/// Places the children, the dictionary and the node's unit. On want of memory both come back, and no unit is drawn.
+/// Places the children, the dictionary and the node's unit. Where memory runs out both come back, and no unit is drawn.
 fn placed_parts(
     alloc: Global,
     children: Vec<RawSchema>,

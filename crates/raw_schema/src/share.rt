@@ -14,7 +14,7 @@ use unit_pass::{Name, NoMemory, Pass, SUPPLY};
 
 impl RawSchema {
     /// A second live tree with the same members, whose texts but the names are copies. Each of its nodes draws a unit, and none is
-    /// counted. On want of memory every unit that was drawn on the way is back.
+    /// counted. Where memory runs out every unit that was drawn on the way is back.
     pub fn share(&self, alloc: Global, pass: &mut Pass) -> Result<RawSchema, NoMemory>
         requires live { IsLive self.now }
         requires units { Nodes self.now ≤ pass.old.units }

@@ -1,9 +1,9 @@
 -- The kids of a node of kinds.
 use Rattle.std.proofs.Common.{ℕ, zero, suc, ◌<◌, ◌≤◌, List, [], ◌∷◌, length, get_or, map, arith}
 use Rattle.tree_model.specs.Tree.{Depth, depth_of_all, trees}
-use Rattle.kind_tree.specs.Kinds.{AllNodesOk, NodesOk}
-use Rattle.kind_tree.specs.TypedView.{typed_of}
-use Rattle.kind_tree.specs.declared.typed.Typed.{Typed}
+use Rattle.data_types.specs.KindTrees.{AllNodesOk, NodesOk}
+use Rattle.data_types.specs.TypedView.{typed_of}
+use Rattle.data_types.specs.declared.typed.Typed.{Typed}
 
 -- the types of each are proper where all are
 pub kid-ok : (kids : List Typed) (i : ℕ) (d : Typed) → i < length kids → AllNodesOk (trees (map typed_of kids)) → NodesOk (typed_of (get_or kids i d))

@@ -1,11 +1,10 @@
 //! The kinds of a schema once more.
 ghost use Rattle.std.specs.Prelude.{◌≡◌, IfOk, map};
 ghost use Rattle.tree_model.specs.Tree.{trees};
-ghost use Rattle.kind_tree.specs.Kinds.{AllNodesOk, NodesOk};
-ghost use Rattle.kind_tree.specs.TypedView.{typed_of};
+ghost use Rattle.data_types.specs.KindTrees.{AllNodesOk, NodesOk};
+ghost use Rattle.data_types.specs.TypedView.{typed_of};
 
-use data_types::clone_kind;
-use kind_tree::{Typed, kinds_of_typed};
+use data_types::{Typed, clone_kind, kinds_of_typed};
 use std::alloc::Global;
 use unit_pass::NoMemory;
 

@@ -1,7 +1,7 @@
 //! The rows of a chunk, kept.
 ghost use Rattle.std.specs.Prelude.{◌≡◌, IfOk, map};
-ghost use Rattle.kind_tree.specs.Kinds.{TypedOk};
-ghost use Rattle.kind_tree.specs.TypedView.{typed_of};
+ghost use Rattle.data_types.specs.KindTrees.{TypedOk};
+ghost use Rattle.data_types.specs.TypedView.{typed_of};
 ghost use Rattle.layout_rules.specs.Values.{each, row_items, rows_of};
 ghost use Rattle.layout_rules.specs.Walk.{ChunkOk};
 ghost use Rattle.arr_import.specs.Cols.{window_of};
@@ -10,7 +10,7 @@ ghost use Rattle.record_tap.specs.OwnedValues.{row_of};
 
 use crate::value::{OwnedValue, count_items, kept_fields};
 use arr_import::Col;
-use kind_tree::{Typed, kinds_of_typed};
+use data_types::{Typed, kinds_of_typed};
 use layout_rules::chunks_are_tables;
 use raw_array::RawArray;
 use std::alloc::Global;

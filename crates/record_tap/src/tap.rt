@@ -1,7 +1,7 @@
 //! A tap that keeps what it is shown.
 ghost use Rattle.std.specs.Prelude.{◌≡◌, [], IfOk, map};
 ghost use Rattle.schema_check.specs.Schemas.{TypedOf};
-ghost use Rattle.kind_tree.specs.TypedView.{typed_of};
+ghost use Rattle.data_types.specs.TypedView.{typed_of};
 ghost use Rattle.layout_rules.specs.Walk.{ChunkOk};
 ghost use Rattle.stream_face.specs.Shown.{seen_of};
 ghost use Rattle.record_tap.specs.SeenChunks.{seen_by, seen_in};
@@ -10,7 +10,7 @@ use crate::kinds::kept_kinds;
 use crate::names::kept_names;
 use crate::rows::kept_rows;
 use crate::value::OwnedValue;
-use kind_tree::Typed;
+use data_types::Typed;
 use raw_array::RawArray;
 use raw_schema::RawSchema;
 use schema_check::kinds_are_valid;

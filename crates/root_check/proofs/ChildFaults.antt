@@ -5,12 +5,12 @@ use Rattle.std.specs.Option.{option_or}
 use Rattle.std.proofs.lemmas.List.{drop_more, drop_all, length-map}
 use Rattle.tree_model.specs.Tree.{Released}
 use Rattle.raw_array.specs.Members.{ArrayTree}
-use Rattle.kind_tree.specs.declared.typed.Typed.{Typed}
+use Rattle.data_types.specs.declared.typed.Typed.{Typed}
 use Rattle.std.specs.Prelude.{All}
 use Rattle.std.proofs.lemmas.List.Elements.{All-get_or}
-use Rattle.kind_tree.specs.Kinds.{KindTree, TypedOk}
-use Rattle.kind_tree.specs.TypedView.{typed_of}
-use Rattle.kind_tree.proofs.Levels.{get_or-typed}
+use Rattle.data_types.specs.KindTrees.{KindTree, TypedOk}
+use Rattle.data_types.specs.TypedView.{typed_of}
+use Rattle.data_types.proofs.Levels.{get_or-typed}
 use Rattle.layout_rules.specs.Walk.{Fault, first_fault, LayoutOk}
 use Rattle.layout_rules.proofs.Lawful.{first_fault-lawful, lawful-first_fault, left-none, right-none}
 use Rattle.root_check.specs.Children.{ChildFault, at_child, children_fault}

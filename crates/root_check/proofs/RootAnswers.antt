@@ -10,18 +10,18 @@ use Rattle.schema_meta.specs.declared.fault.MetaFault.{MetaFault}
 use Rattle.schema_meta.specs.Meta.{Reads}
 use Rattle.tree_model.specs.Tree.{Released, dictionary_of}
 use Rattle.raw_schema.specs.Members.{SchemaTree, members_of}
-use Rattle.kind_tree.specs.declared.typed.Typed.{Typed}
-use Rattle.kind_tree.specs.Kinds.{KindTree, TypedOk}
-use Rattle.kind_tree.specs.TypedView.{typed_of}
-use Rattle.kind_tree.specs.Ways.{steps_of}
+use Rattle.data_types.specs.declared.typed.Typed.{Typed}
+use Rattle.data_types.specs.KindTrees.{KindTree, TypedOk}
+use Rattle.data_types.specs.TypedView.{typed_of}
+use Rattle.data_types.specs.Ways.{steps_of}
 use Rattle.schema_check.specs.declared.schema.SchemaFault.TheVariants as schema
 use Rattle.schema_check.specs.Schemas.{MetaFits, TypedOf}
 use Rattle.schema_check.specs.SchemaAnswers.{MetaRefused}
 use Rattle.schema_check.proofs.SchemaOne.{AnswerLaw}
 use Rattle.root_check.specs.declared.own_schema.OwnSchemaFault.{OwnSchemaFault}
 use Rattle.root_check.specs.declared.own_schema.OwnSchemaFault.TheVariants.{Meta, Dictionary}
-use Rattle.root_check.specs.declared.kids.KidsFault.{KidsFault}
-use Rattle.root_check.specs.declared.kids.KidsFault.TheVariants.{Child, NoMemory}
+use Rattle.root_check.specs.declared.kids.ChildKindsFault.{ChildKindsFault}
+use Rattle.root_check.specs.declared.kids.ChildKindsFault.TheVariants.{Child, NoMemory}
 use Rattle.root_check.specs.Schemas.{OwnSchemaReads, KidFault, IsKidFault, KidsRead}
 use Rattle.root_check.specs.KidAnswers.{IsFaultOfKids, GivesKids}
 
@@ -115,7 +115,7 @@ kids_once law children (Err f) (Err g) first second = λ i. Err (one_fault law c
 abbrev pub KidsLaw : Type 0
 KidsLaw = (children : List SchemaTree) (first second : Result (List KindTree) KidFault) → KidsRead children first → KidsRead children second → first ≡ second
 
-pub gives_kids : KidsLaw → (children : List SchemaTree) (result : Result (Vec Typed Global) KidsFault)
+pub gives_kids : KidsLaw → (children : List SchemaTree) (result : Result (Vec Typed Global) ChildKindsFault)
     → IfOk result (λ kids. AllZip TypedOf children (map typed_of kids.items)) → IfErr result (IsFaultOfKids children)
     → (read : Result (List KindTree) KidFault) → KidsRead children read → GivesKids result read
 gives_kids law children (Ok kids) found fault read is = law children read (Ok (map typed_of kids.items)) is found

@@ -10,8 +10,8 @@ use Rattle.root_check.specs.declared.own.OwnFault.{OwnFault}
 use Rattle.root_check.specs.declared.children.FaultyChild.{FaultyChild}
 use Rattle.root_check.specs.declared.own_schema.OwnSchemaFault.{OwnSchemaFault}
 use Rattle.root_check.specs.declared.own_schema.OwnSchemaFault.TheVariants as own
-use Rattle.root_check.specs.declared.kids.KidsFault.{KidsFault}
-use Rattle.root_check.specs.declared.kids.KidsFault.TheVariants as kids
+use Rattle.root_check.specs.declared.kids.ChildKindsFault.{ChildKindsFault}
+use Rattle.root_check.specs.declared.kids.ChildKindsFault.TheVariants as kids
 
 -- a rule's name
 abbrev pub own_rule_text : OwnRule → List ℕ
@@ -35,6 +35,6 @@ abbrev pub own_schema_fault_text : OwnSchemaFault → List ℕ
 own_schema_fault_text (own.Meta fault) = codes "Meta: " ++ read_fault_text fault
 own_schema_fault_text own.Dictionary = codes "Dictionary"
 
-abbrev pub kids_fault_text : KidsFault → List ℕ
+abbrev pub kids_fault_text : ChildKindsFault → List ℕ
 kids_fault_text (kids.Child child fault) = codes "child " ++ decimal child ++ codes ": " ++ schema_fault_text fault
 kids_fault_text kids.NoMemory = codes "out of memory"

@@ -15,8 +15,8 @@ abbrev pub released : ArrayTree → Option Numbers
 released Released = fault 0 (pos 0) (pos 0)
 released (Live own children dictionary) = None
 
--- What each rule says of an array that should have so many buffers and so many children. A rule is read where no rule before it
--- fails.
+-- What each rule says of an array that should have this many buffers and this many children. A rule is read where no rule before
+-- it fails.
 abbrev pub own_fails : ℕ → ℕ → ArrayTree → OwnRule → Option Numbers
 own_fails buffers children array rules.Released = released array
 own_fails buffers children array rules.NegativeLength = fault_if (is_negative (members_of array).length) 0 (members_of array).length (pos 0)

@@ -4,7 +4,7 @@ use Rattle.std.specs.Prelude.{◌≡◌, ℕ, ◌<◌, List, length, take, get_o
 use Rattle.std.specs.List.{AllZip}
 use Rattle.tree_model.specs.Tree.{Released, dictionary_of}
 use Rattle.raw_schema.specs.Members.{SchemaTree, members_of}
-use Rattle.kind_tree.specs.Kinds.{KindTree}
+use Rattle.data_types.specs.KindTrees.{KindTree}
 use Rattle.schema_check.specs.Schemas.{MetaFits, TypedOf, SchemaFaultIs}
 use Rattle.schema_check.specs.SchemaAnswers.{FirstFault, MetaRefused}
 use Rattle.root_check.specs.declared.own_schema.OwnSchemaFault.{OwnSchemaFault}

@@ -3,13 +3,13 @@ ghost use Rattle.std.specs.Prelude.{◌≡◌, ◌↔◌, IsOk, All, length, map
 ghost use Rattle.std.specs.List.{AllZip};
 ghost use Rattle.tree_model.specs.Tree.{IsLive, children_of};
 ghost use Rattle.raw_array.specs.Members.{ArrayTree};
-ghost use Rattle.kind_tree.specs.Kinds.{TypedOk};
-ghost use Rattle.kind_tree.specs.TypedView.{typed_of};
+ghost use Rattle.data_types.specs.KindTrees.{TypedOk};
+ghost use Rattle.data_types.specs.TypedView.{typed_of};
 ghost use Rattle.layout_rules.specs.Walk.{LayoutOk};
 ghost use Rattle.root_check.specs.Children.{children_fault};
 ghost use Rattle.root_check.specs.Founds.{found_child};
 
-use kind_tree::Typed;
+use data_types::Typed;
 use layout_check::{LayoutFault, check_array};
 use raw_array::RawArray;
 

@@ -3,7 +3,7 @@ ghost use Rattle.std.specs.Prelude.{Some};
 ghost use Rattle.root_check.specs.FaultTexts.{own_rule_text, own_fault_text, child_fault_text, own_schema_fault_text, kids_fault_text};
 
 use crate::children::FaultyChild;
-use crate::kids::KidsFault;
+use crate::kids::ChildKindsFault;
 use crate::own::{OwnFault, OwnRule};
 use crate::own_schema::OwnSchemaFault;
 use std::fmt;
@@ -62,15 +62,15 @@ impl fmt::Display for OwnSchemaFault {
 
 impl std::error::Error for OwnSchemaFault {}
 
-impl fmt::Display for KidsFault {
+impl fmt::Display for ChildKindsFault {
     ghost output = { λ fault. Some (kids_fault_text fault) };
 
     fn fmt<W: fmt::Write>(&self, f: &mut fmt::Formatter<W>) -> fmt::Result {
         match self {
-            KidsFault::Child { child, fault } => write!(f, "child {child}: {fault}"),
-            KidsFault::NoMemory => f.write_str("out of memory"),
+            ChildKindsFault::Child { child, fault } => write!(f, "child {child}: {fault}"),
+            ChildKindsFault::NoMemory => f.write_str("out of memory"),
         }
     }
 }
 
-impl std::error::Error for KidsFault {}
+impl std::error::Error for ChildKindsFault {}

@@ -3,7 +3,7 @@ ghost use Rattle.std.specs.Prelude.{◌≡◌, ℕ, List, Result, None, length};
 ghost use Rattle.std.specs.List.{AllZip};
 ghost use Rattle.raw_schema.specs.Members.{SchemaTree};
 ghost use Rattle.raw_array.specs.Members.{ArrayTree};
-ghost use Rattle.kind_tree.specs.Kinds.{KindTree};
+ghost use Rattle.data_types.specs.KindTrees.{KindTree};
 ghost use Rattle.layout_rules.specs.Walk.{LayoutOk};
 ghost use Rattle.root_check.specs.OwnRules.{own_fault, OwnHolds};
 ghost use Rattle.root_check.specs.Children.{children_fault};

@@ -21,7 +21,7 @@ mod own;
 mod own_schema;
 
 pub use children::{FaultyChild, check_children};
-pub use kids::{KidsFault, child_types};
+pub use kids::{ChildKindsFault, child_types};
 pub use laws::{faultless_roots, one_root_answer};
 pub use own::{OwnFault, OwnRule, check_own};
 pub use own_schema::{OwnSchemaFault, check_own_schema};

@@ -37,7 +37,7 @@ pub struct OwnFault {
     pub numbers: Numbers,
 }
 
-/// The rules on a root's own numbers and parts: it has so many buffers and so many children, and no dictionary ("The Arrow C
+/// The rules on a root's own numbers and parts: it has this many buffers and this many children, and no dictionary ("The Arrow C
 /// Data Interface", "The ArrowArray structure"). Takes no memory.
 pub fn check_own(array: &RawArray, buffers: usize, children: usize) -> Result<(), OwnFault>
     ensures fault { found_own result ≡ own_fault buffers children array.now }

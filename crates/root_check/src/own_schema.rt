@@ -10,7 +10,7 @@ use schema_meta::{MetaFault, check_meta};
 /// What the schema of a root whose type has no dictionary must meet besides its format. The rules are tried in this order.
 #[derive(Clone, Copy, Debug, PartialEq, Eq)]
 pub enum OwnSchemaFault {
-    /// Its metadata is present and refused. The fault is never want of memory.
+    /// Its metadata is present and refused. The fault is never an out-of-memory.
     Meta(MetaFault),
     /// It has a dictionary.
     Dictionary,

@@ -1,12 +1,12 @@
 //! Columns made into runs, and runs into columns: their items, and the faults.
 ghost use Rattle.std.specs.Prelude.{◌≡◌, ◌<◌, ◌^◌};
-ghost use Rattle.kind_tree.specs.Kinds.{TypedOk};
-ghost use Rattle.kind_tree.specs.TypedView.{typed_of};
+ghost use Rattle.data_types.specs.KindTrees.{TypedOk};
+ghost use Rattle.data_types.specs.TypedView.{typed_of};
 ghost use Rattle.arr_import.specs.Cols.{window_of};
 
 use crate::made::trees;
 use arr_import::Col;
-use kind_tree::Typed;
+use data_types::Typed;
 use layout_check::check_array;
 use raw_array::RawArray;
 use raw_schema::RawSchema;

@@ -52,7 +52,7 @@ fn run(col: &RunCol, i: u64) -> (i64, u64)
     col.len();
     let i = i as i64;
     let run = col.run_of(i);
-    (run, col.behind_run(i, run) as u64)
+    (run, col.next_run_start(i, run) as u64)
 }
 
 /// The runs of a window, each with the first item behind it.

@@ -5,14 +5,14 @@ use Rattle.std.proofs.lemmas.List.{length-replicate}
 use Rattle.std.specs.Prelude.{nat_eq, IfErr, IfOk, OnOk, Result, Ok, Err}
 use Rattle.data_types.specs.Value.{Value, Bytes}
 use Rattle.raw_array.specs.Members.{ArrayTree}
-use Rattle.kind_tree.specs.Kinds.{KindTree}
+use Rattle.data_types.specs.KindTrees.{KindTree}
 use Rattle.layout_rules.specs.Values.{each, value_at}
-use Rattle.row_groups.specs.Groups.{distinct, same}
+use Rattle.data_types.specs.Groups.{distinct, same}
 use Rattle.row_groups.specs.ItemKeys.{array_of, item_of, type_of}
 use Rattle.row_groups.specs.Items.{IsRefusedFor}
 use Rattle.row_groups.specs.declared.column.Column.{Column}
-use Rattle.row_groups.specs.declared.fault.FirstsFault.{FirstsFault}
-use Rattle.row_groups.specs.declared.fault.FirstsFault.TheVariants.{TooMany, NoMemory}
+use Rattle.row_groups.specs.declared.fault.GroupFault.{GroupFault}
+use Rattle.row_groups.specs.declared.fault.GroupFault.TheVariants.{TooMany, NoMemory}
 use Rattle.row_groups.specs.Walk.{IsGrouped}
 use Rattle.row_groups.proofs.Steps.{among, distinct-next, each-more, with-last}
 
@@ -100,7 +100,7 @@ no-group item = record {
 
 -- ---- faults and results
 
-pub refused-more : (fault : FirstsFault) (few many : ℕ) → few ≤ many → IsRefusedFor few fault → IsRefusedFor many fault
+pub refused-more : (fault : GroupFault) (few many : ℕ) → few ≤ many → IsRefusedFor few fault → IsRefusedFor many fault
 refused-more TooMany few many le refused = omega (arith, le, refused)
 refused-more NoMemory few many le refused = tt
 

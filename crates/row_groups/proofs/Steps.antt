@@ -11,7 +11,7 @@ use Rattle.std.specs.Prelude.{if◌then◌else◌, nat_eq}
 use Rattle.data_types.specs.Value.{Value}
 use Rattle.data_types.specs.declared.storage.Storage.{Storage}
 use Rattle.layout_rules.specs.Values.{each}
-use Rattle.row_groups.specs.Groups.{distinct, distinct_behind, same}
+use Rattle.data_types.specs.Groups.{distinct, distinct_behind, same}
 use Rattle.row_groups.specs.ItemKeys.{HasKey}
 use Rattle.row_groups.specs.Numbering.{IsNumbered, IsNumbering, Key, same_key}
 use Rattle.row_groups.specs.Walk.{IsGrouped, IsWalked}

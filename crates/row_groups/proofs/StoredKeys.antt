@@ -13,12 +13,11 @@ use Rattle.data_types.specs.declared.storage.Storage.{Storage}
 use Rattle.data_types.specs.declared.storage.Storage.TheVariants as storages
 use Rattle.tree_model.specs.Tree.{IsLive, Released, Live, children_of}
 use Rattle.raw_array.specs.Members.{ArrayMembers, ArrayTree, members_of}
-use Rattle.kind_tree.specs.ColumnKinds.{type_of_kind}
-use Rattle.kind_tree.specs.Kinds.{KindTree, kind_in}
+use Rattle.data_types.specs.ColumnKinds.{type_of_kind}
+use Rattle.data_types.specs.KindTrees.{KindTree, kind_in}
 use Rattle.layout_rules.specs.Layout.{is_valid, stored_bytes}
 use Rattle.layout_rules.specs.Values.{value_at}
 use Rattle.arr_import.specs.StoredItems.{stored_item}
-use Rattle.arr_import.proofs.Reading.{item-stored}
 use Rattle.row_groups.specs.ItemKeys.{AreNumberBytes, HasKey, IsFloat, IsWhole, value_of}
 
 -- an item that may be null
@@ -30,7 +29,6 @@ pub item-plain : (t : KindTree) (a : ArrayTree) → t ≡ type_of_kind (Flat (ki
 item-plain t Released e live i = absurd live
 item-plain t (Live own children dictionary) e live i =
     ap (λ (s : KindTree). value_at s (Live own children dictionary) i) e
-    ∙ ap (λ (v : Value). if is_valid own i then v else Null) (item-stored (kind_in t) [] own (children_of (Live own children dictionary)) i)
 
 -- ---- which storage a value has
 

@@ -7,11 +7,11 @@ use Rattle.data_types.specs.Table.{Flat}
 use Rattle.data_types.specs.Value.{Value, Null, Truth, Whole, Bits, Bytes}
 use Rattle.data_types.specs.declared.storage.Storage.{Storage}
 use Rattle.data_types.specs.declared.storage.Storage.TheVariants as storages
-use Rattle.bit_pack.specs.Packed.{le_number, meant}
+use Rattle.data_types.specs.Packed.{le_number, meant}
 use Rattle.raw_array.specs.Members.{ArrayTree}
-use Rattle.kind_tree.specs.ColumnKinds.{type_of_kind}
-use Rattle.kind_tree.specs.Kinds.{KindTree, TypedOk, kind_in}
-use Rattle.kind_tree.specs.TypedView.{typed_of}
+use Rattle.data_types.specs.ColumnKinds.{type_of_kind}
+use Rattle.data_types.specs.KindTrees.{KindTree, TypedOk, kind_in}
+use Rattle.data_types.specs.TypedView.{typed_of}
 use Rattle.layout_rules.specs.Values.{value_at}
 use Rattle.layout_rules.specs.Walk.{LayoutOk}
 use Rattle.arr_import.specs.Cols.{window_of}

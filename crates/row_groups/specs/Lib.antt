@@ -1,4 +1,3 @@
-pub mod Groups
 pub mod Items
 pub mod Chains
 pub mod Numbering

@@ -13,7 +13,7 @@ same_key None None = true
 same_key (Some a) (Some b) = bytes_eq a b
 same_key _ _ = false
 
--- the number of a text among texts and a null before which so many texts came
+-- the number of a text among texts and a null before which this many texts came
 abbrev pub shifted : Option ℕ → ℕ → ℕ
 shifted None t = t
 shifted (Some null) t = if nat_lt t null then t else t + 1

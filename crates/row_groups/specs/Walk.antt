@@ -3,12 +3,12 @@ use Rattle.std.specs.Prelude.{◌≡◌, ◌≢◌, ◌<◌, ◌≤◌, ℕ, nat
 use Rattle.data_types.specs.Value.{Value}
 use Rattle.data_types.specs.declared.storage.Storage.{Storage}
 use Rattle.layout_rules.specs.Values.{each}
-use Rattle.row_groups.specs.Groups.{distinct, same}
+use Rattle.data_types.specs.Groups.{distinct, same}
 use Rattle.row_groups.specs.ItemKeys.{HasKey}
 use Rattle.row_groups.specs.Numbering.{IsNumbering, Key}
 use Rattle.row_groups.specs.declared.numbering.Numbering.{Numbering}
 
--- so many items, the numbers of their values, and the first item of each number
+-- this many items, the numbers of their values, and the first item of each number
 pub record IsGrouped (item : ℕ → Value) (count : ℕ) (numbers firsts : List ℕ) : Type 0 where
   pub many : length numbers ≡ count
   pub few : length firsts ≤ count

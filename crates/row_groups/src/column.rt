@@ -6,20 +6,20 @@ ghost use Rattle.data_types.specs.Table.{Flat};
 ghost use Rattle.data_types.specs.Value.Value.{Bytes};
 ghost use Rattle.raw_array.specs.Members.{members_of};
 ghost use Rattle.tree_model.specs.Tree.{IsLive};
-ghost use Rattle.kind_tree.specs.ColumnKinds.{type_of_kind};
-ghost use Rattle.kind_tree.specs.Kinds.{TypedOk, kind_in};
-ghost use Rattle.kind_tree.specs.TypedView.{typed_of};
+ghost use Rattle.data_types.specs.ColumnKinds.{type_of_kind};
+ghost use Rattle.data_types.specs.KindTrees.{TypedOk, kind_in};
+ghost use Rattle.data_types.specs.TypedView.{typed_of};
 ghost use Rattle.layout_rules.specs.Layout.{bytes, first, laid_out, stored_bytes};
 ghost use Rattle.layout_rules.specs.declared.layout.Layout.TheVariants.{FixedWidth};
 ghost use Rattle.layout_rules.specs.Values.{tree_items};
 ghost use Rattle.layout_rules.specs.Walk.{LayoutOk};
 ghost use Rattle.arr_import.specs.Lent.{lent_bytes};
 ghost use Rattle.arr_import.specs.Shown.{Shows};
+ghost use Rattle.layout_rules.specs.Rules.{window_limit};
 ghost use Rattle.row_groups.specs.ItemKeys.{AreNumberBytes, HasKey, IsColumn, IsFloat, IsWhole, array_of, item_of, stored_as, type_of};
 
 use arr_import::{Col, ValueRef};
-use data_types::{DataType, Storage, storage_of};
-use kind_tree::{Typed, kinds_of_typed};
+use data_types::{DataType, Storage, Typed, kinds_of_typed, storage_of};
 use layout_rules::{lawful_items_lie_within, lawful_root};
 use raw_array::RawArray;
 
@@ -116,7 +116,7 @@ impl<'a> Column<'a> {
     fn first(&self) -> u64
         requires { IsColumn self.now }
         ensures first { result ≡ first (members_of (array_of self.now)) }
-        ensures near { result + tree_items (array_of self.now) ≤ 2 ^ 40 }
+        ensures near { result + tree_items (array_of self.now) ≤ window_limit }
     {
         lawful_root(self.typed, self.array);
         self.array.offset() as u64

@@ -1,34 +1,35 @@
 //! The first item of each distinct value.
-ghost use Rattle.std.specs.Prelude.{◌≡◌, ◌==◌, ◌+◌, ◌++◌, ◌<◌, ◌≤◌, ◌^◌, ◌∷◌, [], ℕ, List, true, IfErr, IfOk, OnOk, All, if◌then◌else◌, length, map};
+ghost use Rattle.std.specs.Prelude.{◌≡◌, ◌==◌, ◌+◌, ◌++◌, ◌<◌, ◌≤◌, ◌∷◌, [], ℕ, List, true, IfErr, IfOk, OnOk, All, if◌then◌else◌, length, map};
 ghost use Rattle.data_types.specs.ColumnForms.{HasForm};
 ghost use Rattle.data_types.specs.FieldText.{form_of};
 ghost use Rattle.data_types.specs.Table.{Flat};
-ghost use Rattle.kind_tree.specs.ColumnKinds.{type_of_kind};
-ghost use Rattle.kind_tree.specs.Kinds.{TypedOk, kind_in};
-ghost use Rattle.kind_tree.specs.TypedView.{typed_of};
+ghost use Rattle.data_types.specs.ColumnKinds.{type_of_kind};
+ghost use Rattle.data_types.specs.KindTrees.{TypedOk, kind_in};
+ghost use Rattle.data_types.specs.TypedView.{typed_of};
 ghost use Rattle.layout_rules.specs.Values.{each, tree_items, value_at};
 ghost use Rattle.layout_rules.specs.Walk.{LayoutOk};
-ghost use Rattle.lawful_values.specs.Items.{AreApart};
-ghost use Rattle.row_groups.specs.Groups.{distinct, firsts_of};
+ghost use Rattle.array_laws.specs.Items.{AreApart};
+ghost use Rattle.layout_rules.specs.Rules.{window_limit};
+ghost use Rattle.data_types.specs.Groups.{distinct, firsts_of};
 ghost use Rattle.row_groups.specs.ItemKeys.{IsColumn, array_of, item_of};
 ghost use Rattle.row_groups.specs.Walk.{IsGrouped};
-ghost use Rattle.row_groups.specs.declared.fault.FirstsFault.TheVariants.{NoMemory};
+ghost use Rattle.row_groups.specs.declared.fault.GroupFault.TheVariants.{NoMemory};
 ghost use Rattle.row_groups.specs.Items.{IsRefusedFor, items_from, most_groups};
 
 use crate::column::Column;
-use crate::fault::FirstsFault;
+use crate::fault::GroupFault;
 use crate::numbering::Numbering;
-use kind_tree::Typed;
+use data_types::Typed;
 use layout_rules::lawful_root;
 use raw_array::RawArray;
 use std::alloc::Global;
 
-/// So many distinct values are counted at most.
+/// The most distinct values that are counted.
 const MOST_GROUPS: usize = (1 << 31) - 1;
 
 /// Appends an item whose value is new, where there aren't as many as are counted.
 #[inline(always)]
-fn add_first(firsts: &mut Vec<u64>, new: bool, item: u64) -> Result<(), FirstsFault>
+fn add_first(firsts: &mut Vec<u64>, new: bool, item: u64) -> Result<(), GroupFault>
     ensures firsts { OnOk result (firsts.new.items ≡ (if new then firsts.old.items ++ item ∷ [] else firsts.old.items)) }
     ensures few { OnOk result (length firsts.old.items ≤ most_groups → length firsts.new.items ≤ most_groups) }
     ensures fault { IfErr result (λ fault. (length firsts.old.items ≤ most_groups) → (new ≡ true) × IsRefusedFor (length firsts.old.items + 1) fault) }
@@ -37,16 +38,16 @@ fn add_first(firsts: &mut Vec<u64>, new: bool, item: u64) -> Result<(), FirstsFa
         return Ok(());
     }
     if firsts.len() >= MOST_GROUPS {
-        return Err(FirstsFault::TooMany);
+        return Err(GroupFault::TooMany);
     }
     match firsts.push(item) {
         Ok(()) => Ok(()),
-        Err(_) => Err(FirstsFault::NoMemory),
+        Err(_) => Err(GroupFault::NoMemory),
     }
 }
 
 /// The first item of items that are all the same.
-fn only_first(alloc: Global, count: u64) -> Result<Vec<u64>, FirstsFault>
+fn only_first(alloc: Global, count: u64) -> Result<Vec<u64>, GroupFault>
     ensures firsts { IfOk result (λ firsts. firsts.items ≡ (if count == 0 then [] else 0 ∷ [])) }
     ensures fault { IfErr result (λ fault. fault ≡ NoMemory) }
 {
@@ -56,11 +57,11 @@ fn only_first(alloc: Global, count: u64) -> Result<Vec<u64>, FirstsFault>
     }
     match firsts.push(0) {
         Ok(()) => Ok(firsts),
-        Err(_) => Err(FirstsFault::NoMemory),
+        Err(_) => Err(GroupFault::NoMemory),
     }
 }
 
-/// How many distinct values of so many items are found fast.
+/// How many distinct values of this many items are found fast.
 fn found_fast(count: u64) -> u32 {
     if count < 1 << 32 {
         count as u32
@@ -75,22 +76,22 @@ fn walked_firsts(
     column: &Column<'_>,
     start: u64,
     count: u64,
-) -> Result<Vec<u64>, FirstsFault>
+) -> Result<Vec<u64>, GroupFault>
     requires column { IsColumn column.now }
     requires inside { start + count ≤ tree_items (array_of column.now) }
-    requires near { start + count ≤ 2 ^ 40 }
+    requires near { start + count ≤ window_limit }
     ensures firsts { IfOk result (λ firsts. (numbers : List ℕ) × IsGrouped (λ i. item_of column.now (start + i)) count numbers firsts.items) }
     ensures few { IfOk result (λ firsts. length firsts.items ≤ most_groups) }
     ensures fault { IfErr result (IsRefusedFor (length (distinct (each (λ i. item_of column.now (start + i)) 0 count)))) }
 {
     let Ok(mut numbering) = Numbering::new(alloc, found_fast(count)) else {
-        return Err(FirstsFault::NoMemory);
+        return Err(GroupFault::NoMemory);
     };
     let mut firsts = Vec::new(alloc);
     for i in 0..count {
         let key = column.key(start + i);
         let Ok((_, new)) = numbering.number(key) else {
-            return Err(FirstsFault::NoMemory);
+            return Err(GroupFault::NoMemory);
         };
         add_first(&mut firsts, new, i)?;
     }
@@ -110,7 +111,7 @@ pub fn first_items(
     array: &RawArray,
     start: u64,
     count: u64,
-) -> Result<Vec<u64>, FirstsFault>
+) -> Result<Vec<u64>, GroupFault>
     requires types { TypedOk (typed_of typed.now) }
     requires typed { typed_of typed.now ≡ type_of_kind (Flat (kind_in (typed_of typed.now))) }
     requires flat { HasForm (form_of (kind_in (typed_of typed.now))) }

@@ -3,19 +3,19 @@ ghost use Rattle.std.specs.Prelude.{◌≡◌, ◌+◌, ◌<◌, ◌≤◌, ◌^
 ghost use Rattle.data_types.specs.ColumnForms.{HasForm};
 ghost use Rattle.data_types.specs.FieldText.{form_of};
 ghost use Rattle.data_types.specs.Table.{Flat};
-ghost use Rattle.kind_tree.specs.ColumnKinds.{type_of_kind};
-ghost use Rattle.kind_tree.specs.Kinds.{TypedOk, kind_in};
-ghost use Rattle.kind_tree.specs.TypedView.{typed_of};
+ghost use Rattle.data_types.specs.ColumnKinds.{type_of_kind};
+ghost use Rattle.data_types.specs.KindTrees.{TypedOk, kind_in};
+ghost use Rattle.data_types.specs.TypedView.{typed_of};
 ghost use Rattle.layout_rules.specs.Values.{tree_items, value_at};
 ghost use Rattle.layout_rules.specs.Walk.{LayoutOk};
-ghost use Rattle.lawful_values.specs.Items.{AreApart};
-ghost use Rattle.row_groups.specs.Groups.{distinct, firsts_of, offsets_of, order_of};
+ghost use Rattle.array_laws.specs.Items.{AreApart};
+ghost use Rattle.data_types.specs.Groups.{distinct, firsts_of, offsets_of, order_of};
 ghost use Rattle.row_groups.specs.Items.{items_from};
 
 use crate::column::Column;
 use crate::numbers::{ItemNumbers, numbered};
 use crate::order::{Order, ordered};
-use kind_tree::Typed;
+use data_types::Typed;
 use layout_rules::lawful_root;
 use raw_array::RawArray;
 use std::alloc::Global;

@@ -9,7 +9,7 @@
 //! they were chosen to hash alike (`item_keys`), and at most 12 bytes beside what each distinct value takes. The bytes of the items are
 //! lent and copied nowhere, and the array stays as it is.
 //!
-//! What it leaves to others: which array is lawful (`layout_rules`), and the columns that are made of its items (`column_gather`).
+//! What it leaves to others: which array is lawful (`layout_rules`), and the columns that are made of its items (`column_fill`).
 #![tactic(auto)]
 
 mod column;
@@ -21,7 +21,7 @@ mod numbers;
 mod order;
 mod worked_groups;
 
-pub use fault::FirstsFault;
+pub use fault::GroupFault;
 pub use firsts::first_items;
 pub use groups::{Groups, grouped};
 pub use worked_groups::small_groups;

@@ -29,7 +29,7 @@ fn shifted(null: Option<u32>, text: u32) -> u32
 }
 
 impl<'a> Numbering<'a> {
-    /// No keys yet. So many at most are found fast.
+    /// No keys yet. This many at most are found fast.
     pub(crate) fn new(alloc: Global, most: u32) -> Result<Numbering<'a>, NoMemory>
         ensures { IfOk result (λ numbering. IsNumbering numbering []) }
     {

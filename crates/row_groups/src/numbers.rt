@@ -3,6 +3,7 @@ ghost use Rattle.std.specs.Prelude.{◌≡◌, ◌+◌, ◌++◌, ◌<◌, ◌�
 ghost use Rattle.layout_rules.specs.Values.{tree_items};
 ghost use Rattle.row_groups.specs.ItemKeys.{IsColumn, array_of, item_of};
 ghost use Rattle.row_groups.specs.Walk.{IsGrouped};
+ghost use Rattle.layout_rules.specs.Rules.{window_limit};
 
 use crate::column::Column;
 use crate::numbering::Numbering;
@@ -27,7 +28,7 @@ fn add_first(firsts: &mut Vec<u32>, new: bool, item: u32) -> Result<(), NoMemory
     Ok(())
 }
 
-/// The numbers of so many items of a column by their values, in order of first appearance.
+/// The numbers of this many items of a column by their values, in order of first appearance.
 pub(crate) fn numbered(
     alloc: Global,
     column: &Column<'_>,
@@ -36,7 +37,7 @@ pub(crate) fn numbered(
 ) -> Result<ItemNumbers, NoMemory>
     requires column { IsColumn column.now }
     requires inside { start + count ≤ tree_items (array_of column.now) }
-    requires near { start + count ≤ 2 ^ 40 }
+    requires near { start + count ≤ window_limit }
     requires few { count < 2 ^ 31 }
     ensures { IfOk result (λ found. IsGrouped (λ i. item_of column.now (start + i)) count found.numbers.items found.firsts.items) }
 {

@@ -1,4 +1,4 @@
-//! Runs of the top call, told as a transcript: reads cases from standard input, and writes them again with what came of each.
+//! Runs of the top call, written as a transcript: reads cases from standard input, and writes them again with what came of each.
 //!
 //! A case is a `$` line with the words of the command, `<` lines of input, and `@` lines where a source, a sink or the tap is to behave
 //! in a way of its own. Behind it stands what came of it, which is read over and written anew: `>` lines of the text, `!` lines of

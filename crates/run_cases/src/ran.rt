@@ -1,8 +1,8 @@
 //! The run that a case asks for.
 use crate::plan::Plan;
 use case_text::End;
+use data_types::Typed;
 use edge_io::{Got, MemSink, MemSource, OpenGate, Source};
-use kind_tree::Typed;
 use pipe_top::{Outcome, run};
 use raw_array::RawArray;
 use raw_schema::RawSchema;

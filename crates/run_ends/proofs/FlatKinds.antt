@@ -1,36 +1,15 @@
--- The type of a flat column, and which bytes its offsets reach.
+-- Which bytes the offsets of a flat column reach.
 use Rattle.std.proofs.Common.{◌≡◌, ℕ, ◌^◌, ◌-◌, Bool, true, false, Option, None, Some, refl, arith}
 use Rattle.std.specs.Prelude.{if◌then◌else◌, nat_lt, is_some, not, List, ◌&&◌}
 use Rattle.std.proofs.lemmas.Bool.Decides.{nat_tests}
 use Rattle.data_types.specs.FieldText.{Form, form_of}
-use Rattle.data_types.specs.Kinds.{KindOk}
 use Rattle.data_types.specs.declared.kind.DataType.{DataType}
 use Rattle.data_types.specs.declared.kind.DataType.TheVariants as kinds
-use Rattle.tree_model.specs.Tree.{Released, Live, absent, present, dictionary_of}
-use Rattle.kind_tree.specs.Kinds.{KindTree, TypedOk, kind_in}
 use Rattle.data_types.specs.Value.{Value, byte_total}
 use Rattle.arr_export.specs.ArrayTrees.{flat_type}
 use Rattle.col_build.specs.Encoding.{Fits, HasForm, are_bounded, are_within, is_by_offsets, is_wide}
 use Rattle.run_ends.specs.declared.code_fault.CodeFault.TheVariants.{WrongKind, TooLong}
-use Rattle.run_ends.specs.CodeFaults.{decode_fault, is_flat_column, is_narrow, most_bytes}
-
-form-there : (form : Option Form) → is_some form ≡ true → HasForm form
-form-there None e = absurd (cc)
-form-there (Some form) e = tt
-
-pub flat-alone : (t : KindTree) → is_flat_column t ≡ true → dictionary_of t ≡ None
-flat-alone Released flat = absurd (cc)
-flat-alone (Live kind kids absent) flat = refl
-flat-alone (Live kind kids (present dict)) flat = absurd (cc)
-
-pub flat-valid : (t : KindTree) → TypedOk t → is_flat_column t ≡ true → KindOk (kind_in t)
-flat-valid Released ok flat = absurd (cc)
-flat-valid (Live kind kids dict) ok flat = ok.1.0
-
-pub flat-form : (t : KindTree) → is_flat_column t ≡ true → HasForm (form_of (kind_in t))
-flat-form Released flat = absurd (cc)
-flat-form (Live kind kids absent) flat = form-there (form_of kind) flat
-flat-form (Live kind kids (present dict)) flat = absurd (cc)
+use Rattle.run_ends.specs.CodeFaults.{decode_fault, is_narrow, most_bytes}
 
 -- ---- which bytes are reached
 

@@ -10,13 +10,13 @@ use Rattle.data_types.specs.Value.{Value, Null, Bytes, byte_total, bytes_of}
 use Rattle.arr_import.specs.Window.{Window, item_at, whole}
 use Rattle.tree_model.specs.Tree.{child_at}
 use Rattle.raw_array.specs.Members.{ArrayTree, members_of}
-use Rattle.kind_tree.specs.Kinds.{KindTree}
+use Rattle.data_types.specs.KindTrees.{KindTree}
 use Rattle.layout_rules.specs.Layout.{items}
 use Rattle.layout_rules.specs.Values.{each, tree_items, value_at}
-use Rattle.column_gather.specs.Gathered.{values_of_runs}
-use Rattle.column_gather.specs.declared.runs.Run.{Run}
+use Rattle.column_fill.specs.Gathered.{values_of_runs}
+use Rattle.column_fill.specs.declared.runs.Run.{Run}
 use Rattle.arr_export.proofs.Each.{length-each, value-there}
-use Rattle.lawful_values.specs.Items.{IsItemOf}
+use Rattle.array_laws.specs.Items.{IsItemOf}
 use Rattle.run_ends.specs.RunHolds.{RunsHold}
 use Rattle.run_ends.specs.RunWalks.{ReachesRun}
 use Rattle.run_ends.specs.Runs.{RunTree, run_of, run_value, run_values}
@@ -80,7 +80,7 @@ pub run-shown : (u : RunTree) (array : ArrayTree) (at run stop : ℕ) → at ≤
 run-shown u array at run stop le same =
     one-run (run_value u array) (value_at u.values (child_at array 1) run) at stop le (λ j from to. ap (value_at u.values (child_at array 1)) (same j from to))
 
--- the bytes of so many items of at most so many bytes each
+-- the bytes of this many items of at most this many bytes each
 abbrev pub Bounded : ℕ → ℕ → Type 0
 Bounded total at = total ≤ at * 2 ^ 64
 

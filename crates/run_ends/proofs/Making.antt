@@ -13,7 +13,7 @@ use Rattle.col_build.specs.Encoding.{Fits}
 use Rattle.col_build.specs.Holding.{Adds, Holds, HoldsWholes}
 use Rattle.col_build.specs.Holding as held
 use Rattle.column_fill.specs.Takes.{Takes}
-use Rattle.column_gather.proofs.Taken.{takes-one}
+use Rattle.column_fill.proofs.Taken.{takes-one}
 use Rattle.run_ends.specs.declared.encoder.Making.{Making}
 use Rattle.run_ends.specs.RunCoding.{IsRun, Run, end_kind, end_of, runs_from, value_of}
 use Rattle.run_ends.specs.RunMaking.{HoldsRuns, HoldsUpTo}

@@ -5,9 +5,9 @@ use Rattle.std.specs.List.{AllZip}
 use Rattle.schema_check.specs.Schemas.{TypedOf}
 use Rattle.tree_model.specs.Tree.{Released, Live, IsLive, children_of}
 use Rattle.raw_schema.specs.Members.{SchemaTree, members_of}
-use Rattle.kind_tree.specs.Kinds.{KindTree, TypedOk}
-use Rattle.kind_tree.specs.declared.typed.Typed.{Typed}
-use Rattle.kind_tree.specs.TypedView.{typed_of}
+use Rattle.data_types.specs.KindTrees.{KindTree, TypedOk}
+use Rattle.data_types.specs.declared.typed.Typed.{Typed}
+use Rattle.data_types.specs.TypedView.{typed_of}
 use Rattle.root_check.specs.declared.own_schema.OwnSchemaFault.{OwnSchemaFault}
 use Rattle.root_check.specs.Schemas.{OwnSchemaReads, KidFault, KidsRead}
 use Rattle.run_ends.specs.declared.kinds.RunTyped.{RunTyped}

@@ -14,7 +14,7 @@ use Rattle.data_types.specs.declared.kind.DataType.{DataType}
 use Rattle.data_types.specs.declared.kind.DataType.TheVariants as kinds
 use Rattle.tree_model.specs.Tree.{Released, Live, Trees, absent, IsLive}
 use Rattle.raw_array.specs.Members.{ArrayTree, members_of}
-use Rattle.kind_tree.specs.Kinds.{KindTree}
+use Rattle.data_types.specs.KindTrees.{KindTree}
 use Rattle.layout_rules.specs.Layout.{buffer, first, is_valid_by, stored_bytes}
 use Rattle.layout_rules.specs.Values.{tree_items, value_at, values_of}
 use Rattle.arr_import.specs.Window.{Window, whole, item_at}

@@ -1,25 +1,18 @@
 -- Which columns aren't made into runs, and which runs aren't made into a column ("Arrow Columnar Format", "Run-End Encoded Layout").
 use Rattle.std.specs.Prelude.{ℕ, ◌^◌, ◌-◌, nat_lt, ◌&&◌, Bool, true, false, not, if◌then◌else◌, List, Option, None, Some, Result, Ok, Err}
-use Rattle.data_types.specs.Kinds.{is_flat}
 use Rattle.data_types.specs.Value.{Value, byte_total}
 use Rattle.data_types.specs.declared.kind.DataType.{DataType}
 use Rattle.data_types.specs.declared.kind.DataType.TheVariants as kinds
-use Rattle.kind_tree.specs.Kinds.{KindTree, kind_in}
-use Rattle.tree_model.specs.Tree.{Released, Live, absent, present}
+use Rattle.data_types.specs.KindTrees.{KindTree, kind_in}
+use Rattle.column_fill.specs.FlatColumns.{is_flat_column}
 use Rattle.run_ends.specs.declared.code_fault.CodeFault.{CodeFault}
 use Rattle.run_ends.specs.declared.code_fault.CodeFault.TheVariants.{WrongKind, TooLong, NoMemory}
-
--- values of a flat type, behind which no dictionary stands
-abbrev pub is_flat_column : KindTree → Bool
-is_flat_column Released = false
-is_flat_column (Live kind kids absent) = is_flat kind
-is_flat_column (Live kind kids (present dict)) = false
 
 -- the most items that ends of 32 bits name
 abbrev pub most_items : ℕ
 most_items = 2 ^ 31 - 1
 
--- Why a column of these kinds with so many items isn't made into runs: its values aren't of a flat type, or there are too many.
+-- Why a column of these kinds with this many items isn't made into runs: its values aren't of a flat type, or there are too many.
 abbrev pub code_fault : KindTree → ℕ → Option CodeFault
 code_fault typed items = if not (is_flat_column typed) then Some WrongKind else if nat_lt most_items items then Some TooLong else None
 
@@ -41,7 +34,7 @@ decode_fault typed items =
     else if is_narrow (kind_in typed) && nat_lt most_bytes (byte_total items) then Some TooLong
     else None
 
--- the fault of an answer that is no want of memory
+-- the fault of an answer that is no out-of-memory
 abbrev pub refused_code : {X : Type 0} → Result X CodeFault → Option CodeFault
 refused_code (Ok x) = None
 refused_code (Err WrongKind) = Some WrongKind

@@ -1,7 +1,7 @@
 -- What contracts see of a column whose runs are looked for.
 use Rattle.std.specs.Prelude.{List}
 use Rattle.data_types.specs.Value.{Value}
-use Rattle.kind_tree.specs.TypedView.{typed_of}
+use Rattle.data_types.specs.TypedView.{typed_of}
 use Rattle.layout_rules.specs.Values.{values_of}
 use Rattle.run_ends.specs.declared.column_runs.ColumnRuns.{ColumnRuns}
 

@@ -1,8 +1,8 @@
 -- What the answers of the calls say.
 use Rattle.std.specs.Prelude.{◌≡◌, Option, None, Some, Result, Ok, Err}
 use Rattle.raw_schema.specs.Members.{SchemaTree}
-use Rattle.kind_tree.specs.TypedView.{typed_of}
-use Rattle.kind_tree.specs.Ways.{steps_of}
+use Rattle.data_types.specs.TypedView.{typed_of}
+use Rattle.data_types.specs.Ways.{steps_of}
 use Rattle.schema_check.specs.declared.schema.SchemaFault.TheVariants as schema
 use Rattle.schema_meta.specs.declared.fault.MetaFault.TheVariants as meta
 use Rattle.layout_rules.specs.Found.{fault_of}
@@ -25,7 +25,7 @@ runs_of typed = record { ends = typed_of typed.ends; values = typed_of typed.val
 
 -- ---- faults of schemas
 
--- the fault that the code names, and none for want of memory
+-- the fault that the code names, and none where memory runs out
 abbrev pub named : RunsSchemaFault → Option SchemaFound
 named faults.Released = Some schemas.IsReleased
 named faults.Format = Some schemas.Format
@@ -37,7 +37,7 @@ named (faults.Child child schema.NoMemory) = None
 named faults.EndsType = Some schemas.EndsType
 named faults.NoMemory = None
 
--- a want of memory inside another fault
+-- an out-of-memory inside another fault
 abbrev pub IsWhole : RunsSchemaFault → Type 0
 IsWhole (faults.Child child schema.NoMemory) = ⊥
 IsWhole (faults.Meta meta.NoMemory) = ⊥
@@ -47,7 +47,7 @@ abbrev pub FailsIf : SchemaTree → Option SchemaFound → Type 0
 FailsIf schema None = Unit {0}
 FailsIf schema (Some found) = RunsSchemaFails schema found
 
--- It is the first fault, if it is no want of memory, which never stands inside another fault.
+-- It is the first fault, if it is no out-of-memory, which never stands inside another fault.
 abbrev pub IsRunsFault : SchemaTree → RunsSchemaFault → Type 0
 IsRunsFault schema fault = IsWhole fault × FailsIf schema (named fault)
 
@@ -55,7 +55,7 @@ abbrev pub GivesIf : Option SchemaFound → Result RunTree SchemaFound → Type 
 GivesIf None read = Unit {0}
 GivesIf (Some found) read = read ≡ Err found
 
--- The code's answer is this one, or want of memory.
+-- The code's answer is this one, or out of memory.
 abbrev pub GivesRuns : Result RunTyped RunsSchemaFault → Result RunTree SchemaFound → Type 0
 GivesRuns (Ok typed) read = read ≡ Ok (runs_of typed)
 GivesRuns (Err fault) read = GivesIf (named fault) read

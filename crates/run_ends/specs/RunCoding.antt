@@ -11,7 +11,7 @@ use Rattle.raw_schema.specs.Members.{SchemaTree}
 use Rattle.raw_array.specs.Members.{ArrayTree}
 use Rattle.raw_array.specs.declared.array.ReleaseKind.TheVariants.{Assembled}
 use Rattle.col_build.specs.Finished.{blocks_of}
-use Rattle.kind_tree.specs.Kinds.{kind_in}
+use Rattle.data_types.specs.KindTrees.{kind_in}
 use Rattle.schema_check.specs.ColumnSchema.{node, values_schema}
 use Rattle.arr_export.specs.ArrayTrees.{column_tree, flat_type}
 use Rattle.run_ends.specs.Runs.{RunTree, run_values}
@@ -73,7 +73,7 @@ runs_schema kind =
     (trees (ends_schema ∷ values_schema (Some (codes "values")) kind ∷ []))
     absent
 
--- an array of so many items over its ends and its values
+-- an array of this many items over its ends and its values
 abbrev pub over_runs : ℕ → ArrayTree → ArrayTree → ArrayTree
 over_runs count ends values =
     Live (record { length = pos count; null_count = pos 0; offset = pos 0; buffers = []; kind = Assembled }) (trees (ends ∷ values ∷ [])) absent

@@ -1,8 +1,9 @@
 -- What holds of a run-end encoded array at which no rule fails.
-use Rattle.std.specs.Prelude.{◌≡◌, ℕ, Bool, true, false, ◌^◌, ◌<◌, ◌≤◌, pos}
+use Rattle.std.specs.Prelude.{◌≡◌, ℕ, Bool, true, false, ◌<◌, ◌≤◌, pos}
 use Rattle.tree_model.specs.Tree.{child_at}
 use Rattle.raw_array.specs.Members.{ArrayTree, members_of}
 use Rattle.layout_rules.specs.Layout.{end, natural}
+use Rattle.layout_rules.specs.Rules.{window_limit}
 use Rattle.layout_rules.specs.Walk.{LayoutOk}
 use Rattle.root_check.specs.OwnRules.{OwnHolds}
 use Rattle.run_ends.specs.Runs.{RunTree, Ends, ends_in, run_count, value_count, run_end, end_before}
@@ -20,7 +21,7 @@ pub record RunsHold (u : RunTree) (array : ArrayTree) : Type 0 where
   -- each item lies in a run, and each run has a value
   pub covered : end (members_of array) ≤ natural (end_before (ends_in u array) (run_count array))
   pub valued : run_count array ≤ value_count array
-  pub near : end (members_of array) ≤ 2 ^ 40
+  pub near : end (members_of array) ≤ window_limit
 
 -- a search in the making: of numbers below n, something holds of none below `low`, and of each from `high` on
 pub record Parted (f : ℕ → Bool) (n low high : ℕ) : Type 0 where

@@ -62,8 +62,8 @@ by rule (Some numbers) = Some (record { rule = rule; numbers = numbers })
 abbrev pub kids_fault : RunTree → ArrayTree → Option ChildFault
 kids_fault u array = children_fault (u.ends ∷ u.values ∷ []) 0 (children_of array)
 
--- What the last rules say of so many ends, so many values and the place behind the window's last item: on the ends, and on what the
--- array needs of its children. The last end is that before a run behind all others, and so 0 where there are none.
+-- What the last rules say of this many ends, this many values and the place behind the window's last item: on the ends, and on what
+-- the array needs of its children. The last end is that before a run behind all others, and so 0 where there are none.
 abbrev pub end_answers : Ends → ℕ → ℕ → ℕ → List (Option RunsFound)
 end_answers ends runs values stop =
     by EndsNull (first_below (null_end ends) runs) ∷

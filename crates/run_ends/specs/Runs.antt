@@ -5,7 +5,7 @@ use Rattle.data_types.specs.Value.{Value}
 use Rattle.data_types.specs.Value.Value.{Whole}
 use Rattle.tree_model.specs.Tree.{Live, absent, child_at}
 use Rattle.raw_array.specs.Members.{ArrayTree, members_of}
-use Rattle.kind_tree.specs.Kinds.{KindTree, TypedOk}
+use Rattle.data_types.specs.KindTrees.{KindTree, TypedOk}
 use Rattle.layout_rules.specs.Layout.{first, items}
 use Rattle.layout_rules.specs.Values.{each, value_at, tree_items}
 
@@ -55,7 +55,7 @@ end_before ends (suc k) = run_end ends k
 
 -- ---- the items
 
--- the first of so many numbers from k on of which something holds, and the number behind them where it holds of none
+-- the first of this many numbers from k on of which something holds, and the number behind them where it holds of none
 abbrev pub first_from : (ℕ → Bool) → ℕ → ℕ → ℕ
 first_from f k zero = k
 first_from f k (suc n) = if f k then k else first_from f (suc k) n
@@ -64,7 +64,7 @@ first_from f k (suc n) = if f k then k else first_from f (suc k) n
 abbrev pub ends_above : Ends → ℕ → ℕ → Bool
 ends_above ends place k = int_lt (pos place) (run_end ends k)
 
--- the run of a place: the first one, of so many, whose end is above the place
+-- the run of a place: the first one, of this many, whose end is above the place
 abbrev pub run_at : Ends → ℕ → ℕ → ℕ
 run_at ends count place = first_from (ends_above ends place) 0 count
 

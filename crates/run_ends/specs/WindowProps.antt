@@ -4,7 +4,7 @@ use Rattle.std.specs.Coded.{Coded, Coded-set, code_by, coded×, coded_ℕ}
 use Rattle.data_types.specs.contracts.kind.DataType as kinds
 use Rattle.tree_model.specs.Stored.{coded_tree}
 use Rattle.raw_array.specs.Members.{ArrayTree, coded_array}
-use Rattle.kind_tree.specs.Kinds.{KindTree}
+use Rattle.data_types.specs.KindTrees.{KindTree}
 use Rattle.arr_import.specs.Window.{Window}
 
 abbrev coded_kinds : Coded KindTree

@@ -2,8 +2,8 @@
 ghost use Rattle.std.specs.Prelude.{◌≡◌, ◌↔◌, ◌<◌, ◌≤ℤ◌, nat_lt, int_lt, pos, IsOk, None, OnOk, Option, length};
 ghost use Rattle.tree_model.specs.Tree.{IsLive, child_at, children_of};
 ghost use Rattle.raw_array.specs.Members.{ArrayTree, members_of};
-ghost use Rattle.kind_tree.specs.Kinds.{TypedOk};
-ghost use Rattle.kind_tree.specs.TypedView.{typed_of};
+ghost use Rattle.data_types.specs.KindTrees.{TypedOk};
+ghost use Rattle.data_types.specs.TypedView.{typed_of};
 ghost use Rattle.layout_rules.specs.Layout.{end};
 ghost use Rattle.layout_rules.specs.Rules.{fault_if};
 ghost use Rattle.layout_rules.specs.Walk.{LayoutOk, first_fault};
@@ -18,7 +18,7 @@ use crate::ends::{count, end_before, first_fall, first_null};
 use crate::kinds::RunTyped;
 use crate::rule::{RunsFault, RunsRule};
 use arr_import::Col;
-use kind_tree::Typed;
+use data_types::Typed;
 use layout_check::{Numbers, check_array, window_too_long};
 use raw_array::RawArray;
 use root_check::check_own;
@@ -94,7 +94,7 @@ fn stop(array: &RawArray) -> u64
     array.offset() as u64 + array.length() as u64
 }
 
-/// The same of a column of ends, so many values and the place behind the window's last item.
+/// The same of a column of ends, this many values and the place behind the window's last item.
 fn check_cols(ends: &Col, values: u64, stop: u64) -> Result<(), RunsFault>
     requires { IsEnds (window_of ends.now).typed }
     ensures { found_runs result ≡ first_answer (end_answers (item_at (window_of ends.now)) (window_of ends.now).count values stop) }

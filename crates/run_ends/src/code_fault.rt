@@ -1,15 +1,15 @@
 //! Why a column isn't made into runs, or runs aren't made into a column.
 ghost use Rattle.std.specs.Prelude.{◌≡◌};
-ghost use Rattle.kind_tree.specs.Kinds.{TypedOk};
-ghost use Rattle.kind_tree.specs.TypedView.{typed_of};
+ghost use Rattle.data_types.specs.KindTrees.{TypedOk};
+ghost use Rattle.data_types.specs.TypedView.{typed_of};
 ghost use Rattle.layout_rules.specs.Values.{tree_items};
 ghost use Rattle.layout_rules.specs.Walk.{LayoutOk};
-ghost use Rattle.run_ends.specs.CodeFaults.{code_fault, is_flat_column, is_narrow};
+ghost use Rattle.run_ends.specs.CodeFaults.{code_fault, is_narrow};
 
 use crate::ends::count;
 use arr_import::Col;
-use data_types::{DataType, is_flat};
-use kind_tree::{Typed, kinds_of_typed};
+use column_fill::is_flat_column;
+use data_types::{DataType, Typed};
 use raw_array::RawArray;
 
 /// Why a column isn't made into runs, or runs aren't made into a column, tried from the first to the last.
@@ -27,8 +27,8 @@ pub enum CodeFault {
 /// The most items that ends of 32 bits name.
 const MOST_ITEMS: u64 = (1 << 31) - 1;
 
-/// Why a lawful column isn't made into runs. Takes no memory.
-pub(crate) fn encode_fault(typed: &Typed, array: &RawArray) -> Option<CodeFault>
+/// Why a lawful column isn't made into runs, unless memory runs out. Takes no memory.
+pub fn encode_fault(typed: &Typed, array: &RawArray) -> Option<CodeFault>
     requires types { TypedOk (typed_of typed.now) }
     requires lawful { LayoutOk (typed_of typed.now) array.now }
     ensures { result ≡ code_fault (typed_of typed.now) (tree_items array.now) }
@@ -40,14 +40,6 @@ pub(crate) fn encode_fault(typed: &Typed, array: &RawArray) -> Option<CodeFault>
         return Some(CodeFault::TooLong);
     }
     None
-}
-
-/// Whether values are of a flat kind, without a dictionary.
-pub(crate) fn is_flat_column(typed: &Typed) -> bool
-    ensures { result ≡ is_flat_column (typed_of typed.now) }
-{
-    kinds_of_typed(typed);
-    typed.dict.is_none() && is_flat(&typed.kind)
 }
 
 /// Whether a type's items are texts or bytes between offsets of 32 bits.

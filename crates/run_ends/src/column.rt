@@ -2,10 +2,11 @@
 ghost use Rattle.std.specs.Prelude.{◌≡◌, IsTrue, is_none};
 ghost use Rattle.tree_model.specs.Tree.{child_at};
 ghost use Rattle.raw_array.specs.Members.{members_of};
-ghost use Rattle.kind_tree.specs.TypedView.{typed_of};
+ghost use Rattle.data_types.specs.TypedView.{typed_of};
 ghost use Rattle.layout_rules.specs.Layout.{first, items};
 ghost use Rattle.arr_import.specs.Window.{whole};
 ghost use Rattle.arr_import.specs.Cols.{window_of};
+ghost use Rattle.layout_rules.specs.Rules.{window_limit};
 ghost use Rattle.run_ends.specs.WindowProps.{window_prop};
 ghost use Rattle.run_ends.specs.RunRules.{runs_fault};
 ghost use Rattle.run_ends.specs.RunAnswers.{runs_of};
@@ -36,7 +37,7 @@ pub struct RunCol<'a> {
 }
 
 impl<'a> RunCol<'a> {
-    ghost use Rattle.std.specs.Prelude.{ℕ, ◌+◌, ◌^◌, ◌<◌, ◌≤◌, ◌≤ℤ◌, ◌<ℤ◌, pos};
+    ghost use Rattle.std.specs.Prelude.{ℕ, ◌+◌, ◌<◌, ◌≤◌, ◌≤ℤ◌, ◌<ℤ◌, pos};
     ghost use Rattle.layout_rules.specs.Layout.{natural};
     ghost use Rattle.arr_import.specs.Shown.{Shows};
     ghost use Rattle.run_ends.specs.Runs.{RunTypedOk, run_at, run_count, ends_in, ends_above, run_end, run_of, run_value};
@@ -95,7 +96,7 @@ impl<'a> RunCol<'a> {
     /// The number of the first item behind a run that item `i` lies in, and the number of all items where the run is the window's
     /// last. A walk over all items needs no search: it begins at the run of item 0, and goes on at the next run.
     #[inline(always)]
-    pub fn behind_run(&self, i: i64, run: i64) -> i64
+    pub fn next_run_start(&self, i: i64, run: i64) -> i64
         requires from { pos 0 ≤ℤ i }
         requires below { i <ℤ pos (items (members_of (array_in self.now))) }
         requires at { run ≡ pos (run_of (kinds_in self.now) (array_in self.now) (natural i)) }
@@ -137,7 +138,7 @@ impl<'a> RunCol<'a> {
         requires { i < items (members_of (array_in self.now)) }
         ensures run { result ≡ run_of (kinds_in self.now) (array_in self.now) i }
         ensures inside { result < run_count (array_in self.now) }
-        ensures few { result < 2 ^ 40 }
+        ensures few { result < window_limit }
     {
         runs_hold(self.typed, self.array);
         lawful_trees();

@@ -1,17 +1,17 @@
 //! The runs of a column's values: items that stand side by side and have the same value.
 ghost use Rattle.std.specs.Prelude.{◌≡◌, ◌↔◌, IsTrue, is_none, true};
 ghost use Rattle.tree_model.specs.Tree.{child_at};
-ghost use Rattle.kind_tree.specs.TypedView.{typed_of};
+ghost use Rattle.data_types.specs.TypedView.{typed_of};
 ghost use Rattle.layout_rules.specs.Walk.{first_fault};
 ghost use Rattle.arr_import.specs.Window.{whole};
 ghost use Rattle.arr_import.specs.Cols.{window_of};
+ghost use Rattle.layout_rules.specs.Rules.{window_limit};
 ghost use Rattle.run_ends.specs.WindowProps.{window_prop};
 
 use crate::ends::count;
 use crate::same::is_same;
 use arr_import::Col;
-use data_types::DataType;
-use kind_tree::{Typed, kinds_of_typed};
+use data_types::{DataType, Typed, kinds_of_typed};
 use layout_rules::{lawful_has_no_fault, lawful_root};
 use raw_array::RawArray;
 
@@ -26,9 +26,9 @@ pub struct ColumnRuns<'a> {
 }
 
 impl<'a> ColumnRuns<'a> {
-    ghost use Rattle.std.specs.Prelude.{ℕ, ◌+◌, ◌^◌, ◌<◌, ◌≤◌, ◌≤ℤ◌, ◌<ℤ◌, pos, length, get_or};
+    ghost use Rattle.std.specs.Prelude.{ℕ, ◌+◌, ◌<◌, ◌≤◌, ◌≤ℤ◌, ◌<ℤ◌, pos, length, get_or};
     ghost use Rattle.data_types.specs.Value.Value.{Null};
-    ghost use Rattle.kind_tree.specs.Kinds.{TypedOk};
+    ghost use Rattle.data_types.specs.KindTrees.{TypedOk};
     ghost use Rattle.layout_rules.specs.Layout.{natural};
     ghost use Rattle.layout_rules.specs.Values.{values_of};
     ghost use Rattle.layout_rules.specs.Walk.{LayoutOk};
@@ -75,7 +75,7 @@ impl<'a> ColumnRuns<'a> {
         requires { i < length (values_in self.now) }
         ensures above { i < result }
         ensures within { result ≤ length (values_in self.now) }
-        ensures few { result ≤ 2 ^ 40 }
+        ensures few { result ≤ window_limit }
         ensures run { IsRun (values_in self.now) i result }
     {
         let count = self.count();
@@ -93,7 +93,7 @@ impl<'a> ColumnRuns<'a> {
     /// The number of items, without a sign.
     pub(crate) fn count(&self) -> u64
         ensures count { result ≡ length (values_in self.now) }
-        ensures few { result ≤ 2 ^ 40 }
+        ensures few { result ≤ window_limit }
     {
         lawful_has_no_fault(self.typed, self.array);
         lawful_root(self.typed, self.array);

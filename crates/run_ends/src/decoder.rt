@@ -9,11 +9,12 @@ ghost use Rattle.col_build.specs.Encoding.{Fits, HasForm, are_bounded, are_withi
 ghost use Rattle.data_types.specs.FieldText.{form_of};
 ghost use Rattle.col_build.specs.Finished.{blocks_of};
 ghost use Rattle.col_build.specs.Holding.{Holds};
-ghost use Rattle.column_gather.specs.Gathered.{values_of_runs};
-ghost use Rattle.kind_tree.specs.ColumnKinds.{type_of_kind};
-ghost use Rattle.kind_tree.specs.Kinds.{TypedOk, kind_in};
-ghost use Rattle.kind_tree.specs.TypedView.{typed_of};
+ghost use Rattle.column_fill.specs.Gathered.{values_of_runs};
+ghost use Rattle.data_types.specs.ColumnKinds.{type_of_kind};
+ghost use Rattle.data_types.specs.KindTrees.{TypedOk, kind_in};
+ghost use Rattle.data_types.specs.TypedView.{typed_of};
 ghost use Rattle.layout_rules.specs.Layout.{items};
+ghost use Rattle.layout_rules.specs.Rules.{window_limit};
 ghost use Rattle.layout_rules.specs.Values.{each, tree_items, value_at, values_of};
 ghost use Rattle.layout_rules.specs.Walk.{LayoutOk};
 ghost use Rattle.run_ends.specs.Runs.{RunTypedOk, run_of, run_value, run_values};
@@ -24,16 +25,14 @@ ghost use Rattle.run_ends.specs.RunCoding.{decoded_tree};
 ghost use Rattle.run_ends.specs.RunWalks.{ReachesRun};
 ghost use Rattle.run_ends.specs.CodeFaults.{decode_fault, is_narrow, refused_code};
 
-use crate::code_fault::{CodeFault, is_flat_column, is_narrow};
+use crate::code_fault::{CodeFault, is_narrow};
 use crate::column::RunCol;
-use crate::flat_kind::flat_kind;
 use crate::kinds::RunTyped;
 use crate::laws::runs_hold;
+use array_laws::lawful_values_fit;
 use col_build::Builder;
-use column_fill::built_column;
-use column_gather::{Run, gathered_runs};
+use column_fill::{Run, built_column, flat_kind, gathered_runs, is_flat_column};
 use data_types::DataType;
-use lawful_values::lawful_values_fit;
 use raw_array::RawArray;
 use std::alloc::Global;
 use unit_pass::{NoMemory, Pass};
@@ -48,7 +47,7 @@ const MOST_WIDE: u128 = (1 << 63) - 1;
 /// counted before anything is made.
 ///
 /// A node is made, and the blocks of the column. Where the answer is a fault, nothing is left of them. A column of more bytes than any
-/// memory has, between offsets of 64 bits, is a want of memory.
+/// memory has, between offsets of 64 bits, is out of memory.
 pub fn decode(
     alloc: Global,
     typed: &RunTyped,
@@ -63,7 +62,7 @@ pub fn decode(
     // No rule fails at it, and its items are those of the runs.
     ensures checks { IfOk result (LayoutOk (typed_of typed.now.values)) }
     ensures items { IfOk result (λ made. values_of (typed_of typed.now.values) made ≡ run_values (runs_of typed.now) array.now) }
-    // Which fault it is, or want of memory where there is none.
+    // Which fault it is, or out of memory where there is none.
     ensures fault { refused_code result ≡ decode_fault (typed_of typed.now.values) (run_values (runs_of typed.now) array.now) }
     ensures units { MatchResult result (λ made. pass.new.units + Cost made ≡ pass.old.units) (λ _. pass.new.units ≡ pass.old.units) }
     ensures blocks { OnOk result (pass.new.blocks
@@ -148,7 +147,7 @@ fn gathered_items(
 /// The number of a column's items.
 fn count_items(col: &RunCol<'_>) -> u64
     ensures count { result ≡ items (members_of (array_in col.now)) }
-    ensures few { result ≤ 2 ^ 40 }
+    ensures few { result ≤ window_limit }
 {
     runs_hold(col.typed, col.array);
     col.len() as u64
@@ -196,7 +195,7 @@ fn listed(alloc: Global, col: &RunCol<'_>) -> Result<Vec<Run>, NoMemory>
 /// The run of the first item, and 0 where there are no items.
 fn first_run(col: &RunCol<'_>) -> u64
     ensures reaches { ReachesRun (kinds_in col.now) (array_in col.now) 0 result }
-    ensures few { result < 2 ^ 40 }
+    ensures few { result < window_limit }
 {
     if count_items(col) == 0 { 0 } else { col.run(0) }
 }

@@ -8,9 +8,9 @@ ghost use Rattle.data_types.specs.Storage.{storage_of as stored_as};
 ghost use Rattle.data_types.specs.Table.{Flat};
 ghost use Rattle.data_types.specs.FieldText.{form_of};
 ghost use Rattle.col_build.specs.Encoding.{Fits, HasForm};
-ghost use Rattle.kind_tree.specs.ColumnKinds.{type_of_kind};
-ghost use Rattle.kind_tree.specs.Kinds.{TypedOk, kind_in};
-ghost use Rattle.kind_tree.specs.TypedView.{typed_of};
+ghost use Rattle.data_types.specs.ColumnKinds.{type_of_kind};
+ghost use Rattle.data_types.specs.KindTrees.{TypedOk, kind_in};
+ghost use Rattle.data_types.specs.TypedView.{typed_of};
 ghost use Rattle.layout_rules.specs.Values.{tree_items, values_of};
 ghost use Rattle.layout_rules.specs.Walk.{LayoutOk};
 ghost use Rattle.arr_import.specs.Cols.{window_of};
@@ -20,20 +20,18 @@ ghost use Rattle.run_ends.specs.RunRules.{RunsOk};
 ghost use Rattle.run_ends.specs.RunSchemas.{RunsOf};
 ghost use Rattle.run_ends.specs.RunCoding.{end_kind, runs_blocks, runs_from, runs_schema, runs_tree, runs_type};
 ghost use Rattle.run_ends.specs.RunMaking.{HoldsRuns, HoldsUpTo};
-ghost use Rattle.run_ends.specs.CodeFaults.{code_fault, is_flat_column, refused_code};
+ghost use Rattle.run_ends.specs.CodeFaults.{code_fault, refused_code};
 ghost use Rattle.run_ends.specs.ColumnRuns.{values_in};
 
 use crate::code_fault::{CodeFault, encode_fault};
 use crate::coding::coded_values_are_the_values;
 use crate::column_runs::ColumnRuns;
-use crate::flat_kind::flat_kind;
 use crate::run_tops::{runs_array, runs_schema};
 use arr_import::Col;
+use array_laws::lawful_values_fit;
 use col_build::Builder;
-use column_fill::push_item;
-use data_types::{DataType, Storage, clone_kind, storage_of};
-use kind_tree::Typed;
-use lawful_values::lawful_values_fit;
+use column_fill::{flat_kind, push_item};
+use data_types::{DataType, Storage, Typed, clone_kind, storage_of};
 use raw_array::RawArray;
 use raw_schema::RawSchema;
 use std::alloc::Global;
@@ -60,7 +58,7 @@ pub fn encode(
     ensures reads { IfOk result (λ made. RunsOf made.0 (runs_type (kind_in (typed_of typed.now)))) }
     ensures checks { IfOk result (λ made. RunsOk (runs_type (kind_in (typed_of typed.now))) made.1) }
     ensures items { IfOk result (λ made. run_values (runs_type (kind_in (typed_of typed.now))) made.1 ≡ values_of (typed_of typed.now) array.now) }
-    // Which fault it is, or want of memory where there is none.
+    // Which fault it is, or out of memory where there is none.
     ensures fault { refused_code result ≡ code_fault (typed_of typed.now) (tree_items array.now) }
     ensures units { MatchResult result
         (λ made. pass.new.units + (Nodes made.0 + Cost made.1) ≡ pass.old.units)

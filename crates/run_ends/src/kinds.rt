@@ -1,5 +1,5 @@
 //! The kinds of a run-end encoded array as the code keeps them.
-use kind_tree::Typed;
+use data_types::Typed;
 
 /// The kinds of the schema of a run-end encoded array: of the first child, whose items are the ends of the runs, and of the
 /// second, whose items are the runs' values. Ends are whole numbers with a sign, of 16, 32 or 64 bits, without a dictionary.

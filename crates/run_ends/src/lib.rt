@@ -7,7 +7,8 @@
 //! - [`RunCol`] shows the items of an array that passed: an item's value, and the run that it lies in, which is searched for. A
 //!   walk over all items asks for the first item behind each run instead.
 //! - [`ColumnRuns`] finds the runs of equal values in a column of any lawful array.
-//! - [`encode`] makes a column's values into runs, and [`decode`] the items of runs into a column; [`CodeFault`] is why not.
+//! - [`encode`] makes a column's values into runs, and [`decode`] the items of runs into a column; [`CodeFault`] is why not,
+//!   and [`encode_fault`] says so of a column without a copy.
 //! - [`coded_values_are_the_values`] is the law of values as runs: their schema is in order, their array is lawful and has these
 //!   values, and no two neighbouring runs have equal ones; [`decoded_runs_are_the_values`] that they are the same column again.
 //!
@@ -28,7 +29,6 @@ mod decoder;
 mod encoder;
 mod ends;
 mod fault_text;
-mod flat_kind;
 mod kinds;
 mod laws;
 mod read;
@@ -39,7 +39,7 @@ mod schema_fault;
 mod worked_runs;
 
 pub use check::check_runs;
-pub use code_fault::CodeFault;
+pub use code_fault::{CodeFault, encode_fault};
 pub use coding::{coded_values_are_the_values, decoded_runs_are_the_values};
 pub use column::RunCol;
 pub use column_runs::ColumnRuns;

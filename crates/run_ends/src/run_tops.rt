@@ -1,26 +1,24 @@
 //! The schema and the array of runs, over those of their ends and their values.
 ghost use Rattle.std.specs.Prelude.{◌≡◌, ◌+◌, ◌-◌, ◌^◌, ◌<◌, ◌≤◌, ◌∷◌, [], List, codes, pos, length, map, None, Some, IfOk, OnOk, MatchResult, if◌then◌else◌, is_ok};
 ghost use Rattle.unit_pass.specs.Tally.{risen};
-ghost use Rattle.unit_pass.specs.declared.pass.TheConstants.{SUPPLY as MOST};
 ghost use Rattle.data_types.specs.Kinds.{KindOk};
 ghost use Rattle.data_types.specs.declared.kind.DataType.{DataType as AType};
 ghost use Rattle.tree_model.specs.Tree.{Depth};
 ghost use Rattle.schema_check.specs.ColumnSchema.{values_schema};
 ghost use Rattle.raw_schema.specs.Members.{Nodes};
-ghost use Rattle.raw_schema.specs.Parts.{tree_of_parts as schema_of_parts};
 ghost use Rattle.raw_array.specs.Members.{Cost};
-ghost use Rattle.raw_array.specs.Parts.{tree_of_parts};
 ghost use Rattle.col_build.specs.Finished.{blocks_of};
 ghost use Rattle.run_ends.specs.RunCoding.{Run, end_kind, end_of, ends_schema, over_runs, runs_schema, tree_of_runs, value_of};
 ghost use Rattle.run_ends.specs.RunMaking.{HoldsRuns};
 
 use crate::encoder::Making;
-use buf_block::let_go_all;
+use arr_export::built_array;
+use arr_move::built_schema;
 use column_fill::built_column;
 use data_types::DataType;
 use fmt_string::write_format;
-use raw_array::{ArrayParts, RawArray, ReleaseKind, release_all};
-use raw_schema::{RawSchema, SchemaParts, release_all as release_schemas};
+use raw_array::{ArrayParts, RawArray, ReleaseKind};
+use raw_schema::{RawSchema, SchemaParts};
 use std::alloc::Global;
 use unit_pass::{NoMemory, Pass, SUPPLY};
 
@@ -28,46 +26,6 @@ use unit_pass::{NoMemory, Pass, SUPPLY};
 
 /// Values may be null.
 const NULLABLE: i64 = 2;
-
-/// Releases what a schema was to be made of.
-fn end_schema(parts: SchemaParts, pass: &mut Pass)
-    requires { pass.old.units + Nodes (schema_of_parts parts) ≤ SUPPLY + 1 }
-    ensures units { pass.new.units + 1 ≡ pass.old.units + Nodes (schema_of_parts parts) }
-{
-    let SchemaParts {
-        format: _,
-        name: _,
-        metadata: _,
-        flags: _,
-        children,
-        dictionary,
-    } = parts;
-    release_schemas(children, pass);
-    match dictionary {
-        None => {}
-        Some(tree) => tree.end(pass),
-    }
-}
-
-/// A live schema of these parts, or nothing that is left of them.
-fn built(alloc: Global, parts: SchemaParts, pass: &mut Pass) -> Result<RawSchema, NoMemory>
-    requires some { 1 ≤ pass.old.units }
-    requires units { pass.old.units + Nodes (schema_of_parts parts) ≤ SUPPLY + 1 }
-    requires few { length parts.children.items < 2 ^ 32 - 1 }
-    requires not_deep { Depth (schema_of_parts parts) ≤ 128 }
-    ensures tree { IfOk result (λ tree. tree ≡ schema_of_parts parts) }
-    ensures units { pass.new.units + 1 ≡ pass.old.units + (if is_ok result then 0 else Nodes (schema_of_parts parts)) }
-    ensures blocks { OnOk result (pass.new.blocks ≡ pass.old.blocks) }
-    ensures nodes { OnOk result (pass.new.nodes ≡ risen pass.old.nodes 1) }
-{
-    match RawSchema::build(alloc, parts, pass) {
-        Ok(tree) => Ok(tree),
-        Err((parts, NoMemory)) => {
-            end_schema(parts, pass);
-            Err(NoMemory)
-        }
-    }
-}
 
 /// The schema of the ends.
 fn ends_schema(alloc: Global, pass: &mut Pass) -> Result<RawSchema, NoMemory>
@@ -85,7 +43,7 @@ fn ends_schema(alloc: Global, pass: &mut Pass) -> Result<RawSchema, NoMemory>
         children: Vec::new(alloc),
         dictionary: None,
     };
-    built(alloc, parts, pass)
+    built_schema(alloc, parts, pass)
 }
 
 /// The schema of the runs' values, of this type.
@@ -105,7 +63,7 @@ fn values_schema(alloc: Global, kind: &DataType, pass: &mut Pass) -> Result<RawS
         children: Vec::new(alloc),
         dictionary: None,
     };
-    built(alloc, parts, pass)
+    built_schema(alloc, parts, pass)
 }
 
 /// The schemas of the two children.
@@ -176,34 +134,12 @@ pub(crate) fn runs_schema(
         children: child_schemas(alloc, kind, pass)?,
         dictionary: None,
     };
-    built(alloc, parts, pass)
+    built_schema(alloc, parts, pass)
 }
 
 // ---- arrays
 
-/// Releases what an array was to be made of.
-fn end_array(parts: ArrayParts, pass: &mut Pass)
-    requires { pass.old.units + Cost (tree_of_parts parts) ≤ SUPPLY + 1 }
-    ensures units { pass.new.units + 1 ≡ pass.old.units + Cost (tree_of_parts parts) }
-{
-    let ArrayParts {
-        length: _,
-        null_count: _,
-        offset: _,
-        buffers,
-        children,
-        dictionary,
-        kind: _,
-    } = parts;
-    let_go_all(buffers, pass);
-    release_all(children, pass);
-    match dictionary {
-        None => {}
-        Some(tree) => tree.end(pass),
-    }
-}
-
-/// An array of so many items over its ends and its values.
+/// An array of this many items over its ends and its values.
 fn over_runs(
     alloc: Global,
     count: u64,
@@ -239,16 +175,10 @@ fn over_runs(
         dictionary: None,
         kind: ReleaseKind::Assembled,
     };
-    match RawArray::build(alloc, parts, pass) {
-        Ok(tree) => Ok(tree),
-        Err((parts, NoMemory)) => {
-            end_array(parts, pass);
-            Err(NoMemory)
-        }
-    }
+    built_array(alloc, parts, pass)
 }
 
-/// The array of runs, whose columns are finished, with so many items.
+/// The array of runs, whose columns are finished, with this many items.
 pub(crate) fn runs_array(
     alloc: Global,
     making: Making,

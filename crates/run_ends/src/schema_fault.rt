@@ -2,12 +2,12 @@
 ghost use Rattle.std.specs.Prelude.{◌≡◌};
 ghost use Rattle.run_ends.specs.declared.schema_fault.RunsSchemaFault.TheVariants as faults;
 
-use root_check::{KidsFault, OwnSchemaFault};
+use root_check::{ChildKindsFault, OwnSchemaFault};
 use schema_check::SchemaFault;
 use schema_meta::MetaFault;
 use std::alloc::{AllocError, AllocFailed};
 
-/// Why a schema is none of a run-end encoded array, tried from the first to the last. A want of memory never stands inside
+/// Why a schema is none of a run-end encoded array, tried from the first to the last. An out-of-memory never stands inside
 /// another fault.
 #[derive(Clone, Copy, Debug, PartialEq, Eq)]
 pub enum RunsSchemaFault {
@@ -59,15 +59,15 @@ impl From<OwnSchemaFault> for RunsSchemaFault {
     }
 }
 
-impl From<KidsFault> for RunsSchemaFault {
+impl From<ChildKindsFault> for RunsSchemaFault {
     ghost use Rattle.run_ends.specs.SchemaParts.{kids_refused};
 
     ghost from_gives = { λ fault given. given ≡ kids_refused fault };
 
-    fn from(fault: KidsFault) -> RunsSchemaFault {
+    fn from(fault: ChildKindsFault) -> RunsSchemaFault {
         match fault {
-            KidsFault::Child { child, fault } => RunsSchemaFault::Child { child, fault },
-            KidsFault::NoMemory => RunsSchemaFault::NoMemory,
+            ChildKindsFault::Child { child, fault } => RunsSchemaFault::Child { child, fault },
+            ChildKindsFault::NoMemory => RunsSchemaFault::NoMemory,
         }
     }
 }

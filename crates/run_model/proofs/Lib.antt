@@ -1,5 +1,10 @@
 pub mod FaultLines
 pub mod Pieces
-pub mod AskedStages
+pub mod CommandLineStages
 pub mod Meant
 mod TreeLines
+pub mod Rows
+pub mod Numbers
+pub mod Taken
+pub mod Worked
+pub mod Taking

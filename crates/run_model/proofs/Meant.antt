@@ -1,6 +1,6 @@
 -- What the options that are meant ask for, the words ask for: those of the chain where rows are made in place of an input.
 use Rattle.std.proofs.Common.{◌≡◌, ◌⊎◌, ℕ, Bool, false, Option, Result, subst, sym, inl, inr}
-use Rattle.words.specs.Words.{Options}
+use Rattle.run_model.specs.Words.{Options}
 use Rattle.run_model.specs.Answer.{Task, TaskIs, meant_by}
 use Rattle.run_model.specs.declared.fault.RunFault.{RunFault}
 

@@ -9,9 +9,9 @@ use Rattle.std.proofs.KnownBytes.{Appends-trans}
 use Rattle.std.specs.Io.KnownBytes.{Appends}
 use Rattle.std.specs.List.{concat}
 use Rattle.std.specs.Result.{IsErr}
-use Rattle.edge_face.specs.declared.WriteFault.{WriteFault}
-use Rattle.edge_face.specs.Edge.{Rose}
-use Rattle.run_model.specs.Told.{Says, TookFirst, joined}
+use Rattle.edge_io.specs.declared.edge.WriteFault.{WriteFault}
+use Rattle.edge_io.specs.Edge.{Rose}
+use Rattle.run_model.specs.Diagnostics.{Says, TookFirst, joined}
 
 joined-append : (xs ys : List (Bor (List ℕ))) → joined (xs ++ ys) ≡ joined xs ++ joined ys
 joined-append [] ys = refl

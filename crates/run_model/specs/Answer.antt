@@ -16,13 +16,13 @@ use Rattle.stage_plan.specs.declared.fault.TypesFault.TheVariants as types
 use Rattle.stage_plan.specs.declared.types.TypeEntry.{TypeEntry}
 use Rattle.tree_check.specs.declared.fault.CheckFault.{CheckFault}
 use Rattle.tree_check.specs.declared.fault.CheckFault.TheVariants as check
-use Rattle.words.specs.Words.{Options, mark_of, words_of}
-use Rattle.words.specs.declared.WordsFault.{WordsFault}
+use Rattle.run_model.specs.Words.{Options, mark_of, words_of}
+use Rattle.run_model.specs.declared.words.WordsFault.{WordsFault}
 use Rattle.run_model.specs.declared.fault.RunFault.{RunFault}
 use Rattle.run_model.specs.declared.fault.RunFault.TheVariants as run
 
 -- ---- the faults of a run
--- the text that is to be written, or the fault that is to be told
+-- the text that is to be written, or the fault that is to be reported
 pub data Answer : Type 0 where
   Text : List ℕ → Answer
   Fault : RunFault → Answer
@@ -169,7 +169,7 @@ pub data Cause : Type 0 where
   -- the length of the input
   OfLength : Cause
   Reading : Cause
-  -- a write, when so many bytes of the text were taken
+  -- a write, when this many bytes of the text were taken
   Writing : ℕ → Cause
   Memory : Cause
 

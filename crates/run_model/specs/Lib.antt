@@ -1,5 +1,9 @@
 pub mod Answer
 pub mod Outcomes
-pub mod Told
-pub mod SaidTexts
+pub mod Diagnostics
+pub mod NumberedTexts
 pub mod MemoryFaults
+pub mod Words
+pub mod FaultTexts
+pub mod RunAnswer
+pub mod RunOutcomes

@@ -1,4 +1,4 @@
--- Which faults of a run have a want of memory inside them. A run tells none of these: its want of memory stands alone.
+-- Which faults of a run have an out-of-memory inside them. No run reports one of these: its out-of-memory stands alone.
 use Rattle.std.specs.Prelude.{Bool, true, false}
 use Rattle.fmt_string.specs.declared.fault.FormatFault.{FormatFault}
 use Rattle.fmt_string.specs.declared.fault.FormatFault.TheVariants as format

@@ -4,7 +4,7 @@ use Rattle.std.specs.Global.{Global}
 use Rattle.stage_plan.specs.declared.types.TypeEntry.{TypeEntry}
 use Rattle.run_model.specs.Answer.{Request, Task, Table, Tree, Cause, OfWords, OfTexts, OfPlan}
 use Rattle.run_model.specs.Answer.{OfRecords, OfTree, OfLength, Reading, Writing, Memory, cause_of}
-use Rattle.run_model.specs.declared.asked.Request.{Request as AsksFor}
+use Rattle.run_model.specs.declared.request.Request.{Request as AsksFor}
 use Rattle.run_model.specs.declared.asked.Task.{Task as AsksTask}
 use Rattle.run_model.specs.declared.asked.Task.TheVariants as tasks
 use Rattle.run_model.specs.declared.fault.RunFault.{RunFault}
@@ -41,7 +41,7 @@ is_writing _ = false
 abbrev pub is_write_fault : RunFault → Bool
 is_write_fault fault = is_writing (cause_of fault)
 
--- so many bytes were taken before a write failed
+-- this many bytes were taken before a write failed
 abbrev pub AtWriting : Cause → (ℕ → Type 0) → Type 0
 AtWriting (Writing taken) P = P taken
 AtWriting _ P = ⊤

@@ -1,20 +1,22 @@
 //! What the words ask for.
-ghost use Rattle.std.specs.Prelude.{◌≡◌, ◌≤◌, ◌⊎◌, ◌∷◌, true, false, [], ℕ, List, Result, All, Ok, Err, IfErr, IfOk, IfSome, None, length, map, option_map};
+ghost use Rattle.std.specs.Prelude.{◌≡◌, ◌≤◌, ◌⊎◌, ◌∷◌, true, false, [], ℕ, List, Result, All, Ok, Err, IfErr, IfOk, IfSome, None, length, map, option_map, vec_len};
 ghost use Rattle.std.specs.Option.{unwrap_or};
 ghost use Rattle.field_codec.specs.TextColumns.{IsAllowed};
 ghost use Rattle.data_types.specs.Kinds.{KindOk};
 ghost use Rattle.stage_plan.specs.declared.types.TypeEntry.{TypeEntry as AnEntry};
-ghost use Rattle.words.specs.Words.{audit_of, made_of, options_of, texts_of, words_of};
+ghost use Rattle.run_model.specs.Words.{audit_of, made_of, most_ahead, most_batch, most_rows, most_stages, most_workers, options_of, texts_of, words_of};
 ghost use Rattle.run_model.specs.Answer.{Asks, EntriesAsk, Request as ARequest, RequestIs, StagesAsk, Task as ATask, TaskIs, chain_of, meant_by};
 ghost use Rattle.run_model.specs.Answer.{stages_from};
 ghost use Rattle.run_model.specs.Outcomes.{IfTable, asked_of, entries_asked, is_early, request_asked};
 ghost use Rattle.run_model.specs.declared.fault.RunFault.{RunFault as AFault};
 
 use crate::fault::RunFault;
+use crate::request::Request;
+use crate::{Words, WordsError, read_words};
+use fan_out::Workers;
 use stage_plan::{StageFault, StageText, TypeEntry, TypesFault, read_stage, read_types};
 use std::alloc::Global;
 use unit_pass::{Name, NoMemory};
-use words::{Words, WordsError, read_words};
 
 /// The types of the columns of a table that is made from a number.
 const CHAIN_SCHEMA: &str = "id:l;amount:d:10,2;paid:b";
@@ -29,18 +31,6 @@ const CHAIN_STAGES: [&str; 6] = [
     "totals=id,amount",
 ];
 
-/// What is asked for of a table: types of columns by name, stages, the most rows of a batch, how many workers share the rows
-/// of a chunk, the mark for null, and how many batches a round reads in a thread ahead of the stages, where one is to.
-#[derive(Drop)]
-pub struct Request {
-    pub entries: Vec<TypeEntry>,
-    pub stages: Vec<StageText>,
-    pub batch: u32,
-    pub workers: u32,
-    pub mark: Name,
-    pub ahead: Option<u32>,
-}
-
 /// What is asked for: a table by stages, or a tree to check.
 #[derive(Drop)]
 pub enum Task {
@@ -50,35 +40,31 @@ pub enum Task {
 
 /// What the words ask for, or why they are refused.
 #[derive(Drop)]
-pub struct Asked {
-    /// The audit is to be told, also where the words are refused.
+pub struct CommandLine {
+    /// The audit is to be written, also where the words are refused.
     pub audit: bool,
     /// How many rows are made in place of an input, where that is asked for.
     pub made: Option<u32>,
-    /// The first fault is told: of the words, of the stage texts, of the schema text.
+    /// The first fault is reported: of the words, of the stage texts, of the schema text.
     pub task: Result<Task, RunFault>,
 }
 
 /// Reads the words and the texts among them.
-pub fn read_asked(alloc: Global, words: &[String]) -> Asked
+pub fn read_command_line(alloc: Global, words: &[String]) -> CommandLine
     ensures asks { (result.task ≡ Err RunFault.NoMemory) ⊎ Asks (texts_of words.now) (asked_of result.task) }
     ensures only { (result.task ≡ Err RunFault.NoMemory)
         ⊎ ((asked : Result ATask AFault) → Asks (texts_of words.now) asked → asked ≡ asked_of result.task) }
     ensures early { IfErr result.task (λ fault. (is_early fault ≡ true) ⊎ (fault ≡ RunFault.NoMemory)) }
     ensures proper { IfOk result.task (λ t. IfTable t (λ r. All (λ e. KindOk e.kind) r.entries.items)) }
     ensures allowed { IfOk result.task (λ t. IfTable t (λ r. All (λ e. IsAllowed e.kind) r.entries.items)) }
-    ensures few { IfOk result.task (λ t. IfTable t (λ r. length r.stages.items ≤ 16)) }
-    ensures batch { IfOk result.task (λ t. IfTable t (λ r. (1 ≤ r.batch) × (r.batch ≤ 1000000))) }
-    ensures workers { IfOk result.task (λ t. IfTable t (λ r. (1 ≤ r.workers) × (r.workers ≤ 64))) }
-    ensures ahead { IfOk result.task (λ t. IfTable t (λ r. IfSome r.ahead (λ n. (1 ≤ n) × (n ≤ 64)))) }
-    ensures as_asked { IfOk result.task (λ t. IfTable t (λ r. IfOk (words_of (texts_of words.now)) (λ options. r.workers ≡ options.workers))) }
+    ensures as_asked { IfOk result.task (λ t. IfTable t (λ r. IfOk (words_of (texts_of words.now)) (λ options. r.workers.count ≡ options.workers))) }
     ensures ahead_as_asked { IfOk result.task (λ t. IfTable t (λ r. IfOk (words_of (texts_of words.now)) (λ options. r.ahead ≡ options.ahead))) }
     ensures audit { (result.task ≡ Err RunFault.NoMemory) × (result.audit ≡ false) ⊎ (result.audit ≡ audit_of (texts_of words.now)) }
     ensures made { (result.task ≡ Err RunFault.NoMemory) ⊎ (result.made ≡ made_of (texts_of words.now)) }
-    ensures few_rows { IfSome result.made (λ rows. rows ≤ 1000000) }
+    ensures few_rows { IfSome result.made (λ rows. rows ≤ most_rows) }
 {
     match read_words(alloc, words) {
-        Ok(read) => Asked {
+        Ok(read) => CommandLine {
             audit: read.audit,
             made: read.selftest,
             task: read_task(alloc, &read),
@@ -89,12 +75,12 @@ pub fn read_asked(alloc: Global, words: &[String]) -> Asked
 }
 
 /// The words are refused, and may ask for the audit yet.
-fn refused(fault: RunFault, audit: bool) -> Asked
+fn refused(fault: RunFault, audit: bool) -> CommandLine
     ensures task { result.task ≡ Err fault }
     ensures audit { result.audit ≡ audit }
     ensures made { result.made ≡ None }
 {
-    Asked {
+    CommandLine {
         audit,
         made: None,
         task: Err(fault),
@@ -103,10 +89,10 @@ fn refused(fault: RunFault, audit: bool) -> Asked
 
 /// What options ask for: the check of a tree, or else a table, which may be one that is made.
 fn read_task(alloc: Global, options: &Words<'_>) -> Result<Task, RunFault>
-    requires few { length options.now.stages.items ≤ 16 }
-    requires batch { (1 ≤ options.now.batch) × (options.now.batch ≤ 1000000) }
-    requires workers { (1 ≤ options.now.workers) × (options.now.workers ≤ 64) }
-    requires ahead { IfSome options.now.ahead (λ n. (1 ≤ n) × (n ≤ 64)) }
+    requires few { length options.now.stages.items ≤ most_stages }
+    requires batch { (1 ≤ options.now.batch) × (options.now.batch ≤ most_batch) }
+    requires workers { (1 ≤ options.now.workers) × (options.now.workers ≤ most_workers) }
+    requires ahead { IfSome options.now.ahead (λ n. (1 ≤ n) × (n ≤ most_ahead)) }
     ensures asks { (result ≡ Err RunFault.NoMemory)
         ⊎ TaskIs options.now.check (meant_by options.now.selftest (options_of options.now)) (asked_of result) }
     ensures only { (result ≡ Err RunFault.NoMemory)
@@ -115,11 +101,7 @@ fn read_task(alloc: Global, options: &Words<'_>) -> Result<Task, RunFault>
     ensures early { IfErr result (λ fault. (is_early fault ≡ true) ⊎ (fault ≡ RunFault.NoMemory)) }
     ensures proper { IfOk result (λ t. IfTable t (λ r. All (λ e. KindOk e.kind) r.entries.items)) }
     ensures allowed { IfOk result (λ t. IfTable t (λ r. All (λ e. IsAllowed e.kind) r.entries.items)) }
-    ensures few { IfOk result (λ t. IfTable t (λ r. length r.stages.items ≤ 16)) }
-    ensures batch { IfOk result (λ t. IfTable t (λ r. (1 ≤ r.batch) × (r.batch ≤ 1000000))) }
-    ensures workers { IfOk result (λ t. IfTable t (λ r. (1 ≤ r.workers) × (r.workers ≤ 64))) }
-    ensures ahead { IfOk result (λ t. IfTable t (λ r. IfSome r.ahead (λ n. (1 ≤ n) × (n ≤ 64)))) }
-    ensures as_asked { IfOk result (λ t. IfTable t (λ r. r.workers ≡ options.now.workers)) }
+    ensures as_asked { IfOk result (λ t. IfTable t (λ r. r.workers.count ≡ options.now.workers)) }
     ensures ahead_as_asked { IfOk result (λ t. IfTable t (λ r. r.ahead ≡ options.now.ahead)) }
 {
     if options.check {
@@ -138,7 +120,7 @@ fn read_task(alloc: Global, options: &Words<'_>) -> Result<Task, RunFault>
 /// batches ahead as taken.
 fn chain_options(alloc: Global, options: &Words<'_>) -> Result<Words<'static>, NoMemory>
     ensures chain { IfOk result (λ chain. options_of chain ≡ chain_of (options_of options.now)) }
-    ensures few { IfOk result (λ chain. length chain.stages.items ≤ 16) }
+    ensures few { IfOk result (λ chain. length chain.stages.items ≤ most_stages) }
     ensures batch { IfOk result (λ chain. chain.batch ≡ options.now.batch) }
     ensures workers { IfOk result (λ chain. chain.workers ≡ options.now.workers) }
     ensures ahead { IfOk result (λ chain. chain.ahead ≡ options.now.ahead) }
@@ -159,21 +141,17 @@ fn chain_options(alloc: Global, options: &Words<'_>) -> Result<Words<'static>, N
 
 /// The table that options ask for.
 fn read_table(alloc: Global, options: &Words<'_>) -> Result<Task, RunFault>
-    requires few { length options.now.stages.items ≤ 16 }
-    requires batch { (1 ≤ options.now.batch) × (options.now.batch ≤ 1000000) }
-    requires workers { (1 ≤ options.now.workers) × (options.now.workers ≤ 64) }
-    requires ahead { IfSome options.now.ahead (λ n. (1 ≤ n) × (n ≤ 64)) }
+    requires few { length options.now.stages.items ≤ most_stages }
+    requires batch { (1 ≤ options.now.batch) × (options.now.batch ≤ most_batch) }
+    requires workers { (1 ≤ options.now.workers) × (options.now.workers ≤ most_workers) }
+    requires ahead { IfSome options.now.ahead (λ n. (1 ≤ n) × (n ≤ most_ahead)) }
     ensures asks { (result ≡ Err RunFault.NoMemory) ⊎ TaskIs false (options_of options.now) (asked_of result) }
     ensures only { (result ≡ Err RunFault.NoMemory)
         ⊎ ((asked : Result ATask AFault) → TaskIs false (options_of options.now) asked → asked ≡ asked_of result) }
     ensures early { IfErr result (λ fault. (is_early fault ≡ true) ⊎ (fault ≡ RunFault.NoMemory)) }
     ensures proper { IfOk result (λ t. IfTable t (λ r. All (λ e. KindOk e.kind) r.entries.items)) }
     ensures allowed { IfOk result (λ t. IfTable t (λ r. All (λ e. IsAllowed e.kind) r.entries.items)) }
-    ensures few { IfOk result (λ t. IfTable t (λ r. length r.stages.items ≤ 16)) }
-    ensures batch { IfOk result (λ t. IfTable t (λ r. (1 ≤ r.batch) × (r.batch ≤ 1000000))) }
-    ensures workers { IfOk result (λ t. IfTable t (λ r. (1 ≤ r.workers) × (r.workers ≤ 64))) }
-    ensures ahead { IfOk result (λ t. IfTable t (λ r. IfSome r.ahead (λ n. (1 ≤ n) × (n ≤ 64)))) }
-    ensures as_asked { IfOk result (λ t. IfTable t (λ r. r.workers ≡ options.now.workers)) }
+    ensures as_asked { IfOk result (λ t. IfTable t (λ r. r.workers.count ≡ options.now.workers)) }
     ensures ahead_as_asked { IfOk result (λ t. IfTable t (λ r. r.ahead ≡ options.now.ahead)) }
 {
     match read_request(alloc, options) {
@@ -184,16 +162,17 @@ fn read_table(alloc: Global, options: &Words<'_>) -> Result<Task, RunFault>
 
 /// What options ask for of a table: a stage text is refused before the schema text.
 fn read_request(alloc: Global, options: &Words<'_>) -> Result<Request, RunFault>
-    requires few { length options.now.stages.items ≤ 16 }
+    requires few { length options.now.stages.items ≤ most_stages }
+    requires batch { (1 ≤ options.now.batch) × (options.now.batch ≤ most_batch) }
+    requires workers { (1 ≤ options.now.workers) × (options.now.workers ≤ most_workers) }
+    requires ahead { IfSome options.now.ahead (λ n. (1 ≤ n) × (n ≤ most_ahead)) }
     ensures asks { (result ≡ Err RunFault.NoMemory) ⊎ RequestIs (options_of options.now) (request_asked result) }
     ensures only { (result ≡ Err RunFault.NoMemory)
         ⊎ ((asked : Result ARequest AFault) → RequestIs (options_of options.now) asked → asked ≡ request_asked result) }
     ensures early { IfErr result (λ fault. (is_early fault ≡ true) ⊎ (fault ≡ RunFault.NoMemory)) }
     ensures proper { IfOk result (λ r. All (λ e. KindOk e.kind) r.entries.items) }
     ensures allowed { IfOk result (λ r. All (λ e. IsAllowed e.kind) r.entries.items) }
-    ensures few { IfOk result (λ r. length r.stages.items ≡ length options.now.stages.items) }
-    ensures batch { IfOk result (λ r. r.batch ≡ options.now.batch) }
-    ensures workers { IfOk result (λ r. r.workers ≡ options.now.workers) }
+    ensures workers { IfOk result (λ r. r.workers.count ≡ options.now.workers) }
     ensures ahead { IfOk result (λ r. r.ahead ≡ options.now.ahead) }
 {
     match read_stages(alloc, options.stages.as_slice()) {
@@ -208,6 +187,10 @@ fn read_others(
     options: &Words<'_>,
     stages: Vec<StageText>,
 ) -> Result<Request, RunFault>
+    requires few { vec_len stages ≤ most_stages }
+    requires batch { (1 ≤ options.now.batch) × (options.now.batch ≤ most_batch) }
+    requires workers { (1 ≤ options.now.workers) × (options.now.workers ≤ most_workers) }
+    requires ahead { IfSome options.now.ahead (λ n. (1 ≤ n) × (n ≤ most_ahead)) }
     ensures asks { (result ≡ Err RunFault.NoMemory) ⊎ StagesAsk (options_of options.now) (Ok stages.items) (request_asked result) }
     ensures only { (result ≡ Err RunFault.NoMemory)
         ⊎ ((asked : Result ARequest AFault) → StagesAsk (options_of options.now) (Ok stages.items) asked → asked ≡ request_asked result) }
@@ -215,8 +198,7 @@ fn read_others(
     ensures proper { IfOk result (λ r. All (λ e. KindOk e.kind) r.entries.items) }
     ensures allowed { IfOk result (λ r. All (λ e. IsAllowed e.kind) r.entries.items) }
     ensures stages { IfOk result (λ r. r.stages.items ≡ stages.items) }
-    ensures batch { IfOk result (λ r. r.batch ≡ options.now.batch) }
-    ensures workers { IfOk result (λ r. r.workers ≡ options.now.workers) }
+    ensures workers { IfOk result (λ r. r.workers.count ≡ options.now.workers) }
     ensures ahead { IfOk result (λ r. r.ahead ≡ options.now.ahead) }
 {
     match read_entries(alloc, options.schema) {
@@ -226,7 +208,9 @@ fn read_others(
                 entries,
                 stages,
                 batch: options.batch,
-                workers: options.workers,
+                workers: Workers {
+                    count: options.workers,
+                },
                 mark,
                 ahead: options.ahead,
             })
@@ -237,7 +221,7 @@ fn read_others(
 
 /// The stages that texts spell, or the first that is none. They are counted from 1.
 fn read_stages(alloc: Global, texts: &[&str]) -> Result<Vec<StageText>, RunFault>
-    requires few { length texts.now ≤ 16 }
+    requires few { length texts.now ≤ most_stages }
     ensures found { IfOk result (λ stages. stages_from 1 (map (λ t. t.now) texts.now) ≡ Ok stages.items) }
     ensures fault { IfErr result (λ fault. (fault ≡ RunFault.NoMemory) ⊎ (stages_from 1 (map (λ t. t.now) texts.now) ≡ Err fault)) }
     ensures early { IfErr result (λ fault. (is_early fault ≡ true) ⊎ (fault ≡ RunFault.NoMemory)) }

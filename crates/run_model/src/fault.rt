@@ -1,9 +1,9 @@
 //! Why a run wrote no text, or not all of it.
+use crate::WordsFault;
 use csv_model::HeaderFault;
 use stage_plan::{PlanFault, PlanRule, StageFault, TypesRule};
 use tree_check::{CheckFault, TreeFault};
 use unit_pass::NoMemory;
-use words::WordsFault;
 
 /// Why a run wrote no text, or not all of it.
 #[derive(Clone, Copy, PartialEq, Eq, Debug)]
@@ -19,7 +19,7 @@ pub enum RunFault {
     Plan { stage: u32, rule: PlanRule },
     /// The input has no record, so no header.
     NoHeader,
-    /// The header has more than 1,024 fields, so many.
+    /// The header has more than 1,024 fields, this many.
     TooManyColumns { count: u64 },
     /// A name in the header is not UTF-8, the first one. Columns are numbered from 1.
     HeaderText { column: u32 },
@@ -35,7 +35,7 @@ pub enum RunFault {
     InputTooLong,
     /// The source failed.
     ReadFault,
-    /// The sink failed after so many bytes of the text.
+    /// The sink failed after this many bytes of the text.
     WriteFault { taken: u64 },
     /// The tree that was to be checked has no report: its text, its schema or its array is at fault.
     Tree(TreeFault),

@@ -1,19 +1,19 @@
 //! The text of a fault of a run, of which its line on the sink of diagnostics and its `Display` are made.
 ghost use Rattle.std.specs.Prelude.{◌≡◌, ◌++◌, codes, decimal};
 ghost use Rattle.stage_model.specs.FaultTexts.{rule_text, stage_fault_text};
-ghost use Rattle.run_model.specs.Told.{entry_text, fault_text};
-ghost use Rattle.run_model.specs.SaidTexts.{digits_of, said_text, told_text};
+ghost use Rattle.run_model.specs.Diagnostics.{entry_text, fault_text};
+ghost use Rattle.run_model.specs.NumberedTexts.{digits_of, numbered_text, message_text};
 
+use crate::WordsFault;
 use crate::fault::RunFault;
 use itoa::Buffer;
 use stage_plan::{PlanRule, StageFault, TypesRule};
 use std::fmt;
 use tree_check::TreeFault;
-use words::WordsFault;
 
 /// A text with at most two numbers in it.
 #[derive(Clone, Copy)]
-pub(crate) struct Said {
+pub(crate) struct NumberedText {
     pub(crate) front: &'static str,
     pub(crate) first: Option<u64>,
     pub(crate) middle: &'static str,
@@ -21,18 +21,18 @@ pub(crate) struct Said {
     pub(crate) back: &'static str,
 }
 
-/// What is told of a fault: a text with at most two numbers in it, or the fault of a tree, whose way to a node may be long.
+/// What is written of a fault: a text with at most two numbers in it, or the fault of a tree, whose way to a node may be long.
 #[derive(Clone, Copy)]
 pub(crate) enum Told {
-    Text(Said),
+    Text(NumberedText),
     Tree(TreeFault),
 }
 
 /// A text without a number.
 fn plain(text: &'static str) -> Told
-    ensures { told_text result ≡ text.now }
+    ensures { message_text result ≡ text.now }
 {
-    Told::Text(Said {
+    Told::Text(NumberedText {
         front: text,
         first: None,
         middle: "",
@@ -43,9 +43,9 @@ fn plain(text: &'static str) -> Told
 
 /// A text with a number.
 fn counted(front: &'static str, number: u64, back: &'static str) -> Told
-    ensures { told_text result ≡ front.now ++ decimal number ++ back.now }
+    ensures { message_text result ≡ front.now ++ decimal number ++ back.now }
 {
-    Told::Text(Said {
+    Told::Text(NumberedText {
         front,
         first: Some(number),
         middle: back,
@@ -62,9 +62,9 @@ fn placed(
     second: u64,
     back: &'static str,
 ) -> Told
-    ensures { told_text result ≡ front.now ++ decimal first ++ middle.now ++ decimal second ++ back.now }
+    ensures { message_text result ≡ front.now ++ decimal first ++ middle.now ++ decimal second ++ back.now }
 {
-    Told::Text(Said {
+    Told::Text(NumberedText {
         front,
         first: Some(first),
         middle,
@@ -73,9 +73,9 @@ fn placed(
     })
 }
 
-/// What is told of a fault.
-pub(crate) fn told_of(fault: RunFault) -> Told
-    ensures { told_text result ≡ fault_text fault }
+/// What is written of a fault.
+pub(crate) fn message_of(fault: RunFault) -> Told
+    ensures { message_text result ≡ fault_text fault }
 {
     match fault {
         RunFault::Words(WordsFault::Refused) => plain("words refused"),
@@ -114,7 +114,7 @@ pub(crate) fn told_of(fault: RunFault) -> Told
     }
 }
 
-/// What is told of a fault of a stage text.
+/// What is written of a fault of a stage text.
 fn stage_text(fault: StageFault) -> &'static str
     ensures { result.now ≡ codes ": " ++ stage_fault_text fault }
 {
@@ -125,7 +125,7 @@ fn stage_text(fault: StageFault) -> &'static str
     }
 }
 
-/// What is told of a stage that doesn't fit the columns before it.
+/// What is written of a stage that doesn't fit the columns before it.
 fn rule_text(rule: PlanRule) -> &'static str
     ensures { result.now ≡ codes ": " ++ rule_text rule }
 {
@@ -140,7 +140,7 @@ fn rule_text(rule: PlanRule) -> &'static str
     }
 }
 
-/// What is told of a fault of an entry.
+/// What is written of a fault of an entry.
 fn entry_text(rule: TypesRule) -> &'static str
     ensures { result.now ≡ entry_text rule }
 {
@@ -160,11 +160,11 @@ pub(crate) fn digits<'a>(number: Option<u64>, room: &'a mut Buffer) -> &'a str
     }
 }
 
-impl fmt::Display for Said {
+impl fmt::Display for NumberedText {
     ghost use Rattle.std.specs.Prelude.{Some};
-    ghost use Rattle.run_model.specs.SaidTexts.{said_text};
+    ghost use Rattle.run_model.specs.NumberedTexts.{numbered_text};
 
-    ghost output = { λ said. Some (said_text said) };
+    ghost output = { λ said. Some (numbered_text said) };
 
     fn fmt<W: fmt::Write>(&self, f: &mut fmt::Formatter<W>) -> fmt::Result {
         let mut one = Buffer::new();
@@ -179,12 +179,12 @@ impl fmt::Display for Said {
 
 impl fmt::Display for RunFault {
     ghost use Rattle.std.specs.Prelude.{Some};
-    ghost use Rattle.run_model.specs.Told.{fault_text};
+    ghost use Rattle.run_model.specs.Diagnostics.{fault_text};
 
     ghost output = { λ fault. Some (fault_text fault) };
 
     fn fmt<W: fmt::Write>(&self, f: &mut fmt::Formatter<W>) -> fmt::Result {
-        match told_of(*self) {
+        match message_of(*self) {
             Told::Text(said) => write!(f, "{said}"),
             Told::Tree(fault) => write!(f, "{fault}"),
         }

@@ -2,17 +2,17 @@
 ghost use Rattle.std.specs.Prelude.{◌≡◌, ◌++◌, codes, decimal, flat_map};
 ghost use Rattle.std.specs.Fmt.{signed_decimal};
 ghost use Rattle.schema_check.specs.FaultTexts.{schema_rule_text};
-ghost use Rattle.kind_tree.specs.WayTexts.{step_text, way_text};
+ghost use Rattle.data_types.specs.WayTexts.{step_text, way_text};
 ghost use Rattle.layout_rules.specs.FaultTexts.{layout_fault_text, rule_text};
-ghost use Rattle.kind_tree.specs.Ways.{steps_of};
+ghost use Rattle.data_types.specs.Ways.{steps_of};
 ghost use Rattle.tree_check.specs.FaultTexts.{tree_fault_text};
 ghost use Rattle.tree_text.specs.FaultTexts.{text_fault_text};
-ghost use Rattle.run_model.specs.Told.{Says, line_of};
+ghost use Rattle.run_model.specs.Diagnostics.{Says, line_of};
 
-use crate::told::say;
-use edge_face::{Sink, WriteFault};
+use crate::diagnostics::say;
+use data_types::{DICTIONARY_STEP, Path};
+use edge_io::{Sink, WriteFault};
 use itoa::Buffer;
-use kind_tree::{DICTIONARY_STEP, Path};
 use layout_rules::{LayoutFault, LayoutRule};
 use schema_check::SchemaRule;
 use tree_check::TreeFault;

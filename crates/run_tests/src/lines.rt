@@ -1,6 +1,6 @@
-//! Each fault's line, as it is told and as it is shown.
+//! Each fault's line, as it is written and as it is shown.
 use edge_io::MemSink;
-use run_model::{PlanRule, RunFault, StageFault, TypesRule, WordsFault, tell};
+use run_model::{PlanRule, RunFault, StageFault, TypesRule, WordsFault, write_diagnostics};
 use std::alloc::Global;
 use std::process::Abort;
 use std::test::Fail;
@@ -16,7 +16,7 @@ fn expect_line(rt: &impl Abort, alloc: Global, fault: RunFault, line: &[u8]) -> 
     let Ok(mut errs) = MemSink::new(alloc, 100, 9, Vec::new(alloc)) else {
         return Err(Fail::from("memory"));
     };
-    let told = tell(&mut errs, Some(fault), &audit, false);
+    let told = write_diagnostics(&mut errs, Some(fault), &audit, false);
     let shown = format!(in alloc; "arrowpipe: {fault}\n")?;
     let has_line = told.is_ok() && errs.taken() == line && shown.as_bytes() == line;
     assert!(rt; has_line, "the line of {fault:?}");

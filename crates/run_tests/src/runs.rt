@@ -6,7 +6,7 @@ use std::test::Fail;
 use std::thread::Threads;
 use stream_face::NoTap;
 
-/// A sink with room for so many bytes.
+/// A sink with room for this many bytes.
 fn sink_of(alloc: Global, room: usize) -> Result<MemSink, Fail> {
     match MemSink::new(alloc, room, 4096, Vec::new(alloc)) {
         Ok(sink) => Ok(sink),

@@ -8,7 +8,7 @@ use std::test::Fail;
 use std::thread;
 use std::thread::Threads;
 
-/// Worker 1 raises its flag, and worker 0 looks for it, so many times at most, and notes whether it saw it. Workers that run
+/// Worker 1 raises its flag, and worker 0 looks for it, this many times at most, and notes whether it saw it. Workers that run
 /// one after another never show it, since worker 0 has then gone on before worker 1 comes.
 #[derive(Drop)]
 struct Meet {
@@ -65,7 +65,7 @@ impl Gate for Counted {
     }
 }
 
-/// Runs with so many workers and the words of a line over a text.
+/// Runs with this many workers and the words of a line over a text.
 fn run_by<R: Threads + Sync>(
     rt: &R,
     alloc: Global,
@@ -79,7 +79,7 @@ fn run_by<R: Threads + Sync>(
     run_from(rt, alloc, line.as_str(), &mut source, gate)
 }
 
-/// Expects that a run came to this text, made with so many blocks and nodes.
+/// Expects that a run came to this text, made with this many blocks and nodes.
 fn has_made(rt: &impl Abort, row: &str, ran: &Ran, text: &[u8], traffic: (u64, u64)) {
     let audit = &ran.outcome.audit;
     let came = (ran.outcome.status, ran.sink.taken(), audit.left);
@@ -91,7 +91,7 @@ fn has_made(rt: &impl Abort, row: &str, ran: &Ran, text: &[u8], traffic: (u64, u
     );
 }
 
-/// Runs with so many workers and the words of a row over a text, and expects the row's text, made with so many blocks and
+/// Runs with this many workers and the words of a row over a text, and expects the row's text, made with this many blocks and
 /// nodes.
 fn expect_by<R: Threads + Sync + Abort>(
     rt: &R,
@@ -193,7 +193,7 @@ fn no_piece_has_fewer_rows_than_the_least(rt: HostRuntime) -> Result<(), Fail> {
     Ok(())
 }
 
-/// So many payments, every second of which is paid: the lines `i,itemD,i.25,P`, where D is the last digit of i.
+/// This many payments, every second of which is paid: the lines `i,itemD,i.25,P`, where D is the last digit of i.
 fn payments(alloc: Global, rows: u32) -> Result<Vec<u8>, Fail> {
     let mut bytes = b"id,name,amount,paid\n".to_vec(alloc)?;
     for row in 0..rows {

@@ -14,7 +14,7 @@ use Rattle.tree_model.proofs.Lists.{trees-tree_list}
 use Rattle.raw_schema.specs.Members.{SchemaMembers, SchemaTree, members_of}
 use Rattle.schema_check.specs.declared.rule.SchemaRule.{SchemaRule}
 use Rattle.schema_check.specs.declared.rule.SchemaRule.TheVariants as rules
-use Rattle.kind_tree.specs.Kinds.{tree_count}
+use Rattle.data_types.specs.KindTrees.{tree_count}
 use Rattle.schema_check.specs.Schemas.{MetaFits, ChildrenFit, IndexFits, IsPairNode, IsPairSchema, MapFits, FailsHere}
 use Rattle.schema_check.specs.SchemaAnswers.{MetaRefused}
 

@@ -18,10 +18,10 @@ use Rattle.schema_check.specs.declared.rule.SchemaRule.{SchemaRule}
 use Rattle.schema_check.specs.declared.rule.SchemaRule.TheVariants as rules
 use Rattle.schema_check.specs.declared.schema.SchemaFault.{SchemaFault}
 use Rattle.schema_check.specs.declared.schema.SchemaFault.TheVariants.{At, NoMemory}
-use Rattle.kind_tree.specs.declared.typed.Typed.{Typed}
-use Rattle.kind_tree.specs.Kinds.{KindTree}
-use Rattle.kind_tree.specs.TypedView.{typed_of}
-use Rattle.kind_tree.specs.Ways.{Steps, dictionary_step, steps_of}
+use Rattle.data_types.specs.declared.typed.Typed.{Typed}
+use Rattle.data_types.specs.KindTrees.{KindTree}
+use Rattle.data_types.specs.TypedView.{typed_of}
+use Rattle.data_types.specs.Ways.{Steps, dictionary_step, steps_of}
 use Rattle.schema_check.specs.Schemas.{MetaFits, ChildrenFit, IndexFits, MapFits, NodeIs, KidsTyped, DictTyped, TypedFrom, TypedOf, FailsHere, FaultFrom}
 use Rattle.schema_check.specs.Schemas.{KidFault, DictFault}
 use Rattle.schema_check.specs.SchemaAnswers.{FirstFault, SchemaReads, Gives, IsFirstFault}

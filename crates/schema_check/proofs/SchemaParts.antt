@@ -10,13 +10,13 @@ use Rattle.raw_schema.specs.Members.{SchemaTree, members_of}
 use Rattle.schema_check.specs.declared.rule.SchemaRule.{SchemaRule}
 use Rattle.schema_check.specs.declared.schema.SchemaFault.{SchemaFault}
 use Rattle.schema_check.specs.declared.schema.SchemaFault.TheVariants.{At, NoMemory}
-use Rattle.kind_tree.specs.declared.typed.Typed.{Typed}
-use Rattle.kind_tree.specs.declared.typed.Typed.TheOpen.{Typed-F}
-use Rattle.kind_tree.specs.declared.typed.Typed.TheViews.{roll-Typed}
-use Rattle.kind_tree.specs.declared.typed.Typed.TheFolds.{map-Typed, fold-roll-Typed}
-use Rattle.kind_tree.specs.Kinds.{KindTree}
-use Rattle.kind_tree.specs.TypedView.{typed_of, layer, dict_of, dict_in}
-use Rattle.kind_tree.specs.Ways.{Steps, dictionary_step}
+use Rattle.data_types.specs.declared.typed.Typed.{Typed}
+use Rattle.data_types.specs.declared.typed.Typed.TheOpen.{Typed-F}
+use Rattle.data_types.specs.declared.typed.Typed.TheViews.{roll-Typed}
+use Rattle.data_types.specs.declared.typed.Typed.TheFolds.{map-Typed, fold-roll-Typed}
+use Rattle.data_types.specs.KindTrees.{KindTree}
+use Rattle.data_types.specs.TypedView.{typed_of, layer, dict_of, dict_in}
+use Rattle.data_types.specs.Ways.{Steps, dictionary_step}
 use Rattle.schema_check.specs.Schemas.{KidsTyped, DictTyped, TypedFrom, FaultFrom, KidFault}
 use Rattle.schema_check.specs.SchemaAnswers.{NodeOf, FaultHere, FaultBelow, FaultInKids, FaultInDict}
 use Rattle.schema_check.proofs.SchemaFails.{same_dictionary}

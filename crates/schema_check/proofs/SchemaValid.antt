@@ -7,7 +7,7 @@ use Rattle.data_types.specs.Kinds.{KindOk}
 use Rattle.fmt_string.specs.Spelling.{spelling_of}
 use Rattle.tree_model.specs.Tree.{Released, Live, Trees, no_trees, more_trees, MaybeTree, absent, present, Depth, depth_of_all, depth_of_maybe}
 use Rattle.raw_schema.specs.Members.{SchemaMembers, SchemaTree}
-use Rattle.kind_tree.specs.Kinds.{KindTree, tree_count, IsPairOfColumns, IsOneChild, IsNoChild, KidsOk, DictOk, NodesOk, AllNodesOk, DictNodesOk, TypedOk}
+use Rattle.data_types.specs.KindTrees.{KindTree, tree_count, IsPairOfColumns, IsOneChild, IsNoChild, KidsOk, DictOk, NodesOk, AllNodesOk, DictNodesOk, TypedOk}
 use Rattle.schema_check.specs.Schemas.{ChildrenFit, IndexFits, MapFits, IsPairNode, IsPairSchema, KidsTyped, DictTyped, TypedFrom, TypedOf}
 use Rattle.schema_check.proofs.SchemaOne.{FormatLaw, one_kind}
 

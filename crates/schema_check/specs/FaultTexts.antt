@@ -4,8 +4,8 @@ use Rattle.schema_check.specs.declared.rule.SchemaRule.{SchemaRule}
 use Rattle.schema_check.specs.declared.rule.SchemaRule.TheVariants as schema
 use Rattle.schema_check.specs.declared.schema.SchemaFault.{SchemaFault}
 use Rattle.schema_check.specs.declared.schema.SchemaFault.TheVariants as faults
-use Rattle.kind_tree.specs.Ways.{steps_of}
-use Rattle.kind_tree.specs.WayTexts.{way_text}
+use Rattle.data_types.specs.Ways.{steps_of}
+use Rattle.data_types.specs.WayTexts.{way_text}
 
 -- a rule's name, without the fault that it holds
 abbrev pub schema_rule_text : SchemaRule → List ℕ

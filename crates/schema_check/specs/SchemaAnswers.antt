@@ -8,10 +8,10 @@ use Rattle.raw_schema.specs.Members.{SchemaTree, members_of}
 use Rattle.schema_check.specs.declared.rule.SchemaRule.{SchemaRule}
 use Rattle.schema_check.specs.declared.schema.SchemaFault.{SchemaFault}
 use Rattle.schema_check.specs.declared.schema.SchemaFault.TheVariants.{At, NoMemory}
-use Rattle.kind_tree.specs.declared.typed.Typed.{Typed}
-use Rattle.kind_tree.specs.Kinds.{KindTree}
-use Rattle.kind_tree.specs.TypedView.{typed_of}
-use Rattle.kind_tree.specs.Ways.{Steps, dictionary_step, steps_of}
+use Rattle.data_types.specs.declared.typed.Typed.{Typed}
+use Rattle.data_types.specs.KindTrees.{KindTree}
+use Rattle.data_types.specs.TypedView.{typed_of}
+use Rattle.data_types.specs.Ways.{Steps, dictionary_step, steps_of}
 use Rattle.schema_check.specs.Schemas.{NodeIs, FailsHere, FaultFrom, KidFault, DictFault, TypedOf, SchemaFaultIs}
 
 -- ---- the whole
@@ -26,13 +26,13 @@ abbrev pub SchemaReads : SchemaTree → Result KindTree FirstFault → Type 0
 SchemaReads schema (Ok typed) = TypedOf schema typed
 SchemaReads schema (Err first) = SchemaFaultIs schema first.path first.rule
 
--- The code's answer is this one, or want of memory.
+-- The code's answer is this one, or out of memory.
 abbrev pub Gives : Result Typed SchemaFault → Result KindTree FirstFault → Type 0
 Gives (Ok typed) read = read ≡ Ok (typed_of typed)
 Gives (Err (At path rule)) read = read ≡ Err (record { path = steps_of path; rule = rule })
 Gives (Err NoMemory) read = Unit {0}
 
--- It is the first fault, if it is no want of memory.
+-- It is the first fault, if it is no out-of-memory.
 abbrev pub IsFirstFault : SchemaTree → SchemaFault → Type 0
 IsFirstFault schema (At path rule) = SchemaFaultIs schema (steps_of path) rule
 IsFirstFault schema NoMemory = Unit {0}

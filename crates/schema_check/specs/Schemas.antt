@@ -12,8 +12,8 @@ use Rattle.tree_model.specs.Tree.{Released, Live, Trees, no_trees, more_trees, M
 use Rattle.raw_schema.specs.Members.{SchemaMembers, SchemaTree}
 use Rattle.schema_check.specs.declared.rule.SchemaRule.{SchemaRule}
 use Rattle.schema_check.specs.declared.rule.SchemaRule.TheVariants as rules
-use Rattle.kind_tree.specs.Kinds.{KindTree, tree_count}
-use Rattle.kind_tree.specs.Ways.{Steps, dictionary_step}
+use Rattle.data_types.specs.KindTrees.{KindTree, tree_count, most_levels}
+use Rattle.data_types.specs.Ways.{Steps, dictionary_step}
 
 -- ---- the rules of one node, as what it meets
 
@@ -53,7 +53,7 @@ MapFits _ kids = Unit {0}
 
 -- a live node on this level meets each rule, and has this kind
 pub record NodeIs (level : ℕ) (s : SchemaMembers) (kids : Trees SchemaMembers) (dict : MaybeTree SchemaMembers) (kind : DataType) : Type 0 where
-  pub on_level : level ≤ 64
+  pub on_level : level ≤ most_levels
   pub format : FormatIs s.format kind
   pub meta : MetaFits s.metadata
   pub children : ChildrenFit kind kids
@@ -91,23 +91,23 @@ SchemaOk schema = (typed : KindTree) × TypedOf schema typed
 
 -- ---- the first fault
 
--- The first rule that fails at a node: those before it are met. A fault inside is never want of memory.
+-- The first rule that fails at a node: those before it are met. A fault inside is never an out-of-memory.
 abbrev pub FailsHere : ℕ → SchemaTree → SchemaRule → Type 0
-FailsHere level tree rules.Deep = 64 < level
-FailsHere level Released rules.Released = level ≤ 64
+FailsHere level tree rules.Deep = most_levels < level
+FailsHere level Released rules.Released = level ≤ most_levels
 FailsHere level Released _ = ⊥
 FailsHere level (Live s kids dict) rules.Released = ⊥
-FailsHere level (Live s kids dict) (rules.Format (format.At rule place)) = (level ≤ 64) × FormatFaultIs s.format rule place
+FailsHere level (Live s kids dict) (rules.Format (format.At rule place)) = (level ≤ most_levels) × FormatFaultIs s.format rule place
 FailsHere level (Live s kids dict) (rules.Format format.NoMemory) = ⊥
 FailsHere level (Live s kids dict) (rules.Meta meta.NoMemory) = ⊥
 FailsHere level (Live s kids dict) (rules.Meta fault) =
-    (level ≤ 64) × (kind : DataType) × FormatIs s.format kind × (bytes : List ℕ) × (s.metadata ≡ Some bytes) × MetaFaultIs bytes fault
+    (level ≤ most_levels) × (kind : DataType) × FormatIs s.format kind × (bytes : List ℕ) × (s.metadata ≡ Some bytes) × MetaFaultIs bytes fault
 FailsHere level (Live s kids dict) rules.ChildCount =
-    (level ≤ 64) × (kind : DataType) × FormatIs s.format kind × MetaFits s.metadata × (ChildrenFit kind kids → ⊥)
+    (level ≤ most_levels) × (kind : DataType) × FormatIs s.format kind × MetaFits s.metadata × (ChildrenFit kind kids → ⊥)
 FailsHere level (Live s kids dict) rules.DictIndexType =
-    (level ≤ 64) × (kind : DataType) × FormatIs s.format kind × MetaFits s.metadata × ChildrenFit kind kids × (IndexFits kind dict → ⊥)
+    (level ≤ most_levels) × (kind : DataType) × FormatIs s.format kind × MetaFits s.metadata × ChildrenFit kind kids × (IndexFits kind dict → ⊥)
 FailsHere level (Live s kids dict) rules.MapShape =
-    (level ≤ 64) × (kind : DataType) × FormatIs s.format kind × MetaFits s.metadata × ChildrenFit kind kids × IndexFits kind dict × (MapFits kind kids → ⊥)
+    (level ≤ most_levels) × (kind : DataType) × FormatIs s.format kind × MetaFits s.metadata × ChildrenFit kind kids × IndexFits kind dict × (MapFits kind kids → ⊥)
 
 -- The first node in preorder that fails is at this path below a node of this level.
 abbrev mutual

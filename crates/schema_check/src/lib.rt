@@ -7,7 +7,7 @@
 //!   ([`kinds_are_valid`]).
 //!
 //! What the rules say stands in `specs/Schemas.antt`, and the schemas of columns and tables in `specs/ColumnSchema.antt`.
-//! Left to others: the trees of kinds and the ways to nodes (`kind_tree`), arrays, and whether a schema is released, moved
+//! Left to others: the trees of kinds and the ways to nodes (`data_types`), arrays, and whether a schema is released, moved
 //! or shared in the right order.
 #![tactic(auto)]
 

@@ -4,17 +4,16 @@ ghost use Rattle.fmt_string.specs.FormatString.{FormatIs};
 ghost use Rattle.tree_model.specs.Tree.{IsLive, trees, maybe_tree, children_of, dictionary_of};
 ghost use Rattle.raw_schema.specs.Members.{SchemaTree, members_of};
 ghost use Rattle.schema_check.specs.declared.schema.SchemaFault.TheVariants as faults;
-ghost use Rattle.kind_tree.specs.Kinds.{KindTree, TypedOk};
-ghost use Rattle.kind_tree.specs.TypedView.{typed_of, dict_in};
-ghost use Rattle.kind_tree.specs.Ways.{steps_of};
+ghost use Rattle.data_types.specs.KindTrees.{KindTree, TypedOk, most_levels};
+ghost use Rattle.data_types.specs.TypedView.{typed_of, dict_in};
+ghost use Rattle.data_types.specs.Ways.{steps_of};
 ghost use Rattle.schema_check.specs.Schemas.{MetaFits, ChildrenFit, IndexFits, IsPairNode, MapFits, KidsTyped, DictTyped, TypedFrom, TypedOf};
 ghost use Rattle.schema_check.specs.SchemaAnswers.{FirstFault, SchemaReads, Gives, IsFirstFault, NodeOf, MetaRefused, FaultHere, FaultBelow, FaultInKids};
 ghost use Rattle.schema_check.specs.SchemaAnswers.{FaultInDict};
 
 use crate::rule::SchemaRule;
-use data_types::DataType;
+use data_types::{DICTIONARY_STEP, DataType, Path, Typed};
 use fmt_string::{FormatFault, read_format};
-use kind_tree::{DICTIONARY_STEP, Path, Typed};
 use raw_schema::RawSchema;
 use schema_meta::{MetaFault, check_meta};
 use std::alloc::{AllocError, AllocFailed, Global};
@@ -23,7 +22,7 @@ use std::alloc::{AllocError, AllocFailed, Global};
 #[derive(Clone, Copy, Debug, PartialEq, Eq)]
 pub enum SchemaFault {
     /// The first rule that fails at the first node at which one does, in preorder: a node, its children, its dictionary.
-    /// The fault inside a rule is never want of memory.
+    /// The fault inside a rule is never an out-of-memory.
     At { path: Path, rule: SchemaRule },
     /// Memory ran out; the schema may be in order or not.
     NoMemory,
@@ -84,7 +83,7 @@ pub fn check_schema(alloc: Global, schema: &RawSchema) -> Result<Typed, SchemaFa
 #[cycle(typed)]
 #[tactic(auto, using(crate::proofs::SchemaParts::parts))]
 fn typed_from(alloc: Global, schema: &RawSchema, path: &Path) -> Result<Typed, SchemaFault>
-    requires { path.now.depth ≤ 64 }
+    requires { path.now.depth ≤ most_levels }
     ensures found { IfOk result (λ typed. TypedFrom (path.now.depth + 1) schema.now (typed_of typed)) }
     ensures fault { IfErr result (FaultBelow (path.now.depth + 1) schema.now (steps_of path.now)) }
 {
@@ -137,7 +136,7 @@ fn at(path: &Path, rule: SchemaRule) -> SchemaFault
 /// The kind of a node that meets each rule itself.
 #[tactic(auto, using(crate::proofs::SchemaFails::fails))]
 fn node_kind(alloc: Global, schema: &RawSchema, path: &Path) -> Result<DataType, SchemaFault>
-    requires { path.now.depth ≤ 64 }
+    requires { path.now.depth ≤ most_levels }
     ensures found { IfOk result (NodeOf (path.now.depth + 1) schema.now) }
     ensures live { OnOk result (IsLive schema.now) }
     ensures level { OnOk result (path.now.depth < 64) }

@@ -15,8 +15,8 @@ use Rattle.stream_face.specs.Shown.{Seen, Shown}
 use Rattle.stream_face.specs.declared.fault.StreamFault.{StreamFault}
 use Rattle.stream_face.specs.Streams.{Stream, Traffic, telling}
 use Rattle.stage_chain.specs.Chains.{chain_links, chain_traffic, joints_with, over_stream}
-use Rattle.stream_text.specs.Runs.{Counted, ShowsSome}
-use Rattle.stream_text.proofs.RunLemmas.{grown-nil}
+use Rattle.csv_write.specs.Runs.{Counted, ShowsSome}
+use Rattle.csv_write.proofs.RunLemmas.{grown-nil}
 
 pub on-err : {A E P Q : Type 0} (r : Result A E) → (P → Q) → OnErr r P → OnErr r Q
 on-err (Ok a) f p = tt

@@ -16,8 +16,8 @@ use Rattle.stream_face.specs.Calls.{Begins}
 use Rattle.stream_face.specs.Shown.{Seen, Shown, of_link, shown_tables}
 use Rattle.stream_face.specs.Streams.{Stream}
 use Rattle.stage_chain.specs.Chains.{chain_links, chunks_of, joints_with, last_rows, link_shows}
-use Rattle.stream_text.specs.Runs.{ShowsAll, ShowsSome}
-use Rattle.stream_text.specs.declared.fault.DriveFault.{DriveFault}
+use Rattle.csv_write.specs.Runs.{ShowsAll, ShowsSome}
+use Rattle.csv_write.specs.declared.fault.DriveFault.{DriveFault}
 use Rattle.stage_chain.proofs.Chaining.{IsStarted}
 
 -- ---- what is shown

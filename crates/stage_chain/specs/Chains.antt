@@ -3,7 +3,7 @@ use Rattle.std.specs.Prelude.{ℕ, zero, suc, ◌+◌, ◌==◌, if◌then◌els
 use Rattle.csv_model.specs.Batches.{Chunks}
 use Rattle.data_types.specs.Parts.{joined_rows}
 use Rattle.data_types.specs.Table.{Row}
-use Rattle.plan_laws.specs.Dues.{due_with}
+use Rattle.stages.specs.Dues.{due_with}
 use Rattle.stage_model.specs.Links.{Link, Links, last_chunks, links_behind}
 use Rattle.stage_model.specs.Stages.{chunks_after}
 use Rattle.stage_model.specs.Traffic.{Made, run_blocks, run_nodes, table_nodes}

@@ -3,7 +3,7 @@ ghost use Rattle.std.specs.Prelude.{◌≡◌, IfErr, IfOk};
 ghost use Rattle.stage_chain.specs.Boxes.{boxed_state};
 
 use data_types::RowFault;
-use edge_face::Gate;
+use edge_io::Gate;
 use raw_array::{Acted, RawArray};
 use raw_schema::RawSchema;
 use std::alloc::{AllocFailed, Global};

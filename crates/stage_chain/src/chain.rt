@@ -7,26 +7,26 @@ ghost use Rattle.csv_write.specs.CsvTexts.{HasText};
 ghost use Rattle.data_types.specs.ColumnForms.{AreColumnKinds};
 ghost use Rattle.data_types.specs.Table.{Column};
 ghost use Rattle.unit_pass.specs.declared.pass.TheConstants.{CHUNK, ROOM, SUPPLY};
-ghost use Rattle.plan_laws.specs.Structs.{column_structs};
+ghost use Rattle.stages.specs.Structs.{column_structs};
 ghost use Rattle.stage_model.specs.Links.{last_columns};
 ghost use Rattle.stream_face.specs.Streams.{Stream, kept};
 ghost use Rattle.stage_chain.specs.Chains.{chain_links, chain_traffic, joints_with, last_rows};
-ghost use Rattle.stream_text.specs.Faults.{IfRow};
-ghost use Rattle.stage_chain.specs.Plans.{AreStages, stages_left};
-ghost use Rattle.stream_text.specs.Runs.{Counted, ShowsAll, ShowsSome};
+ghost use Rattle.csv_write.specs.Faults.{IfRow};
+ghost use Rattle.stage_chain.specs.Plans.{AreStages, most_stages, stages_left};
+ghost use Rattle.csv_write.specs.Runs.{Counted, ShowsAll, ShowsSome};
 
 use crate::boxed::Boxed;
 use crate::planned::PlannedStage;
 use crate::stage_start::start_stage;
-use crate::step_of::StepOf;
-use csv_write::CsvText;
-use edge_face::Gate;
+use crate::step_of::PlanStep;
+use csv_write::{CsvText, DriveFault, write_rows};
+use edge_io::Gate;
+use fan_out::Workers;
 use std::alloc::Global;
 use std::marker::PhantomData;
 use std::thread::Threads;
 use std::vec::IntoIter;
 use stream_face::{ArrayStream, RawStream, Tap};
-use stream_text::{DriveFault, write_rows};
 use unit_pass::{CHUNK, NoMemory, Pass, ROOM, SUPPLY};
 
 /// A number as a type: how many stages may be left.
@@ -36,14 +36,14 @@ pub(crate) trait Chain {
     const LEFT: usize;
 
     /// Adds the rows that come out of the stages over a source, by these steps, to a text. The source is spent.
-    fn go<W: StepOf, S: ArrayStream, R: Threads + Sync, T: Tap>(
+    fn drive_from<W: PlanStep, S: ArrayStream, R: Threads + Sync, T: Tap>(
         rt: &R,
         alloc: Global,
         source: S,
         link: u32,
         stages: IntoIter<PlannedStage>,
         text: CsvText,
-        workers: u32,
+        workers: Workers,
         pass: &mut Pass,
         tap: &mut T,
         gate: &(dyn Gate + Sync),
@@ -54,8 +54,7 @@ pub(crate) trait Chain {
         requires links { (later : ℕ) → link ≤ later → (S.state source).joints later ≡ [] }
         requires stages { AreStages (S.state source).columns (stages_left stages) }
         requires structs { column_structs (S.state source).columns ≤ link }
-        requires workers { (1 ≤ workers) × (workers ≤ 64) }
-        requires numbers { link + length (stages_left stages) ≤ 16 }
+        requires numbers { link + length (stages_left stages) ≤ most_stages }
         requires few { length (stages_left stages) ≤ LEFT }
         requires room { ROOM + CHUNK * (1 + length (stages_left stages)) ≤ pass.old.units }
         requires supply { pass.old.units + kept (S.state source) ≤ SUPPLY }
@@ -81,7 +80,7 @@ pub(crate) struct Succ<N> {
     less: PhantomData<N>,
 }
 
-/// Spends a source that gave no schema: memory was wanting, since it is lawful.
+/// Spends a source that gave no schema: memory ran out, since it is lawful.
 pub(crate) fn refuse<S: ArrayStream>(source: S, pass: &mut Pass) -> Result<Vec<u8>, DriveFault>
     requires supply { pass.old.units + kept (S.state source) ≤ SUPPLY }
     ensures refused { result ≡ Err DriveFault.NoMemory }
@@ -98,19 +97,19 @@ impl Chain for Zero {
 
     const LEFT: usize = 0;
 
-    fn go<W: StepOf, S: ArrayStream, R: Threads + Sync, T: Tap>(
+    fn drive_from<W: PlanStep, S: ArrayStream, R: Threads + Sync, T: Tap>(
         rt: &R,
         alloc: Global,
         source: S,
         link: u32,
         _stages: IntoIter<PlannedStage>,
         text: CsvText,
-        _workers: u32,
+        _workers: Workers,
         pass: &mut Pass,
         tap: &mut T,
         gate: &(dyn Gate + Sync),
     ) -> Result<Vec<u8>, DriveFault> {
-        plan_laws::schemas_are_small();
+        stages::schemas_are_small();
         match RawStream::start(alloc, source, link, pass) {
             Ok(last) => write_rows(last, rt, alloc, text, pass, tap, gate),
             Err((source, _fault)) => refuse(source, pass),
@@ -125,20 +124,20 @@ impl<N: Chain> Chain for Succ<N> {
 
     // Stands alone, so that no level holds the code of those behind it.
     #[inline(never)]
-    fn go<W: StepOf, S: ArrayStream, R: Threads + Sync, T: Tap>(
+    fn drive_from<W: PlanStep, S: ArrayStream, R: Threads + Sync, T: Tap>(
         rt: &R,
         alloc: Global,
         source: S,
         link: u32,
         stages: IntoIter<PlannedStage>,
         text: CsvText,
-        workers: u32,
+        workers: Workers,
         pass: &mut Pass,
         tap: &mut T,
         gate: &(dyn Gate + Sync),
     ) -> Result<Vec<u8>, DriveFault> {
-        plan_laws::stages_keep_columns();
-        plan_laws::schemas_are_small();
+        stages::stages_keep_columns();
+        stages::schemas_are_small();
         let up = match RawStream::start(alloc, source, link, pass) {
             Ok(up) => up,
             Err((source, _fault)) => return refuse(source, pass),
@@ -147,7 +146,7 @@ impl<N: Chain> Chain for Succ<N> {
         match stages.next() {
             None => write_rows(up, rt, alloc, text, pass, tap, gate),
             Some(stage) => match Boxed::new(alloc, start_stage::<W, S>(alloc, up, stage, workers)) {
-                Ok(above) => N::go::<W, _, _, _>(
+                Ok(above) => N::drive_from::<W, _, _, _>(
                     rt,
                     alloc,
                     above,
@@ -168,4 +167,4 @@ impl<N: Chain> Chain for Succ<N> {
 type Four<N> = Succ<Succ<Succ<Succ<N>>>>;
 
 /// As many stages as a run has at most.
-pub(crate) type Sixteen = Four<Four<Four<Four<Zero>>>>;
+pub(crate) type MostStages = Four<Four<Four<Four<Zero>>>>;

@@ -1,7 +1,7 @@
 //! The chain of stages over a stream of chunks, and the text of what comes out of it.
 //!
-//! What this crate owns: [`drive_by`], which makes the stages of a plan streams, each over the checked stream of the one before
-//! it, and writes the rows of the last one as CSV. What a stage does is a step that is made of the plan's ([`StepOf`]), one type
+//! What this crate owns: [`drive_steps`], which makes the stages of a plan streams, each over the checked stream of the one before
+//! it, and writes the rows of the last one as CSV. What a stage does is a step that is made of the plan's ([`PlanStep`]), one type
 //! for all kinds of steps. A chain is no type that holds itself: each stage is a stream over the stream below it, and how many
 //! stages may be left is a number that is a type (`chain.rt`).
 //!
@@ -20,6 +20,6 @@ mod stage_start;
 mod step_of;
 mod text;
 
-pub use step_of::StepOf;
-pub use stream_text::DriveFault;
-pub use text::drive_by;
+pub use csv_write::DriveFault;
+pub use step_of::PlanStep;
+pub use text::drive_steps;

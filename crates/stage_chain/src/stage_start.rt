@@ -1,7 +1,7 @@
 //! The stream of a stage.
 ghost use Rattle.std.specs.Prelude.{◌≡◌, ◌≤◌, All, IsTrue, None};
 ghost use Rattle.data_types.specs.ColumnForms.{AreColumnKinds};
-ghost use Rattle.plan_laws.specs.Structs.{column_structs, most_structs};
+ghost use Rattle.stages.specs.Structs.{column_structs, most_structs};
 ghost use Rattle.stage_model.specs.Typing.{IsStageOver};
 ghost use Rattle.stages.specs.Stages.{stage_state};
 ghost use Rattle.stream_face.specs.Meaning.{meaning};
@@ -9,28 +9,28 @@ ghost use Rattle.stage_chain.specs.Chains.{over_stream};
 ghost use Rattle.stage_chain.specs.Plans.{stage_in};
 
 use crate::planned::PlannedStage;
-use crate::step_of::StepOf;
+use crate::step_of::PlanStep;
+use fan_out::Workers;
 use stages::{OutColumns, Stage};
 use std::alloc::Global;
 use stream_face::{ArrayStream, RawStream};
 
-/// The stream of a stage over a checked stream, by so many workers. Takes no memory.
-pub(crate) fn start_stage<W: StepOf, U: ArrayStream>(
+/// The stream of a stage over a checked stream, by this many workers. Takes no memory.
+pub(crate) fn start_stage<W: PlanStep, U: ArrayStream>(
     alloc: Global,
     up: RawStream<U>,
     stage: PlannedStage,
-    workers: u32,
+    workers: Workers,
 ) -> Stage<U, W>
     requires live { IsTrue (meaning U.state up).live }
     requires lawful { IsTrue (meaning U.state up).lawful }
     requires stage { IsStageOver (meaning U.state up).columns (stage_in stage) }
-    requires workers { (1 ≤ workers) × (workers ≤ 64) }
     requires structs { column_structs (meaning U.state up).columns ≤ most_structs }
     ensures { stage_state U.state W.columns W.ahead W.blocks W.nodes result ≡ over_stream (stage_in stage) (meaning U.state up) }
 {
     up.lawful_facts();
-    plan_laws::stages_keep_columns();
-    plan_laws::schemas_are_small();
+    stages::stages_keep_columns();
+    stages::schemas_are_small();
     let PlannedStage { step, columns } = stage;
     let out = OutColumns::new(columns);
     Stage::start(up, W::of(alloc, step, out, workers))

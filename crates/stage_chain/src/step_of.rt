@@ -3,20 +3,20 @@ ghost use Rattle.std.specs.Prelude.{◌≡◌, ◌≤◌, IsTrue, List, Option, 
 ghost use Rattle.data_types.specs.ColumnView.{column_of};
 ghost use Rattle.data_types.specs.Table.{Column, Row};
 ghost use Rattle.data_types.specs.declared.row_fault.RowFault.{RowFault};
-ghost use Rattle.plan_laws.specs.Structs.{column_structs, most_structs};
+ghost use Rattle.stages.specs.Structs.{column_structs, most_structs};
 ghost use Rattle.stage_model.specs.Stages.{chunks_after};
 ghost use Rattle.stage_model.specs.Traffic.{made_blocks, made_nodes};
 ghost use Rattle.stage_model.specs.Typing.{IsStageOver};
 
+use fan_out::Workers;
 use stage_model::Step;
 use stages::{ChunkStep, OutColumns};
 use std::alloc::Global;
 
 /// The step of a stage, whatever its kind is: one type, so that a chain of many stages has a type that grows by one name a stage.
-pub trait StepOf: ChunkStep {
-    /// The step of a stage, whose columns after it these are, by so many workers. Takes no memory.
-    fn of(alloc: Global, step: Step, out: OutColumns, workers: u32) -> Self
-        requires workers { (1 ≤ workers) × (workers ≤ 64) }
+pub trait PlanStep: ChunkStep {
+    /// The step of a stage, whose columns after it these are, by this many workers. Takes no memory.
+    fn of(alloc: Global, step: Step, out: OutColumns, workers: Workers) -> Self
         ensures rests { IsTrue (Self.rests result) }
         ensures fits { (before : List Column) → IsStageOver before (record { step = step; columns = map column_of out })
             → column_structs before ≤ most_structs → Self.fits result before }

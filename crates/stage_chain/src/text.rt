@@ -5,7 +5,7 @@ ghost use Rattle.csv_model.specs.Text.{header_text, table_text};
 ghost use Rattle.csv_write.specs.CsvTexts.{HasText};
 ghost use Rattle.field_codec.specs.TextColumns.{HaveTexts};
 ghost use Rattle.data_types.specs.Parts.{joined_rows};
-ghost use Rattle.plan_laws.specs.Structs.{column_structs};
+ghost use Rattle.stages.specs.Structs.{column_structs};
 ghost use Rattle.stage_model.specs.Links.{Whole};
 ghost use Rattle.stage_model.specs.Stages.{table};
 ghost use Rattle.stage_model.specs.declared.stage.StageText.{StageText as AText};
@@ -13,21 +13,21 @@ ghost use Rattle.stage_plan.specs.PlanWords.{IsPlan};
 ghost use Rattle.unit_pass.specs.declared.pass.TheConstants.{ROOM, SUPPLY};
 ghost use Rattle.stream_face.specs.Streams.{kept};
 ghost use Rattle.stage_chain.specs.Chains.{chain_links, chain_traffic, link_shows};
-ghost use Rattle.stream_text.specs.Faults.{IfRow};
-ghost use Rattle.stage_chain.specs.Plans.{links_of, plan_stages, stages_in};
-ghost use Rattle.stream_text.specs.Runs.{Counted, ShowsAll, ShowsSome};
+ghost use Rattle.csv_write.specs.Faults.{IfRow};
+ghost use Rattle.stage_chain.specs.Plans.{links_of, most_stages, plan_stages, stages_in};
+ghost use Rattle.csv_write.specs.Runs.{Counted, ShowsAll, ShowsSome};
 
 use crate::boxed::Boxed;
-use crate::chain::{Chain, Sixteen, refuse};
+use crate::chain::{Chain, MostStages, refuse};
 use crate::planned::{PlannedStage, planned};
-use crate::step_of::StepOf;
-use csv_write::CsvText;
-use edge_face::Gate;
+use crate::step_of::PlanStep;
+use csv_write::{CsvText, DriveFault};
+use edge_io::Gate;
+use fan_out::Workers;
 use stage_plan::Plan;
 use std::alloc::Global;
 use std::thread::Threads;
 use stream_face::{ArrayStream, Tap};
-use stream_text::DriveFault;
 use unit_pass::{NoMemory, Pass, ROOM, SUPPLY};
 
 /// The text with its header, and the stages of a plan.
@@ -45,15 +45,15 @@ fn prepare(alloc: Global, plan: Plan, mark: &[u8]) -> Result<(CsvText, Vec<Plann
 
 /// The text of the table that the stages of a plan make of all rows of a source, by these steps, a null as the mark. Each stage
 /// works on the chunks of a checked stream, and each chunk of each link is shown to the tap: link 0 is the source's, link K
-/// that of stage K. The stages that have work for several workers (a filter, totals) give each chunk to so many; the text is
+/// that of stage K. The stages that have work for several workers (a filter, totals) give each chunk to this many; the text is
 /// the same for every number of them. The source is released and spent on every outcome.
-pub fn drive_by<W: StepOf, S: ArrayStream, R: Threads + Sync, T: Tap>(
+pub fn drive_steps<W: PlanStep, S: ArrayStream, R: Threads + Sync, T: Tap>(
     rt: &R,
     alloc: Global,
     source: S,
     plan: Plan,
     mark: &[u8],
-    workers: u32,
+    workers: Workers,
     pass: &mut Pass,
     tap: &mut T,
     gate: &(dyn Gate + Sync),
@@ -66,14 +66,13 @@ pub fn drive_by<W: StepOf, S: ArrayStream, R: Threads + Sync, T: Tap>(
     requires flat { column_structs (S.state source).columns ≡ 0 }
     // The plan is what stages are over these columns, and they are at most 16.
     requires plan { (texts : List AText) × IsPlan (S.state source).columns texts plan }
-    requires few { length plan.steps.items ≤ 16 }
-    requires workers { (1 ≤ workers) × (workers ≤ 64) }
+    requires few { length plan.steps.items ≤ most_stages }
     requires room { 2 * ROOM ≤ pass.old.units }
     requires supply { pass.old.units + kept (S.state source) ≤ SUPPLY }
     // The text is that of the one table that the stages make of all rows, however they came in chunks.
     ensures text { IfOk result (λ text. text.items
         ≡ table_text mark.now (Whole (table (S.state source).columns (joined_rows (S.state source).ahead)) (plan_stages plan))) }
-    // There is one where the source ends well; else there is its record at fault. Memory may be wanting.
+    // There is one where the source ends well; else there is its record at fault. Memory may run out.
     ensures ends { OnOk result ((S.state source).ending ≡ None) }
     ensures row { IfErr result (λ e. IfRow e (λ fault. (S.state source).ending ≡ Some fault)) }
     ensures units { pass.new.units ≡ pass.old.units + kept (S.state source) }
@@ -83,14 +82,14 @@ pub fn drive_by<W: StepOf, S: ArrayStream, R: Threads + Sync, T: Tap>(
     ensures shows_some { OnErr result (ShowsSome (link_shows (chain_links (S.state source) (plan_stages plan))) (T.seen tap.old) (T.seen tap.new)) }
 {
     stage_model::chunks_give_the_whole();
-    plan_laws::stages_keep_columns();
+    stages::stages_keep_columns();
     source.lawful_facts();
     let source = match Boxed::new(alloc, source) {
         Ok(source) => source,
         Err((source, NoMemory)) => return refuse(source, pass),
     };
     match prepare(alloc, plan, mark) {
-        Ok((text, stages)) => Sixteen::go::<W, _, _, _>(
+        Ok((text, stages)) => MostStages::drive_from::<W, _, _, _>(
             rt,
             alloc,
             source,

@@ -5,8 +5,8 @@ use Rattle.data_types.specs.Parts.{fields_of, value_list}
 use Rattle.data_types.specs.Table.{Row}
 use Rattle.data_types.specs.Value.{Value, Values, Fields, no_values, more_values, values}
 use Rattle.raw_array.specs.Members.{ArrayTree}
-use Rattle.kind_tree.specs.ColumnKinds.{table_type}
-use Rattle.kind_tree.specs.Kinds.{KindTree}
+use Rattle.data_types.specs.ColumnKinds.{table_type}
+use Rattle.data_types.specs.KindTrees.{KindTree}
 use Rattle.layout_rules.specs.Values.{each, row_items, rows_of, values_of}
 use Rattle.arr_export.specs.ArrayTrees.{table_tree}
 use Rattle.stream_face.specs.Lawful.{HasFields}

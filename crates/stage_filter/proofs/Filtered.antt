@@ -13,8 +13,8 @@ use Rattle.tree_model.specs.Tree.{IsLive, child_at}
 use Rattle.unit_pass.specs.Tally.{Tally, risen}
 use Rattle.unit_pass.specs.declared.pass.TheConstants.{CHUNK}
 use Rattle.raw_array.specs.Members.{ArrayTree, Cost, Like}
-use Rattle.kind_tree.specs.ColumnKinds.{type_of_columns}
-use Rattle.kind_tree.specs.Kinds.{KindTree, TypedOk}
+use Rattle.data_types.specs.ColumnKinds.{type_of_columns}
+use Rattle.data_types.specs.KindTrees.{KindTree, TypedOk}
 use Rattle.layout_rules.specs.Values.{rows_of}
 use Rattle.layout_rules.specs.Walk.{ChunkOk}
 use Rattle.stage_model.specs.Stages.{passes, rows_after}
@@ -24,8 +24,8 @@ use Rattle.stage_model.specs.declared.stage.Step.TheVariants as steps
 use Rattle.stage_model.specs.declared.stage.Test.{Test}
 use Rattle.stream_face.specs.Lawful.{DictsAreFull, DictsHaveBytes, IsChunkOf, IsTable, LawfulColumns, LawfulTables, column_leaves, leaves, member_leaves}
 use Rattle.stages.specs.Steps.{GivesOut, IsNext}
-use Rattle.plan_laws.specs.Structs.{column_structs, member_structs, most_structs, structs}
-use Rattle.work_parts.proofs.ColumnSets.{same_columns}
+use Rattle.stages.specs.Structs.{column_structs, member_structs, most_structs, structs}
+use Rattle.stages.proofs.ColumnSets.{same_columns}
 use Rattle.stage_filter.specs.Filters.{CanFilter, FilterFits, passing_numbers, passing_rows}
 use Rattle.stage_filter.specs.Kept.{rows_at}
 use Rattle.stage_filter.specs.KeptTrees.{kept_chunk}

@@ -11,11 +11,11 @@ use Rattle.data_types.specs.Table.{Row}
 use Rattle.data_types.specs.Value.{Null}
 use Rattle.tree_model.specs.Tree.{IsLive, Live, Released, child_at, children_of, maybe_tree, trees}
 use Rattle.raw_array.specs.Members.{ArrayTree, members_of}
-use Rattle.kind_tree.specs.Kinds.{KindTree}
+use Rattle.data_types.specs.KindTrees.{KindTree}
 use Rattle.layout_rules.specs.Layout.{first}
-use Rattle.kind_tree.specs.TypedView.{dict_in, kids_of, kind_of, typed_of}
+use Rattle.data_types.specs.TypedView.{dict_in, kids_of, kind_of, typed_of}
 use Rattle.layout_rules.specs.Values.{each, row_items, rows_of, tree_items, value_at}
-use Rattle.kind_tree.specs.declared.typed.Typed.{Typed, out-Typed}
+use Rattle.data_types.specs.declared.typed.Typed.{Typed, out-Typed}
 use Rattle.array_laws.specs.Pieces.{border}
 use Rattle.arr_import.specs.Window.{Window, child_window, item_at, whole}
 use Rattle.arr_import.proofs.Reading.{kids-typed, row-field}

@@ -10,13 +10,13 @@ use Rattle.data_types.specs.FieldText.{IsValueOf}
 use Rattle.data_types.specs.Table.{Dict}
 use Rattle.data_types.specs.Value.{Value, Null, Truth, Whole, Bits, Bytes, Items, Fields, byte_total, bytes_of, is_null}
 use Rattle.data_types.specs.declared.kind.DataType.{DataType}
-use Rattle.bit_pack.specs.Packed.{meant, number_at}
+use Rattle.data_types.specs.Packed.{meant, number_at}
 use Rattle.tree_model.specs.Tree.{Depth, Released, Live, IsLive, Trees, no_trees, more_trees, absent, present, children_of, dictionary_at, dictionary_of}
 use Rattle.raw_array.specs.Members.{ArrayMembers, ArrayTree, members_of}
 use Rattle.col_build.specs.Encoding.{Fits}
 use Rattle.col_build.specs.Finished.{blocks_of}
-use Rattle.kind_tree.specs.ColumnKinds.{type_of_kind}
-use Rattle.kind_tree.specs.Kinds.{KindTree}
+use Rattle.data_types.specs.ColumnKinds.{type_of_kind}
+use Rattle.data_types.specs.KindTrees.{KindTree}
 use Rattle.layout_rules.specs.Layout.{IsLong, buffer, bytes, end, first, is_valid, natural, stored_number}
 use Rattle.layout_rules.specs.Rules.{one_if}
 use Rattle.layout_rules.specs.Values.{each, tree_items, value_at, values_of}
@@ -25,7 +25,7 @@ use Rattle.layout_rules.specs.Within.{IndexWithin}
 use Rattle.arr_export.specs.ArrayTrees.{AreIndices, IsPlaceOf, flat_type, looked_up}
 use Rattle.stage_model.specs.Traffic.{flat_blocks, index_blocks, row_blocks}
 use Rattle.stream_face.specs.Lawful.{AreValues}
-use Rattle.column_gather.specs.Gathered.{values_at}
+use Rattle.column_fill.specs.Gathered.{values_at}
 use Rattle.stage_filter.specs.Kept.{index_in}
 use Rattle.stage_filter.specs.KeptTrees.{index_type, indices_at}
 use Rattle.stage_filter.specs.Moving.{CanMove}

@@ -5,7 +5,7 @@ use Rattle.data_types.specs.Parts.{member_columns}
 use Rattle.data_types.specs.Table.{Column, Kind, Flat, Dict, Columns, Members, no_members, more_members}
 use Rattle.tree_model.specs.Tree.{Depth, IsLive, Released, children_of, depth_of_all, trees}
 use Rattle.raw_array.specs.Members.{ArrayTree, members_of}
-use Rattle.kind_tree.specs.ColumnKinds.{type_of_kind, types_of_members, types_of_columns}
+use Rattle.data_types.specs.ColumnKinds.{type_of_kind, types_of_members, types_of_columns}
 use Rattle.layout_rules.specs.Layout.{first}
 use Rattle.layout_rules.specs.Values.{tree_items, value_at}
 use Rattle.arr_export.specs.ArrayTrees.{IsColumn, flat_type}

@@ -5,8 +5,8 @@ use Rattle.data_types.specs.declared.kind.DataType.{DataType}
 use Rattle.tree_model.specs.Tree.{IsLive}
 use Rattle.raw_array.specs.Members.{ArrayTree}
 use Rattle.col_build.specs.Encoding.{Fits}
-use Rattle.kind_tree.specs.ColumnKinds.{table_type}
-use Rattle.kind_tree.specs.Kinds.{KindTree}
+use Rattle.data_types.specs.ColumnKinds.{table_type}
+use Rattle.data_types.specs.KindTrees.{KindTree}
 use Rattle.layout_rules.specs.Lawful.{ItemsHold, PartsHold, RootHolds}
 use Rattle.layout_rules.specs.Values.{rows_of, tree_items, values_of}
 use Rattle.layout_rules.specs.Walk.{ChunkOk, LayoutOk}

@@ -4,8 +4,8 @@ use Rattle.data_types.specs.Table.{Column, Row, Kind, Flat, Dict, Columns, Membe
 use Rattle.data_types.specs.Value.{Value, Null}
 use Rattle.tree_model.specs.Tree.{Released, Live, Trees, no_trees, more_trees, absent, present, AllAlike, child_at, children_of, dictionary_at, tree_list}
 use Rattle.raw_array.specs.Members.{ArrayMembers, ArrayTree, Cost, Like, LikeMembers}
-use Rattle.kind_tree.specs.ColumnKinds.{type_of_columns}
-use Rattle.kind_tree.specs.Kinds.{KindTree}
+use Rattle.data_types.specs.ColumnKinds.{type_of_columns}
+use Rattle.data_types.specs.KindTrees.{KindTree}
 use Rattle.layout_rules.specs.Values.{rows_of, values_of}
 use Rattle.layout_rules.specs.Walk.{ChunkOk}
 use Rattle.stream_face.specs.Lawful.{DictsAreFull, IsTable, MemberDictsAreFull}

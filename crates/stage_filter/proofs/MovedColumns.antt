@@ -7,16 +7,16 @@ use Rattle.tree_model.specs.Tree.{dictionary_at}
 use Rattle.unit_pass.specs.Tally.{Tally, risen}
 use Rattle.raw_array.specs.Members.{ArrayTree, Cost}
 use Rattle.col_build.specs.Finished.{blocks_of}
-use Rattle.kind_tree.specs.ColumnKinds.{type_of_kind}
+use Rattle.data_types.specs.ColumnKinds.{type_of_kind}
 use Rattle.layout_rules.specs.Values.{value_at}
 use Rattle.arr_export.specs.ArrayTrees.{column_tree}
 use Rattle.stage_model.specs.Traffic.{Moved, kind_blocks}
 use Rattle.column_fill.proofs.ColumnBlocks.{blocks-are}
 use Rattle.column_fill.proofs.ColumnCosts.{column-cost, few-blocks}
 use Rattle.column_fill.proofs.ValuesTaken.{values-fit}
-use Rattle.column_gather.specs.Gathered.{CanGather, values_at}
+use Rattle.column_fill.specs.Gathered.{CanGather, values_at}
 use Rattle.stage_filter.specs.KeptTrees.{index_type, indices_at}
-use Rattle.stage_filter.specs.Moving.{CanMove, IsMoved}
+use Rattle.stage_filter.specs.Moving.{CanMove, IsFiltered}
 use Rattle.stage_filter.proofs.IndexedItems.{HasDictionary, blocks-of-indices}
 
 pub can-gather : (kind : DataType) (array : ArrayTree) (start : ℕ) (kept : List ℕ) → CanMove (Flat kind) array start kept
@@ -35,7 +35,7 @@ pub moved-flat : (kind : DataType) (array : ArrayTree) (start : ℕ) (kept : Lis
     → middle.units ≡ before.units + Cost array → middle.blocks ≡ before.blocks → middle.nodes ≡ before.nodes
     → after.units + (1 + blocks_of kind (values_at (type_of_kind (Flat kind)) array start kept)) ≡ middle.units
     → after.blocks ≡ risen middle.blocks (blocks_of kind (values_at (type_of_kind (Flat kind)) array start kept)) → after.nodes ≡ risen middle.nodes 1
-    → IsMoved (Flat kind) array start kept made before after
+    → IsFiltered (Flat kind) array start kept made before after
 moved-flat kind array start kept made before middle after can is ended same_blocks same_nodes units blocks nodes =
     let values = values_at (type_of_kind (Flat kind)) array start kept in
     let cost = ap Cost is in
@@ -54,7 +54,7 @@ pub moved-dict : (kind : DataType) (array : ArrayTree) (start : ℕ) (kept : Lis
     → middle.blocks ≡ before.blocks → middle.nodes ≡ before.nodes
     → after.units + (1 + blocks_of index_type (indices_at array start kept)) ≡ middle.units
     → after.blocks ≡ risen middle.blocks (blocks_of index_type (indices_at array start kept)) → after.nodes ≡ risen middle.nodes 1
-    → IsMoved (Dict kind) array start kept made before after
+    → IsFiltered (Dict kind) array start kept made before after
 moved-dict kind array start kept made dictionary before middle after can has own is taken more same_blocks same_nodes units blocks nodes =
     let indices = indices_at array start kept in
     let cost = ap Cost is in

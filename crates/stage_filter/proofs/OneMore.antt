@@ -7,12 +7,12 @@ use Rattle.data_types.specs.Table.{Column, Row}
 use Rattle.tree_model.specs.Tree.{Released, child_at, children_of}
 use Rattle.unit_pass.specs.Tally.{Tally, risen}
 use Rattle.raw_array.specs.Members.{ArrayTree, members_of}
-use Rattle.kind_tree.specs.ColumnKinds.{type_of_kind}
+use Rattle.data_types.specs.ColumnKinds.{type_of_kind}
 use Rattle.layout_rules.specs.Layout.{first}
 use Rattle.stage_model.specs.Traffic.{Moved, blocks_from, kind_blocks, kind_nodes}
-use Rattle.column_gather.specs.Gathered.{values_at}
+use Rattle.column_fill.specs.Gathered.{values_at}
 use Rattle.stage_filter.specs.KeptTrees.{kept_columns, kept_tree}
-use Rattle.stage_filter.specs.Moving.{AreMoved, IsMoved}
+use Rattle.stage_filter.specs.Moving.{AreFiltered, IsFiltered}
 use Rattle.stage_filter.specs.Plain.{most_cost, most_of_columns}
 use Rattle.stage_filter.proofs.Steps.{later-child}
 
@@ -46,10 +46,10 @@ risen-more a b c m n e f = omega (arith, e, f)
 -- the arrays of one column more
 pub moved-more : (cs : List Column) (c : Column) (array child : ArrayTree) (start : ℕ) (kept : List ℕ) (rows : List Row) (arrays more : List ArrayTree)
     (made : ArrayTree) (before middle after : Tally)
-    → AreMoved cs array start kept rows arrays before middle
-    → IsMoved c.kind child (first (members_of array) + start) kept made middle after → child ≡ child_at array (length cs)
+    → AreFiltered cs array start kept rows arrays before middle
+    → IsFiltered c.kind child (first (members_of array) + start) kept made middle after → child ≡ child_at array (length cs)
     → values_at (type_of_kind c.kind) child (first (members_of array) + start) kept ≡ column_values (length cs) rows → more ≡ arrays ++ made ∷ []
-    → AreMoved (cs ++ c ∷ []) array start kept rows more before after
+    → AreFiltered (cs ++ c ∷ []) array start kept rows more before after
 moved-more cs c array child start kept rows arrays more made before middle after are is own same pushed =
     let inner = first (members_of array) + start in
     let values = values_at (type_of_kind c.kind) child inner kept in

@@ -7,8 +7,8 @@ use Rattle.data_types.specs.Value.{Null}
 use Rattle.tree_model.specs.Tree.{IsLive, Released, child_at}
 use Rattle.tree_model.proofs.Lists.{tree_list-trees}
 use Rattle.raw_array.specs.Members.{ArrayTree, members_of}
-use Rattle.kind_tree.specs.ColumnKinds.{type_of_columns, types_of_columns}
-use Rattle.kind_tree.specs.Kinds.{KindTree}
+use Rattle.data_types.specs.ColumnKinds.{type_of_columns, types_of_columns}
+use Rattle.data_types.specs.KindTrees.{KindTree}
 use Rattle.layout_rules.specs.Layout.{first}
 use Rattle.layout_rules.specs.Values.{each, row_items, rows_of, tree_items, value_at}
 use Rattle.arr_import.specs.Window.{child_window, item_at, whole}

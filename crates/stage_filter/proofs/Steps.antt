@@ -16,18 +16,18 @@ use Rattle.unit_pass.specs.Tally.{Tally, risen}
 use Rattle.unit_pass.specs.declared.no_memory.NoMemory.{NoMemory}
 use Rattle.raw_array.specs.Members.{ArrayTree, members_of}
 use Rattle.arr_export.specs.ArrayTrees.{table_tree}
-use Rattle.kind_tree.specs.ColumnKinds.{table_type, type_of_column, type_of_columns, type_of_kind, types_of_columns, types_of_members}
-use Rattle.kind_tree.specs.Kinds.{KindTree}
+use Rattle.data_types.specs.ColumnKinds.{table_type, type_of_column, type_of_columns, type_of_kind, types_of_columns, types_of_members}
+use Rattle.data_types.specs.KindTrees.{KindTree}
 use Rattle.layout_rules.specs.Layout.{end, first, is_valid}
 use Rattle.layout_rules.specs.Values.{field_items, readers, row_items, tree_items, value_at}
 use Rattle.layout_rules.specs.Walk.{LayoutOk}
 use Rattle.stage_model.specs.Traffic.{Moved, table_blocks}
 use Rattle.stream_face.specs.Lawful.{AreItems, DictsAreFull, HasFields, MemberDictsAreFull}
 use Rattle.column_fill.proofs.Counts.{kids-long}
-use Rattle.column_gather.specs.Gathered.{values_at}
+use Rattle.column_fill.specs.Gathered.{values_at}
 use Rattle.stage_filter.specs.Kept.{rows_at}
 use Rattle.stage_filter.specs.KeptTrees.{kept_columns, kept_members, kept_tree}
-use Rattle.stage_filter.specs.Moving.{CanMove, CanMoveRows, IsMoved, IsMovedStruct}
+use Rattle.stage_filter.specs.Moving.{CanMove, CanMoveRows, IsFiltered, IsFilteredStruct}
 use Rattle.stage_filter.specs.Plain.{most_cost, most_of_columns}
 use Rattle.stage_filter.proofs.KeptColumns.{live-type}
 use Rattle.stage_filter.proofs.LawTypes.{ItemsLaw, PartsLaw, RootLaw}
@@ -225,8 +225,8 @@ kept-are (more_members name kind rest) children start kept =
     ap (λ (ts : List ArrayTree). kept_tree kind (get_or children 0 Released) start kept ∷ ts) (kept-are rest (drop 1 children) start kept)
 
 moved-members : (ms : Members) (array : ArrayTree) (start : ℕ) (kept : List ℕ) (made : ArrayTree) (before after : Tally)
-    → IsStruct (Columns ms) (member_columns ms) array start kept → IsMovedStruct (member_columns ms) array start kept made before after
-    → IsMoved (Columns ms) array start kept made before after
+    → IsStruct (Columns ms) (member_columns ms) array start kept → IsFilteredStruct (member_columns ms) array start kept made before after
+    → IsFiltered (Columns ms) array start kept made before after
 moved-members ms array start kept made before after struct is =
     let values = values_at (type_of_kind (Columns ms)) array start kept in
     record {
@@ -240,13 +240,13 @@ moved-members ms array start kept made before after struct is =
     }
 
 pub moved-struct : (columns : List Column) (kind : Kind) (array : ArrayTree) (start : ℕ) (kept : List ℕ) (made : ArrayTree) (before after : Tally)
-    → kind ≡ Columns (members columns) → CanMove kind array start kept → IsMovedStruct columns array start kept made before after
-    → IsMoved kind array start kept made before after
+    → kind ≡ Columns (members columns) → CanMove kind array start kept → IsFilteredStruct columns array start kept made before after
+    → IsFiltered kind array start kept made before after
 moved-struct columns kind array start kept made before after is can moved =
     let own : CanMove (Columns (members columns)) array start kept = subst (λ (k : Kind). CanMove k array start kept) is can in
-    let back : IsMovedStruct (member_columns (members columns)) array start kept made before after =
-    subst (λ (cs : List Column). IsMovedStruct cs array start kept made before after) (sym (columns-back columns)) moved in
-    subst (λ (k : Kind). IsMoved k array start kept made before after) (sym is)
+    let back : IsFilteredStruct (member_columns (members columns)) array start kept made before after =
+    subst (λ (cs : List Column). IsFilteredStruct cs array start kept made before after) (sym (columns-back columns)) moved in
+    subst (λ (k : Kind). IsFiltered k array start kept made before after) (sym is)
     (moved-members (members columns) array start kept made before after (of-members (members columns) array start kept own) back)
 
 -- ---- there are no more columns than they cost
@@ -263,6 +263,6 @@ few-columns (c ∷ cs) = omega (arith, some-cost c.kind, few-columns cs)
 pub moved-struct-if : (columns : List Column) (kind : Kind) (array : ArrayTree) (start : ℕ) (kept : List ℕ) (result : Result ArrayTree NoMemory)
     (before after : Tally)
     → kind ≡ Columns (members columns) → CanMove kind array start kept
-    → IfOk result (λ made. IsMovedStruct columns array start kept made before after) → IfOk result (λ made. IsMoved kind array start kept made before after)
+    → IfOk result (λ made. IsFilteredStruct columns array start kept made before after) → IfOk result (λ made. IsFiltered kind array start kept made before after)
 moved-struct-if columns kind array start kept (Ok made) before after is can moved = moved-struct columns kind array start kept made before after is can moved
 moved-struct-if columns kind array start kept (Err _) before after is can moved = tt

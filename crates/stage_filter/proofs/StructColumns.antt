@@ -16,7 +16,7 @@ use Rattle.data_types.specs.declared.kind.ColKind.TheViews.{the_lemmas}
 use Rattle.data_types.specs.declared.kind.ColumnType.{ColumnType}
 use Rattle.data_types.proofs.StructColumns.{row_is}
 use Rattle.tree_model.specs.Tree.{Live, Trees, absent, more_trees, trees}
-use Rattle.kind_tree.specs.ColumnKinds.{type_of_columns, type_of_kind, types_of_columns, types_of_members}
+use Rattle.data_types.specs.ColumnKinds.{type_of_columns, type_of_kind, types_of_columns, types_of_members}
 use Rattle.stage_model.specs.Traffic.{Dictionaries, blocks_from, kind_blocks, kind_nodes, member_blocks, member_nodes, member_values}
 use Rattle.stream_face.specs.Lawful.{AreFieldItems, AreItems}
 use Rattle.stage_filter.specs.Plain.{most_of_columns, most_of_members}

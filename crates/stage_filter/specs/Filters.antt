@@ -7,8 +7,8 @@ use Rattle.data_types.specs.declared.kind.ColumnType.{ColumnType}
 use Rattle.tree_model.specs.Tree.{Depth, child_at}
 use Rattle.unit_pass.specs.declared.pass.TheConstants.{CHUNK}
 use Rattle.raw_array.specs.Members.{ArrayTree}
-use Rattle.kind_tree.specs.ColumnKinds.{type_of_columns}
-use Rattle.kind_tree.specs.Kinds.{KindTree}
+use Rattle.data_types.specs.ColumnKinds.{type_of_columns}
+use Rattle.data_types.specs.KindTrees.{KindTree}
 use Rattle.layout_rules.specs.Values.{rows_of, tree_items}
 use Rattle.layout_rules.specs.Walk.{ChunkOk}
 use Rattle.arr_import.specs.Window.{child_window, whole}
@@ -16,7 +16,7 @@ use Rattle.stage_model.specs.Stages.{rows_after}
 use Rattle.stage_model.specs.declared.stage.Const.{Const}
 use Rattle.stage_model.specs.declared.stage.Step.TheVariants as steps
 use Rattle.stage_model.specs.declared.stage.Test.{Test}
-use Rattle.plan_laws.specs.Structs.{column_structs, most_structs}
+use Rattle.stages.specs.Structs.{column_structs, most_structs}
 use Rattle.stream_face.specs.Lawful.{DictsAreFull, IsTable}
 use Rattle.stage_filter.specs.Kept.{kept_numbers}
 use Rattle.stage_filter.specs.Plain.{most_of_columns}

@@ -5,9 +5,9 @@ use Rattle.std.specs.declared.cmp.Ordering.{Ordering}
 use Rattle.std.specs.Ordering.{is_eq, is_ne, is_lt, is_le, is_gt, is_ge}
 use Rattle.data_types.specs.Table.{Row}
 use Rattle.data_types.specs.Value.{Value, Null, Whole}
-use Rattle.bit_pack.specs.Packed.{meant, number_at}
+use Rattle.data_types.specs.Packed.{meant, number_at}
 use Rattle.raw_array.specs.Members.{ArrayTree}
-use Rattle.kind_tree.specs.Kinds.{KindTree}
+use Rattle.data_types.specs.KindTrees.{KindTree}
 use Rattle.layout_rules.specs.Layout.{is_valid_by}
 use Rattle.layout_rules.specs.Values.{each, row_items}
 use Rattle.arr_import.specs.Window.{Window, item_at}
@@ -27,11 +27,15 @@ order_passes tests.Ge order = is_ge order
 order_passes tests.Null order = false
 order_passes tests.Valid order = false
 
--- so many numbers from one on
+-- whether a value must be the constant, or must not
+abbrev pub equality : Bool → Test
+equality equal = if equal then tests.Eq else tests.Ne
+
+-- this many numbers from one on
 abbrev pub numbers : ℕ → ℕ → List ℕ
 numbers from count = each (λ i. i) from count
 
--- of so many items from one on, the numbers of those that pass
+-- of this many items from one on, the numbers of those that pass
 abbrev pub kept_numbers : Test → Const → Window → ℕ → ℕ → List ℕ
 kept_numbers test constant w from count = filter (λ i. passes test constant (item_at w i)) (numbers from count)
 

@@ -7,10 +7,10 @@ use Rattle.data_types.specs.declared.kind.DataType.{DataType}
 use Rattle.data_types.specs.declared.kind.DataType.TheVariants as kinds
 use Rattle.tree_model.specs.Tree.{Released, children_of, dictionary_at}
 use Rattle.raw_array.specs.Members.{ArrayTree, members_of}
-use Rattle.kind_tree.specs.ColumnKinds.{type_of_kind}
+use Rattle.data_types.specs.ColumnKinds.{type_of_kind}
 use Rattle.layout_rules.specs.Layout.{first}
 use Rattle.arr_export.specs.ArrayTrees.{column_tree, flat_type, table_tree}
-use Rattle.column_gather.specs.Gathered.{values_at}
+use Rattle.column_fill.specs.Gathered.{values_at}
 
 -- indices are signed numbers of 32 bits
 abbrev pub index_type : DataType

@@ -8,13 +8,13 @@ use Rattle.tree_model.specs.Tree.{Depth, child_at, children_of}
 use Rattle.unit_pass.specs.Tally.{Tally, risen}
 use Rattle.unit_pass.specs.declared.pass.TheConstants.{CHUNK}
 use Rattle.raw_array.specs.Members.{ArrayTree, Cost, members_of}
-use Rattle.kind_tree.specs.ColumnKinds.{type_of_columns, type_of_kind}
+use Rattle.data_types.specs.ColumnKinds.{type_of_columns, type_of_kind}
 use Rattle.layout_rules.specs.Layout.{first}
 use Rattle.layout_rules.specs.Values.{tree_items}
 use Rattle.layout_rules.specs.Walk.{LayoutOk}
 use Rattle.stage_model.specs.Traffic.{Moved, blocks_from, kind_blocks, kind_nodes, table_blocks, table_nodes}
 use Rattle.stream_face.specs.Lawful.{AreItems, DictsAreFull}
-use Rattle.column_gather.specs.Gathered.{values_at}
+use Rattle.column_fill.specs.Gathered.{values_at}
 use Rattle.stage_filter.specs.Kept.{rows_at}
 use Rattle.stage_filter.specs.KeptTrees.{kept_columns, kept_struct, kept_tree}
 use Rattle.stage_filter.specs.Plain.{most_cost, most_of_columns}
@@ -47,7 +47,7 @@ pub record CanMoveRows (columns : List Column) (array : ArrayTree) (start : ℕ)
 
 -- ---- what was moved
 -- the array of these items was made in the array's place, of its units, blocks and nodes
-pub record IsMoved (kind : Kind) (array : ArrayTree) (start : ℕ) (kept : List ℕ) (made : ArrayTree) (before after : Tally) : Type 0 where
+pub record IsFiltered (kind : Kind) (array : ArrayTree) (start : ℕ) (kept : List ℕ) (made : ArrayTree) (before after : Tally) : Type 0 where
   pub tree_is : made ≡ kept_tree kind array start kept
   pub units : after.units + Cost made ≡ before.units + Cost array
   pub left : before.units ≤ after.units + most_cost kind
@@ -55,7 +55,7 @@ pub record IsMoved (kind : Kind) (array : ArrayTree) (start : ℕ) (kept : List 
   pub nodes : after.nodes ≡ risen before.nodes (kind_nodes Moved kind)
 
 -- the arrays of the first columns of a struct, over these rows of it
-pub record AreMoved (columns : List Column) (array : ArrayTree) (start : ℕ) (kept : List ℕ) (rows : List Row) (arrays : List ArrayTree)
+pub record AreFiltered (columns : List Column) (array : ArrayTree) (start : ℕ) (kept : List ℕ) (rows : List Row) (arrays : List ArrayTree)
     (before after : Tally) : Type 0 where
   pub trees_are : arrays ≡ kept_columns columns (children_of array) (first (members_of array) + start) kept
   pub left : before.units ≤ after.units + most_of_columns columns
@@ -63,7 +63,7 @@ pub record AreMoved (columns : List Column) (array : ArrayTree) (start : ℕ) (k
   pub nodes : after.nodes ≡ risen before.nodes (sum_by (λ c. kind_nodes Moved c.kind) columns)
 
 -- the struct of these rows was made in the struct's place
-pub record IsMovedStruct (columns : List Column) (array : ArrayTree) (start : ℕ) (kept : List ℕ) (made : ArrayTree) (before after : Tally) : Type 0 where
+pub record IsFilteredStruct (columns : List Column) (array : ArrayTree) (start : ℕ) (kept : List ℕ) (made : ArrayTree) (before after : Tally) : Type 0 where
   pub tree_is : made ≡ kept_struct columns array start kept
   pub units : after.units + Cost made ≡ before.units + Cost array
   pub left : before.units ≤ after.units + (1 + most_of_columns columns)

@@ -5,7 +5,7 @@ use Rattle.std.specs.List.{filter}
 use Rattle.data_types.specs.Table.{Row}
 use Rattle.data_types.specs.Value.{Null}
 use Rattle.tree_model.specs.Tree.{children_of}
-use Rattle.kind_tree.specs.Kinds.{KindTree}
+use Rattle.data_types.specs.KindTrees.{KindTree}
 use Rattle.layout_rules.specs.Layout.{natural}
 use Rattle.arr_import.specs.Window.{IsStruct}
 use Rattle.fan_out.specs.Pieces.{GivesPieces}
@@ -14,7 +14,7 @@ use Rattle.stage_model.specs.declared.stage.Const.{Const}
 use Rattle.stage_model.specs.declared.stage.Test.{Test}
 use Rattle.stage_filter.specs.Kept.{numbers}
 
--- of so many rows from one on, the numbers of those whose item in a column passes
+-- of this many rows from one on, the numbers of those whose item in a column passes
 abbrev pub row_numbers : ℕ → Test → Const → List Row → ℕ → ℕ → List ℕ
 row_numbers column test constant rows from count = filter (λ i. passes test constant (get_or (get_or rows i []) column Null)) (numbers from count)
 

@@ -3,22 +3,20 @@ ghost use Rattle.std.specs.Prelude.{◌≡◌, ◌+◌, ◌≤◌, IfOk, OnErr};
 ghost use Rattle.data_types.specs.Table.{Flat};
 ghost use Rattle.unit_pass.specs.declared.pass.TheConstants.{SUPPLY};
 ghost use Rattle.raw_array.specs.Members.{Cost};
-ghost use Rattle.kind_tree.specs.ColumnKinds.{type_of_kind};
-ghost use Rattle.kind_tree.specs.Kinds.{TypedOk};
-ghost use Rattle.kind_tree.specs.TypedView.{typed_of};
-ghost use Rattle.stage_filter.specs.Moving.{CanMove, IsMoved};
+ghost use Rattle.data_types.specs.ColumnKinds.{type_of_kind};
+ghost use Rattle.data_types.specs.KindTrees.{TypedOk};
+ghost use Rattle.data_types.specs.TypedView.{typed_of};
+ghost use Rattle.stage_filter.specs.Moving.{CanMove, IsFiltered};
 
-use column_fill::built_column;
-use column_gather::gathered;
-use data_types::DataType;
-use kind_tree::Typed;
+use column_fill::{built_column, gathered};
+use data_types::{DataType, Typed};
 use raw_array::RawArray;
 use std::alloc::Global;
 use unit_pass::{NoMemory, Pass, SUPPLY};
 
-/// The array of the items of these numbers, in their order, in the place of the array, which is released. On want of memory all
-/// units are back.
-pub(crate) fn moved_values(
+/// The array of the items of these numbers, in their order, in the place of the array, which is released. Where memory runs out
+/// all units are back.
+pub(crate) fn filtered_values(
     alloc: Global,
     kind: &DataType,
     typed: &Typed,
@@ -32,7 +30,7 @@ pub(crate) fn moved_values(
     requires items { CanMove (Flat kind.now) array start kept.now }
     requires units { 4 ≤ pass.old.units }
     requires room { pass.old.units + Cost array ≤ SUPPLY }
-    ensures moved { IfOk result (λ made. IsMoved (Flat kind.now) array start kept.now made pass.old pass.new) }
+    ensures moved { IfOk result (λ made. IsFiltered (Flat kind.now) array start kept.now made pass.old pass.new) }
     ensures units_back { OnErr result (pass.new.units ≡ pass.old.units + Cost array) }
 {
     let items = gathered(alloc, kind, typed, &array, start, kept);

@@ -4,28 +4,27 @@ ghost use Rattle.data_types.specs.ColumnView.{column_of, kind_of};
 ghost use Rattle.tree_model.specs.Tree.{Released, child_at, children_of, trees, with_child};
 ghost use Rattle.unit_pass.specs.declared.pass.TheConstants.{SUPPLY};
 ghost use Rattle.raw_array.specs.Members.{Cost, cost_of_all, members_of};
-ghost use Rattle.kind_tree.specs.ColumnKinds.{type_of_columns, type_of_kind};
-ghost use Rattle.kind_tree.specs.Kinds.{TypedOk};
+ghost use Rattle.data_types.specs.ColumnKinds.{type_of_columns, type_of_kind};
+ghost use Rattle.data_types.specs.KindTrees.{TypedOk};
 ghost use Rattle.layout_rules.specs.Layout.{first};
-ghost use Rattle.kind_tree.specs.TypedView.{typed_of};
+ghost use Rattle.data_types.specs.TypedView.{typed_of};
 ghost use Rattle.stage_filter.specs.Kept.{rows_at};
-ghost use Rattle.stage_filter.specs.Moving.{AreMoved, CanMove, CanMoveRows, IsMoved, IsMovedStruct};
+ghost use Rattle.stage_filter.specs.Moving.{AreFiltered, CanMove, CanMoveRows, IsFiltered, IsFilteredStruct};
 ghost use Rattle.stage_filter.specs.Plain.{most_cost, most_of_columns};
 
-use crate::column::moved_values;
-use crate::dictionary::moved_entries;
+use crate::column::filtered_values;
+use crate::dictionary::filtered_entries;
 use arr_export::export_table;
-use data_types::{ColKind, ColumnType};
-use kind_tree::{Typed, kinds_of_typed};
+use data_types::{ColKind, ColumnType, Typed, kinds_of_typed};
 use layout_rules::lawful_trees;
 use raw_array::{Gone, PartlyMoved, RawArray, release_all};
 use std::alloc::Global;
 use unit_pass::{NoMemory, Pass, SUPPLY};
 
 /// The array of the items of these numbers, in their order, in the place of the array, which is released. The numbers are counted
-/// from an item of the array on. On want of memory all units are back.
-#[cycle(moved)]
-fn moved_kind(
+/// from an item of the array on. Where memory runs out all units are back.
+#[cycle(filtered)]
+fn filtered_kind(
     alloc: Global,
     kind: &ColKind,
     typed: &Typed,
@@ -39,22 +38,22 @@ fn moved_kind(
     requires items { CanMove (kind_of kind.now) array start kept.now }
     requires units { most_cost (kind_of kind.now) ≤ pass.old.units }
     requires room { pass.old.units + Cost array ≤ SUPPLY }
-    ensures moved { IfOk result (λ made. IsMoved (kind_of kind.now) array start kept.now made pass.old pass.new) }
+    ensures moved { IfOk result (λ made. IsFiltered (kind_of kind.now) array start kept.now made pass.old pass.new) }
     ensures units_back { OnErr result (pass.new.units ≡ pass.old.units + Cost array) }
 {
     match kind {
-        ColKind::Flat(kind) => moved_values(alloc, kind, typed, array, start, kept, pass),
-        ColKind::Dict(kind) => moved_entries(alloc, kind, array, start, kept, pass),
+        ColKind::Flat(kind) => filtered_values(alloc, kind, typed, array, start, kept, pass),
+        ColKind::Dict(kind) => filtered_entries(alloc, kind, array, start, kept, pass),
         ColKind::Columns(columns) => {
-            moved_struct(alloc, columns.as_slice(), typed, array, start, kept, pass)
+            filtered_struct(alloc, columns.as_slice(), typed, array, start, kept, pass)
         }
     }
 }
 
-/// The struct of the rows of these numbers, in their order, in the place of the struct, which is released. On want of memory all
-/// units are back.
-#[cycle(moved)]
-pub(crate) fn moved_struct(
+/// The struct of the rows of these numbers, in their order, in the place of the struct, which is released. Where memory runs out
+/// all units are back.
+#[cycle(filtered)]
+pub(crate) fn filtered_struct(
     alloc: Global,
     columns: &[ColumnType],
     typed: &Typed,
@@ -68,11 +67,11 @@ pub(crate) fn moved_struct(
     requires rows { CanMoveRows (map column_of columns.now) array start kept.now }
     requires units { 1 + most_of_columns (map column_of columns.now) ≤ pass.old.units }
     requires room { pass.old.units + Cost array ≤ SUPPLY }
-    ensures moved { IfOk result (λ made. IsMovedStruct (map column_of columns.now) array start kept.now made pass.old pass.new) }
+    ensures moved { IfOk result (λ made. IsFilteredStruct (map column_of columns.now) array start kept.now made pass.old pass.new) }
     ensures units_back { OnErr result (pass.new.units ≡ pass.old.units + Cost array) }
 {
     lawful_trees();
-    let arrays = moved_columns(alloc, columns, typed, array, start, kept, pass)?;
+    let arrays = filtered_columns(alloc, columns, typed, array, start, kept, pass)?;
     match export_table(alloc, arrays, kept.len() as i64, pass) {
         Ok(made) => Ok(made),
         Err((arrays, NoMemory)) => {
@@ -83,8 +82,8 @@ pub(crate) fn moved_struct(
 }
 
 /// The arrays of the columns of these rows, one after the other; what is left of the struct is released.
-#[cycle(moved)]
-fn moved_columns(
+#[cycle(filtered)]
+fn filtered_columns(
     alloc: Global,
     columns: &[ColumnType],
     typed: &Typed,
@@ -98,7 +97,7 @@ fn moved_columns(
     requires rows { CanMoveRows (map column_of columns.now) array start kept.now }
     requires units { most_of_columns (map column_of columns.now) ≤ pass.old.units }
     requires room { pass.old.units + Cost array ≤ SUPPLY }
-    ensures moved { IfOk result (λ arrays. AreMoved (map column_of columns.now) array start kept.now
+    ensures moved { IfOk result (λ arrays. AreFiltered (map column_of columns.now) array start kept.now
         (rows_at (type_of_columns (map column_of columns.now)) array start kept.now) arrays.items pass.old pass.new) }
     ensures units { IfOk result (λ arrays. pass.new.units + cost_of_all (trees arrays.items) ≡ pass.old.units + Cost array) }
     ensures units_back { OnErr result (pass.new.units ≡ pass.old.units + Cost array) }
@@ -138,8 +137,8 @@ fn first_of(array: &PartlyMoved) -> u64
 }
 
 /// Puts the arrays of the columns of these rows into an empty list that has room for them. Each column is moved out of the struct.
-/// On want of memory the list has those before.
-#[cycle(moved)]
+/// Where memory runs out the list has those before.
+#[cycle(filtered)]
 fn move_columns(
     alloc: Global,
     columns: &[ColumnType],
@@ -157,7 +156,7 @@ fn move_columns(
     requires room { pass.old.units + Cost array.old ≤ SUPPLY }
     requires empty { arrays.old.items ≡ [] }
     requires capacity { length columns.now ≤ vec_capacity arrays.old }
-    ensures moved { OnOk result (AreMoved (map column_of columns.now) array.old start kept.now
+    ensures moved { OnOk result (AreFiltered (map column_of columns.now) array.old start kept.now
         (rows_at (type_of_columns (map column_of columns.now)) array.old start kept.now) arrays.new.items pass.old pass.new) }
     ensures units { pass.new.units + (Cost array.new + cost_of_all (trees arrays.new.items)) ≡ pass.old.units + Cost array.old }
 {
@@ -175,7 +174,7 @@ fn move_columns(
 }
 
 /// The array of the items of these numbers of a child, which is moved out of its struct and released.
-#[cycle(moved)]
+#[cycle(filtered)]
 fn moved_child(
     alloc: Global,
     kind: &ColKind,
@@ -192,14 +191,14 @@ fn moved_child(
     requires items { CanMove (kind_of kind.now) (child_at array.old k) start kept.now }
     requires units { most_cost (kind_of kind.now) ≤ pass.old.units }
     requires room { pass.old.units + Cost array.old ≤ SUPPLY }
-    ensures moved { IfOk result (λ made. IsMoved (kind_of kind.now) (child_at array.old k) start kept.now made pass.old pass.new) }
+    ensures moved { IfOk result (λ made. IsFiltered (kind_of kind.now) (child_at array.old k) start kept.now made pass.old pass.new) }
     ensures taken { array.new ≡ with_child array.old k Released }
     ensures cost { Cost array.new + Cost (child_at array.old k) ≡ Cost array.old }
     ensures units_back { OnErr result (pass.new.units ≡ pass.old.units + Cost (child_at array.old k)) }
 {
     lawful_trees();
     match array.take_child(k) {
-        Ok(child) => moved_kind(alloc, kind, typed, child, start, kept, pass),
+        Ok(child) => filtered_kind(alloc, kind, typed, child, start, kept, pass),
         Err(Gone) => unreachable!(),
     }
 }

@@ -4,7 +4,7 @@ ghost use Rattle.data_types.specs.Table.{Dict};
 ghost use Rattle.tree_model.specs.Tree.{IsLive, dictionary_at};
 ghost use Rattle.unit_pass.specs.declared.pass.TheConstants.{SUPPLY};
 ghost use Rattle.raw_array.specs.Members.{Cost};
-ghost use Rattle.stage_filter.specs.Moving.{CanMove, IsMoved};
+ghost use Rattle.stage_filter.specs.Moving.{CanMove, IsFiltered};
 
 use crate::indices::moved_indices;
 use column_fill::built_column;
@@ -35,8 +35,8 @@ fn own_dictionary(array: RawArray, pass: &mut Pass) -> RawArray
 }
 
 /// The array of the items of these numbers, in their order, over the array's dictionary, in the place of the array, which is
-/// released ("Arrow Columnar Format", "Dictionary-encoded Layout"). On want of memory all units are back.
-pub(crate) fn moved_entries(
+/// released ("Arrow Columnar Format", "Dictionary-encoded Layout"). Where memory runs out all units are back.
+pub(crate) fn filtered_entries(
     alloc: Global,
     kind: &DataType,
     array: RawArray,
@@ -47,7 +47,7 @@ pub(crate) fn moved_entries(
     requires items { CanMove (Dict kind.now) array start kept.now }
     requires units { 4 ≤ pass.old.units }
     requires room { pass.old.units + Cost array ≤ SUPPLY }
-    ensures moved { IfOk result (λ made. IsMoved (Dict kind.now) array start kept.now made pass.old pass.new) }
+    ensures moved { IfOk result (λ made. IsFiltered (Dict kind.now) array start kept.now made pass.old pass.new) }
     ensures units_back { OnErr result (pass.new.units ≡ pass.old.units + Cost array) }
 {
     lawful_trees();

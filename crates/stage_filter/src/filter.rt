@@ -7,18 +7,18 @@ ghost use Rattle.stage_model.specs.Traffic.{made_blocks, made_nodes};
 ghost use Rattle.stages.specs.Steps.{always, any_tables, rows_only};
 ghost use Rattle.stage_filter.specs.Filters.{FilterFits};
 
-use crate::chunk::{Asked, filtered};
+use crate::chunk::{FilterTask, filtered};
 use crate::laws::{kept_rows_make_a_chunk, like_trees_are_the_same};
-use edge_face::Gate;
-use kind_tree::Typed;
+use data_types::Typed;
+use edge_io::Gate;
+use fan_out::Workers;
 use layout_rules::lawful_trees;
 use raw_array::RawArray;
 use stage_model::{Const, Test};
-use stages::{ChunkStep, OutColumns};
+use stages::{ChunkStep, OutColumns, chunks_are_small};
 use std::alloc::Global;
 use std::thread::Threads;
 use unit_pass::{NoMemory, Pass};
-use work_parts::chunks_are_small;
 
 /// The rows whose item in a column passes a test, in their order.
 #[derive(Drop)]
@@ -27,22 +27,19 @@ pub struct FilterStep {
     test: Test,
     constant: Const,
     out: OutColumns,
-    workers: u32,
-    ghost some_workers: { 1 ≤ workers },
-    ghost few_workers: { workers ≤ 64 },
+    workers: Workers,
 }
 
 impl FilterStep {
     /// Asks this test of the items of a column, by its number from 0; `out` are the columns, which stay. The rows of each chunk
-    /// are looked through by so many workers. Takes no memory.
+    /// are looked through by this many workers. Takes no memory.
     pub fn new(
         column: usize,
         test: Test,
         constant: Const,
         out: OutColumns,
-        workers: u32,
+        workers: Workers,
     ) -> FilterStep
-        requires workers { (1 ≤ workers) × (workers ≤ 64) }
         ensures column { result.column ≡ column }
         ensures test { result.test ≡ test }
         ensures constant { result.constant ≡ constant }
@@ -93,7 +90,7 @@ impl ChunkStep for FilterStep {
         chunks_are_small();
         lawful_trees();
         like_trees_are_the_same();
-        let asked = Asked {
+        let asked = FilterTask {
             column: self.column,
             test: self.test,
             constant: &self.constant,

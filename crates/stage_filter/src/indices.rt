@@ -2,7 +2,7 @@
 ghost use Rattle.std.specs.Prelude.{◌≡◌, ◌==◌, ◌+◌, ◌*◌, ◌^◌, ◌<◌, ◌≤◌, ◌≤ℤ◌, pos, length, IfOk, OnOk};
 ghost use Rattle.data_types.specs.Table.{Dict};
 ghost use Rattle.data_types.specs.declared.kind.DataType.{DataType as AType};
-ghost use Rattle.bit_pack.specs.Packed.{bit};
+ghost use Rattle.data_types.specs.Packed.{bit};
 ghost use Rattle.col_build.specs.Holding.{Adds, Holds, HoldsWholes, Takes};
 ghost use Rattle.tree_model.specs.Tree.{IsLive};
 ghost use Rattle.raw_array.specs.Members.{members_of};

@@ -1,13 +1,13 @@
 //! Which items of a column pass a test.
-ghost use Rattle.std.specs.Prelude.{◌≡◌, ◌-◌, ◌<◌, ◌≤◌, true, false, IfOk};
-ghost use Rattle.data_types.specs.Value.{Value, is_null};
+ghost use Rattle.std.specs.Prelude.{◌≡◌, ◌≢◌, ◌-◌, ◌<◌, ◌≤◌, ℕ, List, true, false, IfNone, IfOk, IfSome};
+ghost use Rattle.data_types.specs.Value.{Value, Bytes, is_null};
 ghost use Rattle.arr_import.specs.Cols.{window_of};
 ghost use Rattle.arr_import.specs.Window.{item_at};
 ghost use Rattle.stage_model.specs.Stages.{compared, passes};
 ghost use Rattle.stage_model.specs.Typing.{compares};
 ghost use Rattle.stage_model.specs.declared.stage.Const.{Const as AConst};
 ghost use Rattle.stage_model.specs.declared.stage.Const.TheVariants as consts;
-ghost use Rattle.stage_filter.specs.Kept.{kept_numbers, order_passes};
+ghost use Rattle.stage_filter.specs.Kept.{equality, kept_numbers, order_passes};
 
 use arr_import::{Col, ValueRef};
 use stage_model::{Const, Test};
@@ -176,8 +176,8 @@ fn bytes_order(items: &Col<'_>, i: u32, constant: &[u8]) -> Option<Ordering>
     }
 }
 
-/// The numbers of the items that pass a comparison with bytes.
-fn kept_by_bytes(
+/// The numbers of the items that pass a comparison with bytes, each by how it stands to them.
+fn kept_by_order(
     alloc: Global,
     items: &Col<'_>,
     from: u32,
@@ -197,6 +197,80 @@ fn kept_by_bytes(
         }
     }
     Ok(kept)
+}
+
+/// The bytes of an item; none of a null, and of an item of another kind.
+#[inline(always)]
+fn bytes_at<'a>(items: &Col<'a>, i: u32) -> Option<&'a [u8]>
+    requires { i < (window_of items.now).count }
+    ensures some { IfSome result (λ bytes. item_at (window_of items.now) i ≡ Bytes bytes.now) }
+    ensures none { IfNone result ((bytes : List ℕ) → item_at (window_of items.now) i ≢ Bytes bytes) }
+{
+    items.bytes(i64::from(i))
+}
+
+/// Whether bytes are those of the constant, or aren't where others are asked for.
+#[inline(always)]
+fn are_asked(bytes: &[u8], equal: bool, constant: &[u8]) -> bool
+    ensures { result ≡ passes (equality equal) (consts.Bytes constant.now) (Bytes bytes.now) }
+{
+    let same = bytes == constant;
+    if equal { same } else { !same }
+}
+
+/// Whether an item is bytes as they are asked for; a null, and an item of another kind, isn't.
+#[inline(always)]
+fn equality_passes(items: &Col<'_>, i: u32, equal: bool, constant: &[u8]) -> bool
+    requires { i < (window_of items.now).count }
+    ensures { result ≡ passes (equality equal) (consts.Bytes constant.now) (item_at (window_of items.now) i) }
+{
+    match bytes_at(items, i) {
+        Some(bytes) => are_asked(bytes, equal, constant),
+        None => false,
+    }
+}
+
+/// The numbers of the items that are the same bytes as a constant, or of those that are others.
+fn kept_by_equality(
+    alloc: Global,
+    items: &Col<'_>,
+    from: u32,
+    to: u32,
+    equal: bool,
+    constant: &[u8],
+) -> Result<Vec<u32>, NoMemory>
+    requires order { from ≤ to }
+    requires inside { to ≤ (window_of items.now).count }
+    ensures { IfOk result (λ kept. kept.items ≡ kept_numbers (equality equal) (consts.Bytes constant.now) (window_of items.now) from (to - from)) }
+{
+    let mut kept = Vec::new(alloc);
+    for i in from..to {
+        if equality_passes(items, i, equal, constant) {
+            kept.push(i)?;
+        }
+    }
+    Ok(kept)
+}
+
+/// The numbers of the items that pass a comparison with bytes. No order is looked for where they need only be the same or not.
+fn kept_by_bytes(
+    alloc: Global,
+    items: &Col<'_>,
+    from: u32,
+    to: u32,
+    test: Test,
+    constant: &[u8],
+) -> Result<Vec<u32>, NoMemory>
+    requires order { from ≤ to }
+    requires inside { to ≤ (window_of items.now).count }
+    requires test { compares test ≡ true }
+    ensures { IfOk result (λ kept. kept.items ≡ kept_numbers test (consts.Bytes constant.now) (window_of items.now) from (to - from)) }
+{
+    match test {
+        Test::Eq => kept_by_equality(alloc, items, from, to, true, constant),
+        Test::Ne => kept_by_equality(alloc, items, from, to, false, constant),
+        _ => kept_by_order(alloc, items, from, to, test, constant),
+    }
 }
 
 // ---- any test

@@ -2,21 +2,21 @@
 ghost use Rattle.std.specs.Prelude.{◌≡◌, ◌*◌, ◌-◌, ◌≤◌, length, vec_len, IfOk};
 ghost use Rattle.std.specs.List.{flat_map};
 ghost use Rattle.raw_array.specs.Members.{Cost, Like};
-ghost use Rattle.kind_tree.specs.Kinds.{TypedOk};
+ghost use Rattle.data_types.specs.KindTrees.{TypedOk};
 ghost use Rattle.layout_rules.specs.Layout.{natural};
-ghost use Rattle.kind_tree.specs.TypedView.{typed_of};
+ghost use Rattle.data_types.specs.TypedView.{typed_of};
 ghost use Rattle.layout_rules.specs.Values.{rows_of, tree_items};
 ghost use Rattle.layout_rules.specs.Walk.{ChunkOk};
 ghost use Rattle.arr_import.specs.Window.{child_window, whole};
 ghost use Rattle.stage_filter.specs.Kept.{kept_numbers};
 ghost use Rattle.stage_filter.specs.Workers.{HaveColumn, row_numbers};
 
-use crate::chunk::Asked;
+use crate::chunk::FilterTask;
 use crate::kept::kept_rows;
 use arr_import::Col;
-use edge_face::Gate;
-use fan_out::{Job, fan_out, pieces_are_in_order, worth_pieces};
-use kind_tree::{Typed, kinds_of_typed};
+use data_types::{Typed, kinds_of_typed};
+use edge_io::Gate;
+use fan_out::{Job, Workers, fan_out, piece_count, pieces_are_in_order};
 use layout_rules::lawful_root;
 use raw_array::RawArray;
 use std::alloc::Global;
@@ -27,7 +27,7 @@ use unit_pass::{NoMemory, Pass};
 #[derive(Drop)]
 struct FindJob<'a> {
     alloc: Global,
-    asked: Asked<'a>,
+    asked: FilterTask<'a>,
 }
 
 impl<'a> Job for FindJob<'a> {
@@ -54,7 +54,7 @@ fn found_rows(
     alloc: Global,
     typed: &Typed,
     chunk: &RawArray,
-    asked: Asked<'_>,
+    asked: FilterTask<'_>,
     from: u32,
     to: u32,
 ) -> Result<Vec<u32>, NoMemory>
@@ -90,16 +90,15 @@ pub(crate) fn kept_by_workers<R: Threads + Sync>(
     alloc: Global,
     chunk: &mut RawArray,
     typed: &Typed,
-    workers: u32,
-    asked: Asked<'_>,
+    workers: Workers,
+    asked: FilterTask<'_>,
     pass: &mut Pass,
     gate: &(dyn Gate + Sync),
 ) -> Result<Vec<u32>, NoMemory>
     requires types { TypedOk (typed_of typed.now) }
     requires chunk { ChunkOk (typed_of typed.now) chunk.old }
     requires column { HaveColumn asked.column (typed_of typed.now) (rows_of (typed_of typed.now) chunk.old) }
-    requires workers { (1 ≤ workers) × (workers ≤ 64) }
-    requires units { workers * Cost chunk.old ≤ pass.old.units }
+    requires units { workers.count * Cost chunk.old ≤ pass.old.units }
     ensures numbers { IfOk result (λ kept. kept.items ≡ row_numbers asked.entry.column asked.entry.test asked.entry.constant.now
         (rows_of (typed_of typed.now) chunk.old) 0 (length (rows_of (typed_of typed.now) chunk.old))) }
     ensures kept { IfOk result (λ kept. kept.items ≡ kept_numbers asked.entry.test asked.entry.constant.now
@@ -113,7 +112,7 @@ pub(crate) fn kept_by_workers<R: Threads + Sync>(
     ensures nodes { pass.new.nodes ≡ pass.old.nodes }
 {
     let job = FindJob { alloc, asked };
-    let pieces = worth_pieces(typed, chunk, workers);
+    let pieces = piece_count(typed, chunk, workers);
     let found = fan_out(rt, alloc, chunk, typed, pieces, pass, &job, gate)?;
     kinds_of_typed(typed);
     lawful_root(typed, chunk);

@@ -11,19 +11,19 @@ use Rattle.data_types.specs.declared.kind.ColumnType.{ColumnType}
 use Rattle.tree_model.specs.Tree.{Released, IsLive, child_at}
 use Rattle.tree_model.proofs.Lists.{tree_list-trees}
 use Rattle.raw_array.specs.Members.{ArrayTree, Cost, members_of}
-use Rattle.kind_tree.specs.ColumnKinds.{type_of_columns}
-use Rattle.kind_tree.specs.Kinds.{KindTree}
+use Rattle.data_types.specs.ColumnKinds.{type_of_columns}
+use Rattle.data_types.specs.KindTrees.{KindTree}
 use Rattle.layout_rules.specs.Values.{rows_of}
 use Rattle.layout_rules.specs.Walk.{ChunkOk}
 use Rattle.arr_move.specs.TreeActs.{Columns}
-use Rattle.column_laws.specs.Picking.{Packed}
+use Rattle.array_laws.specs.Picking.{Packed}
 use Rattle.stream_face.specs.Lawful.{DictsAreFull, MemberDictsAreFull, column_leaves}
 use Rattle.stages.specs.Steps.{GivesOut, IsNext}
-use Rattle.work_parts.proofs.CutColumns.{dicts-window}
+use Rattle.stages.proofs.CutColumns.{dicts-window}
 use Rattle.stage_kernels.specs.Packs.{PackFits, column_in}
 use Rattle.stage_kernels.specs.Picks.{no_column, picked_columns}
-use Rattle.plan_laws.specs.Structs.{column_structs}
-use Rattle.plan_laws.proofs.PickedColumns.{as-many, column-at, first-within, rest-within}
+use Rattle.stages.specs.Structs.{column_structs}
+use Rattle.stages.proofs.PickedColumns.{as-many, column-at, first-within, rest-within}
 use Rattle.stage_kernels.proofs.PackedStreams.{Kept, Numbers, kept-are, made_name, numbers-of, place-of, struct_column}
 
 -- ---- dictionaries

@@ -16,19 +16,19 @@ use Rattle.data_types.specs.declared.kind.ColumnType.{ColumnType}
 use Rattle.tree_model.specs.Tree.{Depth, Released, Live, Trees, no_trees, more_trees, MaybeTree, absent, present, trees, depth_of_all, depth_of_maybe}
 use Rattle.raw_schema.specs.Members.{Nodes, SchemaMembers, SchemaTree}
 use Rattle.data_types.specs.declared.kind.DataType.{DataType}
-use Rattle.kind_tree.specs.ColumnKinds.{type_of_column, type_of_columns, types_of_columns, types_of_members}
+use Rattle.data_types.specs.ColumnKinds.{type_of_column, type_of_columns, types_of_columns, types_of_members}
 use Rattle.schema_check.specs.ColumnSchema.{SchemaOf, member_schemas, schema_of_column}
-use Rattle.kind_tree.specs.Kinds.{KindTree}
+use Rattle.data_types.specs.KindTrees.{KindTree}
 use Rattle.schema_check.specs.Schemas.{DictTyped, KidsTyped, TypedFrom, TypedOf}
 use Rattle.arr_move.specs.TreeActs.{Distinct}
 use Rattle.stream_face.specs.Lawful.{AreFieldItems, AreItems, DictsHaveBytes, HasFields, IsTable, LawfulColumns, LawfulTables, MemberDictsHaveBytes}
 use Rattle.stream_face.specs.Lawful.{column_leaves, leaves, member_leaves, total_rows}
-use Rattle.column_laws.proofs.StructRows.{value_list-values}
-use Rattle.work_parts.proofs.ColumnSets.{same_columns}
+use Rattle.array_laws.proofs.StructRows.{value_list-values}
+use Rattle.stages.proofs.ColumnSets.{same_columns}
 use Rattle.stage_kernels.specs.Packs.{PackFits}
 use Rattle.stage_kernels.specs.Picks.{no_column, picked_columns, picked_rows}
-use Rattle.plan_laws.specs.Structs.{column_structs, member_structs, most_structs, structs}
-use Rattle.plan_laws.proofs.PickedColumns.{all-picked, as-many, column-at, first-within, leaves-are, rest-within, sum-picked, total}
+use Rattle.stages.specs.Structs.{column_structs, member_structs, most_structs, structs}
+use Rattle.stages.proofs.PickedColumns.{all-picked, as-many, column-at, first-within, leaves-are, rest-within, sum-picked, total}
 use Rattle.stage_kernels.proofs.PickedStreams.{items-same, kids-typed}
 
 -- ---- what fits

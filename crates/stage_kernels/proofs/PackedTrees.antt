@@ -13,8 +13,8 @@ use Rattle.arr_move.specs.TreeActs.{Distinct, FitParentWindow, InRange, struct_m
 use Rattle.arr_move.proofs.Filled.{Depth-child_at}
 use Rattle.arr_move.proofs.Moving.{other_child}
 use Rattle.arr_export.specs.ArrayTrees.{IsColumn, table_tree}
-use Rattle.column_laws.specs.Picking.{Packed}
-use Rattle.work_parts.proofs.CutColumns.{ItemsLaw, natural-is, window-live}
+use Rattle.array_laws.specs.Picking.{Packed}
+use Rattle.stages.proofs.CutColumns.{ItemsLaw, natural-is, window-live}
 use Rattle.stage_kernels.specs.Packs.{LeftOf, column_in}
 
 members-with_child : (t : ArrayTree) (i : ℕ) (c : ArrayTree) → members_of (with_child t i c) ≡ members_of t

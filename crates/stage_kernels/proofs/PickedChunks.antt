@@ -12,16 +12,16 @@ use Rattle.tree_model.proofs.Lists.{tree_list-trees}
 use Rattle.raw_array.specs.Members.{ArrayTree, Cost, members_of}
 use Rattle.raw_array.specs.Windows.{Window}
 use Rattle.unit_pass.specs.Tally.{Tally, risen}
-use Rattle.kind_tree.specs.Kinds.{KindTree}
+use Rattle.data_types.specs.KindTrees.{KindTree}
 use Rattle.layout_rules.specs.Walk.{ChunkOk}
 use Rattle.layout_rules.specs.Values.{rows_of}
-use Rattle.kind_tree.specs.ColumnKinds.{type_of_columns}
+use Rattle.data_types.specs.ColumnKinds.{type_of_columns}
 use Rattle.arr_move.specs.TreeActs.{Columns, Distinct, cut}
 use Rattle.stream_face.specs.Lawful.{DictsAreFull, IsChunkOf}
 use Rattle.stages.specs.Steps.{GivesOut, IsNext}
-use Rattle.plan_laws.proofs.PickedColumns.{as-many, column-at}
-use Rattle.work_parts.proofs.ColumnSets.{same_columns}
-use Rattle.work_parts.proofs.CutColumns.{dicts-window}
+use Rattle.stages.proofs.PickedColumns.{as-many, column-at}
+use Rattle.stages.proofs.ColumnSets.{same_columns}
+use Rattle.stages.proofs.CutColumns.{dicts-window}
 use Rattle.stage_kernels.specs.Picks.{PickFits, no_column, picked_columns, picked_rows}
 
 -- ---- dictionaries

@@ -11,12 +11,12 @@ use Rattle.data_types.specs.Value.{Value, Null}
 use Rattle.data_types.specs.declared.kind.ColumnType.{ColumnType}
 use Rattle.tree_model.specs.Tree.{Depth, trees, depth_of_all}
 use Rattle.raw_schema.specs.Members.{Nodes, nodes_of_all}
-use Rattle.kind_tree.specs.ColumnKinds.{type_of_column, type_of_columns, types_of_columns}
+use Rattle.data_types.specs.ColumnKinds.{type_of_column, type_of_columns, types_of_columns}
 use Rattle.schema_check.specs.ColumnSchema.{SchemaOf, schema_of_column}
 use Rattle.schema_check.specs.Schemas.{KidsTyped, TypedFrom, TypedOf}
 use Rattle.arr_move.specs.TreeActs.{Distinct}
 use Rattle.stream_face.specs.Lawful.{AreItems, DictsHaveBytes, IsTable, LawfulColumns, LawfulTables, leaves, total_rows}
-use Rattle.plan_laws.proofs.PickedColumns.{all-picked, as-many, column-at, first-within, leaves-are, rest-within, sum-picked, total}
+use Rattle.stages.proofs.PickedColumns.{all-picked, as-many, column-at, first-within, leaves-are, rest-within, sum-picked, total}
 use Rattle.stage_kernels.specs.Picks.{PickFits, no_column, picked_columns, picked_rows}
 
 -- ---- the items

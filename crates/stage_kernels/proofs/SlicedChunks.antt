@@ -10,15 +10,15 @@ use Rattle.data_types.specs.declared.kind.ColumnType.{ColumnType}
 use Rattle.tree_model.specs.Tree.{IsLive, Live, Released, children_of}
 use Rattle.raw_array.specs.Members.{ArrayTree, Cost, windowed}
 use Rattle.raw_array.specs.Windows.{Window, is_whole}
-use Rattle.kind_tree.specs.ColumnKinds.{type_of_columns}
-use Rattle.kind_tree.specs.Kinds.{KindTree}
+use Rattle.data_types.specs.ColumnKinds.{type_of_columns}
+use Rattle.data_types.specs.KindTrees.{KindTree}
 use Rattle.layout_rules.specs.Values.{rows_of, tree_items}
 use Rattle.layout_rules.specs.Walk.{ChunkOk, LayoutOk}
 use Rattle.stage_model.specs.Stages.{is_within, sliced, sliced_chunks, unless_empty, window_end, window_start}
 use Rattle.stream_face.specs.Lawful.{DictsAreFull, IsChunkOf}
 use Rattle.unit_pass.specs.Tally.{Tally}
 use Rattle.stages.specs.Steps.{IsNext, Pushes}
-use Rattle.work_parts.proofs.CutColumns.{window-children}
+use Rattle.stages.proofs.CutColumns.{window-children}
 use Rattle.stage_kernels.specs.Slices.{kept_count, kept_part}
 
 -- ---- rows that are counted off

@@ -6,7 +6,7 @@ use Rattle.data_types.specs.Table.{Column, Row}
 use Rattle.data_types.specs.declared.kind.ColumnType.{ColumnType}
 use Rattle.stage_model.specs.Stages.{is_within, sliced, sliced_chunks, unless_empty}
 use Rattle.stream_face.specs.Lawful.{IsTable, LawfulColumns, LawfulTables, total_rows}
-use Rattle.work_parts.proofs.ColumnSets.{same_columns}
+use Rattle.stages.proofs.ColumnSets.{same_columns}
 use Rattle.stage_kernels.specs.Slices.{SliceFits}
 use Rattle.stage_kernels.proofs.PartRows.{IsPart, part-length, table-part}
 

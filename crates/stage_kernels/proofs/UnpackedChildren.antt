@@ -10,16 +10,16 @@ use Rattle.tree_model.proofs.Lists.{tree_list-trees, trees-tree_list}
 use Rattle.tree_model.proofs.Measures.{Depth-get_or}
 use Rattle.raw_array.specs.Members.{ArrayTree, Cost, cost_of_all, members_of}
 use Rattle.raw_array.specs.Windows.{Window}
-use Rattle.kind_tree.specs.Kinds.{KindTree}
+use Rattle.data_types.specs.KindTrees.{KindTree}
 use Rattle.layout_rules.specs.Layout.{end, first, items, natural}
 use Rattle.layout_rules.specs.Walk.{ChunkOk, LayoutOk}
-use Rattle.kind_tree.specs.ColumnKinds.{table_type, type_of_column, type_of_columns, type_of_kind, types_of_columns}
+use Rattle.data_types.specs.ColumnKinds.{table_type, type_of_column, type_of_columns, type_of_kind, types_of_columns}
 use Rattle.arr_export.specs.ArrayTrees.{IsColumn, table_tree}
 use Rattle.arr_move.specs.TreeActs.{struct_members}
-use Rattle.column_laws.specs.Picking.{AreLive, Unpacked, cut_children}
+use Rattle.array_laws.specs.Picking.{AreLive, Unpacked, cut_children}
 use Rattle.stage_model.specs.Typing.{column_at, no_column}
 use Rattle.arr_move.proofs.MovedChildren.{cut-at, cut_to}
-use Rattle.work_parts.proofs.StructChildren.{StructLaws, shown}
+use Rattle.stages.proofs.StructChildren.{StructLaws, shown}
 use Rattle.stage_kernels.specs.Unpacks.{HasStruct, ShowsInner}
 
 -- ---- numbers, and costs of children

@@ -10,17 +10,17 @@ use Rattle.tree_model.specs.Tree.{Released, IsLive, children_of, child_at}
 use Rattle.tree_model.proofs.Lists.{tree_list-trees}
 use Rattle.raw_array.specs.Members.{ArrayTree, Cost, members_of}
 use Rattle.unit_pass.specs.Tally.{Tally, risen}
-use Rattle.kind_tree.specs.Kinds.{KindTree}
+use Rattle.data_types.specs.KindTrees.{KindTree}
 use Rattle.layout_rules.specs.Walk.{ChunkOk, LayoutOk}
 use Rattle.layout_rules.specs.Values.{rows_of}
-use Rattle.kind_tree.specs.ColumnKinds.{table_type, type_of_column, type_of_columns, types_of_columns}
-use Rattle.column_laws.specs.Picking.{Unpacked, cut_children}
+use Rattle.data_types.specs.ColumnKinds.{table_type, type_of_column, type_of_columns, types_of_columns}
+use Rattle.array_laws.specs.Picking.{Unpacked, cut_children}
 use Rattle.stage_model.specs.Typing.{column_at, no_column}
 use Rattle.stream_face.specs.Lawful.{AreItems, DictsAreFull, HasFields, IsChunkOf, IsTable, MemberDictsAreFull}
 use Rattle.stages.specs.Steps.{GivesOut, IsNext}
-use Rattle.work_parts.proofs.CutColumns.{dicts-window}
+use Rattle.stages.proofs.CutColumns.{dicts-window}
 use Rattle.arr_move.proofs.MovedChildren.{cut-at, cut_to}
-use Rattle.work_parts.proofs.Spliced.{at-behind, at-front, at-middle, each-holds, length-spliced, spliced}
+use Rattle.stages.proofs.Spliced.{at-behind, at-front, at-middle, each-holds, length-spliced, spliced}
 use Rattle.stage_kernels.specs.Unpacks.{UnpackFits}
 
 -- ---- dictionaries

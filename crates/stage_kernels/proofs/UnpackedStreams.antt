@@ -14,14 +14,14 @@ use Rattle.data_types.specs.Value.{Value, Null, Truth, Whole, Bits, Bytes, Items
 use Rattle.data_types.specs.declared.kind.ColumnType.{ColumnType}
 use Rattle.tree_model.specs.Tree.{Depth, trees, more_trees, depth_of_all}
 use Rattle.raw_schema.specs.Members.{Nodes, nodes_of_all}
-use Rattle.kind_tree.specs.ColumnKinds.{type_of_columns}
+use Rattle.data_types.specs.ColumnKinds.{type_of_columns}
 use Rattle.schema_check.specs.ColumnSchema.{SchemaOf, schema_of_column, member_schemas}
 use Rattle.schema_check.specs.Schemas.{TypedOf}
 use Rattle.stage_model.specs.Typing.{column_at, no_column, struct_members}
 use Rattle.stream_face.specs.Lawful.{AreFieldItems, AreItems, DictsHaveBytes, HasFields, IsTable, LawfulColumns, LawfulTables, MemberDictsHaveBytes}
 use Rattle.stream_face.specs.Lawful.{column_leaves, leaves, member_leaves, total_rows}
-use Rattle.work_parts.proofs.CodedColumns.{coded_columns, coded_kind}
-use Rattle.work_parts.proofs.Spliced.{at-behind, at-front, at-middle, each-holds, length-spliced, spliced}
+use Rattle.stages.proofs.CodedColumns.{coded_columns, coded_kind}
+use Rattle.stages.proofs.Spliced.{at-behind, at-front, at-middle, each-holds, length-spliced, spliced}
 use Rattle.stage_kernels.specs.Unpacks.{UnpackFits}
 
 -- ---- a fit, told
@@ -201,7 +201,7 @@ fields-count count (Bytes bs) has = absurd has
 fields-count count (Items vs) has = absurd has
 fields-count count (Fields vs) has = has
 
--- a row of so many values, with a struct of so many at a place
+-- a row of this many values, with a struct of this many at a place
 pub record RowFits (place count width : ℕ) (row : Row) : Type 0 where
   pub wide : length row ≡ width
   pub fields : length (fields_of (get_or row place Null)) ≡ count

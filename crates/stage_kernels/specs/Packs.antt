@@ -8,7 +8,7 @@ use Rattle.tree_model.specs.Tree.{child_at, children_of}
 use Rattle.raw_array.specs.Members.{ArrayTree, members_of}
 use Rattle.arr_move.specs.TreeActs.{Distinct, cut}
 use Rattle.stage_model.specs.Typing.{no_column}
-use Rattle.plan_laws.specs.Structs.{column_structs, most_structs}
+use Rattle.stages.specs.Structs.{column_structs, most_structs}
 
 -- different numbers of these columns, of which there are few structs; and the columns that are kept are those that stay, and
 -- behind them a struct of the others

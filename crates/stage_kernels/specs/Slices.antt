@@ -11,7 +11,7 @@ use Rattle.layout_rules.specs.Values.{tree_items}
 pub record SliceFits (kept : List ColumnType) (before : List Column) : Type 0 where
   pub columns : map column_of kept ≡ before
 
--- how many of so many rows are kept, where the first `skip` aren't, nor more than `keep`
+-- how many of this many rows are kept, where the first `skip` aren't, nor more than `keep`
 abbrev pub kept_count : ℕ → ℕ → ℕ → ℕ
 kept_count skip keep count = min keep (count - skip)
 

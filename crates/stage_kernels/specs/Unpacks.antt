@@ -7,11 +7,11 @@ use Rattle.data_types.specs.Table.{Column, Columns, Members}
 use Rattle.tree_model.specs.Tree.{children_of, child_at}
 use Rattle.raw_array.specs.Members.{ArrayTree, members_of}
 use Rattle.raw_array.specs.Windows.{Window}
-use Rattle.kind_tree.specs.ColumnKinds.{type_of_columns}
+use Rattle.data_types.specs.ColumnKinds.{type_of_columns}
 use Rattle.layout_rules.specs.Walk.{ChunkOk}
 use Rattle.stage_model.specs.Typing.{column_at}
-use Rattle.plan_laws.specs.Structs.{column_structs, most_structs}
-use Rattle.work_parts.specs.Children.{ShowsChildren}
+use Rattle.stages.specs.Structs.{column_structs, most_structs}
+use Rattle.stages.specs.Children.{ShowsChildren}
 
 -- the column of this number is a struct, and the columns that are kept have its columns in its place
 pub record UnpackFits (place : ℕ) (kept : List ColumnType) (before : List Column) : Type 0 where

@@ -10,7 +10,7 @@
 //! is pushed all chunks below it. A lawful stream stays lawful.
 //!
 //! What it leaves to others: which columns a stage text picks, packs or unpacks (`stage_plan`), and the moving of children one
-//! after another (`work_parts`).
+//! after another (`arr_move`).
 #![tactic(auto)]
 
 mod pack;

@@ -8,16 +8,14 @@ ghost use Rattle.stages.specs.Steps.{always, any_tables, rows_only};
 ghost use Rattle.stage_kernels.specs.Packs.{PackFits};
 
 use crate::packed::packed;
-use array_laws::lawful_arrays_are_not_deep;
-use column_laws::columns_of_a_table;
-use edge_face::Gate;
-use kind_tree::Typed;
+use array_laws::{columns_of_a_table, lawful_arrays_are_not_deep};
+use data_types::Typed;
+use edge_io::Gate;
 use raw_array::RawArray;
-use stages::{ChunkStep, OutColumns};
+use stages::{ChunkStep, OutColumns, chunks_are_small};
 use std::alloc::Global;
 use std::thread::Threads;
 use unit_pass::{NoMemory, Pass};
-use work_parts::chunks_are_small;
 
 /// The columns that stay, in their order, and behind them a struct of the picked columns, in the order of the picks.
 #[derive(Drop)]

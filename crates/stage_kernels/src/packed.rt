@@ -7,18 +7,18 @@ ghost use Rattle.raw_array.specs.Members.{Cost, cost_of_all, members_of};
 ghost use Rattle.raw_array.specs.Windows.{FitsWindow};
 ghost use Rattle.unit_pass.specs.Tally.{risen};
 ghost use Rattle.unit_pass.specs.declared.pass.TheConstants.{SUPPLY};
-ghost use Rattle.kind_tree.specs.ColumnKinds.{type_of_columns};
+ghost use Rattle.data_types.specs.ColumnKinds.{type_of_columns};
 ghost use Rattle.layout_rules.specs.Layout.{natural};
 ghost use Rattle.layout_rules.specs.Walk.{ChunkOk};
 ghost use Rattle.arr_move.specs.TreeActs.{Distinct, FitParentWindow, InRange};
 ghost use Rattle.arr_export.specs.ArrayTrees.{IsColumn, table_tree};
-ghost use Rattle.column_laws.specs.Picking.{Packed};
+ghost use Rattle.array_laws.specs.Picking.{Packed};
+ghost use Rattle.layout_rules.specs.Rules.{window_limit};
 ghost use Rattle.stage_kernels.specs.Packs.{LeftOf, column_in};
 
 use arr_export::export_table;
 use arr_move::slice;
-use array_laws::windows_are_parts;
-use column_laws::columns_of_a_table;
+use array_laws::{columns_of_a_table, windows_are_parts};
 use layout_rules::lawful_trees;
 use raw_array::{Gone, PartlyMoved, RawArray, release_all};
 use std::alloc::Global;
@@ -61,7 +61,7 @@ fn move_columns(moved: &mut PartlyMoved, picks: &[usize], columns: &mut Vec<RawA
     }
 }
 
-/// A struct of some columns and, behind them, a struct of others. On want of memory all are released.
+/// A struct of some columns and, behind them, a struct of others. Where memory runs out all are released.
 #[tactic(auto, using(tree_model::proofs::Measures::measures))]
 fn built(
     alloc: Global,
@@ -72,7 +72,7 @@ fn built(
 ) -> Result<RawArray, NoMemory>
     requires room { vec_len columns < vec_capacity columns }
     requires some { pos 0 ≤ℤ len }
-    requires few { len ≤ℤ pos (2 ^ 40) }
+    requires few { len ≤ℤ pos window_limit }
     requires columns { All (IsColumn (natural len)) columns.items }
     requires members { All (IsColumn (natural len)) members.items }
     requires not_deep { depth_of_all (trees members.items) ≤ 126 }
@@ -107,8 +107,8 @@ fn built(
     }
 }
 
-/// The chunk with the columns that stay and, behind them, a struct of the picked ones. No item of it is null. On want of
-/// memory the chunk is released.
+/// The chunk with the columns that stay and, behind them, a struct of the picked ones. No item of it is null. Where memory runs
+/// out the chunk is released.
 pub(crate) fn packed(
     alloc: Global,
     chunk: RawArray,

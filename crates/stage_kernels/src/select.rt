@@ -6,7 +6,7 @@ ghost use Rattle.data_types.specs.Table.{Column};
 ghost use Rattle.raw_array.specs.Members.{ArrayTree, Cost};
 ghost use Rattle.unit_pass.specs.Tally.{risen};
 ghost use Rattle.unit_pass.specs.declared.pass.TheConstants.{SUPPLY};
-ghost use Rattle.kind_tree.specs.ColumnKinds.{type_of_columns};
+ghost use Rattle.data_types.specs.ColumnKinds.{type_of_columns};
 ghost use Rattle.layout_rules.specs.Walk.{ChunkOk};
 ghost use Rattle.arr_move.specs.TreeActs.{Columns, Distinct};
 ghost use Rattle.stage_model.specs.Stages.{chunks_after};
@@ -16,9 +16,9 @@ ghost use Rattle.stages.specs.Steps.{always, any_tables, rows_only};
 ghost use Rattle.stage_kernels.specs.Picks.{PickFits};
 
 use arr_move::take_columns;
-use column_laws::columns_of_a_table;
-use edge_face::Gate;
-use kind_tree::Typed;
+use array_laws::columns_of_a_table;
+use data_types::Typed;
+use edge_io::Gate;
 use layout_rules::lawful_trees;
 use raw_array::RawArray;
 use stages::{ChunkStep, OutColumns};
@@ -43,7 +43,7 @@ impl SelectStep {
     }
 }
 
-/// The picked columns of a chunk. On want of memory the chunk is released.
+/// The picked columns of a chunk. Where memory runs out the chunk is released.
 fn select(
     alloc: Global,
     chunk: RawArray,

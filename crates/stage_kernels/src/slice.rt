@@ -1,11 +1,12 @@
 //! The step that keeps the rows of a window.
-ghost use Rattle.std.specs.Prelude.{◌≡◌, ◌+◌, ◌-◌, ◌≤◌, ◌^◌, pos, List, Some, map};
+ghost use Rattle.std.specs.Prelude.{◌≡◌, ◌+◌, ◌-◌, ◌≤◌, pos, List, Some, map};
 ghost use Rattle.data_types.specs.ColumnView.{column_of};
 ghost use Rattle.data_types.specs.Table.{Column};
 ghost use Rattle.raw_array.specs.Members.{Cost};
 ghost use Rattle.raw_array.specs.Windows.{Window};
 ghost use Rattle.unit_pass.specs.declared.pass.TheConstants.{SUPPLY};
-ghost use Rattle.kind_tree.specs.ColumnKinds.{type_of_columns};
+ghost use Rattle.data_types.specs.ColumnKinds.{type_of_columns};
+ghost use Rattle.layout_rules.specs.Rules.{window_limit};
 ghost use Rattle.layout_rules.specs.Values.{tree_items};
 ghost use Rattle.layout_rules.specs.Walk.{ChunkOk};
 ghost use Rattle.stage_model.specs.Stages.{chunks_after};
@@ -16,8 +17,8 @@ ghost use Rattle.stage_kernels.specs.Slices.{SliceFits, kept_part};
 
 use arr_move::slice;
 use array_laws::windows_are_parts;
-use edge_face::Gate;
-use kind_tree::Typed;
+use data_types::Typed;
+use edge_io::Gate;
 use layout_rules::{chunks_are_tables, lawful_trees};
 use raw_array::{RawArray, windows_keep_measures};
 use stage_model::slices_are_windows;
@@ -79,7 +80,7 @@ impl SliceStep {
 fn row_count(chunk: &RawArray) -> u64
     requires { (columns : List Column) × ChunkOk (type_of_columns columns) chunk.now }
     ensures exact { result ≡ tree_items chunk.now }
-    ensures few { result ≤ 2 ^ 40 }
+    ensures few { result ≤ window_limit }
 {
     lawful_trees();
     chunk.length() as u64
@@ -87,17 +88,17 @@ fn row_count(chunk: &RawArray) -> u64
 
 /// A number of rows.
 fn signed(count: u64) -> i64
-    requires { count ≤ 2 ^ 40 }
+    requires { count ≤ window_limit }
     ensures { result ≡ pos count }
 {
     count as i64
 }
 
-/// So many rows of a chunk, from row `start` on.
+/// This many rows of a chunk, from row `start` on.
 fn cut(chunk: RawArray, start: u64, count: u64) -> RawArray
     requires chunk { (columns : List Column) × ChunkOk (type_of_columns columns) chunk }
     requires within { start + count ≤ tree_items chunk }
-    requires few { start + count ≤ 2 ^ 40 }
+    requires few { start + count ≤ window_limit }
     ensures window { result ≡ Window chunk (pos start) (pos count) }
     ensures cost { Cost result ≡ Cost chunk }
 {

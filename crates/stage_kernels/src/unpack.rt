@@ -9,10 +9,9 @@ ghost use Rattle.stage_kernels.specs.Unpacks.{UnpackFits};
 
 use crate::unpacked::unpack_column;
 use arr_export::column_schemas_are_lawful;
-use array_laws::lawful_structs_have_columns;
-use column_laws::columns_of_a_table;
-use edge_face::Gate;
-use kind_tree::Typed;
+use array_laws::{columns_of_a_table, lawful_structs_have_columns};
+use data_types::Typed;
+use edge_io::Gate;
 use raw_array::RawArray;
 use stages::{ChunkStep, OutColumns};
 use std::alloc::Global;

@@ -1,5 +1,5 @@
 //! A struct column's children, moved into its place.
-ghost use Rattle.std.specs.Prelude.{◌≡◌, ◌+◌, ◌-◌, ◌<◌, ◌≤◌, ◌^◌, ◌≤ℤ◌, ℕ, pos, [], ◌∷◌, ◌++◌, All, length, map, take, drop, vec_len, vec_capacity};
+ghost use Rattle.std.specs.Prelude.{◌≡◌, ◌+◌, ◌-◌, ◌<◌, ◌≤◌, ◌≤ℤ◌, ℕ, pos, [], ◌∷◌, ◌++◌, All, length, map, take, drop, vec_len, vec_capacity};
 ghost use Rattle.std.specs.Prelude.{if◌then◌else◌, is_ok, IfOk, MatchResult};
 ghost use Rattle.tree_model.specs.Tree.{Depth, Released, IsLive, children_of, child_at, trees, with_child};
 ghost use Rattle.raw_array.specs.Members.{ArrayTree, Cost, cost_of_all, members_of};
@@ -8,16 +8,17 @@ ghost use Rattle.unit_pass.specs.Tally.{risen};
 ghost use Rattle.unit_pass.specs.declared.pass.TheConstants.{SUPPLY};
 ghost use Rattle.layout_rules.specs.Layout.{natural};
 ghost use Rattle.arr_export.specs.ArrayTrees.{IsColumn};
-ghost use Rattle.column_laws.specs.Picking.{Unpacked, cut_children};
-ghost use Rattle.work_parts.specs.Children.{ShowsChildren};
+ghost use Rattle.array_laws.specs.Picking.{Unpacked, cut_children};
+ghost use Rattle.layout_rules.specs.Rules.{window_limit};
+ghost use Rattle.stages.specs.Children.{ShowsChildren};
 ghost use Rattle.stage_kernels.specs.Unpacks.{HasStruct, ShowsInner};
 
 use arr_export::export_table;
 use arr_move::{count_children, move_children, slice};
-use array_laws::{lawful_structs_have_columns, windows_are_parts};
-use column_laws::{
+use array_laws::{
     column_types_follow_picks, columns_can_be_taken, columns_of_a_table,
-    taken_columns_are_no_deeper, taken_columns_cost_no_more,
+    lawful_structs_have_columns, taken_columns_are_no_deeper, taken_columns_cost_no_more,
+    windows_are_parts,
 };
 use raw_array::{Gone, PartlyMoved, RawArray, release_all, windows_keep_measures};
 use std::alloc::Global;
@@ -25,7 +26,7 @@ use unit_pass::{NoMemory, Pass, SUPPLY};
 
 /// A chunk with a struct's columns in the struct's place, each cut to the items that it shows ("The Arrow C Data Interface",
 /// "Moving child arrays"). No block is made or copied. The new struct of all columns draws one unit; the old one and the
-/// emptied struct are released. On want of memory all is released.
+/// emptied struct are released. Where memory runs out all is released.
 pub(crate) fn unpack_column(
     alloc: Global,
     chunk: RawArray,
@@ -65,7 +66,7 @@ fn structs_can_be_unpacked()
         → All (IsColumn (natural (members_of chunk).length)) (children_of (Unpacked chunk place)) }
     ensures few_columns { (place : ℕ) (chunk : ArrayTree) → HasStruct place chunk → Depth chunk ≤ 128
         → length (children_of (Unpacked chunk place)) < Cost chunk }
-    ensures few_rows { (place : ℕ) (chunk : ArrayTree) → HasStruct place chunk → (members_of chunk).length ≤ℤ pos (2 ^ 40) }
+    ensures few_rows { (place : ℕ) (chunk : ArrayTree) → HasStruct place chunk → (members_of chunk).length ≤ℤ pos window_limit }
 {
     lawful_structs_have_columns();
     windows_are_parts();
@@ -76,7 +77,7 @@ fn structs_can_be_unpacked()
     taken_columns_are_no_deeper();
 }
 
-/// The columns of an array with those of a struct in its place; what is left of the array is released. On want of memory
+/// The columns of an array with those of a struct in its place; what is left of the array is released. Where memory runs out
 /// all is released.
 fn unpacked_children(
     alloc: Global,

@@ -23,20 +23,20 @@ use Rattle.stage_model.specs.declared.stage.StageText.{StageText}
 -- ---- what is asked for
 
 -- types, stages, the size of a batch, the mark for null
-pub record Asked : Type 0 where
+pub record WorkedRun : Type 0 where
   pub entries : List Entry
   pub stages : List (List ℕ)
   pub batch : ℕ
   pub mark : List ℕ
 
 -- with batches of 1024 rows, and no mark
-abbrev pub by : List Entry → List (List ℕ) → Asked
+abbrev pub by : List Entry → List (List ℕ) → WorkedRun
 by entries stages = record { entries = entries; stages = stages; batch = 1024; mark = [] }
 
-abbrev pub of_size : ℕ → Asked → Asked
+abbrev pub of_size : ℕ → WorkedRun → WorkedRun
 of_size batch asked = record { entries = asked.entries; stages = asked.stages; batch = batch; mark = asked.mark }
 
-abbrev pub marked : List ℕ → Asked → Asked
+abbrev pub marked : List ℕ → WorkedRun → WorkedRun
 marked mark asked = record { entries = asked.entries; stages = asked.stages; batch = asked.batch; mark = mark }
 
 abbrev pub asks : List ℕ → DataType → Entry
@@ -76,25 +76,25 @@ stages_read number (text ∷ rest) = with_text (stage_of text) number (stages_re
 abbrev pub written : List ℕ → List Link → Outcome
 written text links = Written text (run_blocks links) (run_nodes links)
 
-abbrev pub of_rows : Asked → List Column → List Stage → Result (List Row) RowFault → List Record → Outcome
+abbrev pub of_rows : WorkedRun → List Column → List Stage → Result (List Row) RowFault → List Record → Outcome
 of_rows asked columns stages (Err fault) records = BadRow fault
 of_rows asked columns stages (Ok rows) records =
     written (table_text asked.mark (Whole (table columns rows) stages)) (Links columns (batches_in asked.mark columns records asked.batch) stages)
 
-abbrev pub of_plan : Asked → List Column → Result (List Stage) PlanFault → List Record → Outcome
+abbrev pub of_plan : WorkedRun → List Column → Result (List Stage) PlanFault → List Record → Outcome
 of_plan asked columns (Err fault) records = BadPlan fault
 of_plan asked columns (Ok stages) records = of_rows asked columns stages (body asked.mark columns records) records
 
-abbrev pub of_header : Asked → List StageText → Result (List Column) HeaderFault → List Record → Outcome
+abbrev pub of_header : WorkedRun → List StageText → Result (List Column) HeaderFault → List Record → Outcome
 of_header asked stages (Err fault) records = BadHeader fault
 of_header asked stages (Ok columns) records = of_plan asked columns (plan_of columns stages) records
 
-abbrev pub of_stages : Asked → StagesRead → List Record → Outcome
+abbrev pub of_stages : WorkedRun → StagesRead → List Record → Outcome
 of_stages asked (Stopped number fault) records = BadStage number fault
 of_stages asked (Read stages) records = of_header asked stages (header_of asked.entries records) (behind_header records)
 
 -- what comes of a run over this input
-abbrev pub outcome : Asked → List ℕ → Outcome
+abbrev pub outcome : WorkedRun → List ℕ → Outcome
 outcome asked bytes = of_stages asked (stages_read 1 asked.stages) (records_of bytes)
 
 -- ---- the chunks of each link of a run
@@ -102,19 +102,19 @@ outcome asked bytes = of_stages asked (stages_read 1 asked.stages) (records_of b
 abbrev pub chunks_of : List Link → List (List (List Row))
 chunks_of links = map (λ link. link.chunks) links
 
-abbrev pub links_planned : Asked → List Column → Result (List Stage) PlanFault → List Record → List (List (List Row))
+abbrev pub links_planned : WorkedRun → List Column → Result (List Stage) PlanFault → List Record → List (List (List Row))
 links_planned asked columns (Err fault) records = []
 links_planned asked columns (Ok stages) records = chunks_of (Links columns (batches_in asked.mark columns records asked.batch) stages)
 
-abbrev pub links_over : Asked → List StageText → Result (List Column) HeaderFault → List Record → List (List (List Row))
+abbrev pub links_over : WorkedRun → List StageText → Result (List Column) HeaderFault → List Record → List (List (List Row))
 links_over asked stages (Err fault) records = []
 links_over asked stages (Ok columns) records = links_planned asked columns (plan_of columns stages) records
 
-abbrev pub links_read : Asked → StagesRead → List Record → List (List (List Row))
+abbrev pub links_read : WorkedRun → StagesRead → List Record → List (List (List Row))
 links_read asked (Stopped number fault) records = []
 links_read asked (Read stages) records = links_over asked stages (header_of asked.entries records) (behind_header records)
 
-abbrev pub link_rows : Asked → List ℕ → List (List (List Row))
+abbrev pub link_rows : WorkedRun → List ℕ → List (List (List Row))
 link_rows asked bytes = links_read asked (stages_read 1 asked.stages) (records_of bytes)
 
 -- a row of one number

@@ -29,7 +29,7 @@ abbrev pub sliced : ℕ → ℕ → ℕ → List Row → List Row
 sliced off len number [] = []
 sliced off len number (row ∷ rows) = if is_within off len number then row ∷ sliced off len (number + 1) rows else sliced off len (number + 1) rows
 
--- where the window begins and ends among so many rows, the first of which has this number
+-- where the window begins and ends among this many rows, the first of which has this number
 abbrev pub window_start : ℕ → ℕ → ℕ → ℕ
 window_start off number count = min (off - number) count
 

@@ -300,7 +300,7 @@ PlanFaultIs columns stages fault = plan_of columns stages ≡ Err fault
 
 -- ---- numbers of columns
 
--- the numbers of a step are those of so many columns
+-- the numbers of a step are those of this many columns
 abbrev pub FitsColumns : ℕ → Step → Type 0
 FitsColumns count (steps.Select picks) = AreWithin count picks
 FitsColumns count (steps.Slice off len) = Unit {0}

@@ -3,3 +3,4 @@ pub mod Code
 pub mod StageWords
 pub mod FaultTexts
 pub mod PlanWords
+pub mod Entries

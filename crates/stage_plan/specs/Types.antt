@@ -95,7 +95,7 @@ abbrev pub Reads : List ℕ → Result (List TypeEntry) TypesFault → Type 0
 Reads text (Ok entries) = TypesIs text entries
 Reads text (Err fault) = TypesFaultIs text fault
 
--- The answer is this one, or want of memory.
+-- The answer is this one, or out of memory.
 abbrev pub Gives : Result (Vec TypeEntry Global) TypesFault → Result (List TypeEntry) TypesFault → Type 0
 Gives (Ok entries) read = read ≡ Ok entries.items
 Gives (Err NoMemory) read = Unit {0}

@@ -122,7 +122,7 @@ fn names_in(alloc: Global, arguments: &[u8]) -> Result<Names, NoMemory>
     Ok(Names::from_vec(names))
 }
 
-/// The rows from a number on, so many.
+/// The rows from a number on, this many.
 fn read_slice(arguments: &[u8]) -> Option<StageText>
     ensures { result ≡ read_slice (cut_at comma arguments.now) }
 {

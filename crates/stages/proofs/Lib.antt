@@ -1,2 +1,12 @@
 pub mod Runs
 pub mod Turning
+pub mod PickedColumns
+pub mod DifferentPicks
+pub mod KeptColumns
+pub mod SmallSchemas
+pub mod CodedColumns
+pub mod ColumnSets
+pub mod ChunkCosts
+pub mod CutColumns
+pub mod StructChildren
+pub mod Spliced

@@ -10,8 +10,8 @@ use Rattle.data_types.specs.declared.kind.ColumnType.{ColumnType}
 use Rattle.data_types.specs.declared.row_fault.RowFault.{RowFault}
 use Rattle.tree_model.specs.Tree.{IsLive, Live, Released}
 use Rattle.raw_array.specs.Members.{ArrayTree, Cost}
-use Rattle.kind_tree.specs.ColumnKinds.{type_of_columns}
-use Rattle.kind_tree.specs.Kinds.{KindTree, TypedOk}
+use Rattle.data_types.specs.ColumnKinds.{type_of_columns}
+use Rattle.data_types.specs.KindTrees.{KindTree, TypedOk}
 use Rattle.unit_pass.specs.Tally.{Tally, risen}
 use Rattle.stream_face.specs.Calls.{Answers, Counts, IsCode, Shows}
 use Rattle.stream_face.specs.Lawful.{IsChunkOf, LawfulColumns, LawfulTables}
@@ -60,7 +60,7 @@ began-fresh s m seen later before after lawful ran fresh = record {
   no_failure = none-if s.failure (λ refusal failed. let k : None ≡ Some refusal = sym fresh.no_failure ∙ ran.failed refusal failed in cc);
 }
 
--- memory is wanted after a call that gave a chunk
+-- memory ran out after a call that gave a chunk
 pub shows-wanting : (s n : Stream) (out given : ArrayTree) (seen later : Option (List Seen)) → Shows s.joints n.joints (pos 12) out seen later
     → Shows s.joints n.joints (pos 12) given seen later
 shows-wanting s n out given seen later shows = record {

@@ -7,18 +7,18 @@ use Rattle.data_types.specs.declared.row_fault.RowFault.{RowFault}
 use Rattle.stream_face.specs.Streams.{Stream}
 use Rattle.stream_face.specs.Texts.{Refusal, wanting}
 use Rattle.stages.specs.Steps.{due_by}
-use Rattle.stages.specs.declared.stage.Word.{Word}
-use Rattle.stages.specs.declared.stage.Word.TheVariants as word
+use Rattle.stages.specs.declared.stage.LastAnswer.{LastAnswer}
+use Rattle.stages.specs.declared.stage.LastAnswer.TheVariants as word
 
--- who answered the last get call: the stage gave its schema, or wanted memory, or the stream below it answered
-abbrev pub word_said : Word → Option Refusal → Option Refusal
+-- who answered the last get call: the stage gave its schema, or ran out of memory, or the stream below it answered
+abbrev pub word_said : LastAnswer → Option Refusal → Option Refusal
 word_said word.Nothing said = None
 word_said word.Memory said = Some wanting
 word_said word.Upstream said = said
 
--- what the stage holds, shows and is refused for is the stream's below it, but for its own want of memory
+-- what the stage holds, shows and is refused for is the stream's below it, but for memory that runs out in the stage itself
 abbrev pub staged : {S : Type 0} → (S → List ColumnType) → (S → Option RowFault → List (List Row) → List (List Row)) → (S → List Row → ℕ)
-    → (S → List Row → ℕ) → S → Bool → Word → Stream → Stream
+    → (S → List Row → ℕ) → S → Bool → LastAnswer → Stream → Stream
 staged columns ahead blocks nodes step no_memory last up = record up {
   columns = map column_of (columns step);
   ahead = ahead step up.ending up.ahead;

@@ -1,5 +1,6 @@
 //! The columns after a stage, with what the making of their schema asks for.
 ghost use Rattle.std.specs.Prelude.{◌≡◌, ◌+◌, ◌≤◌, All, map, IfOk, MatchResult};
+ghost use Rattle.data_types.specs.KindTrees.{most_levels};
 ghost use Rattle.unit_pass.specs.Tally.{risen};
 ghost use Rattle.unit_pass.specs.declared.pass.TheConstants.{CHUNK};
 ghost use Rattle.data_types.specs.ColumnView.{column_of};
@@ -27,6 +28,7 @@ impl Model for OutColumns {
     ghost use Rattle.tree_model.specs.Tree.{Depth};
     ghost use Rattle.raw_schema.specs.Members.{Nodes};
     ghost use Rattle.data_types.specs.ColumnView.{column_of};
+    ghost use Rattle.data_types.specs.KindTrees.{most_levels};
     ghost use Rattle.data_types.specs.declared.kind.ColumnType.{ColumnType};
     ghost use Rattle.data_types.specs.contracts.kind.ColumnType as columns;
     ghost use Rattle.schema_check.specs.ColumnSchema.{KindsOk, SchemaOf};
@@ -38,7 +40,7 @@ impl Model for OutColumns {
     ghost view = { λ s. s.list.items };
 
     ghost invariant = { λ s. (All (λ c. KindsOk (column_of c).kind) s.list.items)
-        × (Nodes (SchemaOf (map column_of s.list.items)) ≤ CHUNK) × (Depth (SchemaOf (map column_of s.list.items)) ≤ 64) };
+        × (Nodes (SchemaOf (map column_of s.list.items)) ≤ CHUNK) × (Depth (SchemaOf (map column_of s.list.items)) ≤ most_levels) };
 }
 
 impl OutColumns {
@@ -46,7 +48,7 @@ impl OutColumns {
     pub fn new(list: Vec<ColumnType>) -> OutColumns
         requires kinds { All (λ c. KindsOk (column_of c).kind) list.items }
         requires small { Nodes (SchemaOf (map column_of list.items)) ≤ CHUNK }
-        requires not_deep { Depth (SchemaOf (map column_of list.items)) ≤ 64 }
+        requires not_deep { Depth (SchemaOf (map column_of list.items)) ≤ most_levels }
         ensures { result ≡ list.items }
     {
         OutColumns { list }
@@ -57,7 +59,7 @@ impl OutColumns {
     pub fn schema_is_small(&self)
         ensures kinds { All (λ c. KindsOk (column_of c).kind) self.now }
         ensures small { Nodes (SchemaOf (map column_of self.now)) ≤ CHUNK }
-        ensures not_deep { Depth (SchemaOf (map column_of self.now)) ≤ 64 }
+        ensures not_deep { Depth (SchemaOf (map column_of self.now)) ≤ most_levels }
     {
         let _list = &self.list;
     }

@@ -5,7 +5,7 @@ ghost use Rattle.data_types.specs.ColumnView.{column_of};
 ghost use Rattle.data_types.specs.Table.{Column, Row};
 ghost use Rattle.tree_model.specs.Tree.{IsLive, Released};
 ghost use Rattle.raw_array.specs.Members.{ArrayTree, Cost};
-ghost use Rattle.kind_tree.specs.TypedView.{typed_of};
+ghost use Rattle.data_types.specs.TypedView.{typed_of};
 ghost use Rattle.unit_pass.specs.declared.pass.TheConstants.{ROOM, SUPPLY};
 ghost use Rattle.stream_face.specs.Calls.{Answers, Counts, IsCode, IsRowFault, Repeats, Shows, Tells};
 ghost use Rattle.stream_face.specs.Lawful.{LawfulColumns};
@@ -14,8 +14,8 @@ ghost use Rattle.stream_face.specs.Streams.{IsFresh, Keeps};
 ghost use Rattle.stages.specs.Steps.{GivesNothing, GivesOut, IsNext, TakesIn, Turns, due_by, stepped};
 
 use crate::step::ChunkStep;
-use edge_face::Gate;
-use kind_tree::Typed;
+use data_types::Typed;
+use edge_io::Gate;
 use raw_array::RawArray;
 use std::alloc::Global;
 use std::thread::Threads;
@@ -45,7 +45,7 @@ fn turn<S: ChunkStep, R: Threads + Sync>(
     ensures own_nodes { (rows : List Row) → S.nodes step.new rows ≡ S.nodes step.old rows }
     ensures besides { (rows : List Row) (chunk : ArrayTree) → S.gives step.new rows chunk → S.gives step.old rows chunk }
     ensures units { pass.new.units + Cost out.new ≡ pass.old.units + Cost out.old }
-    ensures gone { OnErr result (out.new ≡ Released) }
+    ensures released { OnErr result (out.new ≡ Released) }
     ensures goes_on { IfOk result (λ done. done ≡ false → IsLive out.old × (out.new ≡ Released)) }
     ensures done { IfOk result (λ done. done ≡ true → IsLive out.old → IsLive out.new) }
     ensures rests { OnErr result (IsTrue (S.rests step.new)) }
@@ -116,11 +116,11 @@ pub(crate) fn pull<S: ChunkStep, U: ArrayStream, R: Threads + Sync, T: Tap>(
     ensures code { IfOk result IsCode }
     ensures tells { IfOk result (λ code. Tells code (meaning U.state up.new).said) }
     ensures refuses { IfOk result (λ code. code ≢ pos 0 → out.new ≡ Released) }
-    ensures gone { OnErr result (out.new ≡ Released) }
+    ensures released { OnErr result (out.new ≡ Released) }
     ensures units { pass.new.units + Cost out.new ≡ pass.old.units }
     ensures failure { OnOk result ((meaning U.state up.new).failure ≡ (meaning U.state up.new).said) }
-    ensures faulted { IfOk result (λ code. IsRowFault code (meaning U.state up.new).ending (meaning U.state up.new).fault) }
-    ensures worked { OnErr result ((meaning U.state up.old).failure ≡ None) }
+    ensures row_fault { IfOk result (λ code. IsRowFault code (meaning U.state up.new).ending (meaning U.state up.new).fault) }
+    ensures no_failure { OnErr result ((meaning U.state up.old).failure ≡ None) }
     ensures repeats { IfOk result
         (λ code. Repeats (meaning U.state up.old) (meaning U.state up.new) code pass.old pass.new (T.seen tap.old) (T.seen tap.new)) }
     ensures answers { IsFresh (meaning U.state up.old) → IfOk result

@@ -12,7 +12,7 @@ ghost use Rattle.stream_face.specs.Streams.{IsFresh, Keeps};
 use crate::pull::pull;
 use crate::step::ChunkStep;
 use data_types::RowFault;
-use edge_face::Gate;
+use edge_io::Gate;
 use raw_array::{Acted, RawArray};
 use raw_schema::RawSchema;
 use std::alloc::Global;
@@ -22,7 +22,7 @@ use unit_pass::{NoMemory, Pass, ROOM};
 
 /// Who answered the last get call: the stage itself, or the stream below it.
 #[derive(Clone, Copy)]
-pub(crate) enum Word {
+pub(crate) enum LastAnswer {
     Nothing,
     Memory,
     Upstream,
@@ -34,7 +34,7 @@ pub struct Stage<U: ArrayStream, S: ChunkStep> {
     up: RawStream<U>,
     step: S,
     no_memory: bool,
-    word: Word,
+    word: LastAnswer,
     ghost lawful: { IsTrue (meaning U.state up).live → (meaning U.state up).lawful ≡ true },
     ghost fits: { ∥ S.fits step (meaning U.state up).columns ∥₁ },
     ghost rests: { S.rests step ≡ true },
@@ -43,7 +43,7 @@ pub struct Stage<U: ArrayStream, S: ChunkStep> {
 impl<U: ArrayStream, S: ChunkStep> Stage<U, S> {
     ghost use Rattle.stages.specs.Staged.{staged};
     ghost use Rattle.stages.specs.Stages.{stage_gives, stage_state};
-    ghost use Rattle.stages.specs.declared.stage.Word.TheVariants as words;
+    ghost use Rattle.stages.specs.declared.stage.LastAnswer.TheVariants as words;
     ghost use Rattle.std.specs.Prelude.{false};
 
     /// A stage over a lawful stream. Takes no memory.
@@ -59,7 +59,7 @@ impl<U: ArrayStream, S: ChunkStep> Stage<U, S> {
             up,
             step,
             no_memory: false,
-            word: Word::Nothing,
+            word: LastAnswer::Nothing,
         }
     }
 }
@@ -73,11 +73,11 @@ impl<U: ArrayStream, S: ChunkStep> ArrayStream for Stage<U, S> {
         match self.step.after().schema(alloc, pass) {
             Ok(schema) => {
                 out.put(schema);
-                self.word = Word::Nothing;
+                self.word = LastAnswer::Nothing;
                 0
             }
             Err(NoMemory) => {
-                self.word = Word::Memory;
+                self.word = LastAnswer::Memory;
                 12
             }
         }
@@ -107,7 +107,7 @@ impl<U: ArrayStream, S: ChunkStep> ArrayStream for Stage<U, S> {
         ensures units { pass.new.units + Cost out.new ≡ pass.old.units }
         ensures failure { (stage_state U.state S.columns S.ahead S.blocks S.nodes self.new).failure
             ≡ (stage_state U.state S.columns S.ahead S.blocks S.nodes self.new).said }
-        ensures faulted { IsRowFault result (stage_state U.state S.columns S.ahead S.blocks S.nodes self.new).ending
+        ensures row_fault { IsRowFault result (stage_state U.state S.columns S.ahead S.blocks S.nodes self.new).ending
             (stage_state U.state S.columns S.ahead S.blocks S.nodes self.new).fault }
         ensures repeats { Repeats (stage_state U.state S.columns S.ahead S.blocks S.nodes self.old)
             (stage_state U.state S.columns S.ahead S.blocks S.nodes self.new) result pass.old pass.new (T.seen tap.old) (T.seen tap.new) }
@@ -125,7 +125,7 @@ impl<U: ArrayStream, S: ChunkStep> ArrayStream for Stage<U, S> {
         ensures besides { (rows : List Row) (chunk : ArrayTree) → stage_gives S.gives self.new rows chunk → stage_gives S.gives self.old rows chunk }
     {
         if self.no_memory {
-            self.word = Word::Memory;
+            self.word = LastAnswer::Memory;
             return 12;
         }
         match pull(
@@ -139,12 +139,12 @@ impl<U: ArrayStream, S: ChunkStep> ArrayStream for Stage<U, S> {
             gate,
         ) {
             Ok(code) => {
-                self.word = Word::Upstream;
+                self.word = LastAnswer::Upstream;
                 code
             }
             Err(NoMemory) => {
                 self.no_memory = true;
-                self.word = Word::Memory;
+                self.word = LastAnswer::Memory;
                 12
             }
         }
@@ -152,9 +152,9 @@ impl<U: ArrayStream, S: ChunkStep> ArrayStream for Stage<U, S> {
 
     fn get_last_error(&self) -> Option<&str> {
         match self.word {
-            Word::Nothing => None,
-            Word::Memory => Some("out of memory"),
-            Word::Upstream => self.up.last_error(),
+            LastAnswer::Nothing => None,
+            LastAnswer::Memory => Some("out of memory"),
+            LastAnswer::Upstream => self.up.last_error(),
         }
     }
 

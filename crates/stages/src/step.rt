@@ -6,14 +6,14 @@ ghost use Rattle.data_types.specs.Table.{Column, Row};
 ghost use Rattle.data_types.specs.declared.kind.ColumnType.{ColumnType};
 ghost use Rattle.data_types.specs.declared.row_fault.RowFault.{RowFault};
 ghost use Rattle.raw_array.specs.Members.{ArrayTree, Cost};
-ghost use Rattle.kind_tree.specs.TypedView.{typed_of};
+ghost use Rattle.data_types.specs.TypedView.{typed_of};
 ghost use Rattle.unit_pass.specs.declared.pass.TheConstants.{ROOM, SUPPLY};
 ghost use Rattle.stream_face.specs.Lawful.{LawfulColumns, LawfulTables};
 ghost use Rattle.stages.specs.Steps.{Finishes, IsNext, Pushes, cost_given};
 
 use crate::out_columns::OutColumns;
-use edge_face::Gate;
-use kind_tree::Typed;
+use data_types::Typed;
+use edge_io::Gate;
 use raw_array::RawArray;
 use std::alloc::Global;
 use std::thread::Threads;
@@ -25,7 +25,7 @@ use unit_pass::{NoMemory, Pass, ROOM, SUPPLY};
 /// Who adds a stage writes its rows (`fits`, `columns`, `ahead`), its counts (`blocks`, `nodes`), what its chunks have besides
 /// (`gives`; `rows_only` where that is nothing), what `push` makes of a chunk, and the law of `lawful_facts`. A step that holds
 /// nothing of chunks has `always` for `rests` and `any_tables` for `takes`, gives nothing in `finish` and does nothing in `forget`.
-/// The stream comes for nothing: its schema, the order of calls, want of memory that stays, refusals, what is shown and counted
+/// The stream comes for nothing: its schema, the order of calls, an out-of-memory that stays, refusals, what is shown and counted
 /// below ([`Stage`](crate::Stage)).
 ///
 /// After a chunk that it gave, a step holds nothing of chunks (`rests`). One that keeps something of them between two chunks that it
@@ -60,7 +60,7 @@ pub trait ChunkStep: Drop {
     fn after(&self) -> &OutColumns
         ensures { result.now ≡ columns self.now };
 
-    /// Takes a chunk, and gives one or none. On want of memory the chunk is released.
+    /// Takes a chunk, and gives one or none. Where memory runs out the chunk is released.
     fn push<R: Threads + Sync>(
         &mut self,
         chunk: RawArray,
@@ -102,7 +102,7 @@ pub trait ChunkStep: Drop {
             → IfOk result (Finishes (map column_of (columns self.old)) (blocks self.old) (nodes self.old) (gives self.old)
             (ahead self.old None []) (ahead self.new None []) (rests self.new) pass.old pass.new) };
 
-    /// Forgets what it holds of chunks, since no more will come: the stream below it was refused, or memory is wanted.
+    /// Forgets what it holds of chunks, since no more will come: the stream below it was refused, or memory ran out.
     fn forget(&mut self)
         ensures rests { IsTrue (rests self.new) }
         ensures columns { columns self.new ≡ columns self.old }

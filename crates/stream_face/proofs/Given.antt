@@ -11,7 +11,7 @@ use Rattle.data_types.specs.Kinds.{KindOk}
 use Rattle.data_types.specs.Table.{Column, Kind, Flat, Dict, Columns, Members, no_members, more_members, Row}
 use Rattle.data_types.specs.declared.kind.DataType.{DataType}
 use Rattle.data_types.specs.declared.kind.DataType.TheVariants as kinds
-use Rattle.kind_tree.specs.ColumnKinds.{type_of_columns}
+use Rattle.data_types.specs.ColumnKinds.{type_of_columns}
 use Rattle.layout_rules.specs.Values.{rows_of}
 use Rattle.raw_array.specs.Members.{ArrayTree}
 use Rattle.schema_check.specs.ColumnSchema.{SchemaOf}

@@ -8,8 +8,8 @@ use Rattle.tree_model.specs.Tree.{Tree, Released, Live, IsLive}
 use Rattle.unit_pass.specs.Tally.{Tally}
 use Rattle.raw_array.specs.Members.{ArrayTree}
 use Rattle.raw_schema.specs.Members.{SchemaTree}
-use Rattle.kind_tree.specs.Kinds.{KindTree}
-use Rattle.kind_tree.specs.ColumnKinds.{type_of_columns}
+use Rattle.data_types.specs.KindTrees.{KindTree}
+use Rattle.data_types.specs.ColumnKinds.{type_of_columns}
 use Rattle.schema_check.specs.ColumnSchema.{SchemaOf}
 use Rattle.schema_check.specs.Schemas.{TypedOf}
 use Rattle.stream_face.specs.Calls.{Answers, Begins, Repeats, Shows, Tells}

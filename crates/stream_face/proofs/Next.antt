@@ -7,7 +7,7 @@ use Rattle.std.proofs.lemmas.Bool.Decides.{eqb_tells}
 use Rattle.tree_model.specs.Tree.{Released, IsLive}
 use Rattle.raw_array.specs.Members.{ArrayTree}
 use Rattle.unit_pass.specs.Tally.{Tally}
-use Rattle.kind_tree.specs.Kinds.{KindTree}
+use Rattle.data_types.specs.KindTrees.{KindTree}
 use Rattle.stream_face.specs.Calls.{Answers, IsCode, IsRowFault, IsTold, Repeats, Shows, Tells}
 use Rattle.stream_face.specs.Failures.{why}
 use Rattle.stream_face.specs.Faults.{IsOwnFault, IsWhy, code_of}

@@ -1,4 +1,4 @@
--- What a producer's own stream proves of its calls: of a chunk that it gives, of its end, of a record at fault, of want of memory,
+-- What a producer's own stream proves of its calls: of a chunk that it gives, of its end, of a record at fault, of out of memory,
 -- and of a call that counts and shows nothing.
 use Rattle.std.proofs.Common.{◌≡◌, ◌<◌, ◌^◌, ◌∙◌, ◌⊎◌, ℕ, ℤ, pos, List, [], ◌∷◌, Option, None, Some, refl, sym, ap, subst, arith, inl, inr}
 use Rattle.std.proofs.Common.{append-nil}
@@ -47,7 +47,7 @@ row-answers s n row code out gone is ends fault said = record {
   codes = inr (inr is);
 }
 
--- want of memory
+-- out of memory
 pub wanting-answers : (s n : Stream) (code : ℤ) (out : ArrayTree) → out ≡ Released → code ≡ pos 12 → n.said ≡ Some wanting → Answers s n code out
 wanting-answers s n code out gone is said = record {
   chunk = λ live. absurd (not-released out live gone);

@@ -2,7 +2,7 @@
 use Rattle.std.specs.Prelude.{◌≡◌, ◌≢◌, ℕ, ℤ, pos, List, Option, Some, None, IsTrue}
 use Rattle.raw_array.specs.Members.{ArrayTree}
 use Rattle.raw_schema.specs.Members.{SchemaTree}
-use Rattle.kind_tree.specs.Kinds.{KindTree}
+use Rattle.data_types.specs.KindTrees.{KindTree}
 use Rattle.layout_rules.specs.Found.{fault_of}
 use Rattle.schema_check.specs.SchemaAnswers.{IsFirstFault}
 use Rattle.layout_rules.specs.Walk.{first_chunk_fault}
@@ -33,7 +33,8 @@ fault_text fault None = own_text fault
 fault_text fault (Some refusal) = refusal.text
 
 -- why a call answered a code, from what the inner stream meant before it and means after it: the inner stream refused for a
--- record, for want of memory or with another code; or what it gave is no chunk, by this first fault; or the tap wanted memory
+-- record, where memory ran out or with another code; or what it gave is no chunk, by this first fault; or the tap ran out of
+-- memory
 abbrev pub IsWhy : ℤ → KindTree → Stream → Stream → Option StreamFault → Type 0
 IsWhy code kinds before after None = code ≡ pos 0
 IsWhy code kinds before after (Some (Row fault)) = (code ≡ pos 22) × Tells code after.said × (after.fault ≡ Some fault)
@@ -51,7 +52,7 @@ IsOwnFault kinds chunk (Row fault) = ⊥
 IsOwnFault kinds chunk (Code code) = ⊥
 
 -- why a stream was not started: the code of the inner stream, or the first fault of the schema that it gave; over a lawful
--- stream only want of memory
+-- stream only out of memory
 abbrev pub IsStartFault : Stream → Option Refusal → StartFault → Type 0
 IsStartFault inner said (start.Code code) = Tells code said × (code ≢ pos 0) × IsCode code × (IsTrue inner.lawful → code ≡ pos 12)
 IsStartFault inner said (start.Schema fault) =

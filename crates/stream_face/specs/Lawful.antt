@@ -1,6 +1,7 @@
 -- What holds of a lawful stream: of its columns, of the tables that it still gives, and of each chunk that it gives.
 use Rattle.std.specs.Prelude.{◌≡◌, ◌≢◌, ◌+◌, ◌^◌, ◌<◌, ◌≤◌, ℕ, List, [], ◌∷◌, length, map, drop, get_or, All}
 use Rattle.std.specs.List.{AllByRecursion}
+use Rattle.data_types.specs.KindTrees.{most_levels}
 use Rattle.data_types.specs.declared.kind.DataType.{DataType}
 use Rattle.data_types.specs.declared.kind.DataType.TheVariants as kinds
 use Rattle.data_types.specs.ColumnForms.{AreColumnKinds}
@@ -12,7 +13,7 @@ use Rattle.tree_model.specs.Tree.{Live, Released, no_trees, absent, Depth, child
 use Rattle.raw_array.specs.Members.{ArrayTree, Cost}
 use Rattle.raw_schema.specs.Members.{Nodes}
 use Rattle.unit_pass.specs.declared.pass.TheConstants.{CHUNK}
-use Rattle.kind_tree.specs.ColumnKinds.{type_of_columns}
+use Rattle.data_types.specs.ColumnKinds.{type_of_columns}
 use Rattle.schema_check.specs.ColumnSchema.{SchemaOf}
 use Rattle.schema_check.specs.Schemas.{TypedOf}
 use Rattle.layout_rules.specs.Values.{rows_of, values_of}
@@ -59,11 +60,11 @@ pub record LawfulColumns (columns : List Column) : Type 0 where
   -- their schema passes the check, and is small
   pub typed : TypedOf (SchemaOf columns) (type_of_columns columns)
   pub small : Nodes (SchemaOf columns) ≤ CHUNK
-  pub not_deep : Depth (SchemaOf columns) ≤ 64
+  pub not_deep : Depth (SchemaOf columns) ≤ most_levels
 
 -- ---- its tables
 
--- an item of a struct that isn't null, with so many fields
+-- an item of a struct that isn't null, with this many fields
 abbrev pub HasFields : ℕ → Value → Type 0
 HasFields count (Fields vs) = length (value_list vs) ≡ count
 HasFields count _ = ⊥

@@ -4,9 +4,9 @@ use Rattle.data_types.specs.Table.{Column, Row}
 use Rattle.tree_model.specs.Tree.{Released, Live, Trees, no_trees, more_trees, MaybeTree, absent, present}
 use Rattle.raw_array.specs.Members.{ArrayTree}
 use Rattle.raw_schema.specs.Members.{SchemaMembers, SchemaTree}
-use Rattle.kind_tree.specs.Kinds.{KindTree}
+use Rattle.data_types.specs.KindTrees.{KindTree}
 use Rattle.layout_rules.specs.Values.{rows_of}
-use Rattle.kind_tree.specs.ColumnKinds.{type_of_columns}
+use Rattle.data_types.specs.ColumnKinds.{type_of_columns}
 use Rattle.schema_check.specs.ColumnSchema.{SchemaOf}
 
 abbrev mutual
@@ -53,7 +53,7 @@ abbrev pub of_link : ℕ → List Seen → List Shown
 of_link link [] = []
 of_link link (seen ∷ more) = if seen.link == link then seen.shown ∷ of_link link more else of_link link more
 
--- what a tap has seen, where it tells it, after it was shown more
+-- what a tap has seen, where it states it, after it was shown more
 abbrev pub grown : Option (List Seen) → List Seen → Option (List Seen)
 grown None more = None
 grown (Some before) more = Some (before ++ more)

@@ -26,7 +26,7 @@ pub record Stream : Type 0 where
   -- the blocks and nodes that its calls of `get_next` still count up to its end
   pub due : Traffic
   pub live : Bool
-  -- the schema that it gives, and the structure that its next call of `get_next` gives, where it tells them
+  -- the schema that it gives, and the structure that its next call of `get_next` gives, where it states them
   pub schema : Option SchemaTree
   pub chunk : Option ArrayTree
   -- the call of `get_next` that refused, if one did
@@ -36,7 +36,7 @@ pub record Stream : Type 0 where
   -- the last get call, if it refused
   pub said : Option Refusal
 
--- the stream, of which the last get call told this
+-- the stream, of which the last get call said this
 abbrev pub telling : Option Refusal → Stream → Stream
 telling said s = record s { said = said }
 

@@ -1,4 +1,4 @@
--- What is told of a get call that refused.
+-- What is said of a get call that refused.
 use Rattle.std.specs.Prelude.{ℕ, ℤ, pos, List, Option, None, Some, codes}
 use Rattle.std.specs.Borrow.{Bor}
 use Rattle.data_types.specs.declared.row_fault.RowFault.{RowFault}
@@ -16,7 +16,7 @@ memory_text = codes "out of memory"
 abbrev pub chunk_text : List ℕ
 chunk_text = codes "chunk refused"
 
--- want of memory
+-- out of memory
 abbrev pub wanting : Refusal
 wanting = record { code = pos 12; text = memory_text }
 

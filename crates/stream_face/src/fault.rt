@@ -12,7 +12,7 @@ use std::fmt;
 pub enum StartFault {
     /// The stream's own code.
     Code(i32),
-    /// The first fault of its schema, or want of memory in the check.
+    /// The first fault of its schema, or out of memory in the check.
     Schema(SchemaFault),
 }
 
@@ -25,7 +25,7 @@ pub enum StreamFault {
     Chunk(LayoutFault),
     /// The inner stream's code.
     Code(i32),
-    /// The inner stream or the tap wanted memory.
+    /// The inner stream or the tap ran out of memory.
     NoMemory,
 }
 

@@ -9,18 +9,18 @@
 //!   a stream that isn't lawful gives may be anything.
 //! - A [`RawStream`] stands at a joint. It asks a stream for its schema once and checks it; each chunk is checked under that
 //!   schema and shown to a [`Tap`] before it is handed on. What the check refuses is released, and a refusal stays.
-//! - A [`Tap`] is told of each chunk of each link.
+//! - A [`Tap`] is shown each chunk of each link.
 //!
 //! What it promises: a chunk that comes out of a [`RawStream`] passes the check, whoever made it; a refusal names its cause;
 //! the units are balanced on every outcome; over a lawful stream the check never refuses, and the answers, the counts and
 //! what is shown are those of the stream's meaning.
 //!
 //! What it leaves to others: the streams themselves, what a stage makes of the stream below it, and when a gate is passed
-//! (`edge_face`).
+//! (`edge_io`).
 #![tactic(auto)]
 
+mod checked_schema;
 mod fault;
-mod known;
 mod raw;
 mod stream;
 mod tap;

@@ -9,9 +9,9 @@ ghost use Rattle.tree_model.specs.Tree.{Released, IsLive};
 ghost use Rattle.raw_array.specs.Members.{Cost};
 ghost use Rattle.raw_schema.specs.Members.{Nodes, coded_schema};
 ghost use Rattle.schema_check.specs.ColumnSchema.{SchemaOf};
-ghost use Rattle.kind_tree.specs.Kinds.{KindTree, TypedOk};
+ghost use Rattle.data_types.specs.KindTrees.{KindTree, TypedOk};
 ghost use Rattle.schema_check.specs.Schemas.{TypedOf};
-ghost use Rattle.kind_tree.specs.TypedView.{typed_of};
+ghost use Rattle.data_types.specs.TypedView.{typed_of};
 ghost use Rattle.layout_rules.specs.Walk.{ChunkOk};
 ghost use Rattle.unit_pass.specs.Tally.{risen};
 ghost use Rattle.unit_pass.specs.declared.pass.TheConstants.{CHUNK, ROOM, SUPPLY};
@@ -27,13 +27,12 @@ ghost use Rattle.stream_face.specs.Texts.{Refusal, lent_text, text_in};
 ghost use Rattle.stream_face.specs.declared.fault.StreamFault.{StreamFault as StreamFaultValue};
 ghost use Rattle.stream_face.specs.declared.fault.StreamFault.TheVariants as faults;
 
+use crate::checked_schema::CheckedSchema;
 use crate::fault::{Failure, StartFault, StreamFault};
-use crate::known::Known;
 use crate::stream::ArrayStream;
 use crate::tap::Tap;
-use data_types::RowFault;
-use edge_face::Gate;
-use kind_tree::Typed;
+use data_types::{RowFault, Typed};
+use edge_io::Gate;
 use layout_check::{check_chunk, chunk_passes};
 use raw_array::{Acted, RawArray};
 use raw_schema::RawSchema;
@@ -45,7 +44,7 @@ use unit_pass::{CHUNK, NoMemory, Pass, ROOM, SUPPLY};
 pub struct RawStream<S: ArrayStream> {
     inner: S,
     link: u32,
-    known: Known,
+    known: CheckedSchema,
     failure: Option<Failure>,
     ghost lives: { is_live known.schema ≡ (S.state inner).live },
     ghost same: { IsTrue (S.state inner).live → IsTrue (S.state inner).lawful
@@ -95,7 +94,13 @@ fn chunk_fault(typed: &Typed, chunk: &RawArray) -> StreamFault
 }
 
 /// Checks a structure that the inner stream gave, and shows it to the tap.
-fn admits<T: Tap>(alloc: Global, known: &Known, link: u32, chunk: &RawArray, tap: &mut T) -> bool
+fn admits<T: Tap>(
+    alloc: Global,
+    known: &CheckedSchema,
+    link: u32,
+    chunk: &RawArray,
+    tap: &mut T,
+) -> bool
     requires { IsLive known.now.schema }
     ensures only { (kinds : KindTree) → TypedOf known.now.schema kinds → kinds ≡ typed_of known.now.typed }
     ensures chunk { IsTrue result → ChunkOk (typed_of known.now.typed) chunk.now }
@@ -124,7 +129,7 @@ fn refuse<S: ArrayStream>(inner: &S, code: i32, failure: &mut Option<Failure>)
 /// Releases a structure that isn't admitted, and keeps why, whose code is the answer.
 #[inline(never)]
 fn refuse_chunk(
-    known: &Known,
+    known: &CheckedSchema,
     out: &mut RawArray,
     pass: &mut Pass,
     failure: &mut Option<Failure>,
@@ -147,7 +152,7 @@ fn refuse_chunk(
 
 impl<S: ArrayStream> RawStream<S> {
     ghost use Rattle.stream_face.specs.Meaning.{below, meaning, raw_fault, raw_kinds, raw_link, raw_schema};
-    ghost use Rattle.kind_tree.specs.ColumnKinds.{type_of_columns};
+    ghost use Rattle.data_types.specs.ColumnKinds.{type_of_columns};
 
     /// Asks the inner stream for its schema, once, and checks it. On a refusal the inner stream is handed back, and all units
     /// are back.
@@ -185,7 +190,7 @@ impl<S: ArrayStream> RawStream<S> {
             schema.discard();
             return Err((inner, StartFault::Code(code)));
         }
-        match Known::of(alloc, schema) {
+        match CheckedSchema::of(alloc, schema) {
             Ok(known) => Ok(RawStream {
                 inner,
                 link,
@@ -250,7 +255,7 @@ impl<S: ArrayStream> RawStream<S> {
         ensures why { raw_fault self.old ≡ None → IsWhy result (raw_kinds self.old) (below S.state self.old) (below S.state self.new) (raw_fault self.new) }
         ensures stays { (fault : StreamFaultValue) → raw_fault self.old ≡ Some fault → (result ≡ code_of fault) × (self.new ≡ self.old) }
         ensures failure { (meaning S.state self.new).failure ≡ (meaning S.state self.new).said }
-        ensures faulted { IsRowFault result (meaning S.state self.new).ending (meaning S.state self.new).fault }
+        ensures row_fault { IsRowFault result (meaning S.state self.new).ending (meaning S.state self.new).fault }
         ensures repeats { Repeats (meaning S.state self.old) (meaning S.state self.new) result pass.old pass.new (T.seen tap.old) (T.seen tap.new) }
         ensures answers { IsFresh (meaning S.state self.old) → Answers (meaning S.state self.old) (meaning S.state self.new) result out.new }
         ensures counts { IsFresh (meaning S.state self.old) → result ≡ pos 0
@@ -328,7 +333,7 @@ impl<S: ArrayStream> RawStream<S> {
     pub fn release(&mut self, pass: &mut Pass) -> Acted
         requires { pass.old.units + kept (meaning S.state self.old) ≤ SUPPLY }
         ensures acted { result ≡ Acted.Acted ↔ IsTrue (meaning S.state self.old).live }
-        ensures gone { (meaning S.state self.new).live ≡ false }
+        ensures released { (meaning S.state self.new).live ≡ false }
         ensures schema { raw_schema self.new ≡ Released }
         ensures columns { (meaning S.state self.new).columns ≡ (meaning S.state self.old).columns }
         ensures units { pass.new.units ≡ pass.old.units + kept (meaning S.state self.old) }

@@ -12,7 +12,7 @@ ghost use Rattle.stream_face.specs.Texts.{lent_text, text_in};
 
 use crate::tap::Tap;
 use data_types::RowFault;
-use edge_face::Gate;
+use edge_io::Gate;
 use raw_array::{Acted, RawArray};
 use raw_schema::RawSchema;
 use std::alloc::Global;
@@ -60,7 +60,7 @@ pub trait ArrayStream {
         ensures told { result ≡ pos 0 → IsTold (state self.old).chunk out.new }
         ensures units { pass.new.units + Cost out.new ≡ pass.old.units }
         ensures failure { (state self.new).failure ≡ (state self.new).said }
-        ensures faulted { IsRowFault result (state self.new).ending (state self.new).fault }
+        ensures row_fault { IsRowFault result (state self.new).ending (state self.new).fault }
         ensures repeats { Repeats (state self.old) (state self.new) result pass.old pass.new (T.seen tap.old) (T.seen tap.new) }
         ensures answers { IsFresh (state self.old) → Answers (state self.old) (state self.new) result out.new }
         ensures counts { IsFresh (state self.old) → result ≡ pos 0 → Counts (state self.old).due (state self.new).due pass.old pass.new out.new }
@@ -82,7 +82,7 @@ pub trait ArrayStream {
     fn release(&mut self, pass: &mut Pass) -> Acted
         requires { pass.old.units + kept (state self.old) ≤ SUPPLY }
         ensures acted { result ≡ Acted.Acted ↔ IsTrue (state self.old).live }
-        ensures gone { (state self.new).live ≡ false }
+        ensures released { (state self.new).live ≡ false }
         ensures columns { (state self.new).columns ≡ (state self.old).columns }
         ensures units { pass.new.units ≡ pass.old.units + kept (state self.old) }
         ensures blocks { pass.new.blocks ≡ pass.old.blocks }

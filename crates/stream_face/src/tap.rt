@@ -1,19 +1,19 @@
-//! What is told of the chunks of a run.
+//! What is shown the chunks of a run.
 ghost use Rattle.std.specs.Prelude.{◌≡◌, List, Option, [], ◌∷◌, IsOk, OnErr, OnOk};
 ghost use Rattle.schema_check.specs.Schemas.{TypedOf};
-ghost use Rattle.kind_tree.specs.TypedView.{typed_of};
+ghost use Rattle.data_types.specs.TypedView.{typed_of};
 ghost use Rattle.layout_rules.specs.Walk.{ChunkOk};
 ghost use Rattle.stream_face.specs.Shown.{Seen, grown, seen_of};
 
-use kind_tree::Typed;
+use data_types::Typed;
 use raw_array::RawArray;
 use raw_schema::RawSchema;
 use std::alloc::Global;
 use unit_pass::NoMemory;
 
-/// What is told of each chunk of each link.
+/// What is shown each chunk of each link.
 pub trait Tap {
-    /// What it was shown, where it tells it.
+    /// What it was shown, where it states it.
     ghost seen: { Self → Option (List Seen) };
 
     /// Shows a chunk that passes the check under its schema, whose kinds are handed in too. After `NoMemory` nothing is
@@ -32,7 +32,7 @@ pub trait Tap {
         ensures unseen { OnErr result (seen self.new ≡ seen self.old) };
 }
 
-/// A tap that keeps nothing and tells nothing, and never wants memory.
+/// A tap that keeps nothing and states nothing, and never runs out of memory.
 #[derive(Drop)]
 pub struct NoTap;
 

@@ -7,7 +7,7 @@ ghost use Rattle.data_types.specs.Value.{Null};
 ghost use Rattle.data_types.specs.declared.kind.DataType.{DataType};
 ghost use Rattle.tree_model.specs.Tree.{IsLive, Released, child_at, dictionary_at};
 ghost use Rattle.raw_array.specs.Members.{ArrayTree};
-ghost use Rattle.kind_tree.specs.ColumnKinds.{type_of_kind};
+ghost use Rattle.data_types.specs.ColumnKinds.{type_of_kind};
 ghost use Rattle.layout_rules.specs.Values.{values_of};
 ghost use Rattle.unit_pass.specs.declared.pass.TheConstants.{ROOM};
 ghost use Rattle.stage_model.specs.Dictionary.{Dictionary};

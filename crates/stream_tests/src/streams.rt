@@ -6,10 +6,9 @@ ghost use Rattle.stream_tests.specs.Strangers.{held_in};
 
 use crate::stranger::{End, Stranger};
 use buf_block::{BufView, make};
-use data_types::RowFault;
+use data_types::{RowFault, Typed};
 use edge_io::OpenGate;
 use fmt_string::{FormatFault, FormatRule};
-use kind_tree::Typed;
 use layout_check::count_rows;
 use layout_rules::{LayoutFault, LayoutRule};
 use raw_array::{Acted, ArrayParts, RawArray, ReleaseKind};
@@ -56,7 +55,7 @@ fn few_levels(rt: &impl Abort, children: &[RawArray])
     }
 }
 
-/// An array of so many items and nulls.
+/// An array of this many items and nulls.
 pub(crate) fn array(
     rt: &impl Abort,
     alloc: Global,

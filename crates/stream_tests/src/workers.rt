@@ -1,13 +1,12 @@
 //! A small chunk read by workers, side by side and in turn.
 ghost use Rattle.std.specs.Prelude.{◌≡◌};
-ghost use Rattle.kind_tree.specs.Kinds.{TypedOk};
-ghost use Rattle.kind_tree.specs.TypedView.{typed_of};
+ghost use Rattle.data_types.specs.KindTrees.{TypedOk};
+ghost use Rattle.data_types.specs.TypedView.{typed_of};
 
 use buf_block::{BufView, make};
-use data_types::DataType;
+use data_types::{DataType, Typed};
 use edge_io::{Gate, OpenGate};
-use fan_out::{Job, fan_out};
-use kind_tree::Typed;
+use fan_out::{Job, Workers, fan_out};
 use layout_check::{check_chunk, chunk_passes};
 use raw_array::{ArrayParts, RawArray, ReleaseKind};
 use std::alloc::Global;
@@ -18,7 +17,7 @@ use std::thread;
 use std::thread::Threads;
 use unit_pass::{Desk, NoMemory, Pass, SUPPLY, open_desk};
 
-/// Answers its window, but that memory is wanting for the one that ends at a row.
+/// Answers its window, but that memory runs out for the one that ends at a row.
 #[derive(Drop)]
 struct Window {
     short_at: i64,
@@ -45,7 +44,7 @@ impl Job for Window {
     }
 }
 
-/// Worker 1 raises its flag, and worker 0 looks for it, so many times at most, and notes whether it saw it. Workers that run
+/// Worker 1 raises its flag, and worker 0 looks for it, this many times at most, and notes whether it saw it. Workers that run
 /// one after another never show it, since worker 0 has then gone on before worker 1 comes.
 #[derive(Drop)]
 struct Meet {
@@ -119,14 +118,14 @@ fn two_rows(rt: &impl Abort, alloc: Global, pass: &mut Pass) -> RawArray {
     }
 }
 
-/// What workers told of a chunk: the answers in order, or none for want of memory, and the least amount that is left.
+/// What workers told of a chunk: the answers in order, or none where memory ran out, and the least amount that is left.
 #[derive(Debug, PartialEq, Drop)]
 struct Told {
     windows: Option<Vec<(i64, i64)>>,
     least: u64,
 }
 
-/// The windows of so many workers on a chunk, which is checked again afterwards, as the units are.
+/// The windows of this many workers on a chunk, which is checked again afterwards, as the units are.
 fn windows<R: Threads + Abort + Sync>(
     rt: &R,
     alloc: Global,
@@ -141,7 +140,16 @@ fn windows<R: Threads + Abort + Sync>(
     assert!(rt; check_chunk(&typed, chunk).is_ok());
     assert!(rt; chunk.cost() <= 1000 && pass.units() >= 64000);
     let units = pass.units();
-    let answers = fan_out(rt, alloc, chunk, &typed, workers, pass, job, gate);
+    let answers = fan_out(
+        rt,
+        alloc,
+        chunk,
+        &typed,
+        Workers { count: workers },
+        pass,
+        job,
+        gate,
+    );
     assert!(rt; pass.units() == units);
     assert!(rt; chunk_passes(&typed, chunk));
     Told {
@@ -157,14 +165,14 @@ fn end(rt: &impl Abort, tree: RawArray, pass: &mut Pass) {
     tree.end(pass);
 }
 
-/// Closes the desk over one block and so many nodes.
+/// Closes the desk over one block and this many nodes.
 fn close(rt: &impl Abort, desk: Desk, pass: Pass, nodes: u64) {
     assert!(rt; pass.units() == SUPPLY);
     let audit = desk.close(pass);
     assert_eq!(rt; [audit.blocks, audit.nodes], [1, nodes]);
 }
 
-/// The windows of so many workers on a table of two rows.
+/// The windows of this many workers on a table of two rows.
 fn windows_on_two_rows<R: Threads + Abort + Sync>(
     rt: &R,
     alloc: Global,

@@ -11,7 +11,7 @@ ghost use Rattle.unit_pass.specs.declared.pass.TheConstants.{SUPPLY};
 use crate::columns::{item_of, tell_finished};
 use crate::subject::{no_memory, text_of};
 use crate::times::take_words;
-use crate::told::Told;
+use crate::transcript::Transcript;
 use col_build::{Builder, Item, PushFault};
 use data_types::{DataType, Storage, clone_kind, is_flat, storage_of};
 use fmt_string::read_format;
@@ -99,7 +99,7 @@ fn take_one(
     }
 }
 
-/// Takes so many items, those that the words spell round and round.
+/// Takes this many items, those that the words spell round and round.
 fn take_round(
     kind: &DataType,
     pushed: &mut Builder,
@@ -119,14 +119,14 @@ fn take_round(
     Ok(())
 }
 
-/// Tells a column of so many items, begun with this room.
+/// Tells a column of this many items, begun with this room.
 fn tell_round(
     alloc: Global,
     kind: DataType,
     room: usize,
     count: usize,
     words: &[Vec<u8>],
-    told: &mut Told,
+    told: &mut Transcript,
     pass: &mut Pass,
 ) -> io::Result<()>
     requires kind { KindOk kind }
@@ -160,8 +160,12 @@ fn number_of(word: &[u8]) -> usize
     number.min(100_000)
 }
 
-/// `added FORMAT ROOM COUNT ITEM..`: a column with room for so many items, to which so many are added, these round and round.
-pub(crate) fn tell_added(alloc: Global, words: &[Vec<u8>], told: &mut Told) -> io::Result<()> {
+/// `added FORMAT ROOM COUNT ITEM..`: a column with room for this many items, to which this many are added, these round and round.
+pub(crate) fn tell_added(
+    alloc: Global,
+    words: &[Vec<u8>],
+    told: &mut Transcript,
+) -> io::Result<()> {
     let [format, room, count, items @ ..] = words else {
         return Ok(told.fault(alloc, "a format, a room, a count and items")?);
     };
@@ -180,13 +184,13 @@ pub(crate) fn tell_added(alloc: Global, words: &[Vec<u8>], told: &mut Told) -> i
     Ok(told.made(alloc, &audit)?)
 }
 
-/// Tells a column of items that are each added so many times.
+/// Tells a column of items that are each added this many times.
 fn tell_repeated(
     alloc: Global,
     kind: DataType,
     times: usize,
     words: &[Vec<u8>],
-    told: &mut Told,
+    told: &mut Transcript,
     pass: &mut Pass,
 ) -> io::Result<()>
     requires kind { KindOk kind }
@@ -210,8 +214,12 @@ fn tell_repeated(
     }
 }
 
-/// `times FORMAT COUNT ITEM..`: a column to which each of these items is added so many times by one call.
-pub(crate) fn tell_times(alloc: Global, words: &[Vec<u8>], told: &mut Told) -> io::Result<()> {
+/// `times FORMAT COUNT ITEM..`: a column to which each of these items is added this many times by one call.
+pub(crate) fn tell_times(
+    alloc: Global,
+    words: &[Vec<u8>],
+    told: &mut Transcript,
+) -> io::Result<()> {
     let [format, count, items @ ..] = words else {
         return Ok(told.fault(alloc, "a format, a count and items")?);
     };

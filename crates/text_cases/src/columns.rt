@@ -11,17 +11,17 @@ ghost use Rattle.col_build.specs.Holding.{Holds, HoldsFew, HoldsSome};
 
 use crate::formats::hex_of;
 use crate::subject::{no_memory, text_of};
-use crate::told::Told;
+use crate::transcript::Transcript;
 use buf_block::{BufView, let_go_all};
 use case_text::spelling_of;
-use col_build::{Builder, Built, Item, PushFault, is_text};
+use col_build::{Builder, FinishedColumn, Item, PushFault, SpareBuffers, is_text};
 use data_types::{DataType, is_flat};
 use fmt_string::read_format;
 use made_table::made;
 use std::alloc::Global;
 use std::io;
 use std::str::from_utf8;
-use unit_pass::{Pass, open_desk};
+use unit_pass::{NoMemory, Pass, open_desk};
 
 /// The most items of a column.
 const MOST_ITEMS: i64 = 1000;
@@ -83,7 +83,12 @@ fn has_room(builder: &Builder) -> bool
 }
 
 /// Adds the item that a word spells, or tells why it isn't taken. Behind `"` it is a text that isn't tested again.
-fn push_word(alloc: Global, builder: &mut Builder, word: &[u8], told: &mut Told) -> io::Result<()>
+fn push_word(
+    alloc: Global,
+    builder: &mut Builder,
+    word: &[u8],
+    told: &mut Transcript,
+) -> io::Result<()>
     requires { HoldsSome builder.old }
     ensures { HoldsSome builder.new }
 {
@@ -112,7 +117,7 @@ fn push_words(
     alloc: Global,
     builder: &mut Builder,
     words: &[Vec<u8>],
-    told: &mut Told,
+    told: &mut Transcript,
 ) -> io::Result<()>
     requires { HoldsSome builder.old }
     ensures { HoldsSome builder.new }
@@ -128,7 +133,7 @@ fn tell_buffers(
     alloc: Global,
     counts: (i64, i64),
     buffers: &[Option<BufView>],
-    told: &mut Told,
+    told: &mut Transcript,
 ) -> io::Result<()> {
     let mut line = format!(in alloc; "{} items, {} null:", counts.0, counts.1)?;
     for buffer in buffers {
@@ -162,7 +167,7 @@ fn tell_long_buffers(
     alloc: Global,
     counts: (i64, i64),
     buffers: &[Option<BufView>],
-    told: &mut Told,
+    told: &mut Transcript,
 ) -> io::Result<()> {
     let mut text = format!(in alloc; "{} items, {} null", counts.0, counts.1)?;
     for buffer in buffers {
@@ -175,23 +180,22 @@ fn tell_long_buffers(
     Ok(told.text(alloc, text.as_bytes())?)
 }
 
-/// Tells a column, and lets it go. Where it is long, its buffers stand in lines of their own.
-fn tell_built(
+/// Tells a finished column, and lets it go. Where it is long, its buffers stand in lines of their own.
+fn tell_column(
     alloc: Global,
-    built: Built,
+    column: FinishedColumn,
     is_long: bool,
-    told: &mut Told,
+    told: &mut Transcript,
     pass: &mut Pass,
 ) -> io::Result<()>
-    requires { (kind : DataType) × (values : List Value) × IsEncoded built kind values × (pass.old.units + blocks_of kind values ≡ SUPPLY) }
+    requires { (kind : DataType) × (values : List Value) × IsEncoded column kind values × (pass.old.units + blocks_of kind values ≡ SUPPLY) }
     ensures { pass.new.units ≡ SUPPLY }
 {
-    let Built {
-        kind: _,
+    let FinishedColumn {
         length,
         null_count,
         buffers,
-    } = built;
+    } = column;
     let counts = (length, null_count);
     let came = if is_long {
         tell_long_buffers(alloc, counts, &buffers, told)
@@ -207,16 +211,17 @@ pub(crate) fn tell_finished(
     alloc: Global,
     builder: Builder,
     is_long: bool,
-    told: &mut Told,
+    told: &mut Transcript,
     pass: &mut Pass,
 ) -> io::Result<()>
     requires holds { HoldsSome builder }
     requires units { pass.old.units ≡ SUPPLY }
     ensures { pass.new.units ≡ SUPPLY }
 {
-    match builder.finish(alloc, pass) {
-        Ok(built) => tell_built(alloc, built, is_long, told, pass),
-        Err((_builder, _no_memory)) => Err(no_memory()),
+    let mut builder = builder;
+    match builder.finish(alloc, &mut SpareBuffers::new(alloc), pass) {
+        Ok(column) => tell_column(alloc, column, is_long, told, pass),
+        Err(NoMemory) => Err(no_memory()),
     }
 }
 
@@ -225,7 +230,7 @@ fn tell_filled(
     alloc: Global,
     kind: DataType,
     words: &[Vec<u8>],
-    told: &mut Told,
+    told: &mut Transcript,
     pass: &mut Pass,
 ) -> io::Result<()>
     requires kind { KindOk kind }
@@ -243,7 +248,7 @@ pub(crate) fn tell_column_of(
     alloc: Global,
     format: &[u8],
     words: &[Vec<u8>],
-    told: &mut Told,
+    told: &mut Transcript,
 ) -> io::Result<()> {
     let kind = match read_format(alloc, format) {
         Ok(kind) => kind,
@@ -260,7 +265,7 @@ pub(crate) fn tell_column_of(
 }
 
 /// `utf8 TEXT`: whether the bytes are a text.
-pub(crate) fn tell_utf8(alloc: Global, text: &[u8], told: &mut Told) -> io::Result<()> {
+pub(crate) fn tell_utf8(alloc: Global, text: &[u8], told: &mut Transcript) -> io::Result<()> {
     if is_text(text) {
         Ok(told.answer(alloc, "text")?)
     } else {
@@ -268,8 +273,8 @@ pub(crate) fn tell_utf8(alloc: Global, text: &[u8], told: &mut Told) -> io::Resu
     }
 }
 
-/// `made N`: the table of so many rows.
-pub(crate) fn tell_made(alloc: Global, number: &[u8], told: &mut Told) -> io::Result<()> {
+/// `made N`: the table of N rows.
+pub(crate) fn tell_made(alloc: Global, number: &[u8], told: &mut Transcript) -> io::Result<()> {
     match made(alloc, text_of(number).parse().unwrap_or(0)) {
         Ok(text) => Ok(told.text(alloc, text.as_slice())?),
         Err(_no_memory) => Err(no_memory()),

@@ -1,12 +1,16 @@
 //! The words of a command line.
 use crate::subject::text_of;
-use crate::told::Told;
+use crate::transcript::Transcript;
+use run_model::{WordsError, read_words};
 use std::alloc::Global;
 use std::io;
-use words::{WordsError, read_words};
 
 /// `words WORD..`: what the words ask for, as it is printed, or the fault, behind which `audit` stands where that is asked for.
-pub(crate) fn tell_words(alloc: Global, words: &[Vec<u8>], told: &mut Told) -> io::Result<()> {
+pub(crate) fn tell_words(
+    alloc: Global,
+    words: &[Vec<u8>],
+    told: &mut Transcript,
+) -> io::Result<()> {
     let mut texts = Vec::new(alloc);
     for word in words {
         texts.push(String::from_str(alloc, text_of(word.as_slice()))?)?;

@@ -1,6 +1,6 @@
 //! Format strings, the types that they spell, and digits in pairs.
 use crate::subject::no_memory;
-use crate::told::Told;
+use crate::transcript::Transcript;
 use case_text::spelling_of;
 use data_types::{clone_kind, decode_hex, is_column_type, is_flat, storage_of};
 use fmt_string::{read_format, write_format};
@@ -17,7 +17,7 @@ pub(crate) fn hex_of(alloc: Global, bytes: &[u8]) -> Result<String, AllocError> 
 }
 
 /// `format TEXT`: the one spelling of a copy of the type, or the fault.
-pub(crate) fn tell_format(alloc: Global, text: &[u8], told: &mut Told) -> io::Result<()> {
+pub(crate) fn tell_format(alloc: Global, text: &[u8], told: &mut Transcript) -> io::Result<()> {
     let kind = match read_format(alloc, text) {
         Ok(kind) => kind,
         Err(fault) => return Ok(told.fault(alloc, fault.to_string(alloc)?.as_str())?),
@@ -32,7 +32,7 @@ pub(crate) fn tell_format(alloc: Global, text: &[u8], told: &mut Told) -> io::Re
 }
 
 /// `type TEXT`: the type, as it is printed, or the fault.
-pub(crate) fn tell_type(alloc: Global, text: &[u8], told: &mut Told) -> io::Result<()> {
+pub(crate) fn tell_type(alloc: Global, text: &[u8], told: &mut Transcript) -> io::Result<()> {
     match read_format(alloc, text) {
         Ok(kind) => Ok(told.answer(alloc, format!(in alloc; "{kind:?}")?.as_str())?),
         Err(fault) => Ok(told.fault(alloc, fault.to_string(alloc)?.as_str())?),
@@ -40,7 +40,7 @@ pub(crate) fn tell_type(alloc: Global, text: &[u8], told: &mut Told) -> io::Resu
 }
 
 /// `flat TEXT`: whether fields of text spell the type, and whether a column may be asked to have it.
-pub(crate) fn tell_flat(alloc: Global, text: &[u8], told: &mut Told) -> io::Result<()> {
+pub(crate) fn tell_flat(alloc: Global, text: &[u8], told: &mut Transcript) -> io::Result<()> {
     match read_format(alloc, text) {
         Ok(kind) => {
             let flat = if is_flat(&kind) { "flat" } else { "not flat" };
@@ -56,7 +56,7 @@ pub(crate) fn tell_flat(alloc: Global, text: &[u8], told: &mut Told) -> io::Resu
 }
 
 /// `storage TEXT`: how the values of the type are stored.
-pub(crate) fn tell_storage(alloc: Global, text: &[u8], told: &mut Told) -> io::Result<()> {
+pub(crate) fn tell_storage(alloc: Global, text: &[u8], told: &mut Transcript) -> io::Result<()> {
     match read_format(alloc, text) {
         Ok(kind) => {
             let storage = storage_of(&kind);
@@ -67,7 +67,7 @@ pub(crate) fn tell_storage(alloc: Global, text: &[u8], told: &mut Told) -> io::R
 }
 
 /// `hex TEXT`: the bytes that the text's pairs of digits are, in lower case again.
-pub(crate) fn tell_hex(alloc: Global, text: &[u8], told: &mut Told) -> io::Result<()> {
+pub(crate) fn tell_hex(alloc: Global, text: &[u8], told: &mut Transcript) -> io::Result<()> {
     let mut room = Vec::new(alloc);
     room.resize(text.len() / 2, 0)?;
     if decode_hex(text, room.as_mut_slice()) {

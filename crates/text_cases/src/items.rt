@@ -3,7 +3,7 @@ ghost use Rattle.std.specs.Prelude.{◌≤ℤ◌, ◌<ℤ◌, pos};
 ghost use Rattle.arr_import.specs.Window.{IsStruct};
 ghost use Rattle.arr_import.specs.Cols.{window_of};
 
-use crate::told::Told;
+use crate::transcript::Transcript;
 use arr_import::{Col, ValueRef};
 use case_text::spelling_of;
 use std::alloc::{AllocError, Global};
@@ -13,7 +13,7 @@ use std::io;
 const LEVELS: u8 = 9;
 
 /// Tells the items of a column, each in a line.
-pub(crate) fn tell_column(alloc: Global, col: &Col<'_>, told: &mut Told) -> io::Result<()> {
+pub(crate) fn tell_column(alloc: Global, col: &Col<'_>, told: &mut Transcript) -> io::Result<()> {
     if col.len() == 0 {
         return Ok(told.answer(alloc, "no items")?);
     }

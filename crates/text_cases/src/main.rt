@@ -18,7 +18,7 @@ mod spellings;
 mod stages;
 mod subject;
 mod times;
-mod told;
+mod transcript;
 mod trees;
 mod ways;
 
@@ -27,7 +27,7 @@ use std::alloc::{AllocError, Global};
 use std::io;
 use std::io::{Error, ErrorKind};
 use subject::run_subject;
-use told::Told;
+use transcript::Transcript;
 
 /// The input that the lines of a case spell. None where one of them spells none.
 fn input_of(alloc: Global, case: &Case) -> Result<Option<Vec<u8>>, AllocError> {
@@ -47,8 +47,8 @@ fn not_understood(rt: &impl Print, line: &str) -> io::Result<()> {
 }
 
 /// Runs a case, and says what came of it.
-fn run(rt: &impl Print, alloc: Global, case: &Case) -> io::Result<Told> {
-    let mut told = Told::new(alloc);
+fn run(rt: &impl Print, alloc: Global, case: &Case) -> io::Result<Transcript> {
+    let mut told = Transcript::new(alloc);
     match (case.words(alloc)?, input_of(alloc, case)?) {
         (Some(words), Some(input)) => {
             run_subject(alloc, words.as_slice(), input.as_slice(), &mut told)?;

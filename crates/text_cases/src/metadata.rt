@@ -1,7 +1,7 @@
 //! Metadata of schemas: their pairs, and the bytes of these.
 use crate::formats::hex_of;
 use crate::subject::no_memory;
-use crate::told::Told;
+use crate::transcript::Transcript;
 use data_types::decode_hex;
 use schema_meta::{MetaFault, Pair, check_meta, read_meta, write_meta};
 use std::alloc::{AllocError, Global};
@@ -29,7 +29,7 @@ fn tell_faults(
     alloc: Global,
     fault: MetaFault,
     checked: Result<(), MetaFault>,
-    told: &mut Told,
+    told: &mut Transcript,
 ) -> io::Result<()> {
     told.fault(alloc, fault.to_string(alloc)?.as_str())?;
     if checked != Err(fault) {
@@ -39,7 +39,12 @@ fn tell_faults(
 }
 
 /// Tells the pairs, and that they are written as these bytes, or as which others.
-fn tell_pairs(alloc: Global, bytes: &[u8], pairs: &[Pair], told: &mut Told) -> io::Result<()> {
+fn tell_pairs(
+    alloc: Global,
+    bytes: &[u8],
+    pairs: &[Pair],
+    told: &mut Transcript,
+) -> io::Result<()> {
     let mut text = Vec::new(alloc);
     for pair in pairs {
         text.extend_from_slice(pair.key.as_slice())?;
@@ -61,7 +66,7 @@ fn tell_pairs(alloc: Global, bytes: &[u8], pairs: &[Pair], told: &mut Told) -> i
 }
 
 /// `meta`, with the digits of the bytes as input: the pairs, or the fault with its place.
-pub(crate) fn tell_metadata(alloc: Global, input: &[u8], told: &mut Told) -> io::Result<()> {
+pub(crate) fn tell_metadata(alloc: Global, input: &[u8], told: &mut Transcript) -> io::Result<()> {
     let Some(bytes) = bytes_of_lines(alloc, input)? else {
         return Ok(told.fault(alloc, "no pairs of digits")?);
     };

@@ -1,12 +1,12 @@
 //! What the lines of a transcript are, and the bytes that they spell.
 use crate::formats::hex_of;
-use crate::told::Told;
+use crate::transcript::Transcript;
 use case_text::{Line, line_of, push_input, read_bytes, spelling_of};
 use std::alloc::{AllocError, Global};
 use std::io;
 
 /// `spells TEXT`: the bytes that a text spells, as digits.
-pub(crate) fn tell_spelled(alloc: Global, text: &str, told: &mut Told) -> io::Result<()> {
+pub(crate) fn tell_spelled(alloc: Global, text: &str, told: &mut Transcript) -> io::Result<()> {
     match read_bytes(alloc, text)? {
         Some(bytes) => {
             let digits = hex_of(alloc, bytes.as_slice())?;
@@ -17,7 +17,7 @@ pub(crate) fn tell_spelled(alloc: Global, text: &str, told: &mut Told) -> io::Re
 }
 
 /// `spelling BYTES`: the text that spells bytes, which is read as them again.
-pub(crate) fn tell_spelling(alloc: Global, bytes: &[u8], told: &mut Told) -> io::Result<()> {
+pub(crate) fn tell_spelling(alloc: Global, bytes: &[u8], told: &mut Transcript) -> io::Result<()> {
     let text = spelling_of(alloc, bytes)?;
     told.answer(alloc, text.as_str())?;
     match read_bytes(alloc, text.as_str())? {
@@ -39,7 +39,7 @@ fn kind_of(alloc: Global, line: Line<'_>) -> Result<String, AllocError> {
 }
 
 /// `line TEXT`: what a line of a transcript is, and the input that it spells where it is a part of a case.
-pub(crate) fn tell_line(alloc: Global, text: &str, told: &mut Told) -> io::Result<()> {
+pub(crate) fn tell_line(alloc: Global, text: &str, told: &mut Transcript) -> io::Result<()> {
     told.answer(alloc, kind_of(alloc, line_of(text))?.as_str())?;
     let Line::Part(part) = line_of(text) else {
         return Ok(());
@@ -57,7 +57,7 @@ pub(crate) fn tell_given(
     alloc: Global,
     words: &[Vec<u8>],
     input: &[u8],
-    told: &mut Told,
+    told: &mut Transcript,
 ) -> io::Result<()> {
     let mut line = String::from_str(alloc, "words:")?;
     for word in words {

@@ -5,7 +5,7 @@ ghost use Rattle.data_types.specs.ColumnView.{kind_of};
 ghost use Rattle.data_types.specs.Kinds.{KindOk};
 
 use crate::subject::{no_memory, text_of};
-use crate::told::Told;
+use crate::transcript::Transcript;
 use case_text::spelling_of;
 use data_types::{ColKind, ColumnType, clone_kind};
 use stage_plan::{StageText, TypeEntry, read_stage, read_types, type_plan};
@@ -14,7 +14,7 @@ use std::io;
 use unit_pass::Name;
 
 /// `stage TEXT`: the stage, as it is printed, or the fault.
-pub(crate) fn tell_stage(alloc: Global, text: &str, told: &mut Told) -> io::Result<()> {
+pub(crate) fn tell_stage(alloc: Global, text: &str, told: &mut Transcript) -> io::Result<()> {
     match read_stage(alloc, text) {
         Ok(stage) => Ok(told.answer(alloc, format!(in alloc; "{stage:?}")?.as_str())?),
         Err(fault) => Ok(told.fault(alloc, fault.to_string(alloc)?.as_str())?),
@@ -22,7 +22,7 @@ pub(crate) fn tell_stage(alloc: Global, text: &str, told: &mut Told) -> io::Resu
 }
 
 /// `types TEXT`: the name and the type of each entry, or the first entry at fault.
-pub(crate) fn tell_types(alloc: Global, text: &str, told: &mut Told) -> io::Result<()> {
+pub(crate) fn tell_types(alloc: Global, text: &str, told: &mut Transcript) -> io::Result<()> {
     let entries = match read_types(alloc, text) {
         Ok(entries) => entries,
         Err(fault) => return Ok(told.fault(alloc, fault.to_string(alloc)?.as_str())?),
@@ -81,7 +81,7 @@ pub(crate) fn tell_plan(
     alloc: Global,
     types: &str,
     texts: &[Vec<u8>],
-    told: &mut Told,
+    told: &mut Transcript,
 ) -> io::Result<()> {
     let Ok(entries) = read_types(alloc, types) else {
         return Ok(told.fault(alloc, "no types")?);
@@ -100,7 +100,7 @@ fn tell_columns(
     alloc: Global,
     columns: Vec<ColumnType>,
     stages: &[StageText],
-    told: &mut Told,
+    told: &mut Transcript,
 ) -> io::Result<()>
     requires kinds { All (λ c. KindsOk (kind_of c.kind)) columns.items }
     requires few { length stages.now < 100 }

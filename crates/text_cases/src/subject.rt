@@ -6,8 +6,8 @@ use crate::formats::{tell_flat, tell_format, tell_hex, tell_storage, tell_type};
 use crate::metadata::tell_metadata;
 use crate::spellings::{tell_given, tell_line, tell_spelled, tell_spelling};
 use crate::stages::{tell_plan, tell_stage, tell_types};
-use crate::told::Told;
-use crate::trees::{Asked, Read, tell_check, tell_items, tell_places, tell_tree};
+use crate::transcript::Transcript;
+use crate::trees::{Read, TreeCase, tell_check, tell_items, tell_places, tell_tree};
 use std::alloc::Global;
 use std::io;
 use std::io::{Error, ErrorKind};
@@ -28,7 +28,7 @@ pub(crate) fn run_subject(
     alloc: Global,
     words: &[Vec<u8>],
     input: &[u8],
-    told: &mut Told,
+    told: &mut Transcript,
 ) -> io::Result<()> {
     let Some((name, words)) = words.split_first() else {
         return Ok(told.fault(alloc, "what is called?")?);
@@ -53,10 +53,10 @@ pub(crate) fn run_subject(
         "times" => tell_times(alloc, words, told),
         "utf8" => tell_utf8(alloc, first, told),
         "made" => tell_made(alloc, first, told),
-        "tree" => tell_tree(alloc, input, Asked::Report, told),
-        "verdict" => tell_tree(alloc, input, Asked::Verdict, told),
+        "tree" => tell_tree(alloc, input, TreeCase::Report, told),
+        "verdict" => tell_tree(alloc, input, TreeCase::Verdict, told),
         "places" => tell_places(alloc, input, told),
-        "chunk" => tell_tree(alloc, input, Asked::Chunk, told),
+        "chunk" => tell_tree(alloc, input, TreeCase::Chunk, told),
         "check" => tell_check(alloc, input, told),
         "items" => tell_items(alloc, input, Read::Items, told),
         "ways" => tell_items(alloc, input, Read::Ways, told),

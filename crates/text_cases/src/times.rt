@@ -28,7 +28,7 @@ fn push_one(pushed: &mut Builder, item: Item<'_>) -> io::Result<()>
     }
 }
 
-/// Pushes an item so many times to a column, which tries it each time.
+/// Pushes an item this many times to a column, which tries it each time.
 fn push_each(pushed: &mut Builder, item: Item<'_>, times: usize) -> io::Result<()>
     requires room { (kind : AType) × (values : List Value) × Holds pushed.old kind values × (length values + times ≤ 2 ^ 40) }
     ensures pushed { OnOk result (AddsTimes (value_of item.entry) times pushed.old pushed.new) }
@@ -41,7 +41,7 @@ fn push_each(pushed: &mut Builder, item: Item<'_>, times: usize) -> io::Result<(
     Ok(())
 }
 
-/// Adds an item so many times at once to a column, behind as many pushes to another of the same items.
+/// Adds an item this many times at once to a column, behind as many pushes to another of the same items.
 fn take_times(
     pushed: &mut Builder,
     added: &mut Builder,
@@ -60,7 +60,7 @@ fn take_times(
     }
 }
 
-/// Takes the items that the words spell, each so many times.
+/// Takes the items that the words spell, each this many times.
 pub(crate) fn take_words(
     pushed: &mut Builder,
     added: &mut Builder,

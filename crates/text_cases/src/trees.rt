@@ -6,7 +6,7 @@ ghost use Rattle.unit_pass.specs.declared.pass.TheConstants.{SUPPLY};
 
 use crate::items::tell_column;
 use crate::subject::no_memory;
-use crate::told::Told;
+use crate::transcript::Transcript;
 use crate::ways::tell_ways_of;
 use arr_import::Col;
 use layout_check::{check_array, check_chunk, chunk_passes, nulls_of};
@@ -20,9 +20,9 @@ use tree_import::{ImportFault, import};
 use tree_text::{TextFault, read_tree, report};
 use unit_pass::{Pass, open_desk};
 
-/// What is told of a tree that is lawful.
+/// What is written of a tree that is lawful.
 #[derive(Clone, Copy)]
-pub(crate) enum Asked {
+pub(crate) enum TreeCase {
     /// A line for each node, and what was made.
     Report,
     /// That it is lawful.
@@ -32,12 +32,12 @@ pub(crate) enum Asked {
 }
 
 /// Tells the fault of a text.
-fn tell_text_fault(alloc: Global, fault: TextFault, told: &mut Told) -> io::Result<()> {
+fn tell_text_fault(alloc: Global, fault: TextFault, told: &mut Transcript) -> io::Result<()> {
     Ok(told.fault(alloc, fault.to_string(alloc)?.as_str())?)
 }
 
 /// Tells the fault of a schema, with what is wrong in a format string or in metadata.
-fn tell_schema_fault(alloc: Global, fault: &SchemaFault, told: &mut Told) -> io::Result<()> {
+fn tell_schema_fault(alloc: Global, fault: &SchemaFault, told: &mut Transcript) -> io::Result<()> {
     let mut text = fault.to_string(alloc)?;
     match fault {
         SchemaFault::At {
@@ -58,8 +58,8 @@ fn tell_checked(
     alloc: Global,
     schema: &RawSchema,
     array: &RawArray,
-    asked: Asked,
-    told: &mut Told,
+    asked: TreeCase,
+    told: &mut Transcript,
 ) -> io::Result<()> {
     let typed = match check_schema(alloc, schema) {
         Ok(typed) => typed,
@@ -69,12 +69,12 @@ fn tell_checked(
         return Ok(told.fault(alloc, fault.to_string(alloc)?.as_str())?);
     }
     match asked {
-        Asked::Verdict => Ok(told.answer(alloc, "ok")?),
-        Asked::Report => match report(alloc, &typed, array) {
+        TreeCase::Verdict => Ok(told.answer(alloc, "ok")?),
+        TreeCase::Report => match report(alloc, &typed, array) {
             Ok(text) => Ok(told.text(alloc, text.as_slice())?),
             Err(_no_memory) => Err(no_memory()),
         },
-        Asked::Chunk => {
+        TreeCase::Chunk => {
             let nulls = format!(in alloc; "{} nulls", nulls_of(&typed, array))?;
             told.answer(alloc, nulls.as_str())?;
             let passes = chunk_passes(&typed, array);
@@ -91,8 +91,8 @@ fn tell_checked(
 pub(crate) fn tell_tree(
     alloc: Global,
     text: &[u8],
-    asked: Asked,
-    told: &mut Told,
+    asked: TreeCase,
+    told: &mut Transcript,
 ) -> io::Result<()> {
     let (desk, mut pass) = open_desk();
     let came = match read_tree(alloc, text, &mut pass) {
@@ -107,7 +107,7 @@ pub(crate) fn tell_tree(
     let audit = desk.close(pass);
     came?;
     match asked {
-        Asked::Report => Ok(told.made(alloc, &audit)?),
+        TreeCase::Report => Ok(told.made(alloc, &audit)?),
         _ => Ok(()),
     }
 }
@@ -134,21 +134,21 @@ fn below(alloc: Global, text: &[u8], schema: &[u8], array: &[u8]) -> Result<Vec<
 }
 
 /// `places`, with a tree as input: its first fault as it stands, as a child of a struct, and there behind a dictionary.
-pub(crate) fn tell_places(alloc: Global, text: &[u8], told: &mut Told) -> io::Result<()> {
-    tell_tree(alloc, text, Asked::Verdict, told)?;
+pub(crate) fn tell_places(alloc: Global, text: &[u8], told: &mut Transcript) -> io::Result<()> {
+    tell_tree(alloc, text, TreeCase::Verdict, told)?;
     let child = below(alloc, text, b"S =+s ~ 0 1 0 ~\n", b"A 0 0 0 1 1 0\nB ~\n")?;
-    tell_tree(alloc, child.as_slice(), Asked::Verdict, told)?;
+    tell_tree(alloc, child.as_slice(), TreeCase::Verdict, told)?;
     let behind = below(
         alloc,
         child.as_slice(),
         b"S =i ~ 0 0 1 ~\n",
         b"A 0 0 0 2 0 1\nB ~\nB ~\n",
     )?;
-    tell_tree(alloc, behind.as_slice(), Asked::Verdict, told)
+    tell_tree(alloc, behind.as_slice(), TreeCase::Verdict, told)
 }
 
 /// `check`, with a tree as input: the report or the fault of the one call that checks a text, and how much was made.
-pub(crate) fn tell_check(alloc: Global, text: &[u8], told: &mut Told) -> io::Result<()> {
+pub(crate) fn tell_check(alloc: Global, text: &[u8], told: &mut Transcript) -> io::Result<()> {
     let (desk, mut pass) = open_desk();
     let came = check_tree(alloc, text, &mut pass);
     let audit = desk.close(pass);
@@ -159,7 +159,7 @@ pub(crate) fn tell_check(alloc: Global, text: &[u8], told: &mut Told) -> io::Res
     Ok(told.made(alloc, &audit)?)
 }
 
-/// What is told of a tree that is taken in.
+/// What is written of a tree that is taken in.
 #[derive(Clone, Copy)]
 pub(crate) enum Read {
     /// Its items.
@@ -169,7 +169,7 @@ pub(crate) enum Read {
 }
 
 /// Tells what is asked of a column.
-fn tell_read(alloc: Global, col: &Col<'_>, read: Read, told: &mut Told) -> io::Result<()> {
+fn tell_read(alloc: Global, col: &Col<'_>, read: Read, told: &mut Transcript) -> io::Result<()> {
     match read {
         Read::Items => tell_column(alloc, col, told),
         Read::Ways => tell_ways_of(alloc, col, told),
@@ -182,7 +182,7 @@ fn tell_imported(
     schema: RawSchema,
     array: RawArray,
     read: Read,
-    told: &mut Told,
+    told: &mut Transcript,
     pass: &mut Pass,
 ) -> io::Result<()>
     requires { pass.old.units + (Nodes schema + Cost array) ≡ SUPPLY }
@@ -202,7 +202,7 @@ fn tell_imported(
 }
 
 /// Tells why a tree isn't taken in.
-fn tell_import_fault(alloc: Global, fault: &ImportFault, told: &mut Told) -> io::Result<()> {
+fn tell_import_fault(alloc: Global, fault: &ImportFault, told: &mut Transcript) -> io::Result<()> {
     match fault {
         ImportFault::Schema(fault) => tell_schema_fault(alloc, fault, told),
         ImportFault::Layout(fault) => Ok(told.fault(alloc, fault.to_string(alloc)?.as_str())?),
@@ -214,7 +214,7 @@ pub(crate) fn tell_items(
     alloc: Global,
     text: &[u8],
     read: Read,
-    told: &mut Told,
+    told: &mut Transcript,
 ) -> io::Result<()> {
     let (desk, mut pass) = open_desk();
     let came = match read_tree(alloc, text, &mut pass) {

@@ -5,7 +5,7 @@ ghost use Rattle.arr_import.specs.Window.{IsStruct};
 ghost use Rattle.arr_import.specs.Cols.{window_of};
 ghost use Rattle.arr_import.specs.Plain.{IsItemThere};
 
-use crate::told::Told;
+use crate::transcript::Transcript;
 use arr_import::{Col, Indexed, Plain, ValueRef};
 use case_text::spelling_of;
 use data_types::Storage;
@@ -119,7 +119,7 @@ fn tell_way(
     alloc: Global,
     line: Result<Option<String>, AllocError>,
     ways: u8,
-    told: &mut Told,
+    told: &mut Transcript,
 ) -> io::Result<u8> {
     match line? {
         Some(line) => {
@@ -131,7 +131,7 @@ fn tell_way(
 }
 
 /// Tells in which common ways a column is read.
-pub(crate) fn tell_ways(alloc: Global, col: &Col<'_>, told: &mut Told) -> io::Result<()> {
+pub(crate) fn tell_ways(alloc: Global, col: &Col<'_>, told: &mut Transcript) -> io::Result<()> {
     let mut ways = tell_way(alloc, plain(alloc, col), 0, told)?;
     ways = tell_way(alloc, indices(alloc, col), ways, told)?;
     if ways == 0 {
@@ -141,7 +141,7 @@ pub(crate) fn tell_ways(alloc: Global, col: &Col<'_>, told: &mut Told) -> io::Re
 }
 
 /// Tells in which common ways the first child of a struct's item is read.
-fn tell_first_child(alloc: Global, home: &Col<'_>, told: &mut Told) -> io::Result<()>
+fn tell_first_child(alloc: Global, home: &Col<'_>, told: &mut Transcript) -> io::Result<()>
     requires { IsStruct (window_of home.now).typed }
 {
     if home.n_children() == 0 {
@@ -151,7 +151,7 @@ fn tell_first_child(alloc: Global, home: &Col<'_>, told: &mut Told) -> io::Resul
 }
 
 /// Tells in which common ways a column is read, or, where it holds structs, its first child.
-pub(crate) fn tell_ways_of(alloc: Global, col: &Col<'_>, told: &mut Told) -> io::Result<()> {
+pub(crate) fn tell_ways_of(alloc: Global, col: &Col<'_>, told: &mut Transcript) -> io::Result<()> {
     if col.len() == 0 {
         return tell_ways(alloc, col, told);
     }

@@ -1,12 +1,12 @@
-//! The texts of faults that no text brings forth: want of memory, pairs too long to be written, and records at fault.
+//! The texts of faults that no text brings forth: out of memory, pairs too long to be written, and records at fault.
 use col_build::PushFault;
 use data_types::RowFault;
 use fmt_string::FormatFault;
+use run_model::WordsError;
 use schema_check::SchemaFault;
 use schema_meta::{MetaFault, MetaWriteFault};
 use stage_plan::{PlanFault, StageFault, TypesFault};
 use std::test::Fail;
-use words::WordsError;
 
 #[test]
 fn want_of_memory_has_one_text(rt: HostRuntime) -> Result<(), Fail> {

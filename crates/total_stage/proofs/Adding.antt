@@ -11,7 +11,7 @@ use Rattle.total_stage.specs.declared.numbers.Totals.{Totals}
 
 -- ---- sums
 
--- a sum of so many numbers, none of which is large
+-- a sum of this many numbers, none of which is large
 pub record IsSumOf (count : ℕ) (sum : ℤ) : Type 0 where
   pub low : pos 0 ≤ℤ (sum +ℤ pos (count * largest))
   pub high : sum ≤ℤ pos (count * largest)

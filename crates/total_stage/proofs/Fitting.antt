@@ -18,7 +18,7 @@ use Rattle.data_types.specs.declared.kind.DataType.{DataType}
 use Rattle.data_types.specs.Value.{Value, Null, byte_total, bytes_of}
 use Rattle.data_types.specs.declared.kind.ColumnType.{ColumnType}
 use Rattle.data_types.specs.declared.row_fault.RowFault.{RowFault}
-use Rattle.kind_tree.specs.ColumnKinds.{type_of_columns}
+use Rattle.data_types.specs.ColumnKinds.{type_of_columns}
 use Rattle.schema_check.specs.ColumnSchema.{SchemaOf}
 use Rattle.schema_check.specs.Schemas.{TypedOf}
 use Rattle.raw_schema.specs.Members.{Nodes}
@@ -30,7 +30,7 @@ use Rattle.stage_model.specs.Stages.{at_end, numbers_at, totals_row}
 use Rattle.stage_model.specs.Traffic.{Made, blocks_from as made_from, kind_blocks, kind_nodes, table_blocks, table_nodes}
 use Rattle.stage_model.specs.Typing.{is_summed, no_column, totals_columns}
 use Rattle.stream_face.specs.Lawful.{AreItems, AreValues, DictsHaveBytes, IsTable, LawfulColumns, LawfulTables, column_leaves, leaves, total_rows}
-use Rattle.work_parts.proofs.ColumnSets.{same_columns}
+use Rattle.stages.proofs.ColumnSets.{same_columns}
 use Rattle.total_stage.specs.Rows.{RowFits, ValueFits}
 use Rattle.total_stage.specs.Fits.{CanTotal, TotalsFits}
 use Rattle.total_stage.specs.Froms.{ahead_from}

@@ -7,7 +7,7 @@ use Rattle.data_types.specs.ColumnView.{column_of}
 use Rattle.data_types.specs.Parts.{joined_rows}
 use Rattle.data_types.specs.Table.{Column, Kind, Row}
 use Rattle.data_types.specs.declared.kind.ColumnType.{ColumnType}
-use Rattle.kind_tree.specs.ColumnKinds.{type_of_columns}
+use Rattle.data_types.specs.ColumnKinds.{type_of_columns}
 use Rattle.layout_rules.specs.Values.{rows_of}
 use Rattle.layout_rules.specs.Walk.{ChunkOk}
 use Rattle.raw_array.specs.Members.{ArrayTree, Cost}

@@ -19,7 +19,7 @@ use Rattle.total_stage.specs.Sums.{AreSums}
 use Rattle.total_stage.specs.Totals.{number_value}
 use Rattle.total_stage.specs.declared.numbers.Totals.{Totals}
 
--- the first so many columns of the row
+-- the first n columns of the row
 pub record HoldFirst (builders : List Builder) (columns : List Column) (row : Row) (done : ℕ) : Type 0 where
   pub count : length builders ≡ done
   pub each : (j : ℕ) → j < done → (b : Builder) (c : Column) → HoldsKind (get_or builders j b) (get_or columns j c).kind (get_or row j Null ∷ [])

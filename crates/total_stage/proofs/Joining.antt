@@ -7,7 +7,7 @@ use Rattle.data_types.specs.Parts.{column_values}
 use Rattle.data_types.specs.Table.{Row}
 use Rattle.data_types.specs.Value.{Value, Null, Whole}
 use Rattle.raw_array.specs.Members.{ArrayTree}
-use Rattle.kind_tree.specs.Kinds.{KindTree}
+use Rattle.data_types.specs.KindTrees.{KindTree}
 use Rattle.layout_rules.specs.Values.{each, row_items}
 use Rattle.arr_import.specs.Window.{Window, item_at, whole}
 use Rattle.stage_model.specs.Stages.{number_if, numbers_at}
@@ -47,7 +47,7 @@ few-at place (row ∷ rows) = number-or-none (get_or row place Null) (column_val
 
 -- ---- column by column
 
--- the totals of the first so many columns are of more rows, the others not yet
+-- the totals of the first n columns are of more rows, the others not yet
 pub record AreJoined (sums before : List Totals) (picks : List ℕ) (done : ℕ) (rows more : List Row) : Type 0 where
   pub count : length sums ≡ length picks
   pub new : (k : ℕ) → k < done → (none : Totals) → AreTotals (get_or sums k none) (numbers_at (get_or picks k 0) (rows ++ more))

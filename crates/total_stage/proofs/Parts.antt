@@ -7,7 +7,7 @@ use Rattle.std.proofs.lemmas.List.{length-append, length-take}
 use Rattle.data_types.specs.Table.{Row}
 use Rattle.data_types.specs.Value.{Null}
 use Rattle.raw_array.specs.Members.{ArrayTree}
-use Rattle.kind_tree.specs.Kinds.{KindTree}
+use Rattle.data_types.specs.KindTrees.{KindTree}
 use Rattle.layout_rules.specs.Values.{each, row_items, rows_of, tree_items}
 use Rattle.array_laws.specs.Pieces.{border, joined_pieces}
 use Rattle.array_laws.proofs.WindowItems.{part-each}

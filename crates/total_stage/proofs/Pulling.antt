@@ -9,8 +9,8 @@ use Rattle.data_types.specs.Parts.{column_values, joined_rows}
 use Rattle.data_types.specs.Table.{Column, Flat, Row}
 use Rattle.data_types.specs.Value.{Null}
 use Rattle.raw_array.specs.Members.{ArrayTree, Cost}
-use Rattle.kind_tree.specs.ColumnKinds.{type_of_columns}
-use Rattle.kind_tree.specs.Kinds.{KindTree, TypedOk}
+use Rattle.data_types.specs.ColumnKinds.{type_of_columns}
+use Rattle.data_types.specs.KindTrees.{KindTree, TypedOk}
 use Rattle.layout_rules.specs.Values.{rows_of}
 use Rattle.layout_rules.specs.Walk.{ChunkOk}
 use Rattle.column_fill.proofs.Counts.{kids-long}

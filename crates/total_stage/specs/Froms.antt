@@ -10,7 +10,7 @@ use Rattle.stream_face.specs.Lawful.{LawfulTables}
 use Rattle.total_stage.specs.Sums.{HaveBegun}
 use Rattle.total_stage.specs.declared.numbers.Totals.{Totals}
 
--- the number that a choice keeps of so many that were there and of more, and null where there is none
+-- the number that a choice keeps of this many that were there and of more, and null where there is none
 abbrev pub extreme_from : (ℤ → ℤ → ℤ) → ℕ → ℤ → List ℤ → Value
 extreme_from choice zero first numbers = extreme choice numbers
 extreme_from choice (suc count) first numbers = Whole (fold choice first numbers)

@@ -5,7 +5,7 @@ use Rattle.data_types.specs.Table.{Row}
 use Rattle.data_types.specs.Value.{Null}
 use Rattle.tree_model.specs.Tree.{children_of}
 use Rattle.raw_array.specs.Members.{ArrayTree}
-use Rattle.kind_tree.specs.Kinds.{KindTree, TypedOk}
+use Rattle.data_types.specs.KindTrees.{KindTree, TypedOk}
 use Rattle.layout_rules.specs.Layout.{natural}
 use Rattle.layout_rules.specs.Values.{rows_of}
 use Rattle.layout_rules.specs.Walk.{ChunkOk}

@@ -1,9 +1,11 @@
 -- The totals of numbers, in the making.
-use Rattle.std.specs.Prelude.{◌≡◌, ℕ, ◌+◌, ◌-◌, ◌^◌, ℤ, pos, negsuc, ◌+ℤ◌, ◌≤ℤ◌, List, length, Option, None, Some}
+use Rattle.std.specs.Prelude.{◌≡◌, ℕ, ◌+◌, ◌-◌, ◌<◌, ◌≤◌, ◌^◌, ℤ, pos, negsuc, ◌+ℤ◌, ◌≤ℤ◌, List, length, Option, None, Some}
 use Rattle.std.specs.List.{AllByRecursion, filter_map, fold}
 use Rattle.data_types.specs.Value.{Value, Null, Whole}
 use Rattle.layout_rules.specs.Values.{each}
+use Rattle.arr_import.specs.Plain.{ShowsItems}
 use Rattle.arr_import.specs.Window.{Window, item_at}
+use Rattle.arr_import.specs.declared.plain.Plain.{Plain}
 use Rattle.stage_model.specs.Stages.{greater, lesser, number_if, sum_of}
 use Rattle.total_stage.specs.declared.numbers.Totals.{Totals}
 
@@ -35,9 +37,15 @@ pub record AreTotals (totals : Totals) (numbers : List ℤ) : Type 0 where
   pub least : totals.least ≡ fold lesser highest numbers
   pub greatest : totals.greatest ≡ fold greater lowest numbers
 
--- the numbers among so many items of a window, from one on
+-- the numbers among this many items of a window, from one on
 abbrev pub numbers_in : Window → ℕ → ℕ → List ℤ
 numbers_in w from count = filter_map number_if (each (item_at w) from count)
+
+-- a column that is read by its places shows the items of a window; this many of them are there, and none is too large
+pub record ShowsNumbers (items : Plain) (w : Window) (to : ℕ) : Type 0 where
+  pub shows : ShowsItems items w.count (item_at w)
+  pub inside : to ≤ w.count
+  pub small : (i : ℕ) → i < w.count → IsSmallItem (item_at w i)
 
 -- a number, or null
 abbrev pub number_value : Option ℤ → Value

@@ -11,14 +11,14 @@ ghost use Rattle.total_stage.specs.Sums.{AreSums};
 
 use crate::numbers::Totals;
 use crate::row::{row_builders, row_values};
-use col_build::Spares;
+use col_build::SpareBuffers;
 use csv_read::export_rows;
 use data_types::ColumnType;
 use raw_array::RawArray;
 use std::alloc::Global;
 use unit_pass::{NoMemory, Pass};
 
-/// The chunk of the one row of these totals. On want of memory all units are back.
+/// The chunk of the one row of these totals. Where memory runs out all units are back.
 pub(crate) fn totals_chunk(
     alloc: Global,
     columns: &[ColumnType],
@@ -42,7 +42,7 @@ pub(crate) fn totals_chunk(
         alloc,
         builders.as_mut_slice(),
         1,
-        &mut Spares::new(alloc),
+        &mut SpareBuffers::new(alloc),
         pass,
     )
 }

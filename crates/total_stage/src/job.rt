@@ -1,15 +1,15 @@
 //! The totals of the rows of a window, as the job of workers.
 ghost use Rattle.std.specs.Prelude.{◌≤◌, length, IfOk};
 ghost use Rattle.layout_rules.specs.Layout.{natural};
-ghost use Rattle.kind_tree.specs.TypedView.{typed_of};
+ghost use Rattle.data_types.specs.TypedView.{typed_of};
 ghost use Rattle.layout_rules.specs.Values.{rows_of};
 ghost use Rattle.total_stage.specs.Sums.{AreSums, CanAdd, CanSum, rows_between};
 
 use crate::numbers::Totals;
 use crate::window::window_totals;
 use arr_import::Col;
+use data_types::Typed;
 use fan_out::Job;
-use kind_tree::Typed;
 use raw_array::RawArray;
 use std::alloc::Global;
 use unit_pass::NoMemory;

@@ -2,16 +2,16 @@
 ghost use Rattle.std.specs.Prelude.{◌≡◌, ◌≤◌, ◌+◌, ◌*◌, ◌^◌, ◌++◌, [], ℕ, List, length, IfOk, OnOk};
 ghost use Rattle.data_types.specs.Table.{Row};
 ghost use Rattle.raw_array.specs.Members.{Cost};
-ghost use Rattle.kind_tree.specs.TypedView.{typed_of};
+ghost use Rattle.data_types.specs.TypedView.{typed_of};
 ghost use Rattle.layout_rules.specs.Values.{rows_of};
 ghost use Rattle.total_stage.specs.Sums.{AreParts, AreSums, CanAdd, HaveBegun};
 
 use crate::job::SumJob;
 use crate::numbers::Totals;
 use array_laws::pieces_are_the_whole;
-use edge_face::Gate;
-use fan_out::{fan_out, pieces_are_in_order, worth_pieces};
-use kind_tree::Typed;
+use data_types::Typed;
+use edge_io::Gate;
+use fan_out::{Workers, fan_out, piece_count, pieces_are_in_order};
 use raw_array::RawArray;
 use std::alloc::Global;
 use std::thread::Threads;
@@ -74,15 +74,14 @@ pub(crate) fn add_chunk<R: Threads + Sync>(
     picks: &[usize],
     typed: &Typed,
     chunk: &mut RawArray,
-    workers: u32,
+    workers: Workers,
     pass: &mut Pass,
     gate: &(dyn Gate + Sync),
 ) -> Result<(), NoMemory>
     requires chunk { CanAdd picks.now (typed_of typed.now) chunk.old }
     requires few { (rows : List Row) × AreSums sums.old picks.now rows
         × (length rows + length (rows_of (typed_of typed.now) chunk.old) ≤ 2 ^ 30) }
-    requires workers { (1 ≤ workers) × (workers ≤ 64) }
-    requires units { workers * Cost chunk.old ≤ pass.old.units }
+    requires units { workers.count * Cost chunk.old ≤ pass.old.units }
     ensures sums { OnOk result ((rows : List Row) → AreSums sums.old picks.now rows
         → AreSums sums.new picks.now (rows ++ rows_of (typed_of typed.now) chunk.old)) }
     ensures cost { Cost chunk.new ≡ Cost chunk.old }
@@ -91,8 +90,8 @@ pub(crate) fn add_chunk<R: Threads + Sync>(
     ensures nodes { pass.new.nodes ≡ pass.old.nodes }
 {
     let job = SumJob { alloc, picks };
-    let pieces = worth_pieces(typed, chunk, workers);
+    let pieces = piece_count(typed, chunk, workers);
     let parts = fan_out(rt, alloc, chunk, typed, pieces, pass, &job, gate)?;
-    join_parts(sums, parts.as_slice(), pieces);
+    join_parts(sums, parts.as_slice(), pieces.count);
     Ok(())
 }

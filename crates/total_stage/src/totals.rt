@@ -12,8 +12,9 @@ use crate::numbers::Totals;
 use crate::sums::{add_chunk, begin};
 use arr_export::column_schemas_are_lawful;
 use csv_read::chunks_have_their_rows;
-use edge_face::Gate;
-use kind_tree::Typed;
+use data_types::Typed;
+use edge_io::Gate;
+use fan_out::Workers;
 use raw_array::RawArray;
 use stages::{ChunkStep, OutColumns};
 use std::alloc::Global;
@@ -29,16 +30,13 @@ pub struct TotalsStep {
     /// The totals of the rows so far, of each pick; none before the first chunk.
     sums: Vec<Totals>,
     given: bool,
-    workers: u32,
-    ghost some_workers: { 1 ≤ workers },
-    ghost few_workers: { workers ≤ 64 },
+    workers: Workers,
 }
 
 impl TotalsStep {
     /// Totals columns by their numbers, from 0, each of whole numbers or of decimals of at most 28 digits; `out` are the four
-    /// columns of each. The rows of each chunk are added up by so many workers. Takes no memory.
-    pub fn new(alloc: Global, picks: Vec<usize>, out: OutColumns, workers: u32) -> TotalsStep
-        requires workers { (1 ≤ workers) × (workers ≤ 64) }
+    /// columns of each. The rows of each chunk are added up by this many workers. Takes no memory.
+    pub fn new(alloc: Global, picks: Vec<usize>, out: OutColumns, workers: Workers) -> TotalsStep
         ensures picks { result.picks.items ≡ picks.items }
         ensures out { result.out ≡ out }
         ensures sums { result.sums.items ≡ [] }

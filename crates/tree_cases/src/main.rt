@@ -1,4 +1,5 @@
-//! Runs of the top call of the program for trees, told as a transcript: reads cases from standard input, and writes them again with what came of each.
+//! Runs of the top call of the program for trees, written as a transcript: reads cases from standard input, and writes them again with what came of
+//! each.
 //!
 //! A case is a `$` line with the words of the command, `<` lines of input, and `@` lines where a source or a sink is to behave in a way
 //! of its own. Behind it stands what came of it, which is read over and written anew: `>` lines of the text, `!` lines of diagnostics,

@@ -2,9 +2,9 @@
 use Rattle.std.proofs.Common.{◌≡◌, ◌≢◌, ◌∙◌, ℕ, List, None, Some, Ok, Err, ap, sym, refl, subst}
 use Rattle.raw_schema.specs.Members.{SchemaTree}
 use Rattle.raw_array.specs.Members.{ArrayTree}
-use Rattle.kind_tree.specs.Ways.{steps_of}
+use Rattle.data_types.specs.Ways.{steps_of}
 use Rattle.layout_rules.specs.Found.{fault_of}
-use Rattle.kind_tree.specs.Kinds.{KindTree}
+use Rattle.data_types.specs.KindTrees.{KindTree}
 use Rattle.schema_check.specs.SchemaAnswers.{IsFirstFault}
 use Rattle.schema_check.specs.Schemas.{TypedOf}
 use Rattle.layout_rules.specs.Walk.{first_fault}

@@ -5,7 +5,7 @@ use Rattle.fmt_string.specs.declared.fault.FormatFault.{FormatFault}
 use Rattle.data_types.specs.declared.kind.DataType.{DataType}
 use Rattle.raw_schema.specs.Members.{SchemaTree}
 use Rattle.raw_array.specs.Members.{ArrayTree}
-use Rattle.kind_tree.specs.Kinds.{KindTree}
+use Rattle.data_types.specs.KindTrees.{KindTree}
 use Rattle.schema_check.specs.SchemaAnswers.{FirstFault, SchemaReads}
 use Rattle.tree_text.specs.Answers.{Reads}
 use Rattle.tree_text.specs.declared.fault.TextFault.{TextFault}

@@ -121,7 +121,7 @@ module _ (bytes : List ℕ) (fits : IsBytes bytes) where
       first (inl found) = second found.0 found.1 found.2 (some-text found.1 found.2.within)
       first (inr fault) = inr (fault.0, λ b proper none split. fault.1 b proper split)
 
-  -- the pairs from one on, so many of which are left
+  -- the pairs from one on, this many of which are left
   abbrev Some : Type 0
   Some = (read : Result (List Pair) MetaFault) × Reads bytes read
 

@@ -15,12 +15,12 @@ use Rattle.schema_meta.specs.declared.fault.MetaFault.TheVariants as meta
 use Rattle.schema_meta.specs.declared.pair.Pair.{Pair}
 use Rattle.tree_model.specs.Tree.{Released, Live, Trees, no_trees, more_trees, MaybeTree, absent, present}
 use Rattle.raw_schema.specs.Members.{SchemaMembers, SchemaTree, members_of}
-use Rattle.kind_tree.specs.Kinds.{KindTree, tree_count}
+use Rattle.data_types.specs.KindTrees.{KindTree, tree_count}
 use Rattle.schema_check.specs.SchemaAnswers.{FirstFault, MetaRefused, SchemaReads}
 use Rattle.schema_check.specs.Schemas.{ChildrenFit, DictFault, DictTyped, FailsHere, FaultFrom, IndexFits, IsPairNode, IsPairSchema}
 use Rattle.schema_check.specs.Schemas.{KidFault, KidsTyped, MapFits, MetaFits}
 use Rattle.schema_check.specs.Schemas.{NodeIs, TypedFrom}
-use Rattle.kind_tree.specs.Ways.{Steps, dictionary_step}
+use Rattle.data_types.specs.Ways.{Steps, dictionary_step}
 use Rattle.schema_check.specs.declared.rule.SchemaRule.{SchemaRule}
 use Rattle.schema_check.specs.declared.rule.SchemaRule.TheVariants as rules
 use Rattle.tree_text.specs.TreeText.{AllFit, AreBytesIf, MaybeFits, SchemaNodeFits, TreeFits}
@@ -36,49 +36,12 @@ children-fit (kinds.List wide) kids = cases_eq (tree_count kids) 1
 children-fit (kinds.FixedList size) kids = cases_eq (tree_count kids) 1
 children-fit kinds.Map kids = cases_eq (tree_count kids) 1
 children-fit kinds.Struct kids = inl tt
-children-fit kinds.Null kids = cases_eq (tree_count kids) 0
-children-fit kinds.Bool kids = cases_eq (tree_count kids) 0
-children-fit (kinds.Int bits signed) kids = cases_eq (tree_count kids) 0
-children-fit (kinds.Float bits) kids = cases_eq (tree_count kids) 0
-children-fit (kinds.Binary wide) kids = cases_eq (tree_count kids) 0
-children-fit (kinds.Utf8 wide) kids = cases_eq (tree_count kids) 0
-children-fit (kinds.FixedBinary size) kids = cases_eq (tree_count kids) 0
-children-fit (kinds.Decimal precision scale wide) kids = cases_eq (tree_count kids) 0
-children-fit kinds.DateDay kids = cases_eq (tree_count kids) 0
-children-fit kinds.DateMilli kids = cases_eq (tree_count kids) 0
-children-fit (kinds.TimeOfDay tick) kids = cases_eq (tree_count kids) 0
-children-fit (kinds.Timestamp tick zone) kids = cases_eq (tree_count kids) 0
-children-fit (kinds.Duration tick) kids = cases_eq (tree_count kids) 0
-children-fit kinds.IntervalMonths kids = cases_eq (tree_count kids) 0
-children-fit kinds.IntervalDayTime kids = cases_eq (tree_count kids) 0
-children-fit kinds.IntervalMonthDayNano kids = cases_eq (tree_count kids) 0
-children-fit kinds.BinaryView kids = cases_eq (tree_count kids) 0
-children-fit kinds.Utf8View kids = cases_eq (tree_count kids) 0
+children-fit _ kids = cases_eq (tree_count kids) 0
 
 index-fits : (kind : DataType) (dict : MaybeTree SchemaMembers) → Decided (IndexFits kind dict)
 index-fits kind absent = inl tt
 index-fits (kinds.Int bits signed) (present dict) = inl tt
-index-fits (kinds.List wide) (present dict) = inr (λ x. x)
-index-fits (kinds.FixedList size) (present dict) = inr (λ x. x)
-index-fits kinds.Map (present dict) = inr (λ x. x)
-index-fits kinds.Struct (present dict) = inr (λ x. x)
-index-fits kinds.Null (present dict) = inr (λ x. x)
-index-fits kinds.Bool (present dict) = inr (λ x. x)
-index-fits (kinds.Float bits) (present dict) = inr (λ x. x)
-index-fits (kinds.Binary wide) (present dict) = inr (λ x. x)
-index-fits (kinds.Utf8 wide) (present dict) = inr (λ x. x)
-index-fits (kinds.FixedBinary size) (present dict) = inr (λ x. x)
-index-fits (kinds.Decimal precision scale wide) (present dict) = inr (λ x. x)
-index-fits kinds.DateDay (present dict) = inr (λ x. x)
-index-fits kinds.DateMilli (present dict) = inr (λ x. x)
-index-fits (kinds.TimeOfDay tick) (present dict) = inr (λ x. x)
-index-fits (kinds.Timestamp tick zone) (present dict) = inr (λ x. x)
-index-fits (kinds.Duration tick) (present dict) = inr (λ x. x)
-index-fits kinds.IntervalMonths (present dict) = inr (λ x. x)
-index-fits kinds.IntervalDayTime (present dict) = inr (λ x. x)
-index-fits kinds.IntervalMonthDayNano (present dict) = inr (λ x. x)
-index-fits kinds.BinaryView (present dict) = inr (λ x. x)
-index-fits kinds.Utf8View (present dict) = inr (λ x. x)
+index-fits _ (present dict) = inr (λ x. x)
 
 pair-node : (t : SchemaTree) → Decided (IsPairNode t)
 pair-node Released = inr (λ x. x)
@@ -96,27 +59,7 @@ pair-schema (more_trees kid rest) = pair-node kid
 
 map-fits : (kind : DataType) (kids : Trees SchemaMembers) → Decided (MapFits kind kids)
 map-fits kinds.Map kids = pair-schema kids
-map-fits (kinds.List wide) kids = inl tt
-map-fits (kinds.FixedList size) kids = inl tt
-map-fits kinds.Struct kids = inl tt
-map-fits kinds.Null kids = inl tt
-map-fits kinds.Bool kids = inl tt
-map-fits (kinds.Int bits signed) kids = inl tt
-map-fits (kinds.Float bits) kids = inl tt
-map-fits (kinds.Binary wide) kids = inl tt
-map-fits (kinds.Utf8 wide) kids = inl tt
-map-fits (kinds.FixedBinary size) kids = inl tt
-map-fits (kinds.Decimal precision scale wide) kids = inl tt
-map-fits kinds.DateDay kids = inl tt
-map-fits kinds.DateMilli kids = inl tt
-map-fits (kinds.TimeOfDay tick) kids = inl tt
-map-fits (kinds.Timestamp tick zone) kids = inl tt
-map-fits (kinds.Duration tick) kids = inl tt
-map-fits kinds.IntervalMonths kids = inl tt
-map-fits kinds.IntervalDayTime kids = inl tt
-map-fits kinds.IntervalMonthDayNano kids = inl tt
-map-fits kinds.BinaryView kids = inl tt
-map-fits kinds.Utf8View kids = inl tt
+map-fits _ kids = inl tt
 
 -- metadata fits, or is refused
 abbrev MetaIsNot : Option (List ℕ) → Type 0

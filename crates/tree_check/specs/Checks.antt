@@ -4,9 +4,9 @@ use Rattle.unit_pass.specs.Tally.{risen}
 use Rattle.tree_model.specs.TreeCost.{Holds, Nodes}
 use Rattle.raw_schema.specs.Members.{SchemaTree}
 use Rattle.raw_array.specs.Members.{ArrayTree, holds}
-use Rattle.kind_tree.specs.Ways.{path_of, steps_of}
+use Rattle.data_types.specs.Ways.{path_of, steps_of}
 use Rattle.layout_rules.specs.Found.{fault_of}
-use Rattle.kind_tree.specs.Kinds.{KindTree}
+use Rattle.data_types.specs.KindTrees.{KindTree}
 use Rattle.schema_check.specs.SchemaAnswers.{FirstFault, SchemaReads}
 use Rattle.layout_rules.specs.Walk.{Fault, first_fault}
 use Rattle.layout_rules.specs.declared.rule.LayoutFault.{LayoutFault}
@@ -86,7 +86,7 @@ pub record CountsTrees (bytes : List ℕ) (old_blocks old_nodes blocks nodes : �
 
 -- ---- the program's answers
 
--- the fault of a text, of a schema or of an array as the check's: want of memory stands for itself
+-- the fault of a text, of a schema or of an array as the check's: out of memory stands for itself
 abbrev pub text_refused : TextFault → CheckFault
 text_refused texts.NoMemory = check.NoMemory
 text_refused (texts.Line line) = check.Tree (trees.Text (texts.Line line))
@@ -99,7 +99,7 @@ schema_refused (schemas.At path rule) = check.Tree (schema_fault (record { path 
 abbrev pub array_refused : LayoutFault → CheckFault
 array_refused fault = check.Tree (array_fault (fault_of fault))
 
--- it is what the check comes to, if it is no want of memory
+-- it is what the check comes to, if it is no out-of-memory
 abbrev pub IsToldOf : (Checked → Type 0) → CheckFault → Type 0
 IsToldOf Comes (check.Tree fault) = Comes (Err fault)
 IsToldOf Comes check.NoMemory = Unit {0}

@@ -1,9 +1,9 @@
 -- The texts of faults.
 use Rattle.std.specs.Prelude.{ℕ, ◌++◌, List, codes}
 use Rattle.schema_check.specs.FaultTexts.{schema_rule_text}
-use Rattle.kind_tree.specs.WayTexts.{way_text}
+use Rattle.data_types.specs.WayTexts.{way_text}
 use Rattle.layout_rules.specs.FaultTexts.{layout_fault_text}
-use Rattle.kind_tree.specs.Ways.{steps_of}
+use Rattle.data_types.specs.Ways.{steps_of}
 use Rattle.tree_text.specs.FaultTexts.{text_fault_text}
 use Rattle.tree_check.specs.declared.fault.CheckFault.{CheckFault}
 use Rattle.tree_check.specs.declared.fault.CheckFault.TheVariants as check

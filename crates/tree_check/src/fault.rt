@@ -1,7 +1,7 @@
 //! Why a text of trees has no report.
 ghost use Rattle.std.specs.Prelude.{◌≡◌};
 
-use kind_tree::Path;
+use data_types::Path;
 use layout_rules::LayoutFault;
 use schema_check::{SchemaFault, SchemaRule};
 use std::fmt;
@@ -11,7 +11,7 @@ use unit_pass::NoMemory;
 /// Why a text of trees has no report.
 #[derive(Clone, Copy, Debug, PartialEq, Eq)]
 pub enum TreeFault {
-    /// The text spells no two trees. It is never want of memory.
+    /// The text spells no two trees. It is never an out-of-memory.
     Text(TextFault),
     /// A rule of schemas fails at a node: the first one in preorder, and its first rule. The places of the path behind its
     /// depth are 0.

@@ -1,7 +1,7 @@
 //! The check of a text of trees, as a stranger's: from its bytes to the report of its array, or to the first fault.
 //!
 //! - [`check_tree`] reads the schema tree and the array tree that a text spells, checks the schema, then the array by the
-//!   schema's kinds, and tells of the array in a report. Its fault is the first of the text, of the schema, of the array,
+//!   schema's kinds, and makes a report of the array. Its fault is the first of the text, of the schema, of the array,
 //!   with the way to the node. Both trees are released on every path, and the pass has counted what they were made of.
 //! - [`one_check`] is the law that each text comes to one report or one fault, and one alone; [`some_schema_answer`] that each
 //!   schema which a text can tell of has kinds or a first fault.

@@ -1,6 +1,6 @@
 //! A law of the schemas that a text can tell of. The call does nothing.
 ghost use Rattle.std.specs.Prelude.{◌⊎◌, ℕ, Result};
-ghost use Rattle.kind_tree.specs.Kinds.{KindTree};
+ghost use Rattle.data_types.specs.KindTrees.{KindTree};
 ghost use Rattle.raw_schema.specs.Members.{SchemaTree, members_of};
 ghost use Rattle.schema_check.specs.SchemaAnswers.{FirstFault, MetaRefused, SchemaReads};
 ghost use Rattle.schema_check.specs.Schemas.{MetaFits};

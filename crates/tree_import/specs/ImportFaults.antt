@@ -2,7 +2,7 @@
 use Rattle.std.specs.Prelude.{◌≡◌, Some}
 use Rattle.raw_array.specs.Members.{ArrayTree}
 use Rattle.raw_schema.specs.Members.{SchemaTree}
-use Rattle.kind_tree.specs.Kinds.{KindTree}
+use Rattle.data_types.specs.KindTrees.{KindTree}
 use Rattle.schema_check.specs.Schemas.{TypedOf}
 use Rattle.schema_check.specs.SchemaAnswers.{IsFirstFault}
 use Rattle.layout_rules.specs.Found.{fault_of}
@@ -10,7 +10,7 @@ use Rattle.layout_rules.specs.Walk.{first_fault}
 use Rattle.tree_import.specs.declared.imported.ImportFault.{ImportFault}
 use Rattle.tree_import.specs.declared.imported.ImportFault.TheVariants.{Schema, Layout}
 
--- the schema's first fault, or want of memory; else the array's first fault by the schema's kinds
+-- the schema's first fault, or out of memory; else the array's first fault by the schema's kinds
 abbrev pub IsImportFault : SchemaTree → ArrayTree → ImportFault → Type 0
 IsImportFault schema array (Schema fault) = IsFirstFault schema fault
 IsImportFault schema array (Layout fault) = (typed : KindTree) × TypedOf schema typed × (first_fault typed array ≡ Some (fault_of fault))

@@ -1,10 +1,10 @@
 -- What contracts see of an import: the two trees, and the kinds of the schema.
 use Rattle.raw_array.specs.Members.{ArrayTree}
 use Rattle.raw_schema.specs.Members.{SchemaTree}
-use Rattle.kind_tree.specs.declared.typed.Typed.{Typed}
-use Rattle.kind_tree.specs.Kinds.{TypedOk}
+use Rattle.data_types.specs.declared.typed.Typed.{Typed}
+use Rattle.data_types.specs.KindTrees.{TypedOk}
 use Rattle.schema_check.specs.Schemas.{TypedOf}
-use Rattle.kind_tree.specs.TypedView.{typed_of}
+use Rattle.data_types.specs.TypedView.{typed_of}
 use Rattle.layout_rules.specs.Walk.{LayoutOk}
 
 pub record ImportedTrees : Type 0 where

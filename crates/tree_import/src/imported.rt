@@ -1,9 +1,9 @@
 //! Two structures that both checks accepted, kept together.
 ghost use Rattle.std.specs.Prelude.{◌≡◌, IfOk, IfErr};
 ghost use Rattle.schema_check.specs.declared.schema.SchemaFault.TheVariants.{NoMemory};
-ghost use Rattle.kind_tree.specs.Kinds.{KindTree, TypedOk};
+ghost use Rattle.data_types.specs.KindTrees.{KindTree, TypedOk};
 ghost use Rattle.schema_check.specs.Schemas.{TypedOf};
-ghost use Rattle.kind_tree.specs.TypedView.{typed_of};
+ghost use Rattle.data_types.specs.TypedView.{typed_of};
 ghost use Rattle.layout_rules.specs.Values.{values_of};
 ghost use Rattle.layout_rules.specs.Walk.{LayoutOk};
 ghost use Rattle.tree_import.specs.declared.imported.ImportFault.TheVariants.{Schema};
@@ -13,7 +13,7 @@ ghost use Rattle.arr_import.specs.Window.{whole, items_of};
 ghost use Rattle.arr_import.specs.Cols.{window_of};
 
 use arr_import::Col;
-use kind_tree::Typed;
+use data_types::Typed;
 use layout_check::check_array;
 use layout_rules::LayoutFault;
 use raw_array::RawArray;
@@ -58,7 +58,7 @@ impl Model for Imported {
     ghost use Rattle.std.specs.Coded.{codes};
     ghost use Rattle.raw_schema.specs.Members.{coded_schema};
     ghost use Rattle.raw_array.specs.Members.{coded_array};
-    ghost use Rattle.kind_tree.specs.contracts.typed.Typed as kinds;
+    ghost use Rattle.data_types.specs.contracts.typed.Typed as kinds;
 
     ghost Value = { ImportedTrees };
 
@@ -71,8 +71,8 @@ impl Model for Imported {
 
 /// Takes a schema and an array that meets it ("The Arrow C Data Interface", "Importing"). The schema is checked first, and
 /// then the array against the schema's kinds, each as its check does ([`check_schema`], [`check_array`]); the caller that
-/// needs a table calls [`layout_check::check_chunk`]. On a fault both structures are handed back whole. The only want of
-/// memory is the schema check's.
+/// needs a table calls [`layout_check::check_chunk`]. On a fault both structures are handed back whole. The only out-of-memory is
+/// the schema check's.
 pub fn import(
     alloc: Global,
     schema: RawSchema,

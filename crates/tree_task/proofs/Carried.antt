@@ -4,8 +4,8 @@ use Rattle.std.proofs.Common.{IfErr, IsErrAnd, OnOk, ap, arith, refl, subst, sym
 use Rattle.std.proofs.lemmas.Bool.Decides.{nat_tests}
 use Rattle.std.proofs.lemmas.List.{length-append}
 use Rattle.std.specs.Io.KnownBytes.{Appends, Keeps}
-use Rattle.edge_face.specs.Edge.{LosesCount, LosesPrefix}
-use Rattle.kind_tree.specs.Kinds.{KindTree}
+use Rattle.edge_io.specs.Edge.{LosesCount, LosesPrefix}
+use Rattle.data_types.specs.KindTrees.{KindTree}
 use Rattle.layout_rules.specs.Walk.{Fault as ArrayFault, first_chunk_fault, first_fault}
 use Rattle.raw_array.specs.Members.{ArrayTree}
 use Rattle.raw_schema.specs.Members.{SchemaTree}
@@ -27,10 +27,10 @@ use Rattle.run_ends.specs.RunRules.{RunsFound, runs_fault}
 use Rattle.run_ends.specs.RunSchemas.{SchemaFound as RunsSchemaFound}
 use Rattle.run_ends.specs.Runs.{RunTree}
 use Rattle.run_ends.specs.declared.code_fault.CodeFault.{CodeFault}
-use Rattle.tree_task.specs.ChunkAnswer.{Said, said_of_chunk, said_of_kinds}
+use Rattle.tree_task.specs.ChunkAnswer.{ChunkCommand, answer_of_chunk, answer_of_kinds}
 use Rattle.tree_task.specs.FlatAnswer.{flat_of_schema, flat_unless}
 use Rattle.tree_task.specs.ForeignAnswer.{chunk_of_kinds, chunk_unless}
-use Rattle.tree_task.specs.ListsAnswer.{exploded, lines_unless, nested, rows_unless as new_rows_unless, said_of_column}
+use Rattle.tree_task.specs.ListsAnswer.{exploded, lines_unless, nested, rows_unless as new_rows_unless, answer_of_column}
 use Rattle.tree_task.specs.Over.{RanOver}
 use Rattle.tree_task.specs.Refusals.{fault_of_tree}
 use Rattle.tree_task.specs.RowsAnswer.{rows_of_kinds, rows_unless}
@@ -172,12 +172,12 @@ in-columns : (typed : KindTree) (array : ArrayTree) (fault : Option TagFault) �
 in-columns typed array None = tt
 in-columns typed array (Some fault) = tt
 
-module _ (said : Said) (is-said : (typed : KindTree) (array : ArrayTree) → TextFaultIn (said typed array)) where
-  in-said_chunk : (typed : KindTree) (array : ArrayTree) (fault : Option ArrayFault) → TextFaultIn (said_of_chunk said typed array fault)
+module _ (said : ChunkCommand) (is-said : (typed : KindTree) (array : ArrayTree) → TextFaultIn (said typed array)) where
+  in-said_chunk : (typed : KindTree) (array : ArrayTree) (fault : Option ArrayFault) → TextFaultIn (answer_of_chunk said typed array fault)
   in-said_chunk typed array None = is-said typed array
   in-said_chunk typed array (Some fault) = in-tree (array_fault fault)
 
-  in-said : (read : Result KindTree FirstFault) (array : ArrayTree) → TextFaultIn (said_of_kinds said read array)
+  in-said : (read : Result KindTree FirstFault) (array : ArrayTree) → TextFaultIn (answer_of_kinds said read array)
   in-said (Ok typed) array = in-said_chunk typed array (first_chunk_fault typed array)
   in-said (Err first) array = in-tree (schema_fault first)
 
@@ -192,11 +192,11 @@ module _ (said : KindTree → List Row → Answer) (is-said : (typed : KindTree)
   in-new_rows typed array false true count column = is-said typed (rows_of typed array)
   in-new_rows typed array false false count column = tt
 
-in-exploded : (column : ℕ) (typed : KindTree) (array : ArrayTree) → TextFaultIn (said_of_column column (exploded column) typed array)
+in-exploded : (column : ℕ) (typed : KindTree) (array : ArrayTree) → TextFaultIn (answer_of_column column (exploded column) typed array)
 in-exploded column typed array =
     in-new_rows (exploded column) (λ typed rows. in-lines (Explode column rows) _) typed array _ _ (length (children_of typed)) column
 
-in-nested : (column : ℕ) (typed : KindTree) (array : ArrayTree) → TextFaultIn (said_of_column column (nested column) typed array)
+in-nested : (column : ℕ) (typed : KindTree) (array : ArrayTree) → TextFaultIn (answer_of_column column (nested column) typed array)
 in-nested column typed array =
     in-new_rows (nested column) (λ typed rows. in-lines (Nest (length (children_of typed)) column rows) _) typed array _ _ (length (children_of typed))
     column
@@ -237,9 +237,9 @@ in-trees commands.Foreign schema array answer is = subst TextFaultIn (sym is.2) 
 in-trees commands.Runs schema array answer is = subst TextFaultIn (sym is.2) (in-runs is.0 array)
 in-trees commands.Flat schema array answer is = subst TextFaultIn (sym is.2) (in-flat is.0 array)
 in-trees (commands.Explode column) schema array answer is =
-    subst TextFaultIn (sym is.2) (in-said (said_of_column column (exploded column)) (in-exploded column) is.0 array)
+    subst TextFaultIn (sym is.2) (in-said (answer_of_column column (exploded column)) (in-exploded column) is.0 array)
 in-trees (commands.Nest column) schema array answer is =
-    subst TextFaultIn (sym is.2) (in-said (said_of_column column (nested column)) (in-nested column) is.0 array)
+    subst TextFaultIn (sym is.2) (in-said (answer_of_column column (nested column)) (in-nested column) is.0 array)
 
 in-read : (command : Command) (read : Result (SchemaTree × ArrayTree) TextFault) (answer : Answer) → ReadAnswer command read answer → TextFaultIn answer
 in-read command (Ok read) answer is = in-trees command read.0 read.1 answer is

@@ -1,7 +1,7 @@
 -- What is answered to a chunk.
 use Rattle.std.proofs.Common.{◌≡◌, ◌∙◌, ◌⊎◌, ℕ, List, None, Some, Result, Ok, Err, IfOk, IfErr, inl, inr, ap, sym}
-use Rattle.kind_tree.specs.Kinds.{KindTree}
-use Rattle.kind_tree.specs.Ways.{steps_of}
+use Rattle.data_types.specs.KindTrees.{KindTree}
+use Rattle.data_types.specs.Ways.{steps_of}
 use Rattle.layout_rules.specs.Found.{fault_of}
 use Rattle.layout_rules.specs.Walk.{first_chunk_fault}
 use Rattle.layout_rules.specs.declared.rule.LayoutFault.{LayoutFault}
@@ -13,7 +13,7 @@ use Rattle.schema_check.specs.declared.schema.SchemaFault.{SchemaFault}
 use Rattle.schema_check.specs.declared.schema.SchemaFault.TheVariants as schemas
 use Rattle.tree_check.specs.Checks.{array_refused, schema_refused}
 use Rattle.tree_check.specs.declared.fault.CheckFault.{CheckFault}
-use Rattle.tree_task.specs.ChunkAnswer.{ChunkAnswer, Said, said_of_chunk}
+use Rattle.tree_task.specs.ChunkAnswer.{ChunkAnswer, ChunkCommand, answer_of_chunk}
 use Rattle.tree_task.specs.Refusals.{fault_of_check}
 use Rattle.tree_task.specs.TextOrFault.{Answer, Fault, Text}
 use Rattle.tree_task.specs.declared.fault.TreeRunFault.{TreeRunFault}
@@ -22,7 +22,7 @@ use Rattle.tree_task.specs.declared.fault.TreeRunFault.TheVariants as run
 module _ (schema : SchemaTree) (array : ArrayTree) where
   -- whatever is said of chunks, this fault is the answer
   abbrev pub IsChunkFault : TreeRunFault → Type 0
-  IsChunkFault told = (told ≡ run.NoMemory) ⊎ ((said : Said) → ChunkAnswer said schema array (Fault told))
+  IsChunkFault told = (told ≡ run.NoMemory) ⊎ ((said : ChunkCommand) → ChunkAnswer said schema array (Fault told))
 
   -- that of the schema
   pub chunk_schema-refused : (fault : SchemaFault) (checked : CheckFault) (told : TreeRunFault) → checked ≡ schema_refused fault → told ≡ fault_of_check checked
@@ -37,12 +37,12 @@ module _ (schema : SchemaTree) (array : ArrayTree) where
     pub chunk-refused : (fault : LayoutFault) (checked : CheckFault) (told : TreeRunFault) → checked ≡ array_refused fault → told ≡ fault_of_check checked
         → first_chunk_fault typed array ≡ Some (fault_of fault) → IsChunkFault told
     chunk-refused fault checked told same gives is =
-        inr (λ said. (Ok typed, kinds, ap Fault (gives ∙ ap fault_of_check same) ∙ ap (said_of_chunk said typed array) (sym is)))
+        inr (λ said. (Ok typed, kinds, ap Fault (gives ∙ ap fault_of_check same) ∙ ap (answer_of_chunk said typed array) (sym is)))
 
     -- what is said of a chunk that has none
-    module _ (passed : first_chunk_fault typed array ≡ None) (said : Said) where
+    module _ (passed : first_chunk_fault typed array ≡ None) (said : ChunkCommand) where
       pub chunk-is : (answer : Answer) → answer ≡ said typed array → ChunkAnswer said schema array answer
-      chunk-is answer is = (Ok typed, kinds, is ∙ ap (said_of_chunk said typed array) (sym passed))
+      chunk-is answer is = (Ok typed, kinds, is ∙ ap (answer_of_chunk said typed array) (sym passed))
 
       pub chunk-text : {T E : Type 0} (text : T → List ℕ) (r : Result T E) → IfOk r (λ t. Text (text t) ≡ said typed array)
           → IfOk r (λ t. ChunkAnswer said schema array (Text (text t)))

@@ -1,7 +1,7 @@
 -- What a command answers, from what its parts come to.
 use Rattle.std.proofs.Common.{◌≡◌, ◌≢◌, ◌⊎◌, ◌∙◌, ℕ, List, None, Some, Result, Ok, Err, IfOk, IfErr, inl, inr, ap, sym, refl, subst}
-use Rattle.kind_tree.specs.Kinds.{KindTree}
-use Rattle.kind_tree.specs.Ways.{steps_of}
+use Rattle.data_types.specs.KindTrees.{KindTree}
+use Rattle.data_types.specs.Ways.{steps_of}
 use Rattle.layout_rules.specs.Found.{fault_of}
 use Rattle.layout_rules.specs.Values.{values_of}
 use Rattle.layout_rules.specs.Walk.{first_fault}
@@ -17,7 +17,7 @@ use Rattle.tree_check.specs.declared.fault.CheckFault.{CheckFault}
 use Rattle.tree_text.specs.Answers.{Reads}
 use Rattle.tree_text.specs.declared.fault.TextFault.{TextFault}
 use Rattle.tree_text.specs.declared.fault.TextFault.TheVariants as texts
-use Rattle.value_text.specs.ValueTexts.{lines_text}
+use Rattle.data_types.specs.ValueTexts.{lines_text}
 use Rattle.union_cols.specs.UnionAnswers.{FailsIf, IsUnionFault, found_of, named}
 use Rattle.union_cols.specs.UnionRules.{union_fault}
 use Rattle.union_cols.specs.UnionSchemas as found
@@ -35,7 +35,7 @@ use Rattle.tree_task.specs.declared.command.Command.{Command}
 use Rattle.tree_task.specs.declared.fault.TreeRunFault.{TreeRunFault}
 use Rattle.tree_task.specs.declared.fault.TreeRunFault.TheVariants as run
 
--- a fault is that of an answer, or want of memory
+-- a fault is that of an answer, or out of memory
 abbrev pub IsRefused : (Answer → Type 0) → TreeRunFault → Type 0
 IsRefused IsAnswer fault = (fault ≡ run.NoMemory) ⊎ IsAnswer (Fault fault)
 

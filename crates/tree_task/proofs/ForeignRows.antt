@@ -10,7 +10,7 @@ use Rattle.data_types.specs.declared.kind.DataType.{DataType}
 use Rattle.data_types.specs.declared.kind.DataType.TheVariants as kinds
 use Rattle.foreign_array.specs.Drained.{Drained, Refused, first_refused, refused_at, table_if}
 use Rattle.foreign_array.specs.declared.draining.DrainFault.TheVariants as drains
-use Rattle.kind_tree.specs.Kinds.{KindTree, TypedOk}
+use Rattle.data_types.specs.KindTrees.{KindTree, TypedOk}
 use Rattle.layout_rules.specs.Found.{fault_of}
 use Rattle.layout_rules.specs.Lawful.{ChunkHolds}
 use Rattle.layout_rules.specs.Layout.{is_valid, items}

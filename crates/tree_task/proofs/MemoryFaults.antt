@@ -1,8 +1,8 @@
--- No answer is a fault with a want of memory inside it.
+-- No answer is a fault with an out-of-memory inside it.
 use Rattle.std.proofs.Common.{if◌then◌else◌, not, length, ◌≡◌, ◌∙◌, ◌+◌, ℕ, Bool, true, false, List, [], ◌∷◌, suc, Option, None, Some, Result, Ok, Err, ap, inl, inr, refl}
 use Rattle.fmt_string.specs.declared.fault.FormatFault.TheVariants as format
-use Rattle.kind_tree.specs.Kinds.{KindTree}
-use Rattle.kind_tree.specs.Ways.{Steps}
+use Rattle.data_types.specs.KindTrees.{KindTree}
+use Rattle.data_types.specs.Ways.{Steps}
 use Rattle.layout_rules.specs.Walk.{Fault as ArrayFault, first_chunk_fault, first_fault}
 use Rattle.raw_array.specs.Members.{ArrayTree}
 use Rattle.raw_schema.specs.Members.{SchemaMembers, SchemaTree, members_of}
@@ -35,10 +35,10 @@ use Rattle.union_cols.specs.UnionSchemas as found
 use Rattle.union_cols.specs.UnionSchemas.{SchemaFound, UnionReads, UnionSchemaFails}
 use Rattle.union_cols.specs.Unions.{UnionTree}
 use Rattle.tree_task.specs.Answer.{Answer, AnswerWithin, Fault, IsAnswerTo, ReadAnswer, Text, TreesAnswer, is_too_long}
-use Rattle.tree_task.specs.ChunkAnswer.{Said, said_of_chunk, said_of_kinds}
+use Rattle.tree_task.specs.ChunkAnswer.{ChunkCommand, answer_of_chunk, answer_of_kinds}
 use Rattle.tree_task.specs.FlatAnswer.{flat_of_schema, flat_unless}
 use Rattle.tree_task.specs.ForeignAnswer.{chunk_of_kinds, chunk_unless}
-use Rattle.tree_task.specs.ListsAnswer.{exploded, lines_unless, nested, rows_unless as new_rows_unless, said_of_column}
+use Rattle.tree_task.specs.ListsAnswer.{exploded, lines_unless, nested, rows_unless as new_rows_unless, answer_of_column}
 use Rattle.tree_task.specs.Refusals.{own_part_fault, union_schema_fault}
 use Rattle.tree_task.specs.RowsAnswer.{rows_of_kinds, rows_unless}
 use Rattle.tree_task.specs.RunRefusals.{runs_part_fault, runs_schema_fault}
@@ -115,13 +115,13 @@ of-chunk_kinds : (schema : SchemaTree) (array : ArrayTree) (read : Result KindTr
 of-chunk_kinds schema array (Ok typed) reads = of-chunk typed array (first_chunk_fault typed array)
 of-chunk_kinds schema array (Err first) reads = fault-from 1 schema first.path first.rule reads
 
-module _ (said : Said) (faultless : (typed : KindTree) (array : ArrayTree) → within (said typed array) ≡ false) where
-  of-said_chunk : (typed : KindTree) (array : ArrayTree) (fault : Option ArrayFault) → within (said_of_chunk said typed array fault) ≡ false
+module _ (said : ChunkCommand) (faultless : (typed : KindTree) (array : ArrayTree) → within (said typed array) ≡ false) where
+  of-said_chunk : (typed : KindTree) (array : ArrayTree) (fault : Option ArrayFault) → within (answer_of_chunk said typed array fault) ≡ false
   of-said_chunk typed array None = faultless typed array
   of-said_chunk typed array (Some fault) = refl
 
   of-said : (schema : SchemaTree) (array : ArrayTree) (read : Result KindTree FirstFault) → SchemaReads schema read
-      → within (said_of_kinds said read array) ≡ false
+      → within (answer_of_kinds said read array) ≡ false
   of-said schema array (Ok typed) reads = of-said_chunk typed array (first_chunk_fault typed array)
   of-said schema array (Err first) reads = fault-from 1 schema first.path first.rule reads
 
@@ -150,11 +150,11 @@ module _ (said : KindTree → List Row → Answer) (faultless : (typed : KindTre
   of-rows typed array false true count column = faultless typed (rows_of typed array)
   of-rows typed array false false count column = refl
 
-of-exploded : (column : ℕ) (typed : KindTree) (array : ArrayTree) → within (said_of_column column (exploded column) typed array) ≡ false
+of-exploded : (column : ℕ) (typed : KindTree) (array : ArrayTree) → within (answer_of_column column (exploded column) typed array) ≡ false
 of-exploded column typed array =
     of-rows (exploded column) (λ typed rows. of-lines (Explode column rows) _ _) typed array _ _ (length (children_of typed)) column
 
-of-nested : (column : ℕ) (typed : KindTree) (array : ArrayTree) → within (said_of_column column (nested column) typed array) ≡ false
+of-nested : (column : ℕ) (typed : KindTree) (array : ArrayTree) → within (answer_of_column column (nested column) typed array) ≡ false
 of-nested column typed array =
     of-rows (nested column) (λ typed rows. of-lines (Nest (length (children_of typed)) column rows) _ _) typed array _ _ (length (children_of typed)) column
 
@@ -241,9 +241,9 @@ of-trees commands.Foreign schema array answer is = ap within is.2 ∙ of-chunk_k
 of-trees commands.Runs schema array answer is = ap within is.2 ∙ of-runs schema array is.0 is.1
 of-trees commands.Flat schema array answer is = ap within is.2 ∙ of-flat schema array is.0 is.1
 of-trees (commands.Explode column) schema array answer is =
-    ap within is.2 ∙ of-said (said_of_column column (exploded column)) (of-exploded column) schema array is.0 is.1
+    ap within is.2 ∙ of-said (answer_of_column column (exploded column)) (of-exploded column) schema array is.0 is.1
 of-trees (commands.Nest column) schema array answer is =
-    ap within is.2 ∙ of-said (said_of_column column (nested column)) (of-nested column) schema array is.0 is.1
+    ap within is.2 ∙ of-said (answer_of_column column (nested column)) (of-nested column) schema array is.0 is.1
 
 of-read : (command : Command) (bytes : List ℕ) (read : Result (SchemaTree × ArrayTree) TextFault) (answer : Answer) → Reads bytes read
     → ReadAnswer command read answer → within answer ≡ false

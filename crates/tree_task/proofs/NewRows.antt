@@ -2,8 +2,8 @@
 use Rattle.std.proofs.Common.{◌≡◌, ◌<◌, ◌≤◌, ◌∙◌, ◌⊎◌, ℕ, Bool, true, false, nat_lt, if◌then◌else◌, arith, List, length, map, Option, None, Some, Result, Ok, Err, IfOk, IfErr, inl, inr, ap, refl, subst, sym}
 use Rattle.std.proofs.lemmas.Bool.Decides.{nat_tests}
 use Rattle.data_types.specs.Table.{Row}
-use Rattle.kind_tree.specs.Kinds.{KindTree, TypedOk}
-use Rattle.kind_tree.specs.Ways.{Steps}
+use Rattle.data_types.specs.KindTrees.{KindTree, TypedOk}
+use Rattle.data_types.specs.Ways.{Steps}
 use Rattle.layout_rules.specs.Lawful.{ChunkHolds}
 use Rattle.layout_rules.specs.Values.{rows_of, values_of}
 use Rattle.layout_rules.specs.Walk.{ChunkOk, first_chunk_fault}
@@ -16,10 +16,10 @@ use Rattle.schema_check.specs.SchemaAnswers.{FirstFault, SchemaReads}
 use Rattle.schema_check.specs.Schemas.{SchemaFaultIs, TypedOf}
 use Rattle.schema_check.specs.declared.rule.SchemaRule.{SchemaRule}
 use Rattle.tree_model.specs.Tree.{IsLive, children_of}
-use Rattle.value_text.specs.ValueTexts.{lines_text}
+use Rattle.data_types.specs.ValueTexts.{lines_text}
 use Rattle.tree_task.specs.ChunkAnswer.{ChunkAnswer}
 use Rattle.tree_task.specs.ForeignAnswer.{row_value}
-use Rattle.tree_task.specs.ListsAnswer.{column_fault, lines_unless, most_columns, rows_unless, said_of_column}
+use Rattle.tree_task.specs.ListsAnswer.{column_fault, lines_unless, most_columns, rows_unless, answer_of_column}
 use Rattle.tree_task.specs.Refusals.{fault_of_list}
 use Rattle.tree_task.specs.TextOrFault.{Answer, Fault, Text}
 use Rattle.tree_task.specs.declared.fault.TreeRunFault.{TreeRunFault}
@@ -60,31 +60,31 @@ module _ (column count : ℕ) where
 module _ (schema : SchemaTree) (array : ArrayTree) (column : ℕ) where
   -- whatever is said of rows, this fault is the answer
   abbrev pub IsColumnFault : TreeRunFault → Type 0
-  IsColumnFault told = (told ≡ run.NoMemory) ⊎ ((said : KindTree → List Row → Answer) → ChunkAnswer (said_of_column column said) schema array (Fault told))
+  IsColumnFault told = (told ≡ run.NoMemory) ⊎ ((said : KindTree → List Row → Answer) → ChunkAnswer (answer_of_column column said) schema array (Fault told))
 
   -- that of the chunk
   pub column-late : (told : TreeRunFault) → IsChunkFault schema array told → IsColumnFault told
   column-late told (inl memory) = inl memory
-  column-late told (inr each) = inr (λ said. each (said_of_column column said))
+  column-late told (inr each) = inr (λ said. each (answer_of_column column said))
 
   module _ (typed : KindTree) (kinds : TypedOf schema typed) (passed : first_chunk_fault typed array ≡ None) where
     -- that of the column
     pub column-refused : (told : TreeRunFault) → Some told ≡ column_fault column (length (children_of typed)) → IsColumnFault told
     column-refused told is =
-        inr (λ said. chunk-is schema array typed kinds passed (said_of_column column said) (Fault told) (ap (rows_unless said typed array) is))
+        inr (λ said. chunk-is schema array typed kinds passed (answer_of_column column said) (Fault told) (ap (rows_unless said typed array) is))
 
     -- what is said of the rows where there is the column
     module _ (there : column_fault column (length (children_of typed)) ≡ None) (said : KindTree → List Row → Answer) where
       pub rows-text : {T E : Type 0} (text : T → List ℕ) (r : Result T E) → IfOk r (λ t. Text (text t) ≡ said typed (rows_of typed array))
-          → IfOk r (λ t. ChunkAnswer (said_of_column column said) schema array (Text (text t)))
+          → IfOk r (λ t. ChunkAnswer (answer_of_column column said) schema array (Text (text t)))
       rows-text text r is =
-          chunk-text schema array typed kinds passed (said_of_column column said) text r
+          chunk-text schema array typed kinds passed (answer_of_column column said) text r
           (subst (λ f. IfOk r (λ t. Text (text t) ≡ rows_unless said typed array f)) (sym there) is)
 
       pub rows-fault : {T : Type 0} (r : Result T TreeRunFault) → IfErr r (λ fault. (fault ≡ run.NoMemory) ⊎ (Fault fault ≡ said typed (rows_of typed array)))
-          → IfErr r (λ fault. (fault ≡ run.NoMemory) ⊎ ChunkAnswer (said_of_column column said) schema array (Fault fault))
+          → IfErr r (λ fault. (fault ≡ run.NoMemory) ⊎ ChunkAnswer (answer_of_column column said) schema array (Fault fault))
       rows-fault r is =
-          chunk-fault schema array typed kinds passed (said_of_column column said) r
+          chunk-fault schema array typed kinds passed (answer_of_column column said) r
           (subst (λ f. IfErr r (λ fault. (fault ≡ run.NoMemory) ⊎ (Fault fault ≡ rows_unless said typed array f))) (sym there) is)
 
 -- ---- the new rows

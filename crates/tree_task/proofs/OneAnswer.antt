@@ -1,6 +1,6 @@
 -- A command and bytes have one answer.
 use Rattle.std.proofs.Common.{◌≡◌, ◌∙◌, ℕ, Bool, true, false, List, Option, None, Some, Result, Ok, Err, ap, refl, subst, sym}
-use Rattle.kind_tree.specs.Kinds.{KindTree}
+use Rattle.data_types.specs.KindTrees.{KindTree}
 use Rattle.raw_array.specs.Members.{ArrayTree}
 use Rattle.raw_schema.specs.Members.{SchemaTree}
 use Rattle.schema_check.specs.SchemaAnswers.{FirstFault, SchemaReads}
@@ -13,10 +13,10 @@ use Rattle.tree_task.specs.Answer.{Answer, AnswerWithin, Fault, IsAnswerTo, Read
 use Rattle.run_ends.specs.RunSchemas.{RunsReads}
 use Rattle.run_ends.specs.RunSchemas.{SchemaFound as RunsSchemaFound}
 use Rattle.run_ends.specs.Runs.{RunTree}
-use Rattle.tree_task.specs.ChunkAnswer.{ChunkAnswer, Said, said_of_kinds}
+use Rattle.tree_task.specs.ChunkAnswer.{ChunkAnswer, ChunkCommand, answer_of_kinds}
 use Rattle.tree_task.specs.FlatAnswer.{FlatAnswer, flat_of_schema}
 use Rattle.tree_task.specs.ForeignAnswer.{ForeignAnswer, chunk_of_kinds}
-use Rattle.tree_task.specs.ListsAnswer.{exploded, nested, said_of_column}
+use Rattle.tree_task.specs.ListsAnswer.{exploded, nested, answer_of_column}
 use Rattle.tree_task.specs.RowsAnswer.{RowsAnswer, rows_of_kinds}
 use Rattle.tree_task.specs.RunsAnswer.{RunsAnswer, runs_of_kinds}
 use Rattle.tree_task.specs.TagAnswer.{tags_of_columns}
@@ -34,10 +34,10 @@ Texts = Result (SchemaTree × ArrayTree) TextFault
 
 module _ (some-reading : (bytes : List ℕ) → (read : Texts) × Reads bytes read) (some-format : SomeFormat) (some-kinds : SomeKinds)
     (some-metadata : SomeMetadata) where
-  some-chunk : (said : Said) (schema : SchemaTree) (array : ArrayTree) → SchemaFits 1 schema → (answer : Answer) × ChunkAnswer said schema array answer
+  some-chunk : (said : ChunkCommand) (schema : SchemaTree) (array : ArrayTree) → SchemaFits 1 schema → (answer : Answer) × ChunkAnswer said schema array answer
   some-chunk said schema array fits =
       let read = some-kinds 1 schema fits in
-      (said_of_kinds said read.0 array, (read.0, read.1, refl))
+      (answer_of_kinds said read.0 array, (read.0, read.1, refl))
 
   some-trees : (command : Command) (schema : SchemaTree) (array : ArrayTree) → SchemaFits 1 schema → (answer : Answer) × TreesAnswer command schema array answer
   some-trees commands.Rows schema array fits =
@@ -56,8 +56,8 @@ module _ (some-reading : (bytes : List ℕ) → (read : Texts) × Reads bytes re
   some-trees commands.Flat schema array fits =
       let read = some-runs some-kinds some-metadata 1 schema fits in
       (flat_of_schema read.0 array, (read.0, read.1, refl))
-  some-trees (commands.Explode column) schema array fits = some-chunk (said_of_column column (exploded column)) schema array fits
-  some-trees (commands.Nest column) schema array fits = some-chunk (said_of_column column (nested column)) schema array fits
+  some-trees (commands.Explode column) schema array fits = some-chunk (answer_of_column column (exploded column)) schema array fits
+  some-trees (commands.Nest column) schema array fits = some-chunk (answer_of_column column (nested column)) schema array fits
 
   some-read : (command : Command) (bytes : List ℕ) (read : Texts) → Reads bytes read → (answer : Answer) × ReadAnswer command read answer
   some-read command bytes (Ok read) reads = some-trees command read.0 read.1 reads.1.schema_fits
@@ -94,10 +94,10 @@ module _ (one-text : (bytes : List ℕ) (first second : Texts) → Reads bytes f
   one-foreign : (schema : SchemaTree) (array : ArrayTree) (one other : Answer) → ForeignAnswer schema array one → ForeignAnswer schema array other → one ≡ other
   one-foreign schema array one other is also = is.2 ∙ ap (λ r. chunk_of_kinds r array) (one-schema schema is.0 also.0 is.1 also.1) ∙ sym also.2
 
-  one-chunk : (said : Said) (schema : SchemaTree) (array : ArrayTree) (one other : Answer) → ChunkAnswer said schema array one
+  one-chunk : (said : ChunkCommand) (schema : SchemaTree) (array : ArrayTree) (one other : Answer) → ChunkAnswer said schema array one
       → ChunkAnswer said schema array other → one ≡ other
   one-chunk said schema array one other is also =
-      is.2 ∙ ap (λ r. said_of_kinds said r array) (one-schema schema is.0 also.0 is.1 also.1) ∙ sym also.2
+      is.2 ∙ ap (λ r. answer_of_kinds said r array) (one-schema schema is.0 also.0 is.1 also.1) ∙ sym also.2
 
   one-runs-answer : (schema : SchemaTree) (array : ArrayTree) (one other : Answer) → RunsAnswer schema array one → RunsAnswer schema array other → one ≡ other
   one-runs-answer schema array one other is also = is.2 ∙ ap (λ r. runs_of_kinds r array) (one-schema schema is.0 also.0 is.1 also.1) ∙ sym also.2
@@ -113,8 +113,8 @@ module _ (one-text : (bytes : List ℕ) (first second : Texts) → Reads bytes f
   one-trees commands.Foreign schema array one other is also = one-foreign schema array one other is also
   one-trees commands.Runs schema array one other is also = one-runs-answer schema array one other is also
   one-trees commands.Flat schema array one other is also = one-flat schema array one other is also
-  one-trees (commands.Explode column) schema array one other is also = one-chunk (said_of_column column (exploded column)) schema array one other is also
-  one-trees (commands.Nest column) schema array one other is also = one-chunk (said_of_column column (nested column)) schema array one other is also
+  one-trees (commands.Explode column) schema array one other is also = one-chunk (answer_of_column column (exploded column)) schema array one other is also
+  one-trees (commands.Nest column) schema array one other is also = one-chunk (answer_of_column column (nested column)) schema array one other is also
 
   one-read : (command : Command) (read : Texts) (one other : Answer) → ReadAnswer command read one → ReadAnswer command read other → one ≡ other
   one-read command (Ok read) one other is also = one-trees command read.0 read.1 one other is also

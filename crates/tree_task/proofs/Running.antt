@@ -4,8 +4,8 @@ use Rattle.std.proofs.Common.{inl, inr, ap, arith, refl, subst, sym}
 use Rattle.std.specs.List.{flat_map}
 use Rattle.data_types.specs.Value.{Value}
 use Rattle.data_types.specs.Value.Value.{Null}
-use Rattle.kind_tree.specs.Kinds.{KindTree}
-use Rattle.kind_tree.specs.Ways.{steps_of}
+use Rattle.data_types.specs.KindTrees.{KindTree}
+use Rattle.data_types.specs.Ways.{steps_of}
 use Rattle.layout_rules.specs.Found.{fault_of}
 use Rattle.layout_rules.specs.Walk.{first_fault}
 use Rattle.layout_rules.specs.declared.rule.LayoutFault.{LayoutFault}
@@ -27,7 +27,7 @@ use Rattle.schema_check.specs.Schemas.{TypedOf}
 use Rattle.schema_check.specs.declared.schema.SchemaFault.TheVariants as schemas
 use Rattle.tree_check.specs.Checks.{array_refused}
 use Rattle.tree_check.specs.declared.fault.CheckFault.{CheckFault}
-use Rattle.value_text.specs.ValueTexts.{lines_text, value_line}
+use Rattle.data_types.specs.ValueTexts.{lines_text, value_line}
 use Rattle.value_text.proofs.Parts.{lines-more}
 use Rattle.tree_task.specs.FlatAnswer.{FlatAnswer, flat_unless}
 use Rattle.tree_task.specs.Refusals.{fault_of_check}

@@ -91,7 +91,7 @@ input_limit = 1_073_741_824
 abbrev pub is_too_long : List ℕ → Bool
 is_too_long bytes = nat_lt input_limit (length bytes)
 
--- where it is told whether the input is too long
+-- where it is given whether the input is too long
 abbrev pub AnswerWithin : Bool → Command → List ℕ → Answer → Type 0
 AnswerWithin true command bytes answer = answer ≡ Fault run.InputTooLong
 AnswerWithin false command bytes answer = TextAnswer command bytes answer
@@ -107,11 +107,11 @@ TreeAnswer words bytes answer = IsAnswerTo (command_of words) bytes answer
 
 -- ---- the input
 
--- the bytes are those that the source tells that it has; where it tells none, any may be
+-- the bytes are those that the source states that it has; where it states none, any may be
 abbrev pub AreBytes : Option (List ℕ) → List ℕ → Type 0
 AreBytes told bytes = IfSome told (λ l. l ≡ bytes)
 
--- an input, told or not, is too long
+-- an input, stated or not, is too long
 abbrev pub IsTooLong : Option (List ℕ) → Type 0
 IsTooLong told = (bytes : List ℕ) × AreBytes told bytes × (input_limit < length bytes)
 

@@ -32,7 +32,7 @@ pub data Cause : Type 0 where
   -- the text, the schema, the array, or columns that a command can't take
   OfTrees : Cause
   Reading : Cause
-  -- a write, when so many bytes of the text were taken
+  -- a write, when this many bytes of the text were taken
   Writing : ℕ → Cause
   Memory : Cause
 
@@ -87,7 +87,7 @@ is_writing _ = false
 abbrev pub is_write_fault : TreeRunFault → Bool
 is_write_fault fault = is_writing (cause_of fault)
 
--- so many bytes were taken before a write failed
+-- this many bytes were taken before a write failed
 abbrev pub AtWriting : Cause → (ℕ → Type 0) → Type 0
 AtWriting (Writing taken) P = P taken
 AtWriting _ P = ⊤
@@ -100,7 +100,7 @@ abbrev pub fault_in : Result (Unit {0}) TreeRunFault → Option TreeRunFault
 fault_in (Ok done) = None
 fault_in (Err fault) = Some fault
 
--- ---- want of memory inside another fault
+-- ---- out of memory inside another fault
 
 abbrev pub is_text_memory : TextFault → Bool
 is_text_memory texts.NoMemory = true

@@ -6,7 +6,7 @@ use Rattle.raw_schema.specs.Members.{SchemaTree}
 use Rattle.run_ends.specs.RunRules.{RunsFound, runs_fault}
 use Rattle.run_ends.specs.RunSchemas.{RunsReads, SchemaFound}
 use Rattle.run_ends.specs.Runs.{RunTree, run_values}
-use Rattle.value_text.specs.ValueTexts.{lines_text}
+use Rattle.data_types.specs.ValueTexts.{lines_text}
 use Rattle.tree_task.specs.RunRefusals.{runs_fault_told, runs_schema_fault}
 use Rattle.tree_task.specs.TextOrFault.{Answer, Fault, Text}
 use Rattle.tree_task.specs.declared.fault.TreeRunFault.TheVariants as run

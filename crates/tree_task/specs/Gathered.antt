@@ -1,7 +1,7 @@
 -- The chunks whose lines were gathered, as their rows.
 use Rattle.std.specs.Prelude.{List, map}
 use Rattle.data_types.specs.Table.{Row}
-use Rattle.kind_tree.specs.TypedView.{typed_of}
+use Rattle.data_types.specs.TypedView.{typed_of}
 use Rattle.layout_rules.specs.Values.{rows_of}
 use Rattle.tree_task.specs.declared.shown.Lines.{Lines}
 

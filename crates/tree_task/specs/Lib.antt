@@ -11,7 +11,7 @@ pub mod FlatAnswer
 pub mod ListsAnswer
 pub mod Faults
 pub mod Over
-pub mod Told
+pub mod Diagnostics
 pub mod Refusals
 pub mod RunRefusals
 pub mod Gathered

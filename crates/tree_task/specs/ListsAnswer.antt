@@ -1,10 +1,10 @@
 -- A line for each row of a chunk of which the lists in a column are spread out, or the rows grouped by a column ("Arrow Columnar Format",
 -- "Variable-size List Layout"); or the first fault: of the schema, of the chunk, of the number of its columns, of the number of that
--- column, of the kinds of the columns, and of how many rows, items and bytes there would be. It is told by the rows alone, whatever columns
+-- column, of the kinds of the columns, and of how many rows, items and bytes there would be. It depends on the rows alone, whatever columns
 -- they are made.
 use Rattle.std.specs.Prelude.{ℕ, if◌then◌else◌, List, length, map, nat_lt, Option, None, Some}
 use Rattle.data_types.specs.Table.{Row}
-use Rattle.kind_tree.specs.Kinds.{KindTree}
+use Rattle.data_types.specs.KindTrees.{KindTree}
 use Rattle.layout_rules.specs.Values.{rows_of}
 use Rattle.list_cols.specs.Faults.{explode_fault}
 use Rattle.list_cols.specs.NestFaults.{nest_fault}
@@ -13,7 +13,7 @@ use Rattle.list_cols.specs.declared.fault.ListFault.{ListFault}
 use Rattle.raw_array.specs.Members.{ArrayTree}
 use Rattle.raw_schema.specs.Members.{SchemaTree}
 use Rattle.tree_model.specs.Tree.{children_of}
-use Rattle.value_text.specs.ValueTexts.{lines_text}
+use Rattle.data_types.specs.ValueTexts.{lines_text}
 use Rattle.tree_task.specs.ChunkAnswer.{ChunkAnswer}
 use Rattle.tree_task.specs.ForeignAnswer.{row_value}
 use Rattle.tree_task.specs.TextOrFault.{Answer, Fault, Text}
@@ -26,7 +26,7 @@ use Rattle.tree_task.specs.declared.fault.TreeRunFault.TheVariants as run
 abbrev pub most_columns : ℕ
 most_columns = 1024
 
--- why such a chunk of so many columns has none of this number
+-- why such a chunk of this many columns has none of this number
 abbrev pub column_fault : ℕ → ℕ → Option TreeRunFault
 column_fault column count =
     if nat_lt most_columns count then Some (run.TooManyColumns count) else if nat_lt column count then None else Some (run.Column column)
@@ -43,8 +43,8 @@ abbrev pub rows_unless : (KindTree → List Row → Answer) → KindTree → Arr
 rows_unless said typed array None = said typed (rows_of typed array)
 rows_unless said typed array (Some fault) = Fault fault
 
-abbrev pub said_of_column : ℕ → (KindTree → List Row → Answer) → KindTree → ArrayTree → Answer
-said_of_column column said typed array = rows_unless said typed array (column_fault column (length (children_of typed)))
+abbrev pub answer_of_column : ℕ → (KindTree → List Row → Answer) → KindTree → ArrayTree → Answer
+answer_of_column column said typed array = rows_unless said typed array (column_fault column (length (children_of typed)))
 
 -- ---- spread out
 
@@ -52,7 +52,7 @@ abbrev pub exploded : ℕ → KindTree → List Row → Answer
 exploded column typed rows = lines_unless (Explode column rows) (explode_fault column typed rows)
 
 abbrev pub ExplodeAnswer : ℕ → SchemaTree → ArrayTree → Answer → Type 0
-ExplodeAnswer column schema array answer = ChunkAnswer (said_of_column column (exploded column)) schema array answer
+ExplodeAnswer column schema array answer = ChunkAnswer (answer_of_column column (exploded column)) schema array answer
 
 -- ---- grouped
 
@@ -60,4 +60,4 @@ abbrev pub nested : ℕ → KindTree → List Row → Answer
 nested column typed rows = lines_unless (Nest (length (children_of typed)) column rows) (nest_fault column typed rows)
 
 abbrev pub NestAnswer : ℕ → SchemaTree → ArrayTree → Answer → Type 0
-NestAnswer column schema array answer = ChunkAnswer (said_of_column column (nested column)) schema array answer
+NestAnswer column schema array answer = ChunkAnswer (answer_of_column column (nested column)) schema array answer

@@ -28,5 +28,5 @@ pub record RanOver (command : Option Command) (bytes : List ℕ) (fault : Option
   pub counts : fault ≡ None → IfSome command (λ c. CountsCommand c bytes old_blocks old_nodes blocks nodes)
   -- where neither rose and the answer is a text, it is given, or there was no memory
   pub complete : (text : List ℕ) → IsAnswerTo command bytes (Text text) → ¬ ReadRose → ¬ WriteRose → (fault ≡ None) ⊎ (fault ≡ Some run.NoMemory)
-  -- where it is a fault, it is told, whatever the sink does
+  -- where it is a fault, it is reported, whatever the sink does
   pub complete_fault : (f : TreeRunFault) → IsAnswerTo command bytes (Fault f) → ¬ ReadRose → (fault ≡ Some f) ⊎ (fault ≡ Some run.NoMemory)

@@ -1,13 +1,13 @@
 -- A line for each item of an array of any kind, or the first fault of its schema and of the array.
 use Rattle.std.specs.Prelude.{◌≡◌, Option, None, Some, Result, Ok, Err}
-use Rattle.kind_tree.specs.Kinds.{KindTree}
+use Rattle.data_types.specs.KindTrees.{KindTree}
 use Rattle.layout_rules.specs.Values.{values_of}
 use Rattle.layout_rules.specs.Walk.{Fault as ArrayFault, first_fault}
 use Rattle.raw_array.specs.Members.{ArrayTree}
 use Rattle.raw_schema.specs.Members.{SchemaTree}
 use Rattle.schema_check.specs.SchemaAnswers.{FirstFault, SchemaReads}
 use Rattle.tree_check.specs.Checks.{array_fault, schema_fault}
-use Rattle.value_text.specs.ValueTexts.{lines_text}
+use Rattle.data_types.specs.ValueTexts.{lines_text}
 use Rattle.tree_task.specs.Refusals.{fault_of_tree}
 use Rattle.tree_task.specs.TextOrFault.{Answer, Fault, Text}
 

@@ -6,7 +6,7 @@ use Rattle.layout_rules.specs.Layout.{items}
 use Rattle.raw_array.specs.Members.{ArrayTree, members_of}
 use Rattle.run_ends.specs.RunCoding.{runs_from}
 use Rattle.run_ends.specs.Runs.{RunTree, run_of}
-use Rattle.value_text.specs.NumberedTexts.{numbered_line}
+use Rattle.data_types.specs.NumberedTexts.{numbered_line}
 use Rattle.tree_task.specs.RunsAnswer.{numbered_run}
 
 -- those of the runs from an item on

@@ -3,7 +3,7 @@
 -- by the values alone, whatever tree their runs are made.
 use Rattle.std.specs.Prelude.{◌≡◌, ℕ, List, map, Option, None, Some, Result, Ok, Err}
 use Rattle.data_types.specs.Value.{Value}
-use Rattle.kind_tree.specs.Kinds.{KindTree}
+use Rattle.data_types.specs.KindTrees.{KindTree}
 use Rattle.layout_rules.specs.Values.{tree_items, values_of}
 use Rattle.layout_rules.specs.Walk.{Fault as ArrayFault, first_fault}
 use Rattle.raw_array.specs.Members.{ArrayTree}
@@ -13,7 +13,7 @@ use Rattle.run_ends.specs.RunCoding.{Run, runs_from}
 use Rattle.run_ends.specs.declared.code_fault.CodeFault.{CodeFault}
 use Rattle.schema_check.specs.SchemaAnswers.{FirstFault, SchemaReads}
 use Rattle.tree_check.specs.Checks.{array_fault, schema_fault}
-use Rattle.value_text.specs.NumberedTexts.{numbered_text}
+use Rattle.data_types.specs.NumberedTexts.{numbered_text}
 use Rattle.tree_task.specs.Refusals.{fault_of_tree}
 use Rattle.tree_task.specs.TextOrFault.{Answer, Fault, Text}
 use Rattle.tree_task.specs.declared.fault.TreeRunFault.TheVariants as run

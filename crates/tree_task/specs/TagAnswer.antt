@@ -1,7 +1,7 @@
 -- A line for each row of a chunk: the number of its first column that isn't null, and the value there; or the first fault of the schema,
--- of the chunk, and of the number of its columns and rows. It is told by the rows alone, whatever union they are made.
+-- of the chunk, and of the number of its columns and rows. It depends on the rows alone, whatever union they are made.
 use Rattle.std.specs.Prelude.{Bool, length, Option, None, Some}
-use Rattle.kind_tree.specs.Kinds.{KindTree}
+use Rattle.data_types.specs.KindTrees.{KindTree}
 use Rattle.layout_rules.specs.Values.{rows_of, tree_items}
 use Rattle.raw_array.specs.Members.{ArrayTree}
 use Rattle.raw_schema.specs.Members.{SchemaTree}

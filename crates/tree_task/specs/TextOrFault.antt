@@ -1,4 +1,4 @@
--- An answer: the text that is to be written, or the fault that is to be told.
+-- An answer: the text that is to be written, or the fault that is to be reported.
 use Rattle.std.specs.Prelude.{ℕ, List}
 use Rattle.tree_task.specs.declared.fault.TreeRunFault.{TreeRunFault}
 

@@ -8,7 +8,7 @@ use Rattle.raw_schema.specs.Members.{SchemaTree}
 use Rattle.union_cols.specs.UnionRules.{UnionFound, union_fault}
 use Rattle.union_cols.specs.UnionSchemas.{SchemaFound, UnionReads}
 use Rattle.union_cols.specs.Unions.{UnionItem, UnionTree, union_items}
-use Rattle.value_text.specs.NumberedTexts.{numbered_text}
+use Rattle.data_types.specs.NumberedTexts.{numbered_text}
 use Rattle.tree_task.specs.Refusals.{union_fault_told, union_schema_fault}
 use Rattle.tree_task.specs.TextOrFault.{Answer, Fault, Text}
 use Rattle.tree_task.specs.declared.fault.TreeRunFault.TheVariants as run

@@ -1,7 +1,7 @@
 //! What a run does between its words and its lines: it reads, makes the text and writes it.
 ghost use Rattle.std.specs.Prelude.{◌≡◌, ◌≢◌, ◌≤◌, ◌⊎◌, ◌↔◌, false, None, Some, Ok, Err, IfOk, IfErr, OnOk, length, ℕ, List};
 ghost use Rattle.std.specs.Io.KnownBytes.{IsAtEnd, Keeps};
-ghost use Rattle.edge_face.specs.Edge.{LosesPrefix, Rose};
+ghost use Rattle.edge_io.specs.Edge.{LosesPrefix, Rose};
 ghost use Rattle.unit_pass.specs.declared.pass.TheConstants.{ROOM};
 ghost use Rattle.tree_task.specs.Answer.{AreBytes, IsTooLong, input_limit};
 ghost use Rattle.tree_task.specs.Faults.{AtWriteFault, fault_in, is_write_fault};
@@ -11,7 +11,7 @@ use crate::answer::answer_text;
 use crate::command::Command;
 use crate::fault::TreeRunFault;
 use crate::laws::one_answer;
-use edge_face::{ReadFault, Sink, Source, read_all, write_all};
+use edge_io::{ReadFault, Sink, Source, read_all, write_all};
 use std::alloc::Global;
 use unit_pass::{Pass, ROOM};
 
@@ -66,7 +66,7 @@ fn run_command<S: Source, K: Sink>(
 }
 
 /// Reads the source, makes the text of the command and writes it, where there is a command.
-pub fn carry_out<S: Source, K: Sink>(
+pub fn run_over_source<S: Source, K: Sink>(
     alloc: Global,
     command: Option<Command>,
     source: &mut S,
@@ -74,7 +74,7 @@ pub fn carry_out<S: Source, K: Sink>(
     pass: &mut Pass,
 ) -> Result<(), TreeRunFault>
     requires { ROOM ≤ pass.old.units }
-    // Of the bytes of one input all of this is so: those that the source tells; where it tells none, some bytes.
+    // Of the bytes of one input all of this is so: those that the source states; where it states none, some bytes.
     ensures over { (bytes : List ℕ) × AreBytes (S.left source.old) bytes
         × RanOver command bytes (fault_in result) (K.taken sink.old) (K.taken sink.new) pass.old.blocks pass.old.nodes pass.new.blocks pass.new.nodes
         (Rose (S.faults source.old) (S.faults source.new)) (Rose (K.faults sink.old) (K.faults sink.new)) }

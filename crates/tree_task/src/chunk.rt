@@ -1,17 +1,17 @@
 //! Chunks: their kinds, and the lines of one that a command made.
 ghost use Rattle.std.specs.Prelude.{◌≡◌, ◌⊎◌, None, IfOk, IfErr, map};
-ghost use Rattle.kind_tree.specs.Kinds.{KindTree, TypedOk};
-ghost use Rattle.kind_tree.specs.TypedView.{typed_of};
+ghost use Rattle.data_types.specs.KindTrees.{KindTree, TypedOk};
+ghost use Rattle.data_types.specs.TypedView.{typed_of};
 ghost use Rattle.layout_rules.specs.Values.{rows_of};
 ghost use Rattle.layout_rules.specs.Walk.{ChunkOk, first_chunk_fault};
 ghost use Rattle.schema_check.specs.Schemas.{TypedOf};
-ghost use Rattle.value_text.specs.ValueTexts.{lines_text};
-ghost use Rattle.tree_task.specs.ChunkAnswer.{ChunkAnswer, Said};
+ghost use Rattle.data_types.specs.ValueTexts.{lines_text};
+ghost use Rattle.tree_task.specs.ChunkAnswer.{ChunkAnswer, ChunkCommand};
 ghost use Rattle.tree_task.specs.ForeignAnswer.{row_value};
 ghost use Rattle.tree_task.specs.TextOrFault.{Fault};
 
 use crate::fault::TreeRunFault;
-use kind_tree::Typed;
+use data_types::Typed;
 use layout_check::check_chunk;
 use layout_rules::chunks_are_tables;
 use raw_array::RawArray;
@@ -33,7 +33,7 @@ pub(crate) fn chunk_kinds(
     ensures chunk { IfOk result (λ typed. ChunkOk (typed_of typed) array.now) }
     ensures passed { IfOk result (λ typed. first_chunk_fault (typed_of typed) array.now ≡ None) }
     // Whatever is said of chunks, this is the answer.
-    ensures fault { IfErr result (λ fault. (fault ≡ TreeRunFault.NoMemory) ⊎ ((said : Said) → ChunkAnswer said schema.now array.now (Fault fault))) }
+    ensures fault { IfErr result (λ fault. (fault ≡ TreeRunFault.NoMemory) ⊎ ((said : ChunkCommand) → ChunkAnswer said schema.now array.now (Fault fault))) }
 {
     let typed = match check_schema(alloc, schema) {
         Ok(typed) => typed,

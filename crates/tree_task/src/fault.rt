@@ -4,8 +4,8 @@ ghost use Rattle.tree_task.specs.Refusals.{fault_of_union_schema, rule_told};
 ghost use Rattle.union_cols.specs.UnionAnswers.{rule_of};
 ghost use Rattle.union_cols.specs.declared.schema_fault.UnionSchemaFault.TheVariants as unions;
 
-use edge_face::WriteFault;
-use kind_tree::Path;
+use data_types::Path;
+use edge_io::WriteFault;
 use layout_rules::LayoutFault;
 use list_cols::ListFault;
 use run_ends::{CodeFault, RunsFault, RunsSchemaFault};
@@ -24,9 +24,9 @@ pub enum TreeRunFault {
     InputTooLong,
     /// The source failed.
     ReadFault,
-    /// The sink failed after so many bytes of the text.
+    /// The sink failed after this many bytes of the text.
     WriteFault { taken: u64 },
-    /// The input spells no two trees. It is never want of memory.
+    /// The input spells no two trees. It is never an out-of-memory.
     Text(TextFault),
     /// A rule of schemas fails at a node: the first one in preorder, and its first rule. The places of the path behind its
     /// depth are 0.
@@ -34,19 +34,19 @@ pub enum TreeRunFault {
     /// A rule of arrays fails at a node: the first one in preorder, and its first rule. The places of its path behind its
     /// depth are 0.
     Layout(LayoutFault),
-    /// The schema is no union's: its first fault. The places of a path inside it behind its depth are 0, and it is never want of
-    /// memory.
+    /// The schema is no union's: its first fault. The places of a path inside it behind its depth are 0, and it is never an
+    /// out-of-memory.
     UnionSchema(UnionSchemaFault),
     /// A rule of unions fails: the first one. The places of a path inside it behind its depth are 0.
     Union(UnionFault),
-    /// The columns of a chunk make no union: there are none, or too many, or too many rows. It is never want of memory.
+    /// The columns of a chunk make no union: there are none, or too many, or too many rows. It is never an out-of-memory.
     Tag(TagFault),
     /// The schema is none of a run-end encoded array: its first fault. The places of a path inside it behind its depth are 0, and it is
-    /// never want of memory.
+    /// never an out-of-memory.
     RunsSchema(RunsSchemaFault),
     /// A rule of run-end encoded arrays fails: the first one. The places of a path inside it behind its depth are 0.
     Runs(RunsFault),
-    /// A column isn't made into runs: it isn't flat, or is too long. It is never want of memory.
+    /// A column isn't made into runs: it isn't flat, or is too long. It is never an out-of-memory.
     Code(CodeFault),
     /// There are more than 1,024 columns, by one of which rows are to be grouped or of which the lists in one are to be spread out: their
     /// number.
@@ -54,7 +54,7 @@ pub enum TreeRunFault {
     /// There is no column of this number, counted from 0.
     Column { column: u32 },
     /// Rows aren't grouped, or the lists of a column aren't spread out: a column is of another kind, or there would be too many rows, items
-    /// or bytes. It is never want of memory.
+    /// or bytes. It is never an out-of-memory.
     Lists(ListFault),
     /// Memory ran out, or the text would have more than 2^31 bytes.
     NoMemory,
@@ -73,7 +73,7 @@ impl From<NoMemory> for TreeRunFault {
 
 impl From<WriteFault> for TreeRunFault {
     ghost use Rattle.std.specs.Prelude.{◌≡◌};
-    ghost use Rattle.edge_face.specs.Edge.{taken_by};
+    ghost use Rattle.edge_io.specs.Edge.{taken_by};
     ghost use Rattle.tree_task.specs.declared.fault.TreeRunFault.TheVariants as run;
 
     ghost from_gives = { λ fault given. given ≡ run.WriteFault (taken_by fault) };

@@ -2,7 +2,7 @@
 ghost use Rattle.std.specs.Prelude.{◌≡◌, ◌<◌, ◌^◌, ◌++◌, ◌⊎◌, ℕ, IfOk, IfErr, OnOk, length, nat_lt};
 ghost use Rattle.std.specs.List.{flat_map};
 ghost use Rattle.layout_rules.specs.Layout.{items};
-ghost use Rattle.kind_tree.specs.TypedView.{typed_of};
+ghost use Rattle.data_types.specs.TypedView.{typed_of};
 ghost use Rattle.layout_rules.specs.Values.{tree_items, value_at};
 ghost use Rattle.layout_rules.specs.Walk.{LayoutOk};
 ghost use Rattle.raw_array.specs.Members.{members_of};
@@ -12,7 +12,7 @@ ghost use Rattle.run_ends.specs.RunRules.{RunsOk};
 ghost use Rattle.run_ends.specs.Runs.{RunTypedOk, run_of, run_value, run_values};
 ghost use Rattle.tree_model.specs.Tree.{child_at, children_of};
 ghost use Rattle.value_text.specs.Lengths.{AreLengths, capped};
-ghost use Rattle.value_text.specs.ValueTexts.{lines_text, text_limit, value_line};
+ghost use Rattle.data_types.specs.ValueTexts.{lines_text, text_limit, value_line};
 ghost use Rattle.tree_task.specs.FlatAnswer.{FlatAnswer};
 ghost use Rattle.tree_task.specs.RunLines.{Reaches};
 ghost use Rattle.tree_task.specs.TextOrFault.{Fault, Text};
@@ -23,7 +23,7 @@ use raw_schema::RawSchema;
 use run_ends::{RunCol, RunTyped, check_runs, read_runs};
 use std::alloc::Global;
 use unit_pass::NoMemory;
-use value_text::{BoundedText, MOST_MEASURED, measured, plus, push_value, tells_often};
+use value_text::{BoundedText, MOST_MEASURED, has_indexed_lists, measured, plus, push_value};
 
 /// A line for each item of a run-end encoded array under its schema, or the first fault: of the schema, and then of the array ("Arrow
 /// Columnar Format", "Run-End Encoded Layout").
@@ -45,7 +45,7 @@ pub(crate) fn flat_text(
     }
 }
 
-/// The text of an array's items. Where a short array may tell of very many values, its length is found first.
+/// The text of an array's items. Where a short array may have very many values, its length is found first.
 fn measured_lines(alloc: Global, typed: &RunTyped, array: &RawArray) -> Result<Vec<u8>, NoMemory>
     requires types { RunTypedOk (runs_of typed.now) }
     requires lawful { RunsOk (runs_of typed.now) array.now }
@@ -53,7 +53,7 @@ fn measured_lines(alloc: Global, typed: &RunTyped, array: &RawArray) -> Result<V
 {
     let col = RunCol::of(typed, array);
     BoundedText::new(alloc).has_room(count_items(&col) * 2)?;
-    if tells_often(&typed.values) && is_too_long(alloc, typed, array).unwrap_or(false) {
+    if has_indexed_lists(&typed.values) && is_too_long(alloc, typed, array).unwrap_or(false) {
         return Err(NoMemory);
     }
     lines(alloc, &col)
@@ -175,7 +175,7 @@ fn known_run(col: &RunCol<'_>, i: u64, run: u64) -> Reached
     count_values(col);
     Reached {
         run,
-        stop: col.behind_run(i as i64, run as i64) as u64,
+        stop: col.next_run_start(i as i64, run as i64) as u64,
     }
 }
 

@@ -1,7 +1,7 @@
 //! The rows of a chunk that a foreign producer owns.
 ghost use Rattle.std.specs.Prelude.{◌≡◌, ◌≢◌, ◌+◌, ◌⊎◌, ◌≤◌, [], ◌∷◌, None, Some, codes, IfOk, IfErr, OnErr, OnOk, MatchResult};
-ghost use Rattle.kind_tree.specs.Kinds.{TypedOk};
-ghost use Rattle.kind_tree.specs.TypedView.{typed_of};
+ghost use Rattle.data_types.specs.KindTrees.{TypedOk};
+ghost use Rattle.data_types.specs.TypedView.{typed_of};
 ghost use Rattle.layout_rules.specs.Walk.{first_chunk_fault};
 ghost use Rattle.raw_array.specs.Members.{Cost};
 ghost use Rattle.raw_schema.specs.Members.{Nodes};
@@ -15,8 +15,8 @@ ghost use Rattle.tree_task.specs.TextOrFault.{Fault, Text};
 use crate::fault::TreeRunFault;
 use crate::gathered::Gathered;
 use buf_block::{Hold, make};
+use data_types::Typed;
 use foreign_array::{DrainFault, Foreign, Owner, drain};
-use kind_tree::Typed;
 use layout_check::check_chunk;
 use layout_rules::{chunks_are_tables, lawful_has_no_fault, lawful_root};
 use raw_array::RawArray;

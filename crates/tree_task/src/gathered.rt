@@ -1,17 +1,17 @@
 //! The texts of chunks that are shown one after another.
 ghost use Rattle.std.specs.Prelude.{◌≡◌, [], ◌∷◌, IfOk, List, length, map};
 ghost use Rattle.data_types.specs.Table.{Row};
-ghost use Rattle.kind_tree.specs.Kinds.{TypedOk};
-ghost use Rattle.kind_tree.specs.TypedView.{typed_of};
+ghost use Rattle.data_types.specs.KindTrees.{TypedOk};
+ghost use Rattle.data_types.specs.TypedView.{typed_of};
 ghost use Rattle.layout_rules.specs.Values.{rows_of};
 ghost use Rattle.layout_rules.specs.Walk.{ChunkOk};
-ghost use Rattle.value_text.specs.ValueTexts.{lines_text};
+ghost use Rattle.data_types.specs.ValueTexts.{lines_text};
 ghost use Rattle.tree_task.specs.ForeignAnswer.{row_value};
 ghost use Rattle.tree_task.specs.Gathered.{shown_in, tables_in};
 
 use crate::shown::Lines;
+use data_types::{Typed, kinds_of_typed};
 use foreign_array::Visit;
-use kind_tree::{Typed, kinds_of_typed};
 use layout_rules::chunks_are_tables;
 use raw_array::RawArray;
 use std::alloc::Global;

@@ -19,7 +19,7 @@ pub fn one_answer()
     run_ends::one_runs_answer();
 }
 
-/// A law: no fault that is an answer has a want of memory inside it, nor has any that words and bytes don't decide.
+/// A law: no fault that is an answer has an out-of-memory inside it, nor has any that words and bytes don't decide.
 pub fn memory_stands_alone()
     ensures { (command : Option ACommand) (bytes : List ℕ) (fault : AFault)
         → (is_decided fault ≡ true → IsAnswerTo command bytes (Fault fault)) → has_memory_inside fault ≡ false }

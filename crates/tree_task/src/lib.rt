@@ -1,11 +1,11 @@
 //! What the program for trees does between its words and its lines.
 //!
 //! - [`read_command`] reads the command that the words are.
-//! - [`carry_out`] reads the source to its end, reads the two trees that its text tells of, checks them as the command asks, and
+//! - [`run_over_source`] reads the source to its end, reads the two trees that its text tells of, checks them as the command asks, and
 //!   writes the text of the command to the sink, or gives the first fault: of the words, of reading, of the text, of the schema,
 //!   of the array, of the command, of writing.
-//! - [`TreeOutcome`] is what a run came to, and [`tell`] writes the line of its fault.
-//! - Laws say that words and bytes have one answer ([`one_answer`]), and that no fault has a want of memory inside it
+//! - [`TreeOutcome`] is what a run came to, and [`write_diagnostics`] writes the line of its fault.
+//! - Laws say that words and bytes have one answer ([`one_answer`]), and that no fault has an out-of-memory inside it
 //!   ([`memory_stands_alone`]).
 //!
 //! The answer to words and bytes stands in `specs/Answer.antt`, that of each command to two trees in a file of its own
@@ -19,6 +19,7 @@ mod carry;
 mod chunk;
 mod column_number;
 mod command;
+mod diagnostics;
 mod fault;
 mod flat;
 mod foreign;
@@ -32,13 +33,12 @@ mod run_faults;
 mod runs;
 mod shown;
 mod tags;
-mod told;
 mod union;
 mod union_length;
 
-pub use carry::carry_out;
+pub use carry::run_over_source;
 pub use command::{Command, read_command};
+pub use diagnostics::write_diagnostics;
 pub use fault::TreeRunFault;
 pub use laws::{memory_stands_alone, one_answer};
 pub use outcome::{TreeOutcome, outcome_of};
-pub use told::tell;

@@ -1,8 +1,8 @@
 //! The rows of a chunk of which the lists in a column are spread out.
 ghost use Rattle.std.specs.Prelude.{◌≡◌, ◌+◌, ◌⊎◌, ◌<◌, ◌≤◌, None, IfOk, IfErr, IfSome, List, length};
 ghost use Rattle.data_types.specs.Table.{Row};
-ghost use Rattle.kind_tree.specs.Kinds.{KindTree, TypedOk};
-ghost use Rattle.kind_tree.specs.TypedView.{typed_of};
+ghost use Rattle.data_types.specs.KindTrees.{KindTree, TypedOk};
+ghost use Rattle.data_types.specs.TypedView.{typed_of};
 ghost use Rattle.layout_rules.specs.Values.{rows_of};
 ghost use Rattle.layout_rules.specs.Walk.{ChunkOk, first_chunk_fault};
 ghost use Rattle.raw_array.specs.Members.{Cost};
@@ -11,12 +11,12 @@ ghost use Rattle.schema_check.specs.Schemas.{TypedOf};
 ghost use Rattle.tree_model.specs.Tree.{children_of};
 ghost use Rattle.unit_pass.specs.declared.pass.TheConstants.{CHUNK, SUPPLY};
 ghost use Rattle.tree_task.specs.ChunkAnswer.{ChunkAnswer};
-ghost use Rattle.tree_task.specs.ListsAnswer.{ExplodeAnswer, column_fault, exploded, said_of_column};
+ghost use Rattle.tree_task.specs.ListsAnswer.{ExplodeAnswer, column_fault, exploded, answer_of_column};
 ghost use Rattle.tree_task.specs.TextOrFault.{Answer, Fault, Text};
 
 use crate::chunk::{chunk_kinds, chunk_lines};
 use crate::fault::TreeRunFault;
-use kind_tree::{Typed, kinds_of_typed};
+use data_types::{Typed, kinds_of_typed};
 use list_cols::{ListFault, explode, exploded_rows, wrong_to_explode};
 use raw_array::RawArray;
 use raw_schema::RawSchema;
@@ -60,7 +60,7 @@ pub(crate) fn column_kinds(
     ensures few { IfOk result (λ typed. length (children_of (typed_of typed)) ≤ 1024) }
     // Whatever is said of rows, this is the answer.
     ensures fault { IfErr result (λ fault. (fault ≡ TreeRunFault.NoMemory)
-        ⊎ ((said : KindTree → List Row → Answer) → ChunkAnswer (said_of_column column said) schema.now array.now (Fault fault))) }
+        ⊎ ((said : KindTree → List Row → Answer) → ChunkAnswer (answer_of_column column said) schema.now array.now (Fault fault))) }
 {
     let typed = chunk_kinds(alloc, schema, array)?;
     match column_fault(&typed, column) {
@@ -137,7 +137,7 @@ fn exploded_text(
 }
 
 /// Why nothing is made where the number of rows shows that the text would be too long: a row has two bytes at least for its braces and
-/// its line's end, and two for each column. It is a column of another kind, or else the text is refused as for want of memory.
+/// its line's end, and two for each column. It is a column of another kind, or else the text is refused as out of memory.
 fn early_fault(alloc: Global, typed: &Typed, array: &RawArray, column: u32) -> Option<TreeRunFault>
     requires valid { TypedOk (typed_of typed.now) }
     requires chunk { ChunkOk (typed_of typed.now) array.now }

@@ -1,7 +1,7 @@
 //! The rows of a chunk, grouped by the values of a column.
 ghost use Rattle.std.specs.Prelude.{◌≡◌, ◌+◌, ◌⊎◌, ◌<◌, ◌≤◌, ℕ, IfOk, IfErr, IfSome, length};
-ghost use Rattle.kind_tree.specs.Kinds.{TypedOk};
-ghost use Rattle.kind_tree.specs.TypedView.{typed_of};
+ghost use Rattle.data_types.specs.KindTrees.{TypedOk};
+ghost use Rattle.data_types.specs.TypedView.{typed_of};
 ghost use Rattle.layout_rules.specs.Values.{rows_of};
 ghost use Rattle.layout_rules.specs.Walk.{ChunkOk};
 ghost use Rattle.raw_array.specs.Members.{Cost};
@@ -15,7 +15,7 @@ ghost use Rattle.tree_task.specs.TextOrFault.{Fault, Text};
 use crate::chunk::chunk_lines;
 use crate::fault::TreeRunFault;
 use crate::lists::column_kinds;
-use kind_tree::{Typed, kinds_of_typed};
+use data_types::{Typed, kinds_of_typed};
 use layout_rules::lawful_root;
 use list_cols::{ListFault, nest, wrong_to_nest};
 use raw_array::RawArray;
@@ -95,7 +95,7 @@ fn nested_text(
 }
 
 /// Why nothing is made where the number of rows shows that the text would be too long: each row is an item of each list column, of two
-/// bytes at least with what stands behind it. It is a column of another kind, or else the text is refused as for want of memory. More rows
+/// bytes at least with what stands behind it. It is a column of another kind, or else the text is refused as out of memory. More rows
 /// than a list has items are left to the call that groups them.
 fn early_fault(alloc: Global, typed: &Typed, array: &RawArray) -> Option<TreeRunFault>
     requires valid { TypedOk (typed_of typed.now) }

@@ -9,7 +9,7 @@ use unit_pass::Audit;
 #[derive(Clone, Copy, PartialEq, Eq, Debug)]
 pub struct TreeOutcome {
     /// A function of the fault: 0 without one; 2 for the words, 5 for an input that is too long, 6 and 7 for reading and writing,
-    /// 8 for the text, the schema, the array and columns that a command can't take, 9 for want of memory.
+    /// 8 for the text, the schema, the array and columns that a command can't take, 9 where memory runs out.
     pub status: u8,
     pub fault: Option<TreeRunFault>,
     /// The blocks and nodes that were made, and that none is left.

@@ -3,34 +3,29 @@ ghost use Rattle.std.specs.Prelude.{◌≡◌, ◌<◌, ◌≤◌, ◌^◌, ◌+
 ghost use Rattle.arr_import.specs.Cols.{window_of};
 ghost use Rattle.arr_import.specs.Window.{items_of};
 ghost use Rattle.data_types.specs.Value.Value.{Null};
-ghost use Rattle.kind_tree.specs.Kinds.{TypedOk};
-ghost use Rattle.kind_tree.specs.TypedView.{typed_of};
+ghost use Rattle.data_types.specs.KindTrees.{TypedOk};
+ghost use Rattle.data_types.specs.TypedView.{typed_of};
 ghost use Rattle.layout_rules.specs.Values.{tree_items, values_of};
 ghost use Rattle.layout_rules.specs.Walk.{LayoutOk};
-ghost use Rattle.run_ends.specs.CodeFaults.{code_fault, is_flat_column};
 ghost use Rattle.run_ends.specs.ColumnRuns.{values_in};
 ghost use Rattle.run_ends.specs.RunCoding.{IsRun};
-ghost use Rattle.value_text.specs.NumberedTexts.{numbered_line};
+ghost use Rattle.data_types.specs.NumberedTexts.{numbered_line};
 ghost use Rattle.tree_task.specs.RunLines.{run_lines};
 ghost use Rattle.tree_task.specs.RunsAnswer.{RunsAnswer, runs_of_column, runs_text};
 ghost use Rattle.tree_task.specs.TextOrFault.{Fault, Text};
 
 use crate::fault::TreeRunFault;
 use arr_import::Col;
-use data_types::is_flat;
-use kind_tree::{Typed, kinds_of_typed};
+use data_types::Typed;
 use layout_check::check_array;
 use raw_array::RawArray;
 use raw_schema::RawSchema;
-use run_ends::{CodeFault, ColumnRuns};
+use run_ends::{ColumnRuns, encode_fault};
 use schema_check::check_schema;
 use std::alloc::Global;
 use tree_check::CheckFault;
 use unit_pass::NoMemory;
 use value_text::{BoundedText, push_numbered};
-
-/// The most items that ends of 32 bits name.
-const MOST_ITEMS: u64 = (1 << 31) - 1;
 
 /// A line for each run of equal values of a flat column: the place behind its last item, and its value ("Arrow Columnar Format",
 /// "Run-End Encoded Layout"); or the first fault: of the schema, of the array, of the column's kind and its number of items.
@@ -59,33 +54,10 @@ fn column_text(alloc: Global, typed: &Typed, array: &RawArray) -> Result<Vec<u8>
     ensures text { IfOk result (λ text. Text text.items ≡ runs_of_column (typed_of typed.now) array.now) }
     ensures fault { IfErr result (λ fault. (fault ≡ TreeRunFault.NoMemory) ⊎ (Fault fault ≡ runs_of_column (typed_of typed.now) array.now)) }
 {
-    match code_fault(typed, array) {
+    match encode_fault(typed, array) {
         None => Ok(lines(alloc, typed, array)?),
         Some(fault) => Err(TreeRunFault::Code(fault)),
     }
-}
-
-/// Why a lawful array isn't made into runs.
-fn code_fault(typed: &Typed, array: &RawArray) -> Option<CodeFault>
-    requires types { TypedOk (typed_of typed.now) }
-    requires lawful { LayoutOk (typed_of typed.now) array.now }
-    ensures { result ≡ code_fault (typed_of typed.now) (tree_items array.now) }
-{
-    if !is_flat_column(typed) {
-        return Some(CodeFault::WrongKind);
-    }
-    if Col::of(typed, array).len() as u64 > MOST_ITEMS {
-        return Some(CodeFault::TooLong);
-    }
-    None
-}
-
-/// Whether the values are of a flat kind, without a dictionary.
-fn is_flat_column(typed: &Typed) -> bool
-    ensures { result ≡ is_flat_column (typed_of typed.now) }
-{
-    kinds_of_typed(typed);
-    typed.dict.is_none() && is_flat(&typed.kind)
 }
 
 /// The text of a lawful array's runs.

@@ -1,11 +1,11 @@
 //! The lines of a chunk that was shown.
 ghost use Rattle.std.specs.Prelude.{◌≡◌, map};
-ghost use Rattle.kind_tree.specs.TypedView.{typed_of};
+ghost use Rattle.data_types.specs.TypedView.{typed_of};
 ghost use Rattle.layout_rules.specs.Values.{rows_of};
-ghost use Rattle.value_text.specs.ValueTexts.{lines_text};
+ghost use Rattle.data_types.specs.ValueTexts.{lines_text};
 ghost use Rattle.tree_task.specs.ForeignAnswer.{row_value};
 
-use kind_tree::Typed;
+use data_types::Typed;
 use raw_array::RawArray;
 use std::snapshot::Snapshot;
 

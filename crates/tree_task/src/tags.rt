@@ -1,7 +1,7 @@
 //! The columns of a chunk, tagged: the children of a union.
 ghost use Rattle.std.specs.Prelude.{◌≡◌, ◌+◌, ◌⊎◌, ◌≤◌, ◌≤ℤ◌, pos, IfOk, IfErr, OnOk};
-ghost use Rattle.kind_tree.specs.Kinds.{TypedOk};
-ghost use Rattle.kind_tree.specs.TypedView.{typed_of};
+ghost use Rattle.data_types.specs.KindTrees.{TypedOk};
+ghost use Rattle.data_types.specs.TypedView.{typed_of};
 ghost use Rattle.layout_rules.specs.Walk.{ChunkOk};
 ghost use Rattle.raw_array.specs.Members.{Cost, members_of};
 ghost use Rattle.tree_model.specs.Tree.{IsLive};
@@ -16,7 +16,7 @@ ghost use Rattle.tree_task.specs.TextOrFault.{Fault, Text};
 use crate::chunk::chunk_kinds;
 use crate::fault::TreeRunFault;
 use crate::union::union_text;
-use kind_tree::Typed;
+use data_types::Typed;
 use layout_rules::lawful_root;
 use raw_array::RawArray;
 use raw_schema::RawSchema;
@@ -101,7 +101,7 @@ fn columns_text(
 }
 
 /// Whether a text may have a line for each row of a chunk, so that nothing is made for very many rows: a line has two bytes at least.
-/// Where the columns make no union, that is told first.
+/// Where the columns make no union, that is reported first.
 fn may_fit(alloc: Global, array: &RawArray, dense: bool) -> bool
     requires live { IsLive array.now }
     requires length { pos 0 ≤ℤ (members_of array.now).length }

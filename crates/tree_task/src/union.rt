@@ -7,7 +7,7 @@ ghost use Rattle.union_cols.specs.UnionCols.{array_in, kinds_in};
 ghost use Rattle.union_cols.specs.UnionAnswers.{union_of};
 ghost use Rattle.union_cols.specs.UnionRules.{UnionOk};
 ghost use Rattle.union_cols.specs.Unions.{UnionTypedOk, union_item, union_items};
-ghost use Rattle.value_text.specs.NumberedTexts.{numbered_line};
+ghost use Rattle.data_types.specs.NumberedTexts.{numbered_line};
 ghost use Rattle.tree_task.specs.TextOrFault.{Fault, Text};
 ghost use Rattle.tree_task.specs.UnionAnswer.{UnionAnswer, items_text, numbered_item};
 
@@ -40,7 +40,7 @@ pub(crate) fn union_text(
     }
 }
 
-/// The text of a union's items. Where a short array may tell of very many values, its length is found first.
+/// The text of a union's items. Where a short array may have very many values, its length is found first.
 fn measured_lines(alloc: Global, typed: &UnionTyped, array: &RawArray) -> Result<Vec<u8>, NoMemory>
     requires types { UnionTypedOk (union_of typed.now) }
     requires lawful { UnionOk (union_of typed.now) array.now }

@@ -7,8 +7,8 @@ ghost use Rattle.union_cols.specs.UnionCols.{array_in, kinds_in};
 ghost use Rattle.union_cols.specs.UnionRules.{UnionOk};
 ghost use Rattle.union_cols.specs.Unions.{UnionTypedOk, union_item, union_items, union_value};
 ghost use Rattle.value_text.specs.Lengths.{AreKidLengths, capped, text_length};
-ghost use Rattle.value_text.specs.NumberedTexts.{numbered_line};
-ghost use Rattle.value_text.specs.ValueTexts.{text_limit};
+ghost use Rattle.data_types.specs.NumberedTexts.{numbered_line};
+ghost use Rattle.data_types.specs.ValueTexts.{text_limit};
 ghost use Rattle.tree_task.specs.UnionAnswer.{items_text, numbered_item};
 
 use crate::union::count_items;
@@ -16,12 +16,12 @@ use raw_array::RawArray;
 use std::alloc::Global;
 use union_cols::{UnionCol, UnionTyped, union_holds};
 use unit_pass::NoMemory;
-use value_text::{MOST_MEASURED, measured, plus, tells_often, whole_length};
+use value_text::{MOST_MEASURED, has_indexed_lists, measured, plus, whole_length};
 
-/// Whether a short array of these kinds may tell of very many values.
+/// Whether a short array of these kinds may have very many values.
 pub(crate) fn union_tells_often(typed: &UnionTyped) -> bool {
     for kid in &typed.kids {
-        if tells_often(kid) {
+        if has_indexed_lists(kid) {
             return true;
         }
     }

@@ -255,7 +255,7 @@ fn first_and_dictionary(rt: &impl Abort, top: RawArray, pass: &mut Pass) -> (Raw
     (first, dictionary)
 }
 
-/// The child at a place. What is left gives so many units back.
+/// The child at a place. What is left gives this many units back.
 fn one_of_two(rt: &impl Abort, tree: RawArray, i: usize, left: u64, pass: &mut Pass) -> RawArray
     requires { i ≤ 1 }
 {
@@ -396,7 +396,7 @@ fn stands(rt: &impl Abort, tree: &RawArray, offset: i64, length: i64, null_count
     assert!(rt; tree.null_count() == null_count);
 }
 
-/// Four items of 32 bits, so many of them null.
+/// Four items of 32 bits, this many of them null.
 fn four_items(
     rt: &impl Abort,
     alloc: Global,
@@ -419,7 +419,7 @@ fn four_items(
     built(rt, alloc, parts, pass)
 }
 
-/// Windows of four items, so many of them null, one in another. What the narrow ones know of nulls comes last.
+/// Windows of four items, this many of them null, one in another. What the narrow ones know of nulls comes last.
 fn windowed(rt: &impl Abort, tree: &mut RawArray, nulls: i64, unknown: i64) {
     stands(rt, tree, 0, 4, nulls);
     tree.window(0, 4);

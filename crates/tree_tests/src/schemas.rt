@@ -305,7 +305,7 @@ fn first_and_dictionary(
     (first, dictionary)
 }
 
-/// The child at a place. What is left gives so many units back.
+/// The child at a place. What is left gives this many units back.
 fn one_of_two(rt: &impl Abort, tree: RawSchema, i: usize, left: u64, pass: &mut Pass) -> RawSchema
     requires { i ≤ 1 }
 {

@@ -5,15 +5,15 @@ use Rattle.std.proofs.lemmas.Grind.{flat_map-append}
 use Rattle.std.proofs.lemmas.List.{append-nil}
 use Rattle.tree_model.specs.Tree.{Released, Live, IsLive, trees, children_of}
 use Rattle.raw_array.specs.Members.{ArrayTree, members_of}
-use Rattle.kind_tree.specs.declared.typed.Typed.{Typed, out-Typed}
-use Rattle.kind_tree.specs.TypedView.{typed_of, kind_of}
+use Rattle.data_types.specs.declared.typed.Typed.{Typed, out-Typed}
+use Rattle.data_types.specs.TypedView.{typed_of, kind_of}
 use Rattle.layout_check.specs.NodeView.{live_node}
 use Rattle.layout_rules.specs.Layout.{layout_of}
 use Rattle.layout_rules.specs.Rules.{null_items}
-use Rattle.kind_tree.specs.Kinds.{KindTree}
-use Rattle.kind_tree.specs.Ways.{Steps}
+use Rattle.data_types.specs.KindTrees.{KindTree}
+use Rattle.data_types.specs.Ways.{Steps}
 use Rattle.layout_rules.specs.Walk.{Visit, visits, walks_of, walk_children, nulls_in}
-use Rattle.kind_tree.proofs.Levels.{typed_out}
+use Rattle.data_types.proofs.Levels.{typed_out}
 use Rattle.tree_text.specs.Report.{visits_text, visit_text, node_line}
 use Rattle.tree_text.specs.Below.{children_visits, dictionary_visits}
 

@@ -80,7 +80,7 @@ module _ {M : Type 0} (gone : List ℕ) (own_lines : M → ℕ → ℕ → List 
     ≡ first_fault (replicate (c + d) (at (level + 1)) ++ places) rest (n + length (own_lines own c d)))
     (spelled_first : (level : ℕ) (places : List Place) (ls : List (List ℕ)) → Spelled (at level ∷ places) ls
     → Group (lines_of gone own_lines) (TreeFits NodeFits level) (Spelled places) ls) where
-  -- so many trees on one level, one behind the other
+  -- this many trees on one level, one behind the other
   record TreesSpelled (level count : ℕ) (places : List Place) (ls : List (List ℕ)) : Type 0 where
     pub all : List (Tree M)
     pub rest : List (List ℕ)

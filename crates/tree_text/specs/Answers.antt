@@ -19,7 +19,7 @@ Reads bytes (Err (Line number)) = (length (lines bytes) ≤ most_lines) × TreeL
 Reads bytes (Err TooManyLines) = most_lines < length (lines bytes)
 Reads bytes (Err NoMemory) = ⊥
 
--- The answer is this one, or want of memory.
+-- The answer is this one, or out of memory.
 abbrev pub Gives : Result (SchemaTree × ArrayTree) TextFault → Result (SchemaTree × ArrayTree) TextFault → Type 0
 Gives (Ok trees) read = read ≡ Ok trees
 Gives (Err NoMemory) read = Unit {0}

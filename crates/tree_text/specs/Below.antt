@@ -3,9 +3,9 @@ use Rattle.std.specs.Prelude.{ℕ, List, map, drop, Option}
 use Rattle.std.specs.Global.{Box}
 use Rattle.tree_model.specs.Tree.{trees, maybe_tree, children_of, dictionary_of}
 use Rattle.raw_array.specs.Members.{ArrayTree}
-use Rattle.kind_tree.specs.declared.typed.Typed.{Typed}
-use Rattle.kind_tree.specs.TypedView.{typed_of, dict_in}
-use Rattle.kind_tree.specs.Ways.{Steps}
+use Rattle.data_types.specs.declared.typed.Typed.{Typed}
+use Rattle.data_types.specs.TypedView.{typed_of, dict_in}
+use Rattle.data_types.specs.Ways.{Steps}
 use Rattle.layout_rules.specs.Walk.{Visit, walks_of, walk_of, walk_children, walk_dictionary}
 
 -- the visits of a node's children, from one of them on

@@ -24,13 +24,13 @@ pub record IsCursor (bytes : List ℕ) (cursor : Cursor) : Type 0 where
   pub few : length (lines bytes) ≤ most_lines
   pub counted : cursor.line + length (left bytes cursor) ≡ length (lines bytes) + 1
 
--- the fault names this line, or is want of memory
+-- the fault names this line, or is out of memory
 abbrev pub StopsAt : TextFault → Option ℕ → Type 0
 StopsAt (Line number) fault = fault ≡ Some number
 StopsAt TooManyLines fault = ⊥
 StopsAt NoMemory fault = Unit {0}
 
--- so many things are expected at a cursor, and the lines from there on stop at the fault, whatever is expected behind them
+-- this many things are expected at a cursor, and the lines from there on stop at the fault, whatever is expected behind them
 abbrev pub Stops : List ℕ → Cursor → List Place → TextFault → Type 0
 Stops bytes cursor places f = (behind : List Place) → StopsAt f (first_fault (places ++ behind) (left bytes cursor) cursor.line)
 
@@ -80,7 +80,7 @@ pub record BufferLineRead (bytes : List ℕ) (from to : Cursor) (told : Option (
   pub is : read_buffer_line line ≡ Some told
   pub cursor : IsCursor bytes to
 
--- a buffer's line, and so many of them
+-- a buffer's line, and this many of them
 pub record BufferRead (bytes : List ℕ) (from to : Cursor) (buffer : Option Buffer) : Type 0 where
   pub between : Between bytes from to (buffer_line buffer ∷ [])
   pub fits : BufferFits buffer

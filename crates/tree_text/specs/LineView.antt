@@ -2,10 +2,10 @@
 use Rattle.std.specs.Prelude.{◌≡◌, ℕ, List, [], ◌∷◌, length, get_or, Option, None, Some}
 use Rattle.raw_schema.specs.Members.{SchemaMembers}
 use Rattle.raw_schema.specs.View.{bytes_of}
-use Rattle.tree_text.specs.declared.node_line.SchemaOwn.{SchemaOwn}
+use Rattle.tree_text.specs.declared.node_line.SchemaNodeLine.{SchemaNodeLine}
 use Rattle.tree_text.specs.declared.node_line.SchemaLine.{SchemaLine}
 use Rattle.tree_text.specs.declared.node_line.SchemaLine.TheVariants as schemas
-use Rattle.tree_text.specs.declared.node_line.ArrayOwn.{ArrayOwn}
+use Rattle.tree_text.specs.declared.node_line.ArrayNodeLine.{ArrayNodeLine}
 use Rattle.tree_text.specs.declared.node_line.ArrayLine.{ArrayLine}
 use Rattle.tree_text.specs.declared.node_line.ArrayLine.TheVariants as arrays
 use Rattle.tree_text.specs.declared.node_line.BufferLine.{BufferLine}
@@ -14,7 +14,7 @@ use Rattle.tree_text.specs.TreeText.{ArrayNumbers}
 use Rattle.tree_text.specs.Standing.{NodeLine, ReleasedLine, LiveLine}
 
 -- the members of a live schema node
-abbrev pub schema_own : SchemaOwn → SchemaMembers
+abbrev pub schema_own : SchemaNodeLine → SchemaMembers
 schema_own own = record { format = own.format.items; name = bytes_of own.name; metadata = bytes_of own.metadata; flags = own.flags }
 
 -- a line of the schema tree
@@ -23,7 +23,7 @@ schema_told schemas.Released = ReleasedLine
 schema_told (schemas.Live own) = LiveLine (schema_own own) own.children own.dictionaries
 
 -- the numbers of a live array node
-abbrev pub array_own : ArrayOwn → ArrayNumbers
+abbrev pub array_own : ArrayNodeLine → ArrayNumbers
 array_own own = record { length = own.length; null_count = own.null_count; offset = own.offset; buffers = own.buffers }
 
 -- a line of the array tree

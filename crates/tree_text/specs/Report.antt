@@ -4,11 +4,11 @@ use Rattle.std.specs.List.{flat_map}
 use Rattle.std.specs.Fmt.{signed_decimal}
 use Rattle.fmt_string.specs.Spelling.{spelling_of}
 use Rattle.raw_array.specs.Members.{ArrayTree}
-use Rattle.kind_tree.specs.WayTexts.{way_text}
-use Rattle.kind_tree.specs.Kinds.{KindTree}
+use Rattle.data_types.specs.WayTexts.{way_text}
+use Rattle.data_types.specs.KindTrees.{KindTree}
 use Rattle.layout_rules.specs.Layout.{layout_of}
 use Rattle.layout_rules.specs.Rules.{Node, null_items}
-use Rattle.kind_tree.specs.Ways.{Steps}
+use Rattle.data_types.specs.Ways.{Steps}
 use Rattle.layout_rules.specs.Walk.{Visit, visits}
 use Rattle.tree_text.specs.TreeText.{token, spaced}
 

@@ -8,7 +8,7 @@ use Rattle.raw_schema.specs.Members.{SchemaMembers, SchemaTree}
 use Rattle.raw_array.specs.Members.{Buffer, ArrayMembers, ArrayTree, whole}
 use Rattle.raw_array.specs.declared.array.ReleaseKind.TheVariants.{Exported}
 use Rattle.layout_rules.specs.declared.rule.LayoutRule.TheVariants as rules
-use Rattle.kind_tree.specs.Kinds.{KindTree}
+use Rattle.data_types.specs.KindTrees.{KindTree}
 use Rattle.layout_rules.specs.Walk.{first_fault}
 use Rattle.layout_rules.specs.WorkedArrays.{faulty}
 use Rattle.tree_text.specs.TreeText.{TreeIs}

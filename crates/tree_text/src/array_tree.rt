@@ -12,7 +12,7 @@ ghost use Rattle.tree_text.specs.LineView.{array_own, array_told};
 use crate::buffers::buffers;
 use crate::cursor::Cursor;
 use crate::fault::TextFault;
-use crate::node_line::{ArrayLine, ArrayOwn, DEEPEST_LEVEL, array_line};
+use crate::node_line::{ArrayLine, ArrayNodeLine, DEEPEST_LEVEL, array_line};
 use buf_block::{BufView, let_go_all};
 use raw_array::{ArrayParts, RawArray, ReleaseKind, release_all};
 use std::alloc::Global;
@@ -61,7 +61,12 @@ struct Parts {
 }
 
 /// A live node of its numbers and of its parts; these are given up where there is no memory for it.
-fn built(alloc: Global, own: ArrayOwn, parts: Parts, pass: &mut Pass) -> Result<RawArray, NoMemory>
+fn built(
+    alloc: Global,
+    own: ArrayNodeLine,
+    parts: Parts,
+    pass: &mut Pass,
+) -> Result<RawArray, NoMemory>
     requires units { 1 ≤ pass.old.units }
     requires supply { pass.old.units + holds_of (buffers_of parts.buffers.items) + cost_of_all (trees parts.children.items)
         + cost_of_maybe (maybe_tree parts.dictionary) ≤ SUPPLY }
@@ -179,7 +184,7 @@ fn live(
     bytes: &[u8],
     cursor: Cursor,
     level: u32,
-    own: ArrayOwn,
+    own: ArrayNodeLine,
     pass: &mut Pass,
 ) -> Result<(RawArray, Cursor), TextFault>
     requires cursor { IsCursor bytes.now cursor }
@@ -217,7 +222,7 @@ fn live(
     }
 }
 
-/// So many trees whose nodes stand on one level.
+/// This many trees whose nodes stand on one level.
 #[cycle(array)]
 #[tactic(auto, using(crate::proofs::ArrayNodes::steps))]
 fn arrays(

@@ -102,7 +102,7 @@ fn added(
     }
 }
 
-/// So many buffers whose lines stand from a cursor on, and the cursor behind them.
+/// This many buffers whose lines stand from a cursor on, and the cursor behind them.
 #[tactic(auto, using(raw_array::proofs::Buffers::buffer_lists))]
 pub fn buffers(
     alloc: Global,

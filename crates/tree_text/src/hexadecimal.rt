@@ -30,7 +30,7 @@ fn value_of(digit: u8) -> u8
 }
 
 /// Whether a text is one of pairs of lower-case digits; then their bytes are put into the room, which has one for each pair.
-/// No step hangs on what a byte is, so that many are read at once.
+/// No step depends on what a byte is, so that many are read at once.
 fn read_pairs(text: &[u8], room: &mut [u8]) -> bool
     requires { length text.now ≡ 2 * length room.old }
     ensures found { OnTrue result (read_lower_hex text.now ≡ Some room.new) }

@@ -3,7 +3,8 @@
 //! - [`read_tree`] reads a schema tree and an array tree from a text of lines ("The Arrow C Data Interface", "Structure
 //!   definitions", has what the lines tell). It answers exactly the two trees that the text spells, or exactly its first
 //!   fault: too many lines, or the first line that may not stand where it stands. The trees may be lawful or not.
-//! - [`report`] tells of an array that the check accepts each node: the way to it, its format, its length and its nulls.
+//! - [`report`] writes a line for each node of an array that the check accepts: the way to it, its format, its length and its
+//!   nulls.
 //! - [`one_reading`] is the law that each text has one answer, and one alone.
 //!
 //! A text is read once, line by line, in time that grows with its bytes, and what a line announces takes no memory before

@@ -18,7 +18,7 @@ const MOST_PARTS: u64 = 1 << 20;
 
 /// A schema node's own members, and how many parts it has.
 #[derive(Drop)]
-pub struct SchemaOwn {
+pub struct SchemaNodeLine {
     pub format: Vec<u8>,
     pub name: Option<Vec<u8>>,
     pub metadata: Option<Vec<u8>>,
@@ -31,12 +31,12 @@ pub struct SchemaOwn {
 #[derive(Drop)]
 pub enum SchemaLine {
     Released,
-    Live(SchemaOwn),
+    Live(SchemaNodeLine),
 }
 
 /// An array node's own numbers, and how many parts it has.
 #[derive(Clone, Copy)]
-pub struct ArrayOwn {
+pub struct ArrayNodeLine {
     pub length: i64,
     pub null_count: i64,
     pub offset: i64,
@@ -49,7 +49,7 @@ pub struct ArrayOwn {
 #[derive(Clone, Copy)]
 pub enum ArrayLine {
     Released,
-    Live(ArrayOwn),
+    Live(ArrayNodeLine),
 }
 
 /// What a buffer's line tells.
@@ -135,7 +135,7 @@ fn live_schema(alloc: Global, fields: &Fields<'_>) -> Result<Option<SchemaLine>,
     let Some(metadata) = token(alloc, fields.sixth)? else {
         return Ok(None);
     };
-    Ok(Some(SchemaLine::Live(SchemaOwn {
+    Ok(Some(SchemaLine::Live(SchemaNodeLine {
         format,
         name,
         metadata,
@@ -169,7 +169,7 @@ fn live_array(fields: &Fields<'_>) -> Option<ArrayLine>
     let buffers = count(MOST_PARTS, fields.fourth)?;
     let children = count(MOST_PARTS, fields.fifth)?;
     let dictionaries = count(1, fields.sixth)?;
-    Some(ArrayLine::Live(ArrayOwn {
+    Some(ArrayLine::Live(ArrayNodeLine {
         length,
         null_count,
         offset,

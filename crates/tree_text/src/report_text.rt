@@ -3,12 +3,12 @@ ghost use Rattle.std.specs.Prelude.{◌≡◌, ◌∷◌, ◌++◌, Some, IfOk};
 ghost use Rattle.std.specs.Fmt.{signed_decimal};
 ghost use Rattle.tree_text.specs.TreeText.{byte_text, token};
 ghost use Rattle.tree_text.specs.Report.{report_line};
-ghost use Rattle.kind_tree.specs.WayTexts.{way_text};
-ghost use Rattle.kind_tree.specs.Ways.{steps_of};
+ghost use Rattle.data_types.specs.WayTexts.{way_text};
+ghost use Rattle.data_types.specs.Ways.{steps_of};
 
 use crate::tokens::{is_plain, upper_digit};
+use data_types::Path;
 use itoa::Buffer;
-use kind_tree::Path;
 use std::alloc::Global;
 use unit_pass::NoMemory;
 

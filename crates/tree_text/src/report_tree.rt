@@ -4,18 +4,18 @@ ghost use Rattle.std.specs.Global.{Box};
 ghost use Rattle.data_types.specs.Kinds.{KindOk};
 ghost use Rattle.tree_model.specs.Tree.{Released, IsLive, Depth, depth_of_all, depth_of_maybe, trees, maybe_tree, child_at, children_of, dictionary_of};
 ghost use Rattle.raw_array.specs.Members.{ArrayTree};
-ghost use Rattle.kind_tree.specs.declared.typed.Typed.{out-Typed};
-ghost use Rattle.kind_tree.specs.Kinds.{KindTree, NodesOk, AllNodesOk, DictNodesOk, TypedOk};
-ghost use Rattle.kind_tree.specs.TypedView.{typed_of, dict_in};
+ghost use Rattle.data_types.specs.declared.typed.Typed.{out-Typed};
+ghost use Rattle.data_types.specs.KindTrees.{KindTree, NodesOk, AllNodesOk, DictNodesOk, TypedOk, most_levels};
+ghost use Rattle.data_types.specs.TypedView.{typed_of, dict_in};
 ghost use Rattle.layout_check.specs.NodeView.{live_node};
-ghost use Rattle.kind_tree.specs.Ways.{steps_of};
+ghost use Rattle.data_types.specs.Ways.{steps_of};
 ghost use Rattle.layout_rules.specs.Walk.{LayoutOk, visits};
 ghost use Rattle.tree_text.specs.Report.{node_line, visits_text, ReportOf};
 ghost use Rattle.tree_text.specs.Below.{children_visits, dictionary_visits};
 
 use crate::report_text::push_line;
+use data_types::{DICTIONARY_STEP, Path, Typed};
 use fmt_string::write_format;
-use kind_tree::{DICTIONARY_STEP, Path, Typed};
 use layout_check::nulls_of;
 use layout_rules::{lawful_parts, lawful_root};
 use raw_array::RawArray;
@@ -24,7 +24,7 @@ use unit_pass::NoMemory;
 
 /// The report of a lawful array: `ok`, and then for each node in preorder (a node, its children by number, its dictionary) a
 /// line with the way to it, its canonical format as a token, its length and the number of the null items in its window. Each
-/// line ends with a line feed. `NoMemory` comes for want of memory alone.
+/// line ends with a line feed. `NoMemory` comes only where memory runs out.
 pub fn report(alloc: Global, typed: &Typed, array: &RawArray) -> Result<Vec<u8>, NoMemory>
     requires types { TypedOk (typed_of typed.now) }
     requires lawful { LayoutOk (typed_of typed.now) array.now }
@@ -65,7 +65,7 @@ fn push_tree(
     path: &Path,
 ) -> Result<(), NoMemory>
     requires lawful { LayoutOk (typed_of typed.now) array.now }
-    requires levels { path.now.depth + Depth (typed_of typed.now) ≤ 64 }
+    requires levels { path.now.depth + Depth (typed_of typed.now) ≤ most_levels }
     requires types { NodesOk (typed_of typed.now) }
     ensures { IfOk result (λ _. text.new.items ≡ text.old.items ++ visits_text (visits (typed_of typed.now) (steps_of path.now) array.now)) }
 {
@@ -86,7 +86,7 @@ fn push_children(
     path: &Path,
 ) -> Result<(), NoMemory>
     requires lawful { (k : ℕ) → k < length (map typed_of kids.now) → LayoutOk (get_or (map typed_of kids.now) k Released) (child_at array.now k) }
-    requires levels { path.now.depth + 1 + depth_of_all (trees (map typed_of kids.now)) ≤ 64 }
+    requires levels { path.now.depth + 1 + depth_of_all (trees (map typed_of kids.now)) ≤ most_levels }
     requires types { AllNodesOk (trees (map typed_of kids.now)) }
     requires live { IsLive array.now }
     requires children { length (children_of array.now) ≡ length kids.now }
@@ -111,7 +111,7 @@ fn push_dictionary(
 ) -> Result<(), NoMemory>
     requires lawful { (kinds : KindTree) (dictionary : ArrayTree) → dict_in dict.now ≡ Some kinds → dictionary_of array.now ≡ Some dictionary
         → LayoutOk kinds dictionary }
-    requires levels { path.now.depth + 1 + depth_of_maybe (maybe_tree (dict_in dict.now)) ≤ 64 }
+    requires levels { path.now.depth + 1 + depth_of_maybe (maybe_tree (dict_in dict.now)) ≤ most_levels }
     requires types { DictNodesOk (maybe_tree (dict_in dict.now)) }
     requires live { IsLive array.now }
     ensures { IfOk result (λ _. text.new.items ≡ text.old.items ++ visits_text (dictionary_visits dict.now (steps_of path.now) array.now)) }

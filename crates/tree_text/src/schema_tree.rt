@@ -9,7 +9,8 @@ ghost use Rattle.tree_text.specs.LineView.{schema_own, schema_told};
 
 use crate::cursor::Cursor;
 use crate::fault::TextFault;
-use crate::node_line::{DEEPEST_LEVEL, SchemaLine, SchemaOwn, schema_line};
+use crate::node_line::{DEEPEST_LEVEL, SchemaLine, SchemaNodeLine, schema_line};
+use arr_move::built_schema;
 use raw_schema::{RawSchema, SchemaParts, release_all};
 use std::alloc::Global;
 use unit_pass::{NoMemory, Pass, SUPPLY};
@@ -59,7 +60,7 @@ fn with_dictionary(
 /// A live node of its members and of its parts; these are released where there is no memory for it.
 fn built(
     alloc: Global,
-    own: SchemaOwn,
+    own: SchemaNodeLine,
     children: Vec<RawSchema>,
     dictionary: Option<RawSchema>,
     pass: &mut Pass,
@@ -75,7 +76,7 @@ fn built(
     ensures nodes { OnOk result (pass.new.nodes ≡ risen pass.old.nodes 1) }
     ensures blocks { pass.new.blocks ≡ pass.old.blocks }
 {
-    let SchemaOwn {
+    let SchemaNodeLine {
         format,
         name,
         metadata,
@@ -91,34 +92,7 @@ fn built(
         children,
         dictionary,
     };
-    match RawSchema::build(alloc, parts, pass) {
-        Ok(tree) => Ok(tree),
-        Err((parts, NoMemory)) => {
-            give_up_parts(parts, pass);
-            Err(NoMemory)
-        }
-    }
-}
-
-/// Gives up the parts of a node that isn't built.
-fn give_up_parts(parts: SchemaParts, pass: &mut Pass)
-    requires { pass.old.units + nodes_of_all (trees parts.children.items) + nodes_of_maybe (maybe_tree parts.dictionary) ≤ SUPPLY }
-    ensures units { pass.new.units ≡ pass.old.units + nodes_of_all (trees parts.children.items) + nodes_of_maybe (maybe_tree parts.dictionary) }
-    ensures blocks { pass.new.blocks ≡ pass.old.blocks }
-    ensures nodes { pass.new.nodes ≡ pass.old.nodes }
-{
-    let SchemaParts {
-        format: _,
-        name: _,
-        metadata: _,
-        flags: _,
-        children,
-        dictionary,
-    } = parts;
-    release_all(children, pass);
-    if let Some(tree) = dictionary {
-        tree.end(pass);
-    }
+    built_schema(alloc, parts, pass)
 }
 
 /// What the line at a cursor tells of a node on a level, and the cursor behind it.
@@ -181,7 +155,7 @@ fn live(
     bytes: &[u8],
     cursor: Cursor,
     level: u32,
-    own: SchemaOwn,
+    own: SchemaNodeLine,
     pass: &mut Pass,
 ) -> Result<(RawSchema, Cursor), TextFault>
     requires cursor { IsCursor bytes.now cursor }
@@ -205,7 +179,7 @@ fn live(
     }
 }
 
-/// So many trees whose nodes stand on one level.
+/// This many trees whose nodes stand on one level.
 #[cycle(schema)]
 #[tactic(auto, using(crate::proofs::SchemaSteps::steps))]
 fn schemas(

@@ -46,7 +46,7 @@ module _ (carried : Result (Unit {0}) TreeRunFault) (fault : Option TreeRunFault
       go (Ok done) holds = tt
       go (Err e) holds = holds
 
--- no fault of a run has a want of memory inside it, as none that is an answer has
+-- no fault of a run has an out-of-memory inside it, as none that is an answer has
 pub memory-alone : (command : Option Command) (bytes : List ℕ) (fault : Option TreeRunFault)
     → ((command : Option Command) (bytes : List ℕ) (f : TreeRunFault) → (is_decided f ≡ true → IsAnswerTo command bytes (Fault f))
     → has_memory_inside f ≡ false)

@@ -2,16 +2,16 @@
 ghost use Rattle.std.specs.Prelude.{◌≡◌, false, IfSome, Option, ℕ, List};
 ghost use Rattle.std.specs.Io.KnownBytes.{Keeps};
 ghost use Rattle.std.specs.Process.{exit_status};
-ghost use Rattle.edge_face.specs.Edge.{Rose};
+ghost use Rattle.edge_io.specs.Edge.{Rose};
 ghost use Rattle.tree_task.specs.Answer.{AreBytes, command_of, texts_of};
 ghost use Rattle.tree_task.specs.Faults.{is_write_fault, status_of};
 ghost use Rattle.tree_task.specs.Over.{RanOver};
-ghost use Rattle.tree_task.specs.Told.{Took, status_line};
+ghost use Rattle.tree_task.specs.Diagnostics.{Took, status_line};
 ghost use Rattle.tree_task.specs.declared.fault.TreeRunFault.{TreeRunFault as AFault};
 ghost use Rattle.unit_pass.specs.declared.pass.Audit.{Audit as AnAudit};
 
 use crate::top::run_tree;
-use edge_face::{Sink, Source};
+use edge_io::{Sink, Source};
 use std::alloc::Global;
 use std::process::ExitCode;
 

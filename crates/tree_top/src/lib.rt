@@ -7,7 +7,7 @@
 //! hold that was made is given up again on every path. A fault has a line with its status, which goes to a sink of diagnostics.
 //!
 //! What a run does between its words and its lines stands in `tree_task`, the texts of values in `value_text`, the sources and
-//! sinks in `edge_face` and `edge_io`.
+//! sinks in `edge_io`.
 #![tactic(auto)]
 
 mod exit;

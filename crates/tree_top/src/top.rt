@@ -1,16 +1,17 @@
 //! The top call.
 ghost use Rattle.std.specs.Prelude.{◌≡◌, ◌↔◌, false, None, Some, IfSome, ℕ, List};
 ghost use Rattle.std.specs.Io.KnownBytes.{IsAtEnd, Keeps};
-ghost use Rattle.edge_face.specs.Edge.{LosesPrefix, Rose};
+ghost use Rattle.edge_io.specs.Edge.{LosesPrefix, Rose};
 ghost use Rattle.tree_task.specs.Answer.{AreBytes, command_of, texts_of};
 ghost use Rattle.tree_task.specs.Faults.{AtWriteFault, has_memory_inside, is_write_fault, status_of};
 ghost use Rattle.tree_task.specs.Over.{RanOver};
-ghost use Rattle.tree_task.specs.Told.{Took, status_line};
+ghost use Rattle.tree_task.specs.Diagnostics.{Took, status_line};
 
-use edge_face::{Sink, Source};
+use edge_io::{Sink, Source};
 use std::alloc::Global;
 use tree_task::{
-    TreeOutcome, TreeRunFault, carry_out, memory_stands_alone, outcome_of, read_command, tell,
+    TreeOutcome, TreeRunFault, memory_stands_alone, outcome_of, read_command, run_over_source,
+    write_diagnostics,
 };
 use unit_pass::open_desk;
 
@@ -22,10 +23,11 @@ use unit_pass::open_desk;
 /// sparse or dense union, and a line is the number of the first column that isn't null in a row, with its value. Under `foreign` a
 /// chunk is given to an owner with a release of its own, and drained. Under `runs` there is a line for each run of equal values of a
 /// flat column, with the place behind its last item and its value. Under `flat` the array is read as a run-end encoded one ("Arrow
-/// Columnar Format", "Run-End Encoded Layout"). A text of more than 2^31 bytes is refused as want of memory.
+/// Columnar Format", "Run-End Encoded Layout"). Under `explode` and `nest` a column of a chunk is named by its number: its lists are
+/// spread out, a row for each item, or the rows are grouped by its values, and there is a line for each row that is made. A text of more than 2^31 bytes is refused as out of memory.
 ///
-/// The first of these faults is told: of the words, of reading, of the text, of the schema, of the array, of the command, of writing.
-/// To `errs` goes the line `arrowtree: status N` of a fault.
+/// The first of these faults is reported: of the words, of reading, of the text, of the schema, of the array, of the command, of
+/// writing. To `errs` goes the line `arrowtree: status N` of a fault.
 pub fn run_tree<S: Source, K: Sink, E: Sink>(
     alloc: Global,
     words: &[String],
@@ -33,7 +35,7 @@ pub fn run_tree<S: Source, K: Sink, E: Sink>(
     sink: &mut K,
     errs: &mut E,
 ) -> TreeOutcome
-    // Of the bytes of one input all of this is so: those that the source tells; where it tells none, of some bytes. Success: the
+    // Of the bytes of one input all of this is so: those that the source states; where it states none, of some bytes. Success: the
     // answer is a text, and all of it is in the sink. A fault of the words or of the input is exactly the answer's; after a failed
     // write the sink has the first bytes of the text. As many blocks and nodes were made as the command makes. Where no fault
     // rises the answer is given, or there was no memory.
@@ -65,9 +67,9 @@ pub fn run_tree<S: Source, K: Sink, E: Sink>(
     memory_stands_alone();
     let (desk, mut pass) = open_desk();
     let command = read_command(words);
-    let carried = carry_out(alloc, command, source, sink, &mut pass);
+    let carried = run_over_source(alloc, command, source, sink, &mut pass);
     let audit = desk.close(pass);
     let outcome = outcome_of(carried, audit);
-    let _told = tell(errs, outcome.fault);
+    let _told = write_diagnostics(errs, outcome.fault);
     outcome
 }

@@ -8,10 +8,10 @@ use Rattle.std.proofs.lemmas.List.Elements.{All-map, All-from_get_or}
 use Rattle.std.proofs.lemmas.List.Quantifiers.{position-Some}
 use Rattle.tree_model.specs.Tree.{Released, Live, IsLive, child_at, children_of}
 use Rattle.raw_array.specs.Members.{ArrayMembers, ArrayTree, members_of}
-use Rattle.kind_tree.specs.Kinds.{KindTree}
-use Rattle.kind_tree.specs.declared.typed.Typed.{Typed}
-use Rattle.kind_tree.specs.TypedView.{typed_of}
-use Rattle.kind_tree.proofs.Levels.{typed_out, get_or-typed}
+use Rattle.data_types.specs.KindTrees.{KindTree}
+use Rattle.data_types.specs.declared.typed.Typed.{Typed}
+use Rattle.data_types.specs.TypedView.{typed_of}
+use Rattle.data_types.proofs.Levels.{typed_out, get_or-typed}
 use Rattle.layout_rules.specs.Lawful.{RootHolds}
 use Rattle.layout_rules.specs.declared.rule.Numbers.{Numbers}
 use Rattle.layout_rules.specs.Layout.{items, end, natural, buffer, bytes, bytes_or_none}

@@ -8,11 +8,11 @@ use Rattle.schema_check.specs.Schemas.{TypedOf}
 use Rattle.schema_check.specs.SchemaAnswers.{MetaRefused}
 use Rattle.tree_model.specs.Tree.{Released, Live, IsLive, children_of}
 use Rattle.raw_schema.specs.Members.{SchemaTree, members_of}
-use Rattle.kind_tree.specs.Kinds.{KindTree, TypedOk}
+use Rattle.data_types.specs.KindTrees.{KindTree, TypedOk}
 use Rattle.root_check.specs.declared.own_schema.OwnSchemaFault.{OwnSchemaFault}
 use Rattle.root_check.specs.declared.own_schema.OwnSchemaFault.TheVariants as parts
-use Rattle.root_check.specs.declared.kids.KidsFault.{KidsFault}
-use Rattle.root_check.specs.declared.kids.KidsFault.TheVariants as kids
+use Rattle.root_check.specs.declared.kids.ChildKindsFault.{ChildKindsFault}
+use Rattle.root_check.specs.declared.kids.ChildKindsFault.TheVariants as kids
 use Rattle.root_check.specs.Schemas.{OwnSchemaReads, KidFault, KidsRead}
 use Rattle.root_check.specs.KidAnswers.{IsFaultOfKids}
 use Rattle.union_cols.specs.declared.kinds.UnionTyped.{UnionTyped}
@@ -159,7 +159,7 @@ own_exit schema format (parts.Meta meta.NoMemory) union is = absurd (refused_som
 own_exit schema format (parts.Meta fault) union is = (tt, (format, union, is))
 own_exit schema format parts.Dictionary union is = (tt, (format, union, is))
 
-pub kids_exit : (schema : SchemaTree) (format : UnionFormat) (fault : KidsFault) → IsPlainUnion schema format
+pub kids_exit : (schema : SchemaTree) (format : UnionFormat) (fault : ChildKindsFault) → IsPlainUnion schema format
     → length (children_of schema) ≡ length format.ids → IsFaultOfKids (children_of schema) fault → IsUnionFault schema (kids_refused fault)
 kids_exit schema format (kids.Child child (checked.At path rule)) plain count is = (tt, (format, plain, count, is))
 kids_exit schema format (kids.Child child checked.NoMemory) plain count is = absurd is

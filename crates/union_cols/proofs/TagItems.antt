@@ -11,8 +11,8 @@ use Rattle.data_types.specs.Value.{Null, is_null}
 use Rattle.tree_model.specs.Tree.{Released, Live, IsLive, Trees, MaybeTree, tree_list}
 use Rattle.raw_array.specs.Members.{ArrayMembers, ArrayTree, windowed}
 use Rattle.raw_array.specs.Windows.{FitsWindow, Window, is_whole}
-use Rattle.kind_tree.specs.ColumnKinds.{table_type}
-use Rattle.kind_tree.specs.Kinds.{KindTree}
+use Rattle.data_types.specs.ColumnKinds.{table_type}
+use Rattle.data_types.specs.KindTrees.{KindTree}
 use Rattle.layout_rules.specs.Layout.{first, items}
 use Rattle.layout_rules.specs.Rules.{live_length}
 use Rattle.layout_rules.specs.Values.{each, field_items, row_items, rows_of, tree_items, value_at}

@@ -11,8 +11,8 @@ use Rattle.tree_model.proofs.Lists.{tree_list-trees, trees-tree_list}
 use Rattle.raw_schema.specs.Members.{SchemaMembers, SchemaTree}
 use Rattle.raw_array.specs.Members.{ArrayTree, members_of}
 use Rattle.raw_array.specs.Windows.{FitsWindow}
-use Rattle.kind_tree.specs.ColumnKinds.{table_type}
-use Rattle.kind_tree.specs.Kinds.{KindTree, AllNodesOk, TypedOk}
+use Rattle.data_types.specs.ColumnKinds.{table_type}
+use Rattle.data_types.specs.KindTrees.{KindTree, AllNodesOk, TypedOk}
 use Rattle.schema_check.specs.Schemas.{TypedFrom, KidsTyped, DictTyped, TypedOf}
 use Rattle.layout_rules.specs.Layout.{items}
 use Rattle.layout_rules.specs.Values.{rows_of, tree_items}

@@ -7,8 +7,8 @@ use Rattle.std.proofs.lemmas.Bool.{le-ltb, lt-ltb, eq-eqb}
 use Rattle.tree_model.specs.Tree.{Released, Live, trees, absent, tree_list, child_at}
 use Rattle.tree_model.proofs.Lists.{tree_list-trees}
 use Rattle.raw_array.specs.Members.{ArrayMembers, ArrayTree, bytes_in, members_of}
-use Rattle.bit_pack.specs.Packed.{meant, number_at}
-use Rattle.kind_tree.specs.Kinds.{KindTree}
+use Rattle.data_types.specs.Packed.{meant, number_at}
+use Rattle.data_types.specs.KindTrees.{KindTree}
 use Rattle.layout_rules.specs.declared.rule.Numbers.{Numbers}
 use Rattle.layout_rules.specs.Layout.{bytes, bytes_or_none, end, first, natural}
 use Rattle.layout_rules.specs.Rules.{fault_if, first_below, count_wrong, child_short, short_child, live_length, is_outside, window_limit}
@@ -43,7 +43,7 @@ block-long : (bs : List ℕ) (needed k : ℕ) → needed ≤ length bs
 block-long [] needed k h = refl
 block-long (b ∷ bs) needed k h = no-fault (nat_lt (length (b ∷ bs)) needed) k (pos (length (b ∷ bs))) (pos needed) (le-ltb (length (b ∷ bs)) needed h)
 
--- so many items with these ids
+-- this many items with these ids
 module _ (n : ℕ) (ids : List ℕ) (long : length ids ≡ n) where
   abbrev own : Bool → ArrayMembers
   own dense = tag_members dense (pos n) ids

@@ -8,7 +8,7 @@ use Rattle.std.proofs.lemmas.Bool.{cases_eq, ne_eqb}
 use Rattle.std.proofs.lemmas.Grind.{flat_map-append}
 use Rattle.std.proofs.lemmas.Iterator.Adapters.{position_from-zero}
 use Rattle.std.proofs.lemmas.List.{append-nil, take_all}
-use Rattle.bit_pack.specs.Packed.{le_bytes}
+use Rattle.data_types.specs.Packed.{le_bytes}
 use Rattle.buf_block.specs.declared.hold.BufView.{BufView}
 use Rattle.raw_array.specs.Members.{Buffer, holds_of, whole}
 use Rattle.raw_array.specs.View.{buffer_if, buffers_of}

@@ -8,7 +8,7 @@ use Rattle.union_cols.specs.UnionFormats.{UnionFormat, UnionFormatFault, IdsFaul
 abbrev pub format_in : CodeFormat → UnionFormat
 format_in format = record { dense = format.dense; ids = format.ids.items }
 
--- the place of the first fault, if it is no want of memory
+-- the place of the first fault, if it is no out-of-memory
 abbrev pub IsFormatFault : List ℕ → FormatFault → Type 0
 IsFormatFault text (At place) = UnionFormatFault text place
 IsFormatFault text NoMemory = Unit {0}

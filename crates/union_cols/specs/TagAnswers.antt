@@ -8,7 +8,7 @@ use Rattle.union_cols.specs.Unions.{UnionTree, UnionTypedOk}
 use Rattle.union_cols.specs.UnionRules.{UnionOk}
 use Rattle.union_cols.specs.UnionSchemas.{UnionOf}
 
--- the fault that is no want of memory
+-- the fault that is no out-of-memory
 abbrev pub named_tag : TagFault → Option TagFault
 named_tag (Columns count) = Some (Columns count)
 named_tag TooLong = Some TooLong

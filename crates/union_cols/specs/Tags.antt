@@ -4,14 +4,14 @@ use Rattle.std.specs.Prelude.{ℕ, ℤ, ◌==◌, ◌^◌, ◌-◌, pos, Bool, n
 use Rattle.std.specs.Prelude.{Option, Some, None}
 use Rattle.data_types.specs.Table.{Row}
 use Rattle.data_types.specs.Value.{Null, is_null}
-use Rattle.bit_pack.specs.Packed.{le_bytes}
+use Rattle.data_types.specs.Packed.{le_bytes}
 use Rattle.tree_model.specs.Tree.{Live, trees, absent, children_of}
 use Rattle.raw_schema.specs.Members.{SchemaMembers, SchemaTree}
 use Rattle.raw_schema.specs.Members as schemas
 use Rattle.raw_array.specs.Members.{ArrayMembers, ArrayTree, Buffer, members_of, whole}
 use Rattle.raw_array.specs.Windows.{Window}
 use Rattle.raw_array.specs.declared.array.ReleaseKind.TheVariants.{Exported}
-use Rattle.kind_tree.specs.Kinds.{KindTree}
+use Rattle.data_types.specs.KindTrees.{KindTree}
 use Rattle.layout_rules.specs.Values.{each, rows_of, tree_items}
 use Rattle.union_cols.specs.declared.tag_fault.TagFault.{TagFault}
 use Rattle.union_cols.specs.declared.tag_fault.TagFault.TheVariants.{Columns, TooLong}
@@ -33,7 +33,7 @@ tagged_items rows = map tagged_item rows
 
 -- ---- the trees
 
--- the numbers from 0 on, so many of them
+-- the numbers from 0 on, this many of them
 abbrev pub numbers : ℕ → List ℕ
 numbers count = each (λ k. k) 0 count
 
@@ -103,7 +103,7 @@ most_columns = 128
 abbrev pub most_dense_rows : ℕ
 most_dense_rows = 2 ^ 31 - 1
 
--- Why so many columns with so many rows make no union: there are none or too many, or there are more rows than offsets.
+-- Why this many columns with this many rows make no union: there are none or too many, or there are more rows than offsets.
 abbrev pub tag_fault : Bool → ℕ → ℕ → Option TagFault
 tag_fault dense columns rows =
     if (columns == 0) || nat_lt most_columns columns then Some (Columns columns)

@@ -1,8 +1,8 @@
 -- What the answers of the calls say.
 use Rattle.std.specs.Prelude.{◌≡◌, map, Option, None, Some, Result, Ok, Err}
 use Rattle.raw_schema.specs.Members.{SchemaTree}
-use Rattle.kind_tree.specs.TypedView.{typed_of}
-use Rattle.kind_tree.specs.Ways.{steps_of}
+use Rattle.data_types.specs.TypedView.{typed_of}
+use Rattle.data_types.specs.Ways.{steps_of}
 use Rattle.schema_check.specs.declared.schema.SchemaFault.TheVariants as schema
 use Rattle.schema_meta.specs.declared.fault.MetaFault.TheVariants as meta
 use Rattle.layout_rules.specs.Found.{fault_of}
@@ -25,7 +25,7 @@ union_of typed = record { dense = typed.dense; ids = typed.ids.items; kids = map
 
 -- ---- faults of schemas
 
--- the fault that the code names, and none for want of memory
+-- the fault that the code names, and none where memory runs out
 abbrev pub named : UnionSchemaFault → Option SchemaFound
 named faults.Released = Some schemas.IsReleased
 named (faults.Format place) = Some (schemas.Format place)
@@ -36,7 +36,7 @@ named (faults.Child child (schema.At path rule)) = Some (schemas.Child (record {
 named (faults.Child child schema.NoMemory) = None
 named faults.NoMemory = None
 
--- a want of memory inside another fault
+-- an out-of-memory inside another fault
 abbrev pub IsWhole : UnionSchemaFault → Type 0
 IsWhole (faults.Child child schema.NoMemory) = ⊥
 IsWhole (faults.Meta meta.NoMemory) = ⊥
@@ -46,7 +46,7 @@ abbrev pub FailsIf : SchemaTree → Option SchemaFound → Type 0
 FailsIf schema None = Unit {0}
 FailsIf schema (Some found) = UnionSchemaFails schema found
 
--- It is the first fault, if it is no want of memory, which never stands inside another fault.
+-- It is the first fault, if it is no out-of-memory, which never stands inside another fault.
 abbrev pub IsUnionFault : SchemaTree → UnionSchemaFault → Type 0
 IsUnionFault schema fault = IsWhole fault × FailsIf schema (named fault)
 
@@ -54,7 +54,7 @@ abbrev pub GivesIf : Option SchemaFound → Result UnionTree SchemaFound → Typ
 GivesIf None read = Unit {0}
 GivesIf (Some found) read = read ≡ Err found
 
--- The code's answer is this one, or want of memory.
+-- The code's answer is this one, or out of memory.
 abbrev pub GivesUnion : Result UnionTyped UnionSchemaFault → Result UnionTree SchemaFound → Type 0
 GivesUnion (Ok typed) read = read ≡ Ok (union_of typed)
 GivesUnion (Err fault) read = GivesIf (named fault) read

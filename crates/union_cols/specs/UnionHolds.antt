@@ -1,9 +1,10 @@
 -- What holds of a union's array at which no rule fails.
-use Rattle.std.specs.Prelude.{◌≡◌, ℕ, ◌*◌, ◌^◌, ◌<◌, ◌≤◌, Bool, IsTrue, length, Some, pos, ◌≤ℤ◌}
+use Rattle.std.specs.Prelude.{◌≡◌, ℕ, ◌*◌, ◌<◌, ◌≤◌, Bool, IsTrue, length, Some, pos, ◌≤ℤ◌}
 use Rattle.std.specs.List.{AllZip}
 use Rattle.tree_model.specs.Tree.{child_at, children_of}
 use Rattle.raw_array.specs.Members.{ArrayMembers, ArrayTree, members_of}
 use Rattle.layout_rules.specs.Layout.{items, end, bytes}
+use Rattle.layout_rules.specs.Rules.{window_limit}
 use Rattle.layout_rules.specs.Values.{tree_items}
 use Rattle.layout_rules.specs.Walk.{LayoutOk}
 use Rattle.root_check.specs.OwnRules.{OwnHolds}
@@ -27,4 +28,4 @@ pub record UnionHolds (u : UnionTree) (array : ArrayTree) : Type 0 where
   pub readable : IsReadable u.dense (members_of array)
   pub children : AllZip LayoutOk u.kids (children_of array)
   pub each : (i : ℕ) → i < items (members_of array) → ItemHolds u array i
-  pub near : end (members_of array) ≤ 2 ^ 40
+  pub near : end (members_of array) ≤ window_limit

@@ -1,10 +1,10 @@
 -- Unions ("Arrow Columnar Format", "Union Layout"): where an item stands, and its value.
 use Rattle.std.specs.Prelude.{◌≡◌, ℕ, ◌+◌, ◌==◌, ℤ, pos, negsuc, Bool, true, false, if◌then◌else◌, List, length, get_or, All, position, Option, Some, None}
 use Rattle.data_types.specs.Value.{Value}
-use Rattle.bit_pack.specs.Packed.{meant, number_at}
+use Rattle.data_types.specs.Packed.{meant, number_at}
 use Rattle.tree_model.specs.Tree.{Released, child_at}
 use Rattle.raw_array.specs.Members.{ArrayMembers, ArrayTree, members_of}
-use Rattle.kind_tree.specs.Kinds.{KindTree, TypedOk}
+use Rattle.data_types.specs.KindTrees.{KindTree, TypedOk}
 use Rattle.layout_rules.specs.Layout.{first, items, bytes, natural, offset}
 use Rattle.layout_rules.specs.Values.{each, value_at}
 use Rattle.union_cols.specs.UnionFormats.{AreIds}

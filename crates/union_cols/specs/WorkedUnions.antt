@@ -7,8 +7,8 @@ use Rattle.raw_array.specs.Members.{ArrayTree, Buffer, members_of}
 use Rattle.layout_rules.specs.Layout.{items}
 use Rattle.layout_rules.specs.Values.{each}
 use Rattle.layout_rules.specs.WorkedArrays.{flat, int32, buffer, members, leaf}
-use Rattle.kind_tree.specs.ColumnKinds.{table_type}
-use Rattle.kind_tree.specs.Kinds.{KindTree}
+use Rattle.data_types.specs.ColumnKinds.{table_type}
+use Rattle.data_types.specs.KindTrees.{KindTree}
 use Rattle.union_cols.specs.Unions.{UnionItem, UnionTree, union_value}
 use Rattle.union_cols.specs.UnionRules.{Rule, UnionFound}
 

@@ -1,7 +1,7 @@
 //! The items of a union, read in place.
 ghost use Rattle.std.specs.Prelude.{◌≡◌, IsTrue, is_none, All, length, map};
-ghost use Rattle.kind_tree.specs.Kinds.{TypedOk};
-ghost use Rattle.kind_tree.specs.TypedView.{typed_of};
+ghost use Rattle.data_types.specs.KindTrees.{TypedOk};
+ghost use Rattle.data_types.specs.TypedView.{typed_of};
 ghost use Rattle.union_cols.specs.TypedProps.{all_typed_prop};
 ghost use Rattle.union_cols.specs.UnionRules.{union_fault};
 ghost use Rattle.union_cols.specs.UnionAnswers.{union_of};

@@ -1,5 +1,5 @@
 //! The kinds of a union as the code keeps them.
-use kind_tree::Typed;
+use data_types::Typed;
 
 /// The kinds of a union's schema: whether it is dense, and for each child, in order, its type id and its kinds. A sparse union's
 /// children are as long as the union; a dense one has an offset into its child for each item.

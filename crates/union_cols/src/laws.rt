@@ -3,7 +3,7 @@ ghost use Rattle.std.specs.Prelude.{◌≡◌, ℕ, Bool, None, List, Result, Is
 ghost use Rattle.tree_model.specs.Tree.{children_of};
 ghost use Rattle.raw_schema.specs.Members.{SchemaTree};
 ghost use Rattle.raw_array.specs.Members.{ArrayTree};
-ghost use Rattle.kind_tree.specs.Kinds.{KindTree, TypedOk};
+ghost use Rattle.data_types.specs.KindTrees.{KindTree, TypedOk};
 ghost use Rattle.schema_check.specs.Schemas.{TypedOf};
 ghost use Rattle.layout_rules.specs.Values.{rows_of, tree_items};
 ghost use Rattle.layout_rules.specs.Walk.{ChunkOk};

@@ -1,9 +1,10 @@
 //! Numbers in front of a text, without sign or leading zero.
-ghost use Rattle.std.specs.Prelude.{◌≡◌, ◌^◌, ◌≤◌, min, length, take, drop, IfSome, IfNone};
+ghost use Rattle.std.specs.Prelude.{◌≡◌, ◌≤◌, min, length, take, drop, IfSome, IfNone};
 ghost use Rattle.std.specs.List.{prefix_len};
 ghost use Rattle.std.specs.Char.{is_ascii_digit};
 ghost use Rattle.std.specs.Str.Parse.{AllDigits, digits_value};
 ghost use Rattle.fmt_string.specs.FormatString.{NumberThen, NoNumber};
+ghost use Rattle.layout_rules.specs.Rules.{window_limit};
 
 /// Where values of numbers stop growing: above every id.
 const LARGEST: u64 = 1 << 40;
@@ -34,7 +35,7 @@ pub(crate) fn number_len(text: &[u8]) -> Option<usize>
 /// The value of digits, which stops at `LARGEST`.
 pub(crate) fn number_value(digits: &[u8]) -> u64
     requires { AllDigits 10 digits.now }
-    ensures { result ≡ min (digits_value 10 digits.now) (2 ^ 40) }
+    ensures { result ≡ min (digits_value 10 digits.now) window_limit }
 {
     let mut value = 0;
     for digit in digits {

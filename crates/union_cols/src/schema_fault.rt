@@ -2,12 +2,12 @@
 ghost use Rattle.std.specs.Prelude.{◌≡◌};
 ghost use Rattle.union_cols.specs.declared.schema_fault.UnionSchemaFault.TheVariants as faults;
 
-use root_check::{KidsFault, OwnSchemaFault};
+use root_check::{ChildKindsFault, OwnSchemaFault};
 use schema_check::SchemaFault;
 use schema_meta::MetaFault;
 use std::alloc::{AllocError, AllocFailed};
 
-/// Why a schema is no union's, tried from the first to the last. A want of memory never stands inside another fault.
+/// Why a schema is no union's, tried from the first to the last. An out-of-memory never stands inside another fault.
 #[derive(Clone, Copy, Debug, PartialEq, Eq)]
 pub enum UnionSchemaFault {
     /// The schema is released.
@@ -56,15 +56,15 @@ impl From<OwnSchemaFault> for UnionSchemaFault {
     }
 }
 
-impl From<KidsFault> for UnionSchemaFault {
+impl From<ChildKindsFault> for UnionSchemaFault {
     ghost use Rattle.union_cols.specs.SchemaParts.{kids_refused};
 
     ghost from_gives = { λ fault given. given ≡ kids_refused fault };
 
-    fn from(fault: KidsFault) -> UnionSchemaFault {
+    fn from(fault: ChildKindsFault) -> UnionSchemaFault {
         match fault {
-            KidsFault::Child { child, fault } => UnionSchemaFault::Child { child, fault },
-            KidsFault::NoMemory => UnionSchemaFault::NoMemory,
+            ChildKindsFault::Child { child, fault } => UnionSchemaFault::Child { child, fault },
+            ChildKindsFault::NoMemory => UnionSchemaFault::NoMemory,
         }
     }
 }

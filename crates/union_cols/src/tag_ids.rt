@@ -2,8 +2,8 @@
 ghost use Rattle.std.specs.Prelude.{◌≡◌, ◌+◌, ◌<◌, ◌≤◌, ◌^◌, ◌∷◌, [], ℕ, All, IfOk, IsTrue, if◌then◌else◌, get_or, length, map};
 ghost use Rattle.data_types.specs.Value.{Null, is_null};
 ghost use Rattle.tree_model.specs.Tree.{children_of};
-ghost use Rattle.kind_tree.specs.Kinds.{TypedOk};
-ghost use Rattle.kind_tree.specs.TypedView.{typed_of};
+ghost use Rattle.data_types.specs.KindTrees.{TypedOk};
+ghost use Rattle.data_types.specs.TypedView.{typed_of};
 ghost use Rattle.layout_rules.specs.Values.{each, row_items, rows_of};
 ghost use Rattle.layout_rules.specs.Walk.{ChunkOk};
 ghost use Rattle.arr_import.specs.declared.col.Col.{Col as ACol};
@@ -13,7 +13,7 @@ ghost use Rattle.union_cols.specs.Tags.{block_of, start_bytes, tag_of};
 ghost use Rattle.union_cols.specs.TagViews.{starts_in};
 
 use arr_import::{Col, ValueRef};
-use kind_tree::Typed;
+use data_types::Typed;
 use raw_array::RawArray;
 use std::alloc::Global;
 use unit_pass::NoMemory;
@@ -88,7 +88,7 @@ pub(crate) fn row_tags(alloc: Global, table: &Col<'_>) -> Result<Vec<u8>, NoMemo
     Ok(ids)
 }
 
-/// The offsets 0, 1, 2 and so on, so many of them, with four bytes each.
+/// The offsets 0, 1, 2 and so on, this many of them, with four bytes each.
 pub(crate) fn row_starts(alloc: Global, count: u32) -> Result<Vec<u8>, NoMemory>
     ensures { IfOk result (λ bytes. bytes.items ≡ start_bytes count) }
 {
@@ -113,7 +113,7 @@ pub(crate) fn chunk_tags(
     row_tags(alloc, &Col::of(typed, array))
 }
 
-/// The offsets of a dense union with so many items.
+/// The offsets of a dense union with this many items.
 pub(crate) fn starts_if(
     alloc: Global,
     dense: bool,

@@ -2,10 +2,8 @@
 ghost use Rattle.std.specs.Prelude.{◌≡◌, ◌+◌, ◌-◌, ◌^◌, ◌<◌, ◌≤◌, ◌++◌, ◌∷◌, ◌≤ℤ◌, [], ℕ, pos, decimal, None, IfOk, OnOk, IsTrue, if◌then◌else◌, is_ok, length, replicate, vec_len, vec_capacity, MatchResult};
 ghost use Rattle.tree_model.specs.Tree.{IsLive, Live, Released, absent, child_at, children_of, trees};
 ghost use Rattle.raw_array.specs.Members.{Cost, holds_of};
-ghost use Rattle.raw_array.specs.Parts.{tree_of_parts};
 ghost use Rattle.raw_array.specs.View.{buffer_if, buffers_of};
 ghost use Rattle.raw_schema.specs.Members.{Nodes, members_of};
-ghost use Rattle.raw_schema.specs.Parts.{tree_of_parts as schema_of_parts};
 ghost use Rattle.raw_schema.specs.View.{bytes_of};
 ghost use Rattle.unit_pass.specs.Tally.{risen};
 ghost use Rattle.union_cols.specs.Tags.{block_of, tag_format, tag_members, tagged_members};
@@ -13,10 +11,12 @@ ghost use Rattle.union_cols.specs.TagViews.{starts_in, union_members};
 ghost use Rattle.fmt_string.specs.FormatString.{comma};
 ghost use Rattle.union_cols.specs.UnionFormats.{keyword as keyword_is};
 
+use arr_export::built_array;
+use arr_move::built_schema;
 use buf_block::{BufView, let_go_all, make};
 use itoa::Buffer;
-use raw_array::{ArrayParts, RawArray, ReleaseKind, release_all};
-use raw_schema::{RawSchema, SchemaParts, release_all as release_schemas};
+use raw_array::{ArrayParts, RawArray, ReleaseKind};
+use raw_schema::{RawSchema, SchemaParts};
 use std::alloc::Global;
 use unit_pass::{NoMemory, Pass, SUPPLY};
 
@@ -79,27 +79,7 @@ fn vacant_fields(alloc: Global, places: usize) -> Result<Vec<RawSchema>, NoMemor
     Ok(children)
 }
 
-/// Releases what a schema was to be made of.
-fn end_schema(parts: SchemaParts, pass: &mut Pass)
-    requires { pass.old.units + Nodes (schema_of_parts parts) ≤ SUPPLY + 1 }
-    ensures units { pass.new.units + 1 ≡ pass.old.units + Nodes (schema_of_parts parts) }
-{
-    let SchemaParts {
-        format: _,
-        name: _,
-        metadata: _,
-        flags: _,
-        children,
-        dictionary,
-    } = parts;
-    release_schemas(children, pass);
-    match dictionary {
-        None => {}
-        Some(tree) => tree.end(pass),
-    }
-}
-
-/// The schema of a union over so many children, which stand released, under the name of another schema with as many.
+/// The schema of a union over this many children, which stand released, under the name of another schema with as many.
 #[tactic(auto, using(arr_move::proofs::Vacant::vacant))]
 pub(crate) fn vacant_schema(
     alloc: Global,
@@ -132,13 +112,7 @@ pub(crate) fn vacant_schema(
         children,
         dictionary: None,
     };
-    match RawSchema::build(alloc, parts, pass) {
-        Ok(top) => Ok(top),
-        Err((parts, NoMemory)) => {
-            end_schema(parts, pass);
-            Err(NoMemory)
-        }
-    }
+    built_schema(alloc, parts, pass)
 }
 
 // ---- the array
@@ -206,29 +180,7 @@ fn vacant_columns(alloc: Global, places: usize) -> Result<Vec<RawArray>, NoMemor
     Ok(children)
 }
 
-/// Releases what an array was to be made of.
-fn end_array(parts: ArrayParts, pass: &mut Pass)
-    requires { pass.old.units + Cost (tree_of_parts parts) ≤ SUPPLY + 1 }
-    ensures units { pass.new.units + 1 ≡ pass.old.units + Cost (tree_of_parts parts) }
-{
-    let ArrayParts {
-        length: _,
-        null_count: _,
-        offset: _,
-        buffers,
-        children,
-        dictionary,
-        kind: _,
-    } = parts;
-    let_go_all(buffers, pass);
-    release_all(children, pass);
-    match dictionary {
-        None => {}
-        Some(tree) => tree.end(pass),
-    }
-}
-
-/// A union of this length with these buffers over so many children, which stand released.
+/// A union of this length with these buffers over this many children, which stand released.
 #[tactic(auto, using(arr_move::proofs::Vacant::vacant))]
 fn vacant_union(
     alloc: Global,
@@ -263,16 +215,10 @@ fn vacant_union(
         dictionary: None,
         kind: ReleaseKind::Exported,
     };
-    match RawArray::build(alloc, parts, pass) {
-        Ok(top) => Ok(top),
-        Err((parts, NoMemory)) => {
-            end_array(parts, pass);
-            Err(NoMemory)
-        }
-    }
+    built_array(alloc, parts, pass)
 }
 
-/// The array of a union of this length with these ids, and with offsets where there are some, over so many children, which stand
+/// The array of a union of this length with these ids, and with offsets where there are some, over this many children, which stand
 /// released.
 pub(crate) fn vacant_array(
     alloc: Global,

@@ -5,8 +5,8 @@ ghost use Rattle.raw_array.specs.Members.{Cost, members_of};
 ghost use Rattle.raw_array.specs.Windows.{FitsWindow};
 ghost use Rattle.arr_move.specs.TreeActs.{with_children};
 ghost use Rattle.raw_schema.specs.Members.{Nodes};
-ghost use Rattle.kind_tree.specs.Kinds.{TypedOk};
-ghost use Rattle.kind_tree.specs.TypedView.{typed_of};
+ghost use Rattle.data_types.specs.KindTrees.{TypedOk};
+ghost use Rattle.data_types.specs.TypedView.{typed_of};
 ghost use Rattle.schema_check.specs.Schemas.{TypedOf};
 ghost use Rattle.layout_rules.specs.Values.{rows_of, tree_items};
 ghost use Rattle.layout_rules.specs.Walk.{ChunkOk};
@@ -20,7 +20,7 @@ use crate::tag_fault::TagFault;
 use crate::tag_ids::{chunk_tags, starts_if};
 use crate::tag_moves::{move_arrays, move_schemas};
 use crate::tag_tops::{vacant_array, vacant_schema};
-use kind_tree::Typed;
+use data_types::Typed;
 use layout_rules::lawful_root;
 use raw_array::RawArray;
 use raw_schema::RawSchema;
@@ -61,7 +61,7 @@ pub fn tag(
     ensures items { IfOk result (λ made. union_items (tagged_kinds dense (typed_of typed.now)) made.1 ≡ tagged_items (rows_of (typed_of typed.now) array)) }
     // What was handed in comes back.
     ensures back { IfErr result (λ refused. (refused.0 ≡ schema) × (refused.1 ≡ array)) }
-    // Which fault it is, or want of memory where there is none.
+    // Which fault it is, or out of memory where there is none.
     ensures fault { refused_tag result ≡ tag_fault dense (length (children_of array)) (tree_items array) }
     ensures units { MatchResult result
         (λ made. pass.new.units + (Nodes made.0 + Cost made.1) ≡ pass.old.units + (Nodes schema + Cost array))

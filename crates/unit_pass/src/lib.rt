@@ -1,4 +1,4 @@
-//! Units of ownership, and what every crate above shares: want of memory, and names as bytes.
+//! Units of ownership, and what every crate above shares: out of memory, and names as bytes.
 //!
 //! Each live node of a tree and each hold of a block carries one [`Unit`], so the units outside the passes are the
 //! holders. A [`Desk`] gives out [`SUPPLY`] units in a [`Pass`] and closes only once they are all back, so a run that

@@ -1,4 +1,4 @@
-//! A desk that closes once all its units are back, names that give their bytes back, and the text of want of memory.
+//! A desk that closes once all its units are back, names that give their bytes back, and the text of `NoMemory`.
 use crate::{Audit, Name, NoMemory, SUPPLY, open_desk};
 use std::test::Fail;
 

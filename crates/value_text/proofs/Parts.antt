@@ -8,7 +8,7 @@ use Rattle.unit_pass.specs.declared.no_memory.NoMemory.{NoMemory}
 use Rattle.data_types.specs.Value.{Value, values, Null}
 use Rattle.layout_rules.specs.Values.{each}
 use Rattle.value_text.specs.Behind.{item_text}
-use Rattle.value_text.specs.ValueTexts.{joined, value_line, value_text, value_texts}
+use Rattle.data_types.specs.ValueTexts.{joined, value_line, value_text, value_texts}
 
 -- the joined texts of values
 abbrev pub parts : List Value → List ℕ

@@ -3,15 +3,15 @@ use Rattle.std.specs.Prelude.{◌≡◌, ◌+◌, ◌*◌, ◌<◌, ℕ, min, Li
 use Rattle.std.specs.Global.{Global}
 use Rattle.tree_model.specs.Tree.{Released, child_at, children_of, trees}
 use Rattle.raw_array.specs.Members.{ArrayTree, members_of}
-use Rattle.kind_tree.specs.Kinds.{KindTree}
-use Rattle.kind_tree.specs.TypedView.{typed_of, kids_of}
-use Rattle.kind_tree.specs.declared.typed.Typed.{Typed}
+use Rattle.data_types.specs.KindTrees.{KindTree}
+use Rattle.data_types.specs.TypedView.{typed_of, kids_of}
+use Rattle.data_types.specs.declared.typed.Typed.{Typed}
 use Rattle.layout_rules.specs.Values.{child_item, each, listed, readers, row_items, tree_items, value_at}
 use Rattle.layout_rules.specs.Layout.{first}
 use Rattle.data_types.specs.Value.{Value, Null, Items, Fields, values}
 use Rattle.data_types.specs.declared.storage.Storage.{Storage}
 use Rattle.data_types.specs.declared.storage.Storage.TheVariants as storages
-use Rattle.value_text.specs.ValueTexts.{text_limit, value_text}
+use Rattle.data_types.specs.ValueTexts.{text_limit, value_text}
 
 abbrev pub capped : ℕ → ℕ
 capped count = min count (text_limit + 1)
@@ -19,18 +19,18 @@ capped count = min count (text_limit + 1)
 abbrev pub text_length : Value → ℕ
 text_length value = capped (length (value_text value))
 
--- the lengths of the texts of the first so many items, in order
+-- the lengths of the texts of the first n items, in order
 pub record AreLengths (lengths : List ℕ) (item : ℕ → Value) (count : ℕ) : Type 0 where
   pub many : length lengths ≡ count
   pub each : (i : ℕ) → i < count → get_or lengths i 0 ≡ text_length (item i)
 
--- those of all items of each child of an array, as far as its first so many children
+-- those of all items of each child of an array, as far as its first this many children
 pub record AreKidLengths (lengths : List (Vec ℕ Global)) (kids : List KindTree) (array : ArrayTree) (count : ℕ) : Type 0 where
   pub many : length lengths ≡ count
   pub each : (k : ℕ) (d : Vec ℕ Global) → k < count
       → AreLengths (get_or lengths k d).items (value_at (get_or kids k Released) (child_at array k)) (tree_items (child_at array k))
 
--- each has more than so many
+-- each has more than this many
 abbrev pub AreLonger : List (Vec ℕ Global) → ℕ → Type 0
 AreLonger lengths place = (k : ℕ) (d : Vec ℕ Global) → k < length lengths → place < length (get_or lengths k d).items
 

@@ -1,4 +1,2 @@
-pub mod ValueTexts
 pub mod Behind
-pub mod NumberedTexts
 pub mod Lengths

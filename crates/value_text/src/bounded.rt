@@ -2,7 +2,7 @@
 ghost use Rattle.std.specs.Prelude.{◌≡◌, ◌+◌, ◌≤◌, ◌++◌, ◌∷◌, [], OnOk, length, vec_len};
 ghost use Rattle.std.specs.Fmt.{signed_decimal};
 ghost use Rattle.data_types.specs.FieldText.{last_digits};
-ghost use Rattle.value_text.specs.ValueTexts.{text_limit};
+ghost use Rattle.data_types.specs.ValueTexts.{text_limit};
 
 use field_codec::{bits_text, whole_text};
 use std::alloc::Global;
@@ -12,8 +12,8 @@ use unit_pass::NoMemory;
 /// The most bytes of a text.
 const LIMIT: usize = 1 << 31;
 
-/// A text of at most 2^31 bytes, and the room in which its numbers are made. What would make it longer is refused as want of
-/// memory is. Contracts see the bytes.
+/// A text of at most 2^31 bytes, and the room in which its numbers are made. What would make it longer is refused as out of
+/// memory. Contracts see the bytes.
 #[derive(Drop)]
 pub struct BoundedText {
     bytes: Vec<u8>,
@@ -22,7 +22,7 @@ pub struct BoundedText {
 
 impl Model for BoundedText {
     ghost use Rattle.std.specs.Prelude.{ℕ, List, ◌≤◌, vec_len};
-    ghost use Rattle.value_text.specs.ValueTexts.{text_limit};
+    ghost use Rattle.data_types.specs.ValueTexts.{text_limit};
 
     ghost Value = { List ℕ };
 
@@ -56,7 +56,7 @@ impl BoundedText {
         }
     }
 
-    /// Refuses so many bytes more, where they would be too many, before any of them is made.
+    /// Refuses this many bytes more, where they would be too many, before any of them is made.
     pub fn has_room(&self, count: u64) -> Result<(), NoMemory>
         ensures { OnOk result (length self.now + count ≤ text_limit) }
     {

@@ -5,7 +5,7 @@ ghost use Rattle.data_types.specs.Value.Value.{Bits, Bytes, Fields, Items, Truth
 ghost use Rattle.layout_rules.specs.Values.{each};
 ghost use Rattle.value_text.specs.Behind.{item_text};
 ghost use Rattle.value_text.specs.Lengths.{AreFieldLengths, AreLengths, AreLonger, capped, text_length};
-ghost use Rattle.value_text.specs.ValueTexts.{byte_text, bytes_text};
+ghost use Rattle.data_types.specs.ValueTexts.{byte_text, bytes_text};
 
 use crate::escapes::is_plain;
 use field_codec::{bits_text, whole_text};
@@ -25,7 +25,7 @@ fn counted(count: usize) -> u32
     }
 }
 
-/// The sum of two lengths in bytes, of which each above 2^31 is told as 2^31 + 1.
+/// The sum of two lengths in bytes, of which each above 2^31 is given as 2^31 + 1.
 pub fn plus(one: u32, other: u32) -> u32
     ensures { result ≡ capped (one + other) }
 {
@@ -82,7 +82,7 @@ pub(crate) fn bytes_length(bytes: &[u8]) -> u32
     sum
 }
 
-/// The length of the text of a list of so many items, whose lengths stand from a place on.
+/// The length of the text of a list of this many items, whose lengths stand from a place on.
 pub(crate) fn list_length(lengths: &[u32], from: usize, count: usize) -> u32
     requires { from + count ≤ length lengths.now }
     ensures { (item : ℕ → Value) → AreLengths lengths.now item (length lengths.now)

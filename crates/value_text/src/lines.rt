@@ -1,26 +1,26 @@
 //! The items of an array, a line each.
 ghost use Rattle.std.specs.Prelude.{◌≡◌, ◌≤◌, ◌++◌, IfOk, OnOk, vec_len};
 ghost use Rattle.std.specs.List.{flat_map};
-ghost use Rattle.kind_tree.specs.Kinds.{TypedOk};
-ghost use Rattle.kind_tree.specs.TypedView.{typed_of};
+ghost use Rattle.data_types.specs.KindTrees.{TypedOk};
+ghost use Rattle.data_types.specs.TypedView.{typed_of};
 ghost use Rattle.layout_rules.specs.Values.{values_of};
 ghost use Rattle.layout_rules.specs.Walk.{LayoutOk};
 ghost use Rattle.arr_import.specs.Cols.{window_of};
 ghost use Rattle.arr_import.specs.Window.{items_of};
-ghost use Rattle.value_text.specs.ValueTexts.{lines_text, text_limit, value_line};
+ghost use Rattle.data_types.specs.ValueTexts.{lines_text, text_limit, value_line};
 
 use crate::bounded::BoundedText;
-use crate::measure::{is_too_long, tells_often};
+use crate::measure::{has_indexed_lists, is_too_long};
 use crate::table::{columns_of, is_table, push_rows};
 use crate::value::{count_items, push_value};
 use arr_import::Col;
-use kind_tree::Typed;
+use data_types::Typed;
 use raw_array::RawArray;
 use std::alloc::Global;
 use unit_pass::NoMemory;
 
 /// The text of an array that `layout_check::check_array` accepted: `ok`, and a line with the text of each item of its window.
-/// `NoMemory` comes for want of memory, and where the text would have more than 2^31 bytes: at once where the number of items
+/// `NoMemory` comes where memory runs out, and where the text would have more than 2^31 bytes: at once where the number of items
 /// shows it, since a line has at least two, and before any text is made where lists have indices into dictionaries and there aren't
 /// too many items to measure.
 pub fn items_text(alloc: Global, typed: &Typed, array: &RawArray) -> Result<Vec<u8>, NoMemory>
@@ -29,7 +29,7 @@ pub fn items_text(alloc: Global, typed: &Typed, array: &RawArray) -> Result<Vec<
     ensures text { IfOk result (λ text. text.items ≡ lines_text (values_of (typed_of typed.now) array.now)) }
     ensures within { IfOk result (λ text. vec_len text ≤ text_limit) }
 {
-    if tells_often(typed) && is_too_long(alloc, typed, array).unwrap_or(false) {
+    if has_indexed_lists(typed) && is_too_long(alloc, typed, array).unwrap_or(false) {
         return Err(NoMemory);
     }
     let mut text = BoundedText::new(alloc);

@@ -3,22 +3,21 @@
 ghost use Rattle.std.specs.Prelude.{◌≡◌, ◌+◌, ◌<◌, ◌≤◌, ◌^◌, ℕ, None, Some, IfOk, length, map, get_or, nat_lt};
 ghost use Rattle.data_types.specs.Value.{Value};
 ghost use Rattle.tree_model.specs.Tree.{Released, IsLive, Depth, depth_of_all, trees, child_at, children_of, dictionary_of};
-ghost use Rattle.kind_tree.specs.declared.typed.Typed.{out-Typed};
-ghost use Rattle.kind_tree.specs.Kinds.{NodesOk, AllNodesOk, TypedOk};
-ghost use Rattle.kind_tree.specs.TypedView.{typed_of, kids_of, dict_in};
+ghost use Rattle.data_types.specs.declared.typed.Typed.{out-Typed};
+ghost use Rattle.data_types.specs.KindTrees.{NodesOk, AllNodesOk, TypedOk, most_levels};
+ghost use Rattle.data_types.specs.TypedView.{typed_of, kids_of, dict_in};
 ghost use Rattle.layout_rules.specs.Values.{each, tree_items, value_at, values_of};
 ghost use Rattle.layout_rules.specs.Walk.{LayoutOk};
 ghost use Rattle.arr_import.specs.Cols.{window_of};
 ghost use Rattle.arr_import.specs.Window.{whole};
 ghost use Rattle.value_text.specs.Lengths.{AreKidLengths, AreLengths, IsNested, text_length};
-ghost use Rattle.value_text.specs.ValueTexts.{lines_text, text_limit};
+ghost use Rattle.data_types.specs.ValueTexts.{lines_text, text_limit};
 
 use crate::lengths::{bits_length, bytes_length, plus, truth_length, whole_length};
 use crate::placed::{fixed_list_at, index_at, list_at, nested_is, row_at};
 use crate::value::{count_items, number};
 use arr_import::{Col, ValueRef};
-use data_types::{DataType, Storage, storage_of};
-use kind_tree::Typed;
+use data_types::{DataType, Storage, Typed, storage_of};
 use layout_rules::{lawful_parts, lawful_root};
 use raw_array::RawArray;
 use std::alloc::Global;
@@ -27,8 +26,8 @@ use unit_pass::NoMemory;
 /// How many items are measured at most, so that measuring takes a second or so and 128 megabytes.
 pub const MOST_MEASURED: u64 = 1 << 25;
 
-/// Whether lists of these kinds have indices into dictionaries, so that a short array may tell of very many values.
-pub fn tells_often(typed: &Typed) -> bool {
+/// Whether lists of these kinds have indices into dictionaries, so that a short array may have very many values.
+pub fn has_indexed_lists(typed: &Typed) -> bool {
     lists_indices(typed, false)
 }
 
@@ -116,7 +115,7 @@ fn lengths_of(
     array: &RawArray,
 ) -> Result<Vec<u32>, NoMemory>
     requires lawful { LayoutOk (typed_of typed.now) array.now }
-    requires levels { Depth (typed_of typed.now) ≤ 64 }
+    requires levels { Depth (typed_of typed.now) ≤ most_levels }
     requires types { NodesOk (typed_of typed.now) }
     ensures { IfOk result (λ lengths. AreLengths lengths.items (value_at (typed_of typed.now) array.now) (tree_items array.now)) }
 {
@@ -144,7 +143,7 @@ fn kid_lengths(
     array: &RawArray,
 ) -> Result<Vec<Vec<u32>>, NoMemory>
     requires lawful { (k : ℕ) → k < length (map typed_of kids.now) → LayoutOk (get_or (map typed_of kids.now) k Released) (child_at array.now k) }
-    requires levels { 1 + depth_of_all (trees (map typed_of kids.now)) ≤ 64 }
+    requires levels { 1 + depth_of_all (trees (map typed_of kids.now)) ≤ most_levels }
     requires types { AllNodesOk (trees (map typed_of kids.now)) }
     requires live { IsLive array.now }
     requires children { length (children_of array.now) ≡ length kids.now }

@@ -1,27 +1,27 @@
 //! Where the parts of an item stand: its index, the items of a list, the fields of a struct, and how long the text is that they make.
 ghost use Rattle.std.specs.Prelude.{◌≡◌, ◌==◌, ◌+◌, ◌-◌, ◌*◌, ◌/◌, ◌^◌, ◌<◌, ◌≤◌, ◌≤ℤ◌, ℕ, pos, true, false, IsTrue, IfSome, IfNone, None, Some, length, get_or};
-ghost use Rattle.bit_pack.specs.Packed.{IsWidth, bit, meant, number_at, offset_width};
+ghost use Rattle.data_types.specs.Packed.{IsWidth, bit, meant, number_at, offset_width};
 ghost use Rattle.data_types.specs.Storage.{storage_of as storage_is};
 ghost use Rattle.data_types.specs.Value.{values};
 ghost use Rattle.data_types.specs.Value.Value.{Fields, Items, Null};
 ghost use Rattle.data_types.specs.declared.storage.Storage.TheVariants as storages;
 ghost use Rattle.tree_model.specs.Tree.{Released, IsLive, child_at, children_of, dictionary_of, trees};
 ghost use Rattle.raw_array.specs.Members.{members_of};
-ghost use Rattle.kind_tree.specs.declared.typed.Typed.{out-Typed};
-ghost use Rattle.kind_tree.specs.Kinds.{NodesOk};
-ghost use Rattle.kind_tree.specs.TypedView.{typed_of, kind_of, kids_of, dict_in};
+ghost use Rattle.data_types.specs.declared.typed.Typed.{out-Typed};
+ghost use Rattle.data_types.specs.KindTrees.{NodesOk};
+ghost use Rattle.data_types.specs.TypedView.{typed_of, kind_of, kids_of, dict_in};
 ghost use Rattle.layout_rules.specs.Layout.{buffer, bytes, first, is_valid as is_valid_at, natural, offset_in, stored_number};
 ghost use Rattle.layout_rules.specs.Values.{child_item, each, listed, readers, row_items, tree_items, value_at};
 ghost use Rattle.layout_rules.specs.Walk.{LayoutOk};
 ghost use Rattle.arr_import.specs.Lent.{lent_bytes};
 ghost use Rattle.arr_import.specs.StoredItems.{AreItemsThere, IsIndexThere, IsListStorage, IsThere};
 ghost use Rattle.arr_import.specs.Window.{index_at as index_in};
+ghost use Rattle.layout_rules.specs.Rules.{window_limit};
 ghost use Rattle.value_text.specs.Lengths.{AreKidLengths, IsNested, IsNestedAt, text_length};
 
 use crate::lengths::{list_length, row_length};
 use bit_pack::{bit_at, int_at, offset_at};
-use data_types::{Storage, storage_of};
-use kind_tree::{Typed, kinds_of_typed};
+use data_types::{Storage, Typed, kinds_of_typed, storage_of};
 use layout_rules::{lawful_items_lie_within, lawful_parts, lawful_root};
 use raw_array::RawArray;
 
@@ -65,7 +65,7 @@ fn place_of(typed: &Typed, array: &RawArray, i: u64) -> u64
     requires lawful { LayoutOk (typed_of typed.now) array.now }
     requires inside { i < tree_items array.now }
     ensures place { result ≡ first (members_of array.now) + i }
-    ensures near { result < 2 ^ 40 }
+    ensures near { result < window_limit }
 {
     lawful_root(typed, array);
     array.offset() as u64 + i
@@ -90,7 +90,7 @@ fn items_are_there(typed: &Typed, array: &RawArray, i: u64)
     requires list { IsListStorage (storage_is (kind_of typed.now)) }
     ensures one { length (kids_of typed.now) ≡ 1 }
     ensures live { length (children_of array.now) ≡ 1 }
-    ensures few { tree_items (child_at array.now 0) ≤ 2 ^ 40 }
+    ensures few { tree_items (child_at array.now 0) ≤ window_limit }
     ensures items { AreItemsThere (storage_is (kind_of typed.now)) (bytes (members_of array.now) 1) (first (members_of array.now) + i)
         (tree_items (child_at array.now 0)) }
 {
@@ -118,7 +118,7 @@ pub(crate) fn list_at(wide: bool, typed: &Typed, array: &RawArray, kids: &[Vec<u
     list_length(&kids[0], here, next - here)
 }
 
-/// The length of the text of a list of so many items.
+/// The length of the text of a list of this many items.
 pub(crate) fn fixed_list_at(
     size: u32,
     typed: &Typed,
@@ -140,7 +140,7 @@ pub(crate) fn fixed_list_at(
 }
 
 fn times(place: u64, size: u32) -> u64
-    requires { (place + 1) * size ≤ 2 ^ 40 }
+    requires { (place + 1) * size ≤ window_limit }
     ensures { result ≡ place * size }
 {
     place * u64::from(size)
@@ -238,7 +238,7 @@ fn index_is_there(typed: &Typed, array: &RawArray, dict: &Typed, dictionary: &Ra
         (tree_items dictionary.now) }
     ensures value { value_at (typed_of dict.now) dictionary.now (index_in (kind_of typed.now) (members_of array.now) i)
         ≡ value_at (typed_of typed.now) array.now i }
-    ensures few { tree_items dictionary.now ≤ 2 ^ 40 }
+    ensures few { tree_items dictionary.now ≤ window_limit }
 {
     kinds_of_typed(typed);
     lawful_root(typed, array);
@@ -295,7 +295,7 @@ fn valid_index(
     }
 }
 
-/// The number that is stored for an item, in so many bits.
+/// The number that is stored for an item, in this many bits.
 fn index_of(bits: u8, signed: bool, typed: &Typed, array: &RawArray, i: u64) -> u64
     requires lawful { LayoutOk (typed_of typed.now) array.now }
     requires types { NodesOk (typed_of typed.now) }

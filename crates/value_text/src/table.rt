@@ -4,18 +4,17 @@ ghost use Rattle.std.specs.List.{flat_map};
 ghost use Rattle.data_types.specs.Value.{values};
 ghost use Rattle.data_types.specs.Value.Value.{Fields};
 ghost use Rattle.tree_model.specs.Tree.{dictionary_of};
-ghost use Rattle.kind_tree.specs.TypedView.{typed_of};
+ghost use Rattle.data_types.specs.TypedView.{typed_of};
 ghost use Rattle.layout_rules.specs.Values.{row_items};
 ghost use Rattle.arr_import.specs.declared.col.Col.{Col as ACol};
 ghost use Rattle.arr_import.specs.Cols.{window_of};
 ghost use Rattle.arr_import.specs.Window.{IsStruct, item_at, items_of};
-ghost use Rattle.value_text.specs.ValueTexts.{value_line, value_text};
+ghost use Rattle.data_types.specs.ValueTexts.{value_line, value_text};
 
 use crate::bounded::BoundedText;
 use crate::value::{count_items, number, push_part, push_value};
 use arr_import::{Col, ValueRef};
-use data_types::DataType;
-use kind_tree::{Typed, kinds_of_typed};
+use data_types::{DataType, Typed, kinds_of_typed};
 use std::alloc::Global;
 use unit_pass::NoMemory;
 

@@ -5,7 +5,7 @@ ghost use Rattle.data_types.specs.Value.Value.{Fields, Items, Null, Truth, Whole
 ghost use Rattle.layout_rules.specs.Values.{row_items};
 ghost use Rattle.arr_import.specs.Cols.{window_of};
 ghost use Rattle.arr_import.specs.Window.{IsStruct, item_at, items_of};
-ghost use Rattle.value_text.specs.ValueTexts.{value_text};
+ghost use Rattle.data_types.specs.ValueTexts.{value_text};
 ghost use Rattle.value_text.specs.Behind.{item_text};
 
 use crate::bounded::BoundedText;

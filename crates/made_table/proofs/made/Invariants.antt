@@ -1,5 +1,5 @@
 use Rattle.std.proofs.Common.{◌≡◌, ◌++◌}
-use Rattle.made_table.specs.Made.{made_header, made_rows}
+use Rattle.csv_model.specs.Made.{made_header, made_rows}
 use Rattle.made_table.proofs.made.Given as goal
 
 abbrev pub invariant-loop-i : goal.invariant-loop-i

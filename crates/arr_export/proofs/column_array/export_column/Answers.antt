@@ -1,23 +1,29 @@
-use Rattle.std.proofs.Common.{◌≡◌, ◌∙◌, arith, w64, to_z, of_z}
-use Rattle.std.proofs.lemmas.Int.{ints}
-use Rattle.arr_export.proofs.Parts.{dictionary-depth}
+use Rattle.std.proofs.Common.{◌≡◌, ◌∙◌, ap, arith, rules}
+use Rattle.raw_array.specs.Members.{Cost}
+use Rattle.arr_export.specs.ArrayTrees.{column_tree}
+use Rattle.arr_export.proofs.Parts.{column-cost, column-made, dictionary-depth, few-buffers}
 use Rattle.arr_export.proofs.column_array.export_column.Goals as goal
 
-pub live_column-requires-clause-holds : goal.live_column-requires-clause-holds
-live_column-requires-clause-holds c =
+pub build-requires-clause-few_buffers : goal.build-requires-clause-few_buffers
+build-requires-clause-few_buffers c =
     let holds = c.requires.holds in
-    let is = holds.2.is_encoded in
-    let length : to_z w64 (of_z w64 c.args.built.length) ≡ c.args.built.length = omega (arith, ints) in
-    let nulls : to_z w64 (of_z w64 c.args.built.null_count) ≡ c.args.built.null_count = omega (arith, ints) in
-    (holds.0, holds.1, record { length = length ∙ is.length; null_count = nulls ∙ is.null_count; buffers = is.buffers })
+    omega (arith, few-buffers c.args.column.buffers.items holds.0 holds.1 holds.2.is_encoded.buffers)
 
-pub live_column-requires-clause-not_deep : goal.live_column-requires-clause-not_deep
-live_column-requires-clause-not_deep c =
+pub build-requires-clause-not_deep : goal.build-requires-clause-not_deep
+build-requires-clause-not_deep c =
     let holds = c.requires.holds in
-    dictionary-depth holds.0 holds.1 c.args.dictionary holds.2.indices
+    let deep = dictionary-depth holds.0 holds.1 c.args.dictionary holds.2.indices in
+    search (rules, deep)
+
+pub returns-in-Ok-clause-cost : goal.returns-in-Ok-clause-cost
+returns-in-Ok-clause-cost c =
+    let kind = c.requires.holds.0 in
+    let values = c.requires.holds.1 in
+    let made = column-made c.args.column kind values c.new.result.items c.args.dictionary c.new.ensures.items c.requires.holds.2.is_encoded in
+    let same : Cost c.in-Ok.tree ≡ Cost (column_tree kind values c.args.dictionary) = ap Cost c.in-Ok.ensures.tree ∙ ap Cost made in
+    omega (arith, same, column-cost kind values c.args.dictionary)
 
 pub returns-in-Ok-clause-tree : goal.returns-in-Ok-clause-tree
 returns-in-Ok-clause-tree c kind values is =
-    let length : to_z w64 (of_z w64 c.args.built.length) ≡ c.args.built.length = omega (arith, ints) in
-    let nulls : to_z w64 (of_z w64 c.args.built.null_count) ≡ c.args.built.null_count = omega (arith, ints) in
-    c.in-Ok.ensures.tree kind values (record { length = length ∙ is.length; null_count = nulls ∙ is.null_count; buffers = is.buffers })
+    let made = column-made c.args.column kind values c.new.result.items c.args.dictionary c.new.ensures.items is in
+    search (rules, made)

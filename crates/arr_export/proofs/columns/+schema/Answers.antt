@@ -57,8 +57,8 @@ column_schema-returns-in_ok-name-in-Columns-clause-nodes t c =
     rw nodes c.struct_schema.ensures.nodes
 
 -- ---- the columns of a struct
-pub struct_schema-built-requires-clause-few_children : goal.struct_schema-built-requires-clause-few_children
-struct_schema-built-requires-clause-few_children t c =
+pub struct_schema-built_schema-requires-clause-few_children : goal.struct_schema-built_schema-requires-clause-few_children
+struct_schema-built_schema-requires-clause-few_children t c =
     let count : length c.in_ok-children.children.items ≡ length c.args.columns.now =
     ap length c.in_ok-children.ensures.trees ∙ length-map c.args.columns.now code_schema in
     omega (arith, count, few-columns c.args.columns.now, c.requires.small)

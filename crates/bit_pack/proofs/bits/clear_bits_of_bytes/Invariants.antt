@@ -1,5 +1,5 @@
 use Rattle.std.proofs.Common.{◌≡◌, ◌≤◌, ◌*◌, ◌-◌}
-use Rattle.bit_pack.specs.Packed.{clear_count}
+use Rattle.data_types.specs.Packed.{clear_count}
 use Rattle.bit_pack.proofs.bits.clear_bits_of_bytes.Given as goal
 
 abbrev pub invariant-loop-i : goal.invariant-loop-i

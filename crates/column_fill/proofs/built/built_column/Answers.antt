@@ -11,8 +11,8 @@ export_column-requires-clause-units c =
     let held = c.requires.holds in
     omega (arith, c.in-Ok.ensures.units held.0 held.1 held.2, few-blocks held.0 held.1, c.requires.units)
 
-pub give_up-requires : goal.give_up-requires
-give_up-requires c =
+pub let_go_column-requires : goal.let_go_column-requires
+let_go_column-requires c =
     let held = c.requires.holds in
     let made = c.in-Ok.ensures.encoded held.0 held.1 held.2 in
     let same = ap (λ views. holds_of (buffers_of views)) c.in-Err-export_column.ensures.buffers_back in
@@ -25,11 +25,11 @@ give_up-requires c =
       c.in-Ok.ensures.units held.0 held.1 held.2,
       c.in-Err-export_column.ensures.units,
       c.requires.room,
-      holds_of-count c.in-Err-export_column.built.buffers.items,
+      holds_of-count c.in-Err-export_column.column.buffers.items,
     )
 
-pub returns-in-Err-export_column-clause-units_back : goal.returns-in-Err-export_column-clause-units_back
-returns-in-Err-export_column-clause-units_back c =
+pub returns-in-Ok-clause-units_back : goal.returns-in-Ok-clause-units_back
+returns-in-Ok-clause-units_back c =
     let held = c.requires.holds in
     let made = c.in-Ok.ensures.encoded held.0 held.1 held.2 in
     let same = ap (λ views. holds_of (buffers_of views)) c.in-Err-export_column.ensures.buffers_back in
@@ -41,6 +41,6 @@ returns-in-Err-export_column-clause-units_back c =
       finished-holds _ _ made.buffers,
       c.in-Ok.ensures.units held.0 held.1 held.2,
       c.in-Err-export_column.ensures.units,
-      c.give_up.ensures.units,
-      holds_of-count c.in-Err-export_column.built.buffers.items,
+      c.let_go_column.ensures.units,
+      holds_of-count c.in-Err-export_column.column.buffers.items,
     )

@@ -10,7 +10,7 @@ exported-requires g c = (
   Bytes (1 ∷ 2 ∷ []) ∷ Bytes [] ∷ Bytes (3 ∷ []) ∷ [],
   record {
     is_encoded =
-        record { is_kind = refl; length = refl; null_count = refl; buffers = rw c.three.ensures (tt, (c.block-offsets.ensures, (c.block-data.ensures, tt))) };
+        record { length = refl; null_count = refl; buffers = rw c.three.ensures (tt, (c.block-offsets.ensures, (c.block-data.ensures, tt))) };
     fits = fitting (kinds.Binary true) (Bytes (1 ∷ 2 ∷ []) ∷ Bytes [] ∷ Bytes (3 ∷ []) ∷ []) tt tt (omega arith) (refl, (refl, (refl, tt))) (omega arith);
     indices = tt;
   },

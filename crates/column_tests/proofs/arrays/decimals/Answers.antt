@@ -9,7 +9,7 @@ exported-requires g c = (
   kinds.Decimal 5 (pos 2) false,
   Whole (pos 256) ∷ Whole (negsuc 0) ∷ [],
   record {
-    is_encoded = record { is_kind = refl; length = refl; null_count = refl; buffers = rw c.two.ensures (tt, (c.block-data.ensures, tt)) };
+    is_encoded = record { length = refl; null_count = refl; buffers = rw c.two.ensures (tt, (c.block-data.ensures, tt)) };
     fits = fitting (kinds.Decimal 5 (pos 2) false) (Whole (pos 256) ∷ Whole (negsuc 0) ∷ []) (omega arith, omega arith, search rules) tt (omega arith)
         (refl, (refl, tt)) (omega arith);
     indices = tt;

@@ -9,7 +9,7 @@ exported-requires g c = (
   kinds.Float 64,
   Bits 0x3ff8000000000000 ∷ Bits 0xc000000000000000 ∷ [],
   record {
-    is_encoded = record { is_kind = refl; length = refl; null_count = refl; buffers = rw c.two.ensures (tt, (c.block-data.ensures, tt)) };
+    is_encoded = record { length = refl; null_count = refl; buffers = rw c.two.ensures (tt, (c.block-data.ensures, tt)) };
     fits = fitting (kinds.Float 64) (Bits 0x3ff8000000000000 ∷ Bits 0xc000000000000000 ∷ []) (inr (inr refl)) tt (omega arith) (refl, (refl, tt)) (omega arith);
     indices = tt;
   },

@@ -9,7 +9,7 @@ exported-requires g c = (
   kinds.Int 32 true,
   Whole (pos 1) ∷ Null ∷ Whole (pos 2) ∷ Whole (pos 4) ∷ Whole (pos 8) ∷ [],
   record {
-    is_encoded = record { is_kind = refl; length = refl; null_count = refl; buffers = rw c.two.ensures (c.block-validity.ensures, (c.block-data.ensures, tt)) };
+    is_encoded = record { length = refl; null_count = refl; buffers = rw c.two.ensures (c.block-validity.ensures, (c.block-data.ensures, tt)) };
     fits = fitting (kinds.Int 32 true) (Whole (pos 1) ∷ Null ∷ Whole (pos 2) ∷ Whole (pos 4) ∷ Whole (pos 8) ∷ []) (inr (inr (inl refl))) tt (omega arith)
         (refl, (refl, (refl, (refl, (refl, tt))))) (omega arith);
     indices = tt;

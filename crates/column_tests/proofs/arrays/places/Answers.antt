@@ -16,7 +16,7 @@ exported-requires g c =
       kinds.Int 8 false,
       Whole (pos 1) ∷ Whole (pos 0) ∷ Whole (pos 1) ∷ Whole (pos 3) ∷ [],
       record {
-        is_encoded = record { is_kind = refl; length = refl; null_count = refl; buffers = rw c.two.ensures (tt, (c.block-data.ensures, tt)) };
+        is_encoded = record { length = refl; null_count = refl; buffers = rw c.two.ensures (tt, (c.block-data.ensures, tt)) };
         fits = fitting (kinds.Int 8 false) (Whole (pos 1) ∷ Whole (pos 0) ∷ Whole (pos 1) ∷ Whole (pos 3) ∷ []) (inl refl) tt (omega arith)
             (refl, (refl, (refl, (refl, tt)))) (omega arith);
         indices = record {

@@ -13,7 +13,6 @@ exported-requires g c = (
   Bytes (106 ∷ 111 ∷ 101 ∷ []) ∷ Null ∷ Null ∷ Bytes (109 ∷ 97 ∷ 114 ∷ 107 ∷ []) ∷ [],
   record {
     is_encoded = record {
-      is_kind = refl;
       length = refl;
       null_count = refl;
       buffers = rw c.three.ensures (c.block-validity.ensures, (c.block-offsets.ensures, (c.block-data.ensures, tt)));

@@ -9,7 +9,7 @@ exported-requires g c = (
   kinds.FixedBinary 3,
   Bytes (97 ∷ 98 ∷ 99 ∷ []) ∷ Null ∷ Bytes (100 ∷ 101 ∷ 102 ∷ []) ∷ [],
   record {
-    is_encoded = record { is_kind = refl; length = refl; null_count = refl; buffers = rw c.two.ensures (c.block-validity.ensures, (c.block-data.ensures, tt)) };
+    is_encoded = record { length = refl; null_count = refl; buffers = rw c.two.ensures (c.block-validity.ensures, (c.block-data.ensures, tt)) };
     fits = fitting (kinds.FixedBinary 3) (Bytes (97 ∷ 98 ∷ 99 ∷ []) ∷ Null ∷ Bytes (100 ∷ 101 ∷ 102 ∷ []) ∷ []) (omega arith) tt (omega arith)
         (refl, (refl, (refl, tt))) (omega arith);
     indices = tt;

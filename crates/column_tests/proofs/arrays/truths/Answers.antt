@@ -9,7 +9,7 @@ exported-requires g c = (
   kinds.Bool,
   Truth true ∷ Truth false ∷ Null ∷ Truth true ∷ [],
   record {
-    is_encoded = record { is_kind = refl; length = refl; null_count = refl; buffers = rw c.two.ensures (c.block-validity.ensures, (c.block-data.ensures, tt)) };
+    is_encoded = record { length = refl; null_count = refl; buffers = rw c.two.ensures (c.block-validity.ensures, (c.block-data.ensures, tt)) };
     fits = fitting (kinds.Bool) (Truth true ∷ Truth false ∷ Null ∷ Truth true ∷ []) tt tt (omega arith) (refl, (refl, (refl, (refl, tt)))) (omega arith);
     indices = tt;
   },

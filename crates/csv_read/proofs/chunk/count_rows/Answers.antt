@@ -19,7 +19,7 @@ kind-count builder (Columns _) values n holds count = absurd holds
 pub len-requires : goal.len-requires
 len-requires c =
     let (columns, rows, held, few) = c.requires.held in
-    let all = c.held_rows_fit.ensures.some c.args.builders.now columns rows held in
+    let all = c.batch_rows_fit.ensures.some c.args.builders.now columns rows held in
     let first : HoldsSome c.index-builders-0.result = subst HoldsSome (sym c.index-builders-0.is) (all 0 c.index-builders-0.result c.requires.some) in
     record { holds = first }
 

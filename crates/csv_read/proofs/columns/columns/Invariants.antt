@@ -1,7 +1,8 @@
 use Rattle.std.proofs.Common.{◌≡◌, map, take}
 use Rattle.data_types.specs.ColumnView.{column_of}
 use Rattle.csv_model.specs.Header.{header_columns}
-use Rattle.csv_read.specs.Entries.{entries_of, texts}
+use Rattle.csv_read.specs.Entries.{texts}
+use Rattle.stage_plan.specs.Entries.{entries_of}
 use Rattle.csv_read.proofs.columns.columns.Given as goal
 
 abbrev pub invariant-loop-name : goal.invariant-loop-name

@@ -5,11 +5,23 @@ use Rattle.data_types.specs.Value.{Bytes}
 use Rattle.csv_read.proofs.field_push.push_bytes.Goals as goal
 
 pub add_bytes-requires : goal.add_bytes-requires
-add_bytes-requires c = record { takes = c.requires.takes (Bytes c.in-Some.eight) (ap (option_map Bytes) (sym c.read_eight.ensures ∙ c.in-Some.is)) }
+add_bytes-requires c = record { takes = c.requires.takes (Bytes c.in-Some.eight) (ap (option_map Bytes) (sym c.read_eight_bytes.ensures ∙ c.in-Some.is)) }
 
 pub returns-in-Some-clause-added : goal.returns-in-Some-clause-added
 returns-in-Some-clause-added c found = (
   Bytes c.in-Some.eight,
-  ap (option_map Bytes) (sym c.read_eight.ensures ∙ c.in-Some.is),
+  ap (option_map Bytes) (sym c.read_eight_bytes.ensures ∙ c.in-Some.is),
   on-ok c.add_bytes.result (c.outcome.ensures.added found) c.add_bytes.ensures.added,
+)
+
+pub add_bytes-requires-in-Some-read_sixteen : goal.add_bytes-requires-in-Some-read_sixteen
+add_bytes-requires-in-Some-read_sixteen c = record {
+  takes = c.requires.takes (Bytes c.in-Some-read_sixteen.sixteen) (ap (option_map Bytes) (sym c.read_sixteen.ensures ∙ c.in-Some-read_sixteen.is));
+}
+
+pub returns-in-Some-read_sixteen-clause-added : goal.returns-in-Some-read_sixteen-clause-added
+returns-in-Some-read_sixteen-clause-added c found = (
+  Bytes c.in-Some-read_sixteen.sixteen,
+  ap (option_map Bytes) (sym c.read_sixteen.ensures ∙ c.in-Some-read_sixteen.is),
+  on-ok c.add_bytes-in-Some-read_sixteen.result (c.outcome-in-Some-read_sixteen.ensures.added found) c.add_bytes-in-Some-read_sixteen.ensures.added,
 )

@@ -13,7 +13,7 @@ use Rattle.raw_array.specs.Members.{ArrayTree, Cost}
 use Rattle.unit_pass.specs.Tally.{risen}
 use Rattle.csv_source.specs.NextChunks.{IsNextChunk}
 use Rattle.csv_source.proofs.Chunks.{chunk-same, next-chunk, next-short}
-use Rattle.csv_chunks.proofs.PlainKinds.{plain-columns}
+use Rattle.csv_source.proofs.PlainKinds.{plain-columns}
 use Rattle.csv_source.proofs.next_chunk.next_chunk.Goals as goal
 
 pub returns-in-Ok : goal.returns-in-Ok
@@ -32,7 +32,7 @@ returns-in-Ok g c =
     let held = subst (λ (cs : List Column). HoldRows read.builders cs found.rows) (sym same) found.held in
     let is : chunk ≡ chunk_of columns found.rows =
     c.in-Ok.ensures.chunk found.rows held (omega (arith, ints, count)) ∙ ap (λ (cs : List Column). chunk_of cs found.rows) same in
-    let fit = c.held_rows_fit.ensures.fit read.builders columns found.rows found.held in
+    let fit = c.batch_rows_fit.ensures.fit read.builders columns found.rows found.held in
     let cost = subst (λ (cs : List ColumnType). Cost chunk ≤ 1 + 4 * length cs) c.next.ensures.columns c.in-Ok.ensures.cost in
     let blocks = c.in-Ok.ensures.blocks found.rows held ∙ ap (λ (cs : List Column). risen before.blocks (chunk_blocks cs found.rows)) same in
     let nodes = c.in-Ok.ensures.nodes ∙ ap (λ (cs : List ColumnType). risen before.nodes (1 + length cs)) c.next.ensures.columns in

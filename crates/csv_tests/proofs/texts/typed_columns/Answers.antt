@@ -1,9 +1,9 @@
 use Rattle.std.proofs.Common.{◌≡◌, Result, Ok, map, subst, sym}
 use Rattle.data_types.specs.ColumnView.{column_of}
-use Rattle.kind_tree.specs.Kinds.{KindTree}
+use Rattle.data_types.specs.KindTrees.{KindTree}
 use Rattle.schema_check.specs.SchemaAnswers.{FirstFault}
 use Rattle.schema_check.specs.Schemas.{TypedOf}
-use Rattle.kind_tree.specs.ColumnKinds.{type_of_columns}
+use Rattle.data_types.specs.ColumnKinds.{type_of_columns}
 use Rattle.csv_tests.proofs.texts.typed_columns.Goals as goal
 
 same-kinds : (a b : KindTree) → ◌≡◌ {A = Result KindTree FirstFault} (Ok a) (Ok b) → b ≡ a

@@ -2,8 +2,8 @@ use Rattle.std.proofs.Common.{◌∙◌, ap, sym, subst, length, arith, List, If
 use Rattle.data_types.specs.Parts.{column_values}
 use Rattle.data_types.specs.Value.{Value}
 use Rattle.tree_model.specs.Tree.{children_of}
-use Rattle.kind_tree.specs.Kinds.{KindTree}
-use Rattle.kind_tree.specs.TypedView.{typed_of}
+use Rattle.data_types.specs.KindTrees.{KindTree}
+use Rattle.data_types.specs.TypedView.{typed_of}
 use Rattle.layout_rules.specs.Values.{rows_of}
 use Rattle.layout_rules.specs.Walk.{LayoutOk}
 use Rattle.arr_import.specs.Cols.{window_of}

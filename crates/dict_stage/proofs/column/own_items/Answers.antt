@@ -1,31 +1,36 @@
-use Rattle.std.proofs.Common.{◌∙◌, ◌++◌, ◌∷◌, [], take, sym, ap, subst, arith}
-use Rattle.col_build.specs.Holding.{Holds}
+use Rattle.std.proofs.Common.{◌∙◌, ◌++◌, ◌∷◌, [], take, refl, sym, ap, subst, arith}
+use Rattle.col_build.specs.Holding.{Holds, Takes}
+use Rattle.data_types.specs.Storage.{storage_of}
 use Rattle.data_types.specs.Value.{Value}
 use Rattle.data_types.specs.declared.kind.DataType.{DataType}
 use Rattle.arr_import.specs.Cols.{window_of}
-use Rattle.arr_import.specs.Window.{items_of}
-use Rattle.column_fill.specs.Takes.{Takes}
+use Rattle.arr_import.specs.Window.{item_at, items_of}
+use Rattle.dict_stage.specs.Texts.{IsText}
+use Rattle.column_fill.proofs.ItemsMoved.{taken}
 use Rattle.dict_stage.proofs.Codes.{all-taken, item-text, one-more, takes-item}
 use Rattle.dict_stage.proofs.column.own_items.Goals as goal
 
 pub loop-i-init : goal.loop-i-init
-loop-i-init c = subst (λ (k : DataType). Holds c.new-builder.result k []) c.in_ok-clone_kind.ensures.same c.new-builder.ensures
+loop-i-init c = subst (λ (k : DataType). Holds c.in_ok-builder.builder k []) c.in_ok-clone_kind.ensures.same c.in_ok-builder.ensures
 
 pub item_of-requires-clause-text : goal.item_of-requires-clause-text
 item_of-requires-clause-text c = item-text c.args.kind.now (window_of c.args.items.now) c.loop-i.i c.requires (omega arith)
 
-pub push-requires : goal.push-requires
-push-requires c =
-    subst (Takes c.loop-i.builder c.storage_of-storage.result) (sym c.item_of.ensures)
-    (takes-item c.args.kind.now (window_of c.args.items.now) c.loop-i.i c.loop-i.builder c.storage_of-storage.result c.requires (omega arith)
-    c.loop-i.invariant c.storage_of-storage.ensures)
+pub add_item-requires-clause-text : goal.add_item-requires-clause-text
+add_item-requires-clause-text c = subst IsText (sym c.item_of.ensures) (item-text c.args.kind.now (window_of c.args.items.now) c.loop-i.i c.requires (omega arith))
+
+pub add_item-requires-clause-takes : goal.add_item-requires-clause-takes
+add_item-requires-clause-takes c =
+    subst (Takes c.loop-i.builder) (sym c.item_of.ensures)
+    (taken c.loop-i.builder (storage_of c.args.kind.now) (item_at (window_of c.args.items.now) c.loop-i.i)
+    (takes-item c.args.kind.now (window_of c.args.items.now) c.loop-i.i c.loop-i.builder (storage_of c.args.kind.now) c.requires (omega arith) c.loop-i.invariant refl))
 
 pub loop-i-preserved : goal.loop-i-preserved
 loop-i-preserved c =
     let w = window_of c.args.items.now in
-    subst (Holds c.push.new.builder c.args.kind.now)
+    subst (Holds c.add_item.new.builder c.args.kind.now)
     (ap (λ (v : Value). take c.loop-i.i (items_of w) ++ v ∷ []) c.item_of.ensures ∙ sym (one-more w c.loop-i.i (omega arith)))
-    (c.in_ok-push.ensures.added c.args.kind.now _ c.loop-i.invariant)
+    (c.in_ok-add_item.ensures c.args.kind.now _ c.loop-i.invariant)
 
 pub returns : goal.returns
 returns c =

@@ -2,9 +2,9 @@ use Rattle.std.proofs.Common.{◌<◌, ℕ, length, arith}
 use Rattle.std.proofs.lemmas.List.{length-map}
 use Rattle.tree_model.specs.Tree.{children_of}
 use Rattle.raw_array.specs.Members.{ArrayTree}
-use Rattle.kind_tree.specs.ColumnKinds.{type_of_column, types_of_columns}
-use Rattle.work_parts.specs.Children.{ShowsChildren}
-use Rattle.work_parts.proofs.StructChildren.{StructLaws, shown}
+use Rattle.data_types.specs.ColumnKinds.{type_of_column, types_of_columns}
+use Rattle.stages.specs.Children.{ShowsChildren}
+use Rattle.stages.proofs.StructChildren.{StructLaws, shown}
 use Rattle.dict_stage.specs.Recoded.{HasPlace}
 use Rattle.dict_stage.proofs.ReplacedChildren.{as-many, columns-replaced, few-rows, placed}
 use Rattle.dict_stage.proofs.replaced.columns_can_be_replaced.Goals as goal

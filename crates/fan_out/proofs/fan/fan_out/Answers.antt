@@ -13,11 +13,11 @@ returns-then-workers-eq1 g c =
       lowered = always_on_ok c.in_turn.result _
           (λ enough. elim c.then-workers-eq1.branch [
             | then-workers-eq1-via-then-workers-eq1 w ↦
-                let one : c.args.workers ≡ 1 = search (rules, w) in
-                let none : c.args.workers - 1 ≡ 0 = omega (arith, one) in
+                let one : c.args.workers.count ≡ 1 = search (rules, w) in
+                let none : c.args.workers.count - 1 ≡ 0 = omega (arith, one) in
                 sym (ap (λ (n : ℕ). LoweredBy n c.args.chunk.now) none ∙ c.shares_add_up.ensures.none c.args.chunk.now)
             | then-workers-eq1-via-else-workers-eq1+then-least_amount-from w ↦
-                let less : LeastAmount c.args.chunk.now + 1 ≤ c.args.workers = search (rules, w) in
+                let less : LeastAmount c.args.chunk.now + 1 ≤ c.args.workers.count = search (rules, w) in
                 absurd (omega (arith, less, enough))
           ]);
       answers = grind (arith, common_steps);
@@ -33,7 +33,7 @@ returns-then-workers-eq1 g c =
 
 pub in_threads-requires-clause-cost : goal.in_threads-requires-clause-cost
 in_threads-requires-clause-cost g c κs within =
-    let once : 1 * Cost c.args.chunk.now ≤ c.args.workers * Cost c.args.chunk.now = mul-le-mul_right (Cost c.args.chunk.now) c.requires.workers.0 in
+    let once : 1 * Cost c.args.chunk.now ≤ c.args.workers.count * Cost c.args.chunk.now = mul-le-mul_right (Cost c.args.chunk.now) c.args.workers.some in
     let units = c.requires.units in
     let most = c.units-supply.ensures.bounded in
     let is = c.cost-cost.ensures in

@@ -1,5 +1,5 @@
 use Rattle.std.proofs.Common.{length}
-use Rattle.kind_tree.specs.TypedView.{typed_of}
+use Rattle.data_types.specs.TypedView.{typed_of}
 use Rattle.layout_rules.specs.Values.{rows_of}
 use Rattle.fan_out.specs.Pieces.{GivesPiece}
 use Rattle.fan_out.proofs.Lists.{pushed}
@@ -10,6 +10,6 @@ pub loop-worker-preserved : goal.loop-worker-preserved
 loop-worker-preserved g c =
     let typed = typed_of c.args.typed.now in
     let rows = rows_of typed c.args.chunk.now in
-    given_more (GivesPiece (g.J.Job.gives c.args.job.now typed rows) (length rows) c.args.workers) c.loop-worker.worker c.loop-worker.outs.items
+    given_more (GivesPiece (g.J.Job.gives c.args.job.now typed rows) (length rows) c.args.workers.count) c.loop-worker.worker c.loop-worker.outs.items
     c.push.new.self.items c.in_ok-out.out c.loop-worker.invariant
     (pushed _ _ _ _ _ c.push.ensures.items c.is_err.ensures.negation c.if-is_err.false) c.in_ok-out.ensures

@@ -1,7 +1,7 @@
 use Rattle.std.proofs.Common.{◌≡◌, ℕ, ◌+◌, ◌-◌, ◌*◌, ◌<◌, ◌≤◌, arith, vec_len, ap, sym, subst, refl, ◌∙◌}
 use Rattle.std.proofs.Math.Nat.{mul-le-mul_right}
 use Rattle.raw_array.specs.Members.{LeastAmount, Lowered, LoweredBy}
-use Rattle.kind_tree.specs.TypedView.{typed_of}
+use Rattle.data_types.specs.TypedView.{typed_of}
 use Rattle.layout_rules.specs.Values.{rows_of}
 use Rattle.fan_out.proofs.Lists.{last_is, one_more}
 use Rattle.fan_out.proofs.Ready.{chunk_again, none_ready, ready_push, unspent}
@@ -48,7 +48,7 @@ loop-worker-init g c =
       refl,
       refl,
       none_ready _ _ _ _ c.in-Ok.ensures.items,
-      subst (λ (n : ℕ). n < c.args.workers) (sym empty) c.requires.workers.0,
+      subst (λ (n : ℕ). n < c.args.workers.count) (sym empty) c.args.workers.some,
     )
 
 pub shared_chunk-requires-clause-amounts : goal.shared_chunk-requires-clause-amounts
@@ -120,7 +120,7 @@ loop-worker-preserved g c =
     let drawn = ap (λ (n : ℕ). n + c.args.cost) c.ready.ensures.kept.0 ∙ ap (λ (n : ℕ). c.shared_chunk.new.pass.units + n) (sym cost)
     ∙ c.in-Ok-shared_chunk.ensures.units in (
       ap (λ (n : ℕ). n + 1) (len ∙ i.0),
-      subst (λ (n : ℕ). c.args.workers ≤ n) (sym c.push_reserved.ensures.capacity) i.1,
+      subst (λ (n : ℕ). c.args.workers.count ≤ n) (sym c.push_reserved.ensures.capacity) i.1,
       c.in-Ok-shared_chunk.ensures.lowered ∙ ap Lowered i.2 ∙ c.shares_add_up.ensures.one_more made c.args.chunk.now
           ∙ ap (λ (n : ℕ). LoweredBy n c.args.chunk.now) (sym len),
       chunk_again typed rows c.args.cost c.loop-worker.chunk c.shared_chunk.new.chunk i.3 c.shared_chunk.ensures.kept,
@@ -132,7 +132,7 @@ loop-worker-preserved g c =
           c.push_reserved.ensures.items c.ready.ensures.tree
           (chunk_again typed rows c.args.cost c.loop-worker.chunk c.in-Ok-shared_chunk.share i.3 c.in-Ok-shared_chunk.ensures.share)
           c.ready.ensures.pass i.8,
-      subst (λ (n : ℕ). n < c.args.workers) (sym (len ∙ i.0)) c.loop-worker-test.true,
+      subst (λ (n : ℕ). n < c.args.workers.count) (sym (len ∙ i.0)) c.loop-worker-test.true,
     )
 
 pub returns-clause-ready : goal.returns-clause-ready
@@ -151,7 +151,7 @@ pub returns-clause-last : goal.returns-clause-last
 returns-clause-last g c d =
     let i = c.loop-worker.invariant in
     let made = all_made _ _ _ i.0 c.loop-worker-test.false i.9 in
-    ap (λ p. p.tree) (last_is c.loop-worker.pieces.items c.push_reserved-2.new.self.items c.ready-2.result (c.args.workers - 1)
+    ap (λ p. p.tree) (last_is c.loop-worker.pieces.items c.push_reserved-2.new.self.items c.ready-2.result (c.args.workers.count - 1)
     c.push_reserved-2.ensures.items (sym made ∙ c.loop-worker.pieces.ok.0) d)
     ∙ c.ready-2.ensures.tree ∙ c.move_out.ensures.moved ∙ i.2 ∙ ap (λ (n : ℕ). LoweredBy n c.args.chunk.now) made
 
@@ -162,7 +162,7 @@ pub returns-clause-drawn : goal.returns-clause-drawn
 returns-clause-drawn g c =
     let i = c.loop-worker.invariant in
     let made = all_made _ _ _ i.0 c.loop-worker-test.false i.9 in
-    ap (λ (n : ℕ). n + (c.args.workers - 1) * c.args.cost) c.ready-2.ensures.kept.0
+    ap (λ (n : ℕ). n + (c.args.workers.count - 1) * c.args.cost) c.ready-2.ensures.kept.0
     ∙ ap (λ (n : ℕ). c.loop-worker.pass.units + n * c.args.cost) (sym made) ∙ i.5
 
 pub returns-clause-blocks : goal.returns-clause-blocks

@@ -1,6 +1,6 @@
 use Rattle.std.proofs.Common.{◌≡◌, ◌+◌, ◌*◌, ◌<◌, ◌≤◌, All, vec_len, vec_capacity}
 use Rattle.raw_array.specs.Members.{Like, LoweredBy}
-use Rattle.kind_tree.specs.TypedView.{typed_of}
+use Rattle.data_types.specs.TypedView.{typed_of}
 use Rattle.layout_rules.specs.Values.{rows_of}
 use Rattle.fan_out.specs.Pieces.{IsChunk}
 use Rattle.fan_out.specs.Workers.{IsReady}
@@ -11,7 +11,7 @@ invariant-loop-worker g l =
     let typed = typed_of l.initial.typed in
     let rows = rows_of typed l.initial.chunk in
     (vec_len l.pieces + 1 ≡ l._worker)
-    × (l.workers ≤ vec_capacity l.pieces)
+    × (l.count ≤ vec_capacity l.pieces)
     × (l.chunk ≡ LoweredBy (vec_len l.pieces) l.initial.chunk)
     × IsChunk typed rows l.initial.cost l.chunk
     × Like l.initial.chunk l.chunk
@@ -19,4 +19,4 @@ invariant-loop-worker g l =
     × (l.pass.blocks ≡ l.initial.pass.blocks)
     × (l.pass.nodes ≡ l.initial.pass.nodes)
     × All (λ p. IsReady typed rows l.initial.cost p) l.pieces.items
-    × (vec_len l.pieces < l.workers)
+    × (vec_len l.pieces < l.count)

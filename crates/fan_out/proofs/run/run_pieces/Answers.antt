@@ -1,7 +1,8 @@
 use Rattle.std.proofs.Common.{◌≡◌, List, ◌-◌, ◌≤◌, ℕ, length, get_or, ap, ◌∙◌, subst, sym, All}
 use Rattle.std.specs.List.{AllWithin}
 use Rattle.std.specs.Prelude.{IfOk}
-use Rattle.kind_tree.specs.TypedView.{typed_of}
+use Rattle.data_types.specs.TypedView.{typed_of}
+use Rattle.fan_out.specs.Counts.{most_workers}
 use Rattle.fan_out.specs.Pieces.{GivesPieces}
 use Rattle.fan_out.specs.Workers.{CanRun, IsReady, IsReleased, IsUnspent}
 use Rattle.fan_out.specs.declared.piece.Piece.{Piece}
@@ -10,7 +11,7 @@ use Rattle.fan_out.proofs.run.run_pieces.Goals as goal
 
 pub run_and_collect-answers-requires-clause-workers : goal.run_and_collect-answers-requires-clause-workers
 run_and_collect-answers-requires-clause-workers g c κs within =
-    subst (λ (n : ℕ). (1 ≤ n) × (n ≤ 64)) (sym c.as_mut_slice.ensures.len) c.requires.workers
+    subst (λ (n : ℕ). (1 ≤ n) × (n ≤ most_workers)) (sym c.as_mut_slice.ensures.len) c.requires.workers
 
 pub run_and_collect-answers-requires-clause-types : goal.run_and_collect-answers-requires-clause-types
 run_and_collect-answers-requires-clause-types g c κs within = c.requires.types

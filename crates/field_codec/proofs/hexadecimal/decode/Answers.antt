@@ -11,7 +11,7 @@ returns-in-None-clause-none c =
     let p = c.loop-place.place in
     let sixteen : 16 * p + 16 - 16 * p ≡ 16 = omega arith in
     eights_other text p (omega (arith, c.loop-place-test.true))
-    (ap (λ (k : ℕ). hex_bytes (take k (drop (16 * p) text))) (sym sixteen) ∙ sym c.read_eight.ensures ∙ c.in-None.is)
+    (ap (λ (k : ℕ). hex_bytes (take k (drop (16 * p) text))) (sym sixteen) ∙ sym c.read_eight_bytes.ensures ∙ c.in-None.is)
 
 pub loop-place-preserved : goal.loop-place-preserved
 loop-place-preserved c =
@@ -20,7 +20,7 @@ loop-place-preserved c =
     let sixteen : 16 * p + 16 - 16 * p ≡ 16 = omega arith in
     eights_more text c.loop-place.room c.put_eight.new.room c.in-Some.eight p (length c.args.room.now) c.loop-place.invariant
     (omega (arith, c.loop-place-test.true))
-    (ap (λ (k : ℕ). hex_bytes (take k (drop (16 * p) text))) (sym sixteen) ∙ sym c.read_eight.ensures ∙ c.in-Some.is)
+    (ap (λ (k : ℕ). hex_bytes (take k (drop (16 * p) text))) (sym sixteen) ∙ sym c.read_eight_bytes.ensures ∙ c.in-Some.is)
     c.put_eight.ensures.len c.put_eight.ensures.put
 
 pub returns-clause-found : goal.returns-clause-found

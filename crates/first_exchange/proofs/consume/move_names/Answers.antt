@@ -1,6 +1,6 @@
 use Rattle.std.proofs.Common.{◌≡◌, ◌<◌, length, subst, arith}
 use Rattle.tree_model.specs.Tree.{Released, IsLive, child_at, children_of}
-use Rattle.kind_tree.specs.TypedView.{typed_of}
+use Rattle.data_types.specs.TypedView.{typed_of}
 use Rattle.first_exchange.proofs.Tables.{child-live, live}
 use Rattle.first_exchange.proofs.consume.move_names.Goals as goal
 
@@ -15,5 +15,5 @@ unreachable-requires g c =
     let typed = typed_of c.args.typed.now in
     let small : 1 < length (children_of typed) = omega (arith, c.requires.of_two.two) in
     let alive = child-live typed c.args.table 1 c.requires.types.1 c.requires.lawful small c.lawful_trees.ensures.root c.lawful_trees.ensures.parts in
-    let gone : child_at c.args.table 1 ≡ Released = rw c.begin-parent.ensures at c.in-Err.ensures.gone in
+    let gone : child_at c.args.table 1 ≡ Released = rw c.begin-parent.ensures at c.in-Err.ensures.released in
     subst IsLive gone alive

@@ -1,7 +1,7 @@
 use Rattle.std.proofs.Common.{◌≤◌, ◌+◌, ◌*◌, ◌-◌, ◌<◌, ◌^◌, ◌∙◌, ℕ, Fits, w64, subst, sym, true≢false, arith}
 use Rattle.std.specs.Str.{IsCharBoundary}
 use Rattle.std.proofs.Math.Nat.{mul-le-mul_right}
-use Rattle.bit_pack.specs.Packed.{offset_width}
+use Rattle.data_types.specs.Packed.{offset_width}
 use Rattle.layout_rules.specs.Layout.{natural}
 use Rattle.layout_check.specs.Scans.{AreBorders}
 use Rattle.layout_check.proofs.Casts.{same}

@@ -1,6 +1,6 @@
 use Rattle.std.proofs.Common.{◌≤◌, ◌<◌, ◌+◌, ◌*◌, ◌^◌, pos, length, subst, sym, ◌∙◌, true≢false, ap}
 use Rattle.std.specs.Prelude.{IsUtf8, ◌≤ℤ◌}
-use Rattle.bit_pack.specs.Packed.{offset_width}
+use Rattle.data_types.specs.Packed.{offset_width}
 use Rattle.raw_array.specs.Members.{members_of}
 use Rattle.layout_rules.specs.Layout.{bytes, first, end, items, natural, offset}
 use Rattle.layout_check.specs.Scans.{AreBorders}

@@ -1,6 +1,6 @@
 use Rattle.std.proofs.Common.{◌≤◌, ◌+◌, ◌*◌, pos, length, ap, subst, sym, ◌∙◌}
 use Rattle.std.specs.Prelude.{◌≤ℤ◌}
-use Rattle.bit_pack.specs.Packed.{offset_width}
+use Rattle.data_types.specs.Packed.{offset_width}
 use Rattle.raw_array.specs.Members.{members_of}
 use Rattle.layout_rules.specs.Layout.{first, end, bytes, offset, data_between}
 use Rattle.layout_check.proofs.Readable.{need_some, end_some, window}

@@ -3,7 +3,7 @@ use Rattle.raw_array.specs.Members.{members_of}
 use Rattle.layout_rules.specs.Views.{view_length, view_prefix, view_data, is_long}
 use Rattle.layout_rules.specs.Rules.{fault_if}
 use Rattle.layout_check.proofs.Casts.{is_longer-gt}
-use Rattle.bit_pack.specs.Packed.{number_at}
+use Rattle.data_types.specs.Packed.{number_at}
 use Rattle.layout_check.proofs.views.prefix_wrong.Goals as goal
 
 four_within : (n : ℕ) (y : ℤ) → is_long y ≡ true → pos n ≡ y → 0 + 4 ≤ n

@@ -1,7 +1,7 @@
 use Rattle.std.proofs.Common.{ℕ, ◌<◌, length, get_or}
 use Rattle.tree_model.specs.Tree.{Released, child_at}
-use Rattle.kind_tree.specs.declared.typed.Typed.{out-Typed}
-use Rattle.kind_tree.specs.TypedView.{kids_of}
+use Rattle.data_types.specs.declared.typed.Typed.{out-Typed}
+use Rattle.data_types.specs.TypedView.{kids_of}
 use Rattle.layout_rules.proofs.Roots.{level_of, lawful-level}
 use Rattle.layout_rules.proofs.ReadWithin.{child-lawful, dictionary-lawful, kid-typed, few-of}
 use Rattle.layout_rules.proofs.laws.lawful_parts.Goals as goal

@@ -1,7 +1,7 @@
 use Rattle.std.proofs.Common.{rules, ◌∙◌, ◌≤◌, ◌<◌, ◌++◌, List, ◌∷◌, [], length, map, ap, sym, arith}
 use Rattle.std.proofs.lemmas.List.{take_all}
 use Rattle.arr_export.specs.ValueColumns.{tree_of}
-use Rattle.kind_tree.specs.TypedView.{typed_of}
+use Rattle.data_types.specs.TypedView.{typed_of}
 use Rattle.layout_rules.specs.Values.{rows_of}
 use Rattle.raw_array.specs.Members.{ArrayTree, cost_of_all}
 use Rattle.tree_model.specs.Tree.{trees}

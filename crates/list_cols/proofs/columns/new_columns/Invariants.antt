@@ -1,7 +1,7 @@
 use Rattle.std.proofs.Common.{◌≡◌, ◌+◌, ◌*◌, ◌≤◌, map, take, vec_len}
 use Rattle.std.specs.Vec.{vec_capacity}
 use Rattle.arr_export.specs.ValueColumns.{tree_of}
-use Rattle.kind_tree.specs.TypedView.{typed_of}
+use Rattle.data_types.specs.TypedView.{typed_of}
 use Rattle.raw_array.specs.Members.{cost_of_all}
 use Rattle.tree_model.specs.Tree.{trees}
 use Rattle.unit_pass.specs.Tally.{risen}

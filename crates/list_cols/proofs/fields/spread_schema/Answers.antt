@@ -3,7 +3,7 @@ use Rattle.std.specs.Prelude.{IfOk, MatchResult}
 use Rattle.tree_model.specs.Tree.{child_at, children_of, depth_of_all, trees}
 use Rattle.arr_move.specs.TreeActs.{with_children}
 use Rattle.raw_schema.specs.Members.{Nodes, SchemaTree, nodes_of_all}
-use Rattle.field_move.specs.Fields.{fields_over}
+use Rattle.arr_move.specs.Fields.{fields_over}
 use Rattle.list_cols.specs.Fields.{item_field}
 use Rattle.list_cols.proofs.OneField.{one-nodes, one-put, one-shallow}
 use Rattle.list_cols.proofs.fields.spread_schema.Goals as goal

@@ -1,5 +1,5 @@
 use Rattle.std.proofs.Common.{length, ap, arith}
-use Rattle.kind_tree.specs.declared.typed.Typed.{out-Typed}
+use Rattle.data_types.specs.declared.typed.Typed.{out-Typed}
 use Rattle.list_cols.proofs.Kids.{kids-are, many-kids}
 use Rattle.list_cols.proofs.kinds.child_count.Goals as goal
 

@@ -1,8 +1,8 @@
 use Rattle.std.proofs.Common.{◌∙◌, ◌<◌, List, length, get_or, ap, sym, arith}
 use Rattle.tree_model.specs.Tree.{Released}
-use Rattle.kind_tree.specs.Kinds.{KindTree}
-use Rattle.kind_tree.specs.TypedView.{kids_of}
-use Rattle.kind_tree.specs.declared.typed.Typed.{out-Typed}
+use Rattle.data_types.specs.KindTrees.{KindTree}
+use Rattle.data_types.specs.TypedView.{kids_of}
+use Rattle.data_types.specs.declared.typed.Typed.{out-Typed}
 use Rattle.list_cols.proofs.Kids.{kid-is, kid-ok, kids-are, many-kids}
 use Rattle.list_cols.proofs.kinds.child_kinds.Goals as goal
 

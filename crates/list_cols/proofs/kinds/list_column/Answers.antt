@@ -2,8 +2,8 @@ use Rattle.std.proofs.Common.{◌≡◌, ◌∙◌, ◌+◌, ℕ, get_or, ap, sy
 use Rattle.arr_import.specs.Cols.{window_of}
 use Rattle.arr_import.specs.Window.{Window, item_at, whole}
 use Rattle.data_types.specs.Value.{Null}
-use Rattle.kind_tree.specs.Kinds.{KindTree}
-use Rattle.kind_tree.specs.TypedView.{typed_of}
+use Rattle.data_types.specs.KindTrees.{KindTree}
+use Rattle.data_types.specs.TypedView.{typed_of}
 use Rattle.layout_rules.specs.Values.{row_items}
 use Rattle.raw_array.specs.Members.{ArrayTree}
 use Rattle.list_cols.specs.Spreading.{list_at}

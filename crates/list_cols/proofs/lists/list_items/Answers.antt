@@ -8,7 +8,7 @@ use Rattle.arr_import.specs.Cols.{window_of}
 use Rattle.arr_import.specs.Window.{Window, item_at}
 use Rattle.col_build.specs.Encoding.{Fits}
 use Rattle.col_build.specs.Holding.{Holds}
-use Rattle.column_gather.proofs.Taken.{run-split}
+use Rattle.column_fill.proofs.Taken.{run-split}
 use Rattle.data_types.specs.Value.{Value, Null}
 use Rattle.data_types.specs.declared.kind.DataType.{DataType}
 use Rattle.layout_rules.specs.Values.{each}

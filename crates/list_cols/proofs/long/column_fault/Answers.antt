@@ -1,7 +1,7 @@
 use Rattle.std.proofs.Common.{get_or, sym, subst}
 use Rattle.std.specs.Prelude.{IfNone, IfSome}
 use Rattle.data_types.specs.declared.kind.DataType.TheVariants as kinds
-use Rattle.kind_tree.specs.TypedView.{typed_of}
+use Rattle.data_types.specs.TypedView.{typed_of}
 use Rattle.list_cols.specs.Exploded.{exploded_kinds}
 use Rattle.list_cols.specs.Reaching.{IsLong}
 use Rattle.list_cols.specs.Spreading.{FitsAt, spread_values}

@@ -2,17 +2,17 @@ use Rattle.std.proofs.Common.{◌≡◌, ◌∙◌, ◌<◌, All, List, replicat
 use Rattle.std.specs.List.{flat_map}
 use Rattle.arr_import.specs.Cols.{window_of}
 use Rattle.arr_import.specs.Window.{Window, item_at}
-use Rattle.column_gather.specs.Gathered.{values_of_runs}
-use Rattle.column_gather.specs.declared.runs.Run.{Run}
+use Rattle.column_fill.specs.Gathered.{values_of_runs}
+use Rattle.column_fill.specs.declared.runs.Run.{Run}
 use Rattle.data_types.specs.Value.{Value}
-use Rattle.kind_tree.specs.Kinds.{KindTree, kind_in}
-use Rattle.kind_tree.specs.TypedView.{typed_of}
+use Rattle.data_types.specs.KindTrees.{KindTree, kind_in}
+use Rattle.data_types.specs.TypedView.{typed_of}
 use Rattle.layout_rules.specs.Values.{tree_items}
 use Rattle.layout_rules.specs.Walk.{LayoutOk}
-use Rattle.lawful_values.specs.Items.{IsItemOf}
+use Rattle.array_laws.specs.Items.{IsItemOf}
 use Rattle.raw_array.specs.Members.{ArrayTree}
 use Rattle.tree_model.specs.Tree.{child_at}
-use Rattle.list_cols.specs.Faults.{is_flat_column}
+use Rattle.column_fill.specs.FlatColumns.{is_flat_column}
 use Rattle.list_cols.specs.Spreading.{chunk_runs}
 use Rattle.list_cols.proofs.ChunkItems.{flat-live, items-of-runs, other-items, runs-inside}
 use Rattle.list_cols.proofs.Chunks.{chunk-is, other-kind, other-values}

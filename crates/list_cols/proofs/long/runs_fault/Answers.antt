@@ -2,7 +2,7 @@ use Rattle.std.proofs.Common.{List, replicate, sym}
 use Rattle.std.specs.List.{flat_map}
 use Rattle.arr_import.specs.Cols.{window_of}
 use Rattle.arr_import.specs.Window.{item_at}
-use Rattle.column_gather.specs.declared.runs.Run.{Run}
+use Rattle.column_fill.specs.declared.runs.Run.{Run}
 use Rattle.data_types.specs.Value.{Value, byte_total}
 use Rattle.list_cols.proofs.Fitting.{held-between, held-without}
 use Rattle.list_cols.proofs.long.runs_fault.Goals as goal

@@ -2,13 +2,13 @@ use Rattle.std.proofs.Common.{◌≡◌, ◌∙◌, ℕ, IfOk, OnOk, None, map, 
 use Rattle.std.specs.Prelude.{Result, Ok, Err}
 use Rattle.tree_model.specs.Tree.{children_of}
 use Rattle.raw_array.specs.Members.{ArrayTree}
-use Rattle.kind_tree.specs.Kinds.{kind_in}
-use Rattle.kind_tree.specs.TypedView.{kind_of, typed_of}
+use Rattle.data_types.specs.KindTrees.{kind_in}
+use Rattle.data_types.specs.TypedView.{kind_of, typed_of}
 use Rattle.layout_rules.specs.Values.{rows_of}
 use Rattle.arr_export.specs.ArrayTrees.{column_tree}
-use Rattle.column_gather.specs.Gathered.{CanGather, values_at}
+use Rattle.column_fill.specs.Gathered.{CanGather, values_at}
 use Rattle.data_types.specs.Table.{Flat}
-use Rattle.kind_tree.specs.ColumnKinds.{type_of_kind}
+use Rattle.data_types.specs.ColumnKinds.{type_of_kind}
 use Rattle.list_cols.specs.ListTrees.{list_tree}
 use Rattle.list_cols.specs.NestedGroups.{AreFirsts, HasItems, grouped_lists, row_keys}
 use Rattle.list_cols.specs.NestedTables.{FitColumn, nested_column}

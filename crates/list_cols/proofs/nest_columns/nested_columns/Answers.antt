@@ -1,8 +1,8 @@
 use Rattle.std.proofs.Common.{◌≡◌, ◌∙◌, ◌+◌, ◌++◌, [], ◌∷◌, map, ap, sym, arith}
 use Rattle.tree_model.specs.Tree.{children_of, trees}
 use Rattle.raw_array.specs.Members.{cost_of_all}
-use Rattle.kind_tree.specs.Kinds.{kind_in}
-use Rattle.kind_tree.specs.TypedView.{typed_of}
+use Rattle.data_types.specs.KindTrees.{kind_in}
+use Rattle.data_types.specs.TypedView.{typed_of}
 use Rattle.layout_rules.specs.Values.{each, rows_of}
 use Rattle.arr_move.proofs.MovedChildren.{cost-push}
 use Rattle.list_cols.specs.NestedTables.{FitColumn, nested_column}

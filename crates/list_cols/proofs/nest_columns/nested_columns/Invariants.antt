@@ -1,8 +1,8 @@
 use Rattle.std.proofs.Common.{◌≡◌, ◌≤◌, ◌<◌, ◌+◌, ◌*◌, ℕ, length, map, vec_len, vec_capacity}
 use Rattle.tree_model.specs.Tree.{children_of, trees}
 use Rattle.raw_array.specs.Members.{cost_of_all}
-use Rattle.kind_tree.specs.Kinds.{kind_in}
-use Rattle.kind_tree.specs.TypedView.{kids_of, typed_of}
+use Rattle.data_types.specs.KindTrees.{kind_in}
+use Rattle.data_types.specs.TypedView.{kids_of, typed_of}
 use Rattle.layout_rules.specs.Values.{each, rows_of}
 use Rattle.list_cols.specs.NestedTables.{FitColumn, nested_column}
 use Rattle.list_cols.proofs.nest_columns.nested_columns.Given as goal

@@ -1,10 +1,10 @@
 use Rattle.std.proofs.Common.{◌∙◌, None, ap, arith}
 use Rattle.data_types.specs.Table.{Flat}
 use Rattle.raw_array.specs.Members.{Cost}
-use Rattle.kind_tree.specs.ColumnKinds.{type_of_kind}
-use Rattle.kind_tree.specs.TypedView.{kind_of}
+use Rattle.data_types.specs.ColumnKinds.{type_of_kind}
+use Rattle.data_types.specs.TypedView.{kind_of}
 use Rattle.column_fill.proofs.ColumnCosts.{column-cost, few-blocks}
-use Rattle.column_gather.specs.Gathered.{values_at}
+use Rattle.column_fill.specs.Gathered.{values_at}
 use Rattle.list_cols.proofs.nest_lists.picked_column.Goals as goal
 
 pub built_column-requires-clause-holds : goal.built_column-requires-clause-holds

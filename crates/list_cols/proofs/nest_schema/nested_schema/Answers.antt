@@ -4,7 +4,7 @@ use Rattle.tree_model.specs.Tree.{children_of, depth_of_all, trees}
 use Rattle.arr_export.proofs.Each.{length-each}
 use Rattle.arr_move.specs.TreeActs.{with_children}
 use Rattle.raw_schema.specs.Members.{SchemaTree}
-use Rattle.field_move.specs.Fields.{fields_over}
+use Rattle.arr_move.specs.Fields.{fields_over}
 use Rattle.list_cols.specs.NestedFields.{new_field}
 use Rattle.list_cols.proofs.NestedPlaces.{fields-shallow, over-all}
 use Rattle.list_cols.proofs.nest_schema.nested_schema.Goals as goal

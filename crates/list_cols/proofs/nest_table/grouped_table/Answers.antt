@@ -3,8 +3,8 @@ use Rattle.std.proofs.lemmas.Int.{ints}
 use Rattle.std.proofs.lemmas.List.{length-map}
 use Rattle.std.specs.List.{All}
 use Rattle.tree_model.specs.Tree.{children_of}
-use Rattle.kind_tree.specs.Kinds.{kind_in}
-use Rattle.kind_tree.specs.TypedView.{kids_of, typed_of}
+use Rattle.data_types.specs.KindTrees.{kind_in}
+use Rattle.data_types.specs.TypedView.{kids_of, typed_of}
 use Rattle.layout_rules.specs.Layout.{natural}
 use Rattle.layout_rules.specs.Values.{each, rows_of}
 use Rattle.arr_export.specs.ArrayTrees.{IsColumn, table_tree}

@@ -1,6 +1,6 @@
 use Rattle.std.proofs.Common.{length, arith}
 use Rattle.tree_model.specs.Tree.{children_of}
-use Rattle.kind_tree.specs.TypedView.{typed_of}
+use Rattle.data_types.specs.TypedView.{typed_of}
 use Rattle.layout_rules.specs.Values.{rows_of}
 use Rattle.list_cols.proofs.NestedWhole.{many-rows, rows-short}
 use Rattle.list_cols.proofs.nest_table.nested_table.Goals as goal

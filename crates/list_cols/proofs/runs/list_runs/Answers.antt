@@ -1,7 +1,7 @@
 use Rattle.std.proofs.Common.{◌≡◌, ◌∙◌, ◌+◌, ◌++◌, ◌∷◌, [], ℕ, ap, sym, arith}
 use Rattle.arr_import.specs.Cols.{window_of}
 use Rattle.arr_import.specs.Window.{item_at}
-use Rattle.column_gather.specs.declared.runs.Run.{Run}
+use Rattle.column_fill.specs.declared.runs.Run.{Run}
 use Rattle.list_cols.specs.Listed.{list_runs, run_of}
 use Rattle.list_cols.proofs.ListItems.{each-next}
 use Rattle.list_cols.proofs.runs.list_runs.Goals as goal

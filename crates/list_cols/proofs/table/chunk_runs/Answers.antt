@@ -1,6 +1,6 @@
 use Rattle.std.proofs.Common.{◌≡◌, List, subst, arith}
 use Rattle.std.specs.Prelude.{IfOk}
-use Rattle.column_gather.specs.declared.runs.Run.{Run}
+use Rattle.column_fill.specs.declared.runs.Run.{Run}
 use Rattle.list_cols.specs.Listed.{list_runs}
 use Rattle.list_cols.proofs.table.chunk_runs.Goals as goal
 

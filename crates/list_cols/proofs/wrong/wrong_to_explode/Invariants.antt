@@ -1,5 +1,5 @@
 use Rattle.std.proofs.Common.{◌≡◌, drop}
-use Rattle.kind_tree.specs.TypedView.{kids_of}
+use Rattle.data_types.specs.TypedView.{kids_of}
 use Rattle.list_cols.specs.Faults.{explodes, first_wrong}
 use Rattle.list_cols.proofs.wrong.wrong_to_explode.Given as goal
 

@@ -1,8 +1,8 @@
 use Rattle.std.proofs.Common.{rules, ◌<◌, length, ap, sym, subst, arith}
 use Rattle.tree_model.specs.Tree.{Depth}
-use Rattle.kind_tree.specs.Kinds.{NodesOk}
-use Rattle.kind_tree.specs.TypedView.{typed_of}
-use Rattle.kind_tree.specs.declared.typed.Typed.{Typed}
+use Rattle.data_types.specs.KindTrees.{NodesOk}
+use Rattle.data_types.specs.TypedView.{typed_of}
+use Rattle.data_types.specs.declared.typed.Typed.{Typed}
 use Rattle.record_tap.proofs.TypedKids.{depth-kid, kid-ok}
 use Rattle.record_tap.proofs.kinds.+kinds.Goals as goal
 

@@ -1,6 +1,6 @@
 use Rattle.std.proofs.Common.{◌≡◌, map, drop}
 use Rattle.tree_model.specs.Tree.{children_of}
-use Rattle.kind_tree.specs.TypedView.{typed_of}
+use Rattle.data_types.specs.TypedView.{typed_of}
 use Rattle.root_check.specs.Children.{children_fault}
 use Rattle.root_check.proofs.children.check_children.Given as goal
 

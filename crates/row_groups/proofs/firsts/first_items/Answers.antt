@@ -2,15 +2,15 @@ use Rattle.std.proofs.Common.{◌≡◌, ◌∙◌, ◌+◌, ◌<◌, ◌≤◌,
 use Rattle.std.proofs.lemmas.Bool.Decides.{nat_tests}
 use Rattle.std.specs.Prelude.{IfErr, if◌then◌else◌, ◌==◌}
 use Rattle.data_types.specs.Value.{Value, Bytes}
-use Rattle.kind_tree.specs.TypedView.{typed_of}
-use Rattle.kind_tree.specs.Kinds.{KindTree}
+use Rattle.data_types.specs.TypedView.{typed_of}
+use Rattle.data_types.specs.KindTrees.{KindTree}
 use Rattle.raw_array.specs.Members.{ArrayTree}
 use Rattle.layout_rules.specs.Values.{each, tree_items, value_at}
-use Rattle.lawful_values.specs.Items.{AreApart}
-use Rattle.row_groups.specs.Groups.{distinct, firsts_of}
+use Rattle.array_laws.specs.Items.{AreApart}
+use Rattle.data_types.specs.Groups.{distinct, firsts_of}
 use Rattle.row_groups.specs.ItemKeys.{item_of, type_of}
 use Rattle.row_groups.specs.Items.{IsRefusedFor, items_from, most_groups}
-use Rattle.row_groups.specs.declared.fault.FirstsFault.TheVariants.{NoMemory}
+use Rattle.row_groups.specs.declared.fault.GroupFault.TheVariants.{NoMemory}
 use Rattle.row_groups.specs.Walk.{IsGrouped}
 use Rattle.row_groups.proofs.Alike.{if-both, if-err, if-ok, moved, no-group, on-ok, one-group, values-count}
 use Rattle.row_groups.proofs.Final.{firsts-apart, firsts-are, firsts-inside}

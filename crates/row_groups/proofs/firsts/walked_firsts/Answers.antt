@@ -4,7 +4,7 @@ use Rattle.std.proofs.lemmas.Result.{err_from_is_err_and}
 use Rattle.data_types.specs.Value.{Value}
 use Rattle.layout_rules.specs.Values.{each}
 use Rattle.arr_import.specs.Lent.{lent_bytes}
-use Rattle.row_groups.specs.Groups.{distinct}
+use Rattle.data_types.specs.Groups.{distinct}
 use Rattle.row_groups.specs.ItemKeys.{item_of, stored_as}
 use Rattle.row_groups.specs.Walk.{IsWalked}
 use Rattle.row_groups.proofs.Alike.{refused-more, values-count, values-upto}

@@ -1,13 +1,13 @@
 use Rattle.std.proofs.Common.{◌≡◌, ◌∙◌, ◌+◌, ◌<◌, All, List, ℕ, length, map, sym, ap, subst, arith}
 use Rattle.std.specs.List.{concat}
 use Rattle.data_types.specs.Value.{Value}
-use Rattle.kind_tree.specs.Kinds.{KindTree}
+use Rattle.data_types.specs.KindTrees.{KindTree}
 use Rattle.raw_array.specs.Members.{ArrayTree}
-use Rattle.kind_tree.specs.TypedView.{typed_of}
+use Rattle.data_types.specs.TypedView.{typed_of}
 use Rattle.layout_rules.specs.Values.{value_at}
-use Rattle.lawful_values.specs.Items.{AreApart}
+use Rattle.array_laws.specs.Items.{AreApart}
 use Rattle.row_groups.specs.Chains.{places_by_number}
-use Rattle.row_groups.specs.Groups.{sums_from}
+use Rattle.data_types.specs.Groups.{sums_from}
 use Rattle.row_groups.specs.ItemKeys.{array_of, type_of}
 use Rattle.row_groups.specs.Walk.{IsGrouped}
 use Rattle.row_groups.proofs.Final.{numbers-below, firsts-apart, firsts-are, firsts-inside, offsets-are, order-apart, order-inside, order-is, order-whole}

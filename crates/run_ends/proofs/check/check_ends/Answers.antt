@@ -1,7 +1,7 @@
 use Rattle.std.proofs.Common.{◌≡◌, ◌∙◌, ap}
 use Rattle.arr_import.specs.Cols.{window_of}
 use Rattle.arr_import.specs.Window.{Window, whole}
-use Rattle.kind_tree.specs.TypedView.{typed_of}
+use Rattle.data_types.specs.TypedView.{typed_of}
 use Rattle.tree_model.specs.Tree.{child_at}
 use Rattle.run_ends.specs.Runs.{run_count, value_count}
 use Rattle.run_ends.specs.RunRules.{end_answers, first_answer}

@@ -1,8 +1,8 @@
 use Rattle.std.proofs.Common.{◌≡◌, ◌∙◌, None, ap, sym}
 use Rattle.arr_export.specs.ArrayTrees.{column_tree}
 use Rattle.data_types.specs.declared.kind.DataType.{DataType}
-use Rattle.kind_tree.specs.Kinds.{KindTree}
-use Rattle.kind_tree.specs.TypedView.{typed_of}
+use Rattle.data_types.specs.KindTrees.{KindTree}
+use Rattle.data_types.specs.TypedView.{typed_of}
 use Rattle.layout_rules.specs.Values.{values_of}
 use Rattle.run_ends.specs.RunAnswers.{runs_of}
 use Rattle.run_ends.specs.Runs.{run_values}

@@ -1,7 +1,7 @@
 use Rattle.std.proofs.Common.{All, subst, sym}
-use Rattle.kind_tree.specs.TypedView.{typed_of}
+use Rattle.data_types.specs.TypedView.{typed_of}
 use Rattle.raw_array.specs.Members.{ArrayTree}
-use Rattle.lawful_values.specs.Items.{IsItemOf}
+use Rattle.array_laws.specs.Items.{IsItemOf}
 use Rattle.run_ends.specs.RunAnswers.{runs_of}
 use Rattle.run_ends.specs.Runs.{run_values}
 use Rattle.run_ends.proofs.ItemsWalked.{are-items, few-items}

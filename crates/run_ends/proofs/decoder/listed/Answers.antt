@@ -1,5 +1,5 @@
 use Rattle.std.proofs.Common.{◌≡◌, List, subst, sym, arith}
-use Rattle.column_gather.specs.declared.runs.Run.{Run}
+use Rattle.column_fill.specs.declared.runs.Run.{Run}
 use Rattle.run_ends.specs.RunCols.{array_in, kinds_in}
 use Rattle.run_ends.proofs.ItemsWalked.{Lists, one-listed}
 use Rattle.run_ends.proofs.decoder.listed.Goals as goal

@@ -4,7 +4,7 @@ use Rattle.arr_import.specs.Cols.{window_of}
 use Rattle.arr_import.specs.Window.{item_at}
 use Rattle.data_types.specs.Value.{Bytes}
 use Rattle.layout_rules.specs.Layout.{natural}
-use Rattle.kind_tree.specs.TypedView.{typed_of}
+use Rattle.data_types.specs.TypedView.{typed_of}
 use Rattle.run_ends.specs.RunCols.{array_in}
 use Rattle.tree_model.specs.Tree.{child_at}
 use Rattle.run_ends.proofs.ItemsWalked.{no-bytes-at}

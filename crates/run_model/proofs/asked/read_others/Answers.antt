@@ -2,10 +2,10 @@ use Rattle.std.proofs.Common.{◌≡◌, ◌⊎◌, ◌∙◌, ℕ, List, Result
 use Rattle.std.specs.Global.{Global}
 use Rattle.stage_model.specs.declared.stage.StageText.{StageText}
 use Rattle.stage_plan.specs.declared.types.TypeEntry.{TypeEntry}
-use Rattle.words.specs.Words.{Options, mark_of, options_of}
+use Rattle.run_model.specs.Words.{Options, mark_of, options_of}
 use Rattle.run_model.specs.Answer.{EntriesAsk, Request, StagesAsk, request_with}
 use Rattle.run_model.specs.Outcomes.{entries_asked}
-use Rattle.run_model.specs.declared.asked.Request.{Request as AsksFor}
+use Rattle.run_model.specs.declared.request.Request.{Request as AsksFor}
 use Rattle.run_model.specs.declared.fault.RunFault.{RunFault}
 use Rattle.run_model.specs.declared.fault.RunFault.TheVariants as run
 use Rattle.run_model.proofs.asked.read_others.Goals as goal
@@ -13,7 +13,7 @@ use Rattle.run_model.proofs.asked.read_others.Goals as goal
 abbrev Entries : Type 0
 Entries = Result (Vec TypeEntry Global) RunFault
 
--- the one fault of want of memory
+-- the one fault where memory runs out
 same-memory : (read : Entries) (fault : RunFault) → read ≡ Err fault → read ≡ Err run.NoMemory
     → ◌≡◌ {A = Result AsksFor RunFault} (Err fault) (Err run.NoMemory)
 same-memory read fault is none =

@@ -1,9 +1,9 @@
 use Rattle.std.proofs.Common.{◌≡◌, ◌⊎◌, ◌∙◌, ℕ, List, Result, Ok, Err, Bor, ap, sym, subst, inl, inr, map}
 use Rattle.stage_model.specs.declared.stage.StageText.{StageText}
-use Rattle.words.specs.Words.{Options, options_of}
+use Rattle.run_model.specs.Words.{Options, options_of}
 use Rattle.run_model.specs.Answer.{Request, RequestIs, StagesAsk, stages_from}
 use Rattle.run_model.specs.Outcomes.{request_asked}
-use Rattle.run_model.specs.declared.asked.Request.{Request as AsksFor}
+use Rattle.run_model.specs.declared.request.Request.{Request as AsksFor}
 use Rattle.run_model.specs.declared.fault.RunFault.{RunFault}
 use Rattle.run_model.specs.declared.fault.RunFault.TheVariants as run
 use Rattle.run_model.proofs.asked.read_request.Goals as goal

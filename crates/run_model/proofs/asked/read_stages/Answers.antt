@@ -1,7 +1,7 @@
 use Rattle.std.proofs.Common.{rules, ◌≡◌, ◌⊎◌, ◌+◌, Err, arith, sym, subst}
 use Rattle.run_model.specs.Answer.{stages_from}
 use Rattle.run_model.specs.declared.fault.RunFault.TheVariants as run
-use Rattle.run_model.proofs.AskedStages.{ReadTo, read-fault, read-more, spelled}
+use Rattle.run_model.proofs.CommandLineStages.{ReadTo, read-fault, read-more, spelled}
 use Rattle.run_model.proofs.asked.read_stages.Goals as goal
 
 pub returns-in_err-stage-clause-fault : goal.returns-in_err-stage-clause-fault

@@ -1,4 +1,4 @@
-use Rattle.run_model.proofs.AskedStages.{ReadTo}
+use Rattle.run_model.proofs.CommandLineStages.{ReadTo}
 use Rattle.run_model.proofs.asked.read_stages.Given as goal
 
 -- the stages so far are those of the texts before the place

@@ -1,5 +1,5 @@
 use Rattle.std.proofs.Common.{◌≡◌, ◌∙◌, IfOk, ap, subst, sym}
-use Rattle.words.specs.Words.{options_of}
+use Rattle.run_model.specs.Words.{options_of}
 use Rattle.run_model.specs.Answer.{meant_by}
 use Rattle.run_model.specs.Outcomes.{IfTable, asked_of}
 use Rattle.run_model.proofs.Meant.{meant-only}
@@ -19,7 +19,7 @@ returns-in_ok-chain-in-Some-clause-only c =
 
 pub returns-in_ok-chain-in-Some-clause-as_asked : goal.returns-in_ok-chain-in-Some-clause-as_asked
 returns-in_ok-chain-in-Some-clause-as_asked c =
-    subst (λ n. IfOk c.read_table-in-Some.result (λ t. IfTable t (λ r. r.workers ≡ n))) c.in_ok-chain-in-Some.ensures.workers c.read_table-in-Some.ensures.as_asked
+    subst (λ n. IfOk c.read_table-in-Some.result (λ t. IfTable t (λ r. r.workers.count ≡ n))) c.in_ok-chain-in-Some.ensures.workers c.read_table-in-Some.ensures.as_asked
 
 pub returns-in_ok-chain-in-Some-clause-ahead_as_asked : goal.returns-in_ok-chain-in-Some-clause-ahead_as_asked
 returns-in_ok-chain-in-Some-clause-ahead_as_asked c =

@@ -1,6 +1,6 @@
 use Rattle.std.proofs.Common.{◌+◌, ◌*◌, ◌-◌, map, take}
 use Rattle.tree_model.specs.Tree.{children_of, trees}
-use Rattle.kind_tree.specs.TypedView.{typed_of}
+use Rattle.data_types.specs.TypedView.{typed_of}
 use Rattle.schema_check.specs.Schemas.{KidsTyped}
 use Rattle.schema_check.proofs.schema.+typed.Given as goal
 

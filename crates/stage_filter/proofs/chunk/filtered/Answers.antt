@@ -3,8 +3,8 @@ use Rattle.data_types.specs.ColumnView.{column_of}
 use Rattle.data_types.specs.Table.{Row}
 use Rattle.tree_model.specs.Tree.{children_of}
 use Rattle.unit_pass.specs.Tally.{risen}
-use Rattle.kind_tree.specs.ColumnKinds.{type_of_columns}
-use Rattle.kind_tree.specs.Kinds.{KindTree}
+use Rattle.data_types.specs.ColumnKinds.{type_of_columns}
+use Rattle.data_types.specs.KindTrees.{KindTree}
 use Rattle.layout_rules.specs.Values.{rows_of}
 use Rattle.arr_import.specs.Window.{IsStruct}
 use Rattle.stage_model.specs.Stages.{rows_after}
@@ -25,8 +25,8 @@ kept_by_workers-requires-clause-column g c = λ _ _.
       few = subst (λ (t : KindTree). length (rows_of t c.args.chunk) ≤ 2 ^ 30) (sym c.requires.typed) c.requires.chunk.few;
     }
 
-pub moved_struct-requires-clause-rows : goal.moved_struct-requires-clause-rows
-moved_struct-requires-clause-rows g c =
+pub filtered_struct-requires-clause-rows : goal.filtered_struct-requires-clause-rows
+filtered_struct-requires-clause-rows g c =
     let columns = map column_of c.args.columns.now in
     let asked = c.args.asked in
     let left = c.kept_by_workers.new.chunk in
@@ -38,8 +38,8 @@ moved_struct-requires-clause-rows g c =
     ∙ ap (λ (t : KindTree). passing_numbers asked.column asked.test asked.constant.now t left) c.requires.typed in
     (passing c.lawful_trees.ensures.root asked.column asked.test asked.constant.now columns left c.as_slice.result.now can kept).can
 
-pub returns-in-Ok-moved_struct-clause-blocks : goal.returns-in-Ok-moved_struct-clause-blocks
-returns-in-Ok-moved_struct-clause-blocks g c =
+pub returns-in-Ok-filtered_struct-clause-blocks : goal.returns-in-Ok-filtered_struct-clause-blocks
+returns-in-Ok-filtered_struct-clause-blocks g c =
     let columns = map column_of c.args.columns.now in
     let asked = c.args.asked in
     let left = c.kept_by_workers.new.chunk in
@@ -53,6 +53,6 @@ returns-in-Ok-moved_struct-clause-blocks g c =
     let is = passing c.lawful_trees.ensures.root asked.column asked.test asked.constant.now columns left c.as_slice.result.now can kept in
     let after = λ (rows : List Row). rows_after (steps.Filter asked.column asked.test asked.constant.now) rows in
     let rows = is.rows ∙ ap after (sym (laws.rows (type_of_columns columns) c.args.chunk left like)) in
-    c.in-Ok-moved_struct.ensures.moved.blocks
+    c.in-Ok-filtered_struct.ensures.moved.blocks
     ∙ ap (λ (rs : List Row). risen c.kept_by_workers.new.pass.blocks (table_blocks Moved columns rs)) rows
     ∙ ap (λ (n : ℕ). risen n (table_blocks Moved columns (after (rows_of (type_of_columns columns) c.args.chunk)))) c.kept_by_workers.ensures.blocks

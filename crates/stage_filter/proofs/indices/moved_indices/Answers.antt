@@ -5,7 +5,7 @@ use Rattle.arr_import.specs.Lent.{lent_bytes}
 use Rattle.col_build.specs.Holding.{Holds, Takes}
 use Rattle.data_types.specs.Table.{Dict}
 use Rattle.data_types.specs.Value.{Value}
-use Rattle.kind_tree.specs.ColumnKinds.{type_of_kind}
+use Rattle.data_types.specs.ColumnKinds.{type_of_kind}
 use Rattle.layout_rules.specs.Values.{value_at}
 use Rattle.stage_filter.specs.KeptTrees.{index_type, indices_at}
 use Rattle.stage_filter.proofs.IndexedItems.{has-dictionary, index-kind, index-values, next-place}

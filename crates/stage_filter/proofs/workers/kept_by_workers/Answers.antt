@@ -1,5 +1,5 @@
 use Rattle.std.proofs.Common.{arith, ◌≡◌, ◌∙◌, ℕ, List, IfOk, length, sym, ap, subst}
-use Rattle.kind_tree.specs.TypedView.{typed_of}
+use Rattle.data_types.specs.TypedView.{typed_of}
 use Rattle.layout_rules.specs.Values.{rows_of, tree_items}
 use Rattle.arr_import.specs.Window.{child_window, whole}
 use Rattle.stage_filter.specs.Kept.{kept_numbers}
@@ -13,9 +13,9 @@ returns-clause-numbers g c =
     let asked = c.args.asked in
     let rows = rows_of (typed_of c.args.typed.now) c.args.chunk.now in
     let n = length rows in
-    let workers = c.worth_pieces-pieces.result in
+    let workers = c.piece_count-pieces.result.count in
     let law = c.pieces_are_in_order.ensures in
-    let some = c.worth_pieces-pieces.ensures.some in
+    let some = c.piece_count-pieces.result.some in
     subst (λ (ks : List ℕ). IfOk c.joined.result (λ kept. kept.items ≡ ks))
     (all-found asked.column asked.test asked.constant.now rows workers c.in_ok-found.found.items (λ w. law.rising n workers w some) (law.first n workers some)
     (law.last n workers some) c.in_ok-found.ensures.answers) c.joined.ensures
@@ -28,9 +28,9 @@ returns-clause-kept g c =
     let chunk = c.fan_out.new.chunk in
     let rows = rows_of typed c.args.chunk.now in
     let n = length rows in
-    let workers = c.worth_pieces-pieces.result in
+    let workers = c.piece_count-pieces.result.count in
     let law = c.pieces_are_in_order.ensures in
-    let some = c.worth_pieces-pieces.ensures.some in
+    let some = c.piece_count-pieces.result.some in
     let all = all-found asked.column asked.test asked.constant.now rows workers c.in_ok-found.found.items (λ w. law.rising n workers w some)
     (law.first n workers some) (law.last n workers some) c.in_ok-found.ensures.answers in
     let same = c.fan_out.ensures.rows in

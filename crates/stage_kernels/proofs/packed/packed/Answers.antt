@@ -2,11 +2,11 @@ use Rattle.std.proofs.Common.{arith, ◌≡◌, ◌≤◌, ◌≤ℤ◌, ◌∙�
 use Rattle.std.proofs.lemmas.Int.{ints}
 use Rattle.tree_model.specs.Tree.{IsLive, depth_of_all, trees}
 use Rattle.raw_array.specs.Members.{ArrayTree, Cost, members_of}
-use Rattle.kind_tree.specs.ColumnKinds.{type_of_columns}
+use Rattle.data_types.specs.ColumnKinds.{type_of_columns}
 use Rattle.layout_rules.specs.Layout.{natural}
 use Rattle.arr_move.specs.TreeActs.{FitParentWindow}
 use Rattle.arr_export.specs.ArrayTrees.{IsColumn}
-use Rattle.work_parts.proofs.CutColumns.{natural-is}
+use Rattle.stages.proofs.CutColumns.{natural-is}
 use Rattle.stage_kernels.specs.Packs.{LeftOf, column_in}
 use Rattle.stage_kernels.proofs.PackedTrees.{are-live, columns-depth, columns-ready, columns-stay, distinct-back, distinct-front, fits-stays}
 use Rattle.stage_kernels.proofs.PackedTrees.{live-costs, packed-tree, two-apart}

@@ -3,7 +3,7 @@ use Rattle.std.proofs.lemmas.Int.{ints}
 use Rattle.tree_model.specs.Tree.{children_of, child_at, trees}
 use Rattle.raw_array.specs.Members.{Cost, cost_of_all, members_of}
 use Rattle.raw_array.specs.Windows.{Window}
-use Rattle.column_laws.specs.Picking.{cut_children}
+use Rattle.array_laws.specs.Picking.{cut_children}
 use Rattle.arr_move.proofs.MovedChildren.{at-later, at-place, cost-cut, cut_to, fits-same, rest-taken}
 use Rattle.stage_kernels.proofs.UnpackedChildren.{parts-are}
 use Rattle.stage_kernels.proofs.unpacked.move_unpacked_children.Goals as goal

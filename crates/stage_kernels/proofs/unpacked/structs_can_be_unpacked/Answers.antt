@@ -1,7 +1,7 @@
 use Rattle.std.proofs.Common.{arith}
-use Rattle.kind_tree.specs.ColumnKinds.{types_of_columns}
+use Rattle.data_types.specs.ColumnKinds.{types_of_columns}
 use Rattle.stage_model.specs.Typing.{no_column}
-use Rattle.work_parts.proofs.StructChildren.{StructLaws}
+use Rattle.stages.proofs.StructChildren.{StructLaws}
 use Rattle.stage_kernels.proofs.UnpackedChildren.{few-columns, few-rows, shown-inner, table-columns}
 use Rattle.stage_kernels.proofs.unpacked.structs_can_be_unpacked.Goals as goal
 

@@ -101,7 +101,7 @@ returns-clause-only c =
     done_only c.deref-part-items.result.now c.loop-part.part-index c.loop-part.names.keys c.loop-part.entries.items c.loop-part.invariant
     (omega arith) c.args.text.now all
 
--- ---- want of memory says nothing
+-- ---- out of memory says nothing
 pub returns-in_err-parts-clause-only : goal.returns-in_err-parts-clause-only
 returns-in_err-parts-clause-only c =
     let p = err_from_is_err_and c.from_residual.result c.from_residual.ensures.1 in

@@ -1,7 +1,7 @@
 use Rattle.std.proofs.Common.{rules, ◌≡◌, ◌∙◌, pos, IsTrue, w32, of_z, sym, ap, subst, refl}
 use Rattle.tree_model.specs.Tree.{IsLive, Released}
-use Rattle.kind_tree.specs.Kinds.{TypedOk}
-use Rattle.kind_tree.specs.TypedView.{typed_of}
+use Rattle.data_types.specs.KindTrees.{TypedOk}
+use Rattle.data_types.specs.TypedView.{typed_of}
 use Rattle.stream_face.specs.Calls.{IsCode, IsRowFault, Tells}
 use Rattle.stream_face.specs.Meaning.{meaning}
 use Rattle.stream_face.proofs.Next as codes
@@ -47,11 +47,11 @@ returns-then-code-ne0 g c =
       code = subst IsCode (sym e) call.code;
       tells = subst (λ z. Tells z n.said) (sym e) call.tells;
       refuses = λ _. gone;
-      gone = tt;
+      released = tt;
       units = call.units ∙ c.chunks.invariant.units;
       failure = call.failure;
-      faulted = subst (λ z. IsRowFault z n.ending n.fault) (sym e) call.faulted;
-      worked = tt;
+      row_fault = subst (λ z. IsRowFault z n.ending n.fault) (sym e) call.row_fault;
+      no_failure = tt;
       repeats = Ran-repeats start m n c.next-code.result _ _ _ _ c.args.pass.now c.chunks.pass c.next-code.new.pass e ran call.repeats;
       answers = λ fresh. turning.refused-answers (g.S.ChunkStep.columns c.args.step.now) (g.S.ChunkStep.columns c.forget.new.self)
           (g.S.ChunkStep.ahead c.args.step.now) (g.S.ChunkStep.ahead c.chunks.step) (g.S.ChunkStep.ahead c.forget.new.self) start m n c.next-code.result _
@@ -143,11 +143,11 @@ returns-in-Ok-true g c =
       code = codes.zero_code;
       tells = subst (λ z. Tells z n.said) works call.tells;
       refuses = λ no. absurd (no refl);
-      gone = tt;
+      released = tt;
       units = c.in-Ok-true.ensures.units ∙ call.units ∙ inv.units;
       failure = call.failure;
-      faulted = subst (λ z. IsRowFault z n.ending n.fault) works call.faulted;
-      worked = tt;
+      row_fault = subst (λ z. IsRowFault z n.ending n.fault) works call.row_fault;
+      no_failure = tt;
       repeats = Ran-works start m n c.next-code.result out _ _ _ c.args.pass.now c.chunks.pass c.next-code.new.pass ran called works (pos 0) _
           c.turn.new.pass;
       answers = λ _. turning.done-answers (g.S.ChunkStep.columns first) (g.S.ChunkStep.columns last) (g.S.ChunkStep.blocks first)
@@ -225,7 +225,7 @@ chunks-preserved g c =
       chunk = on.1;
     }
 
--- ---- want of memory
+-- ---- out of memory
 pub returns-in-Err : goal.returns-in-Err
 returns-in-Err g c =
     let start = meaning g.U.ArrayStream.state c.args.up.now in
@@ -251,11 +251,11 @@ returns-in-Err g c =
       code = tt;
       tells = tt;
       refuses = tt;
-      gone = c.in-Err.ensures.gone;
+      released = c.in-Err.ensures.released;
       units = c.in-Err.ensures.units ∙ call.units ∙ inv.units;
       failure = tt;
-      faulted = tt;
-      worked = fresh.no_failure;
+      row_fault = tt;
+      no_failure = fresh.no_failure;
       repeats = tt;
       answers = λ _. tt;
       gives = λ _. tt;

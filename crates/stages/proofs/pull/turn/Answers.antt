@@ -3,7 +3,7 @@ use Rattle.data_types.specs.ColumnView.{column_of}
 use Rattle.data_types.specs.Table.{Column, Row}
 use Rattle.tree_model.specs.Tree.{IsLive}
 use Rattle.raw_array.specs.Members.{ArrayTree, Cost}
-use Rattle.kind_tree.specs.TypedView.{typed_of}
+use Rattle.data_types.specs.TypedView.{typed_of}
 use Rattle.stages.specs.Steps.{Finishes, IsNext, Pushes, cost_given}
 use Rattle.stages.proofs.Turning.{is-live, turns-some}
 use Rattle.stages.proofs.pull.turn.Goals as goal
@@ -23,7 +23,7 @@ returns-in-Ok-None g c =
       own_nodes = call.own_nodes;
       besides = call.besides;
       units = omega (arith, units);
-      gone = tt;
+      released = tt;
       goes_on = λ e. absurd (true≢false e);
       done = λ _ live. live;
       rests = tt;
@@ -51,7 +51,7 @@ returns-in-Ok-Some g c =
       own_nodes = call.own_nodes;
       besides = call.besides;
       units = omega (arith, units, ap Cost c.put.ensures, ap Cost gone);
-      gone = tt;
+      released = tt;
       goes_on = λ e. absurd (true≢false e);
       done = λ _ live. absurd (subst IsLive gone live);
       rests = tt;
@@ -74,7 +74,7 @@ returns-in-Err g c =
       own_nodes = λ rows. c.forget.ensures.own_nodes rows ∙ call.own_nodes rows;
       besides = λ rows t h. call.besides rows t (c.forget.ensures.besides rows t h);
       units = ap (λ n. n + Cost c.args.out.now) call.units;
-      gone = c.is_released.ensures.0 c.if-is_released.true;
+      released = c.is_released.ensures.0 c.if-is_released.true;
       goes_on = tt;
       done = tt;
       rests = c.forget.ensures.rests;
@@ -98,7 +98,7 @@ returns-in-Ok-None-push g c =
       own_nodes = call.own_nodes;
       besides = call.besides;
       units = omega (arith, units, ap Cost c.move_out.ensures.moved, ap Cost c.move_out.ensures.left);
-      gone = tt;
+      released = tt;
       goes_on = λ _. (live, c.move_out.ensures.left);
       done = λ e. absurd (true≢false (sym e));
       rests = tt;
@@ -138,7 +138,7 @@ returns-in-Ok-Some-push g c =
       own_nodes = call.own_nodes;
       besides = call.besides;
       units = omega (arith, units, ap Cost c.move_out.ensures.moved, ap Cost c.put-in-Ok-Some-push.ensures);
-      gone = tt;
+      released = tt;
       goes_on = λ e. absurd (true≢false e);
       done = λ _ here.
           let next = c.requires.next here in
@@ -161,7 +161,7 @@ returns-in-Err-push g c =
       own_nodes = λ rows. c.forget-in-Err-push.ensures.own_nodes rows ∙ call.own_nodes rows;
       besides = λ rows t h. call.besides rows t (c.forget-in-Err-push.ensures.besides rows t h);
       units = omega (arith, call.units, ap Cost c.move_out.ensures.moved, ap Cost c.move_out.ensures.left);
-      gone = c.move_out.ensures.left;
+      released = c.move_out.ensures.left;
       goes_on = tt;
       done = tt;
       rests = c.forget-in-Err-push.ensures.rests;

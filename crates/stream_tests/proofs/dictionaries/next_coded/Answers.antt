@@ -8,7 +8,7 @@ use Rattle.data_types.specs.Value.{Null, Value}
 use Rattle.data_types.specs.declared.kind.DataType.{DataType}
 use Rattle.tree_model.specs.Tree.{dictionary_at}
 use Rattle.raw_array.specs.Members.{ArrayTree}
-use Rattle.kind_tree.specs.ColumnKinds.{type_of_kind}
+use Rattle.data_types.specs.ColumnKinds.{type_of_kind}
 use Rattle.layout_rules.specs.Values.{values_of}
 use Rattle.stage_model.specs.Dictionary.{Dictionary}
 use Rattle.stage_model.specs.Typing.{column_at, no_column}

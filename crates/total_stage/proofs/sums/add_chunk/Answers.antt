@@ -1,7 +1,7 @@
 use Rattle.std.proofs.Common.{List, subst, sym}
 use Rattle.std.specs.Prelude.{Vec}
 use Rattle.std.specs.Global.{Global}
-use Rattle.kind_tree.specs.TypedView.{typed_of}
+use Rattle.data_types.specs.TypedView.{typed_of}
 use Rattle.layout_rules.specs.Values.{rows_of}
 use Rattle.total_stage.specs.Sums.{AreParts}
 use Rattle.total_stage.specs.declared.numbers.Totals.{Totals}
@@ -24,7 +24,7 @@ join_parts-requires-clause-few g c =
       few.0,
       rows,
       few.1,
-      subst (λ (parts : List (Vec Totals Global)). AreParts c.args.picks.now rows c.worth_pieces-pieces.result parts) (sym c.as_slice.ensures.value)
+      subst (λ (parts : List (Vec Totals Global)). AreParts c.args.picks.now rows c.piece_count-pieces.result.count parts) (sym c.as_slice.ensures.value)
           c.in_ok-parts.ensures.answers,
       few.2,
     )
@@ -33,5 +33,5 @@ pub returns-clause-sums : goal.returns-clause-sums
 returns-clause-sums g c = λ before are.
     let rows = rows_of (typed_of c.args.typed.now) c.args.chunk.now in
     c.join_parts.ensures c.args.picks.now before rows are
-    (subst (λ (parts : List (Vec Totals Global)). AreParts c.args.picks.now rows c.worth_pieces-pieces.result parts) (sym c.as_slice.ensures.value)
+    (subst (λ (parts : List (Vec Totals Global)). AreParts c.args.picks.now rows c.piece_count-pieces.result.count parts) (sym c.as_slice.ensures.value)
     c.in_ok-parts.ensures.answers)

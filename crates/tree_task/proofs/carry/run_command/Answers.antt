@@ -1,6 +1,6 @@
 use Rattle.std.proofs.Common.{◌≤◌, ◌∙◌, Some, length, ap, refl, subst, sym, take}
 use Rattle.std.specs.Io.KnownBytes.{Appends}
-use Rattle.edge_face.specs.Edge.{Rose, taken_by}
+use Rattle.edge_io.specs.Edge.{Rose, taken_by}
 use Rattle.tree_task.specs.Answer.{AreBytes, Text, input_limit}
 use Rattle.tree_task.specs.Faults.{cause_of, is_write_fault}
 use Rattle.tree_task.specs.Over.{RanOver}

@@ -1,6 +1,6 @@
 use Rattle.std.proofs.Common.{subst}
-use Rattle.kind_tree.specs.TypedView.{typed_of}
-use Rattle.kind_tree.specs.Ways.{steps_of}
+use Rattle.data_types.specs.TypedView.{typed_of}
+use Rattle.data_types.specs.Ways.{steps_of}
 use Rattle.layout_rules.specs.Walk.{ChunkOk, LayoutOk}
 use Rattle.schema_check.specs.SchemaAnswers.{IsFirstFault}
 use Rattle.tree_task.proofs.NewRows.{made-text, no-fault, same-kinds}

@@ -7,7 +7,7 @@ use Rattle.run_ends.specs.RunCols.{array_in, kinds_in}
 use Rattle.run_ends.specs.Runs.{RunTree, run_values}
 use Rattle.tree_model.specs.Tree.{child_at}
 use Rattle.value_text.specs.Lengths.{AreLengths}
-use Rattle.value_text.specs.ValueTexts.{lines_text, text_limit}
+use Rattle.data_types.specs.ValueTexts.{lines_text, text_limit}
 use Rattle.tree_task.proofs.flat.is_too_long.Goals as goal
 
 pub are_too_long-requires : goal.are_too_long-requires

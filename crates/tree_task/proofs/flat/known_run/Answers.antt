@@ -8,8 +8,8 @@ use Rattle.tree_task.proofs.flat.known_run.Goals as goal
 pub overflow_cast-run : goal.overflow_cast-run
 overflow_cast-run c = omega (arith, c.requires.at, c.count_values.ensures.stored c.args.i c.requires.inside, c.count_values.ensures.small)
 
-pub behind_run-requires-clause-at : goal.behind_run-requires-clause-at
-behind_run-requires-clause-at c =
+pub next_run_start-requires-clause-at : goal.next_run_start-requires-clause-at
+next_run_start-requires-clause-at c =
     let small : c.args.run < 2 ^ 63 =
     omega (arith, c.requires.at, c.count_values.ensures.stored c.args.i c.requires.inside, c.count_values.ensures.small) in
     let item : c.args.i < 2 ^ 63 = omega (arith, c.requires.inside, c.count_items.ensures) in

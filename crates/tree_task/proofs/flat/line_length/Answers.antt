@@ -5,7 +5,7 @@ use Rattle.run_ends.specs.Runs.{run_value}
 use Rattle.layout_rules.specs.Values.{value_at}
 use Rattle.tree_model.specs.Tree.{child_at}
 use Rattle.value_text.specs.Lengths.{text_length}
-use Rattle.value_text.specs.ValueTexts.{value_line, value_text}
+use Rattle.data_types.specs.ValueTexts.{value_line, value_text}
 use Rattle.tree_task.proofs.flat.line_length.Goals as goal
 
 pub bounds-lengths-run : goal.bounds-lengths-run

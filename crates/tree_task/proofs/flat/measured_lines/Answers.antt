@@ -3,7 +3,7 @@ use Rattle.std.specs.Prelude.{IfOk}
 use Rattle.raw_array.specs.Members.{ArrayTree}
 use Rattle.run_ends.specs.RunCols.{kinds_in}
 use Rattle.run_ends.specs.Runs.{RunTree, run_values}
-use Rattle.value_text.specs.ValueTexts.{lines_text}
+use Rattle.data_types.specs.ValueTexts.{lines_text}
 use Rattle.tree_task.proofs.flat.measured_lines.Goals as goal
 
 pub returns : goal.returns

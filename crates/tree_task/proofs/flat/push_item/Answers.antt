@@ -5,7 +5,7 @@ use Rattle.run_ends.specs.RunCols.{array_in, kinds_in}
 use Rattle.run_ends.specs.Runs.{run_of, run_value}
 use Rattle.tree_model.specs.Tree.{child_at}
 use Rattle.layout_rules.specs.Values.{value_at}
-use Rattle.value_text.specs.ValueTexts.{value_text}
+use Rattle.data_types.specs.ValueTexts.{value_text}
 use Rattle.value_text.proofs.Parts.{both-appended}
 use Rattle.tree_task.proofs.flat.push_item.Goals as goal
 

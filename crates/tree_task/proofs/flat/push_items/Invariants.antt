@@ -3,7 +3,7 @@ use Rattle.std.specs.List.{flat_map}
 use Rattle.layout_rules.specs.Values.{each}
 use Rattle.run_ends.specs.RunCols.{array_in, kinds_in}
 use Rattle.run_ends.specs.Runs.{run_value}
-use Rattle.value_text.specs.ValueTexts.{value_line}
+use Rattle.data_types.specs.ValueTexts.{value_line}
 use Rattle.tree_task.specs.RunLines.{Reaches}
 use Rattle.tree_task.proofs.flat.push_items.Given as goal
 

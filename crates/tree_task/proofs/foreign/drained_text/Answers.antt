@@ -1,10 +1,10 @@
 use Rattle.std.proofs.Common.{◌∙◌, ◌↔◌, IsTrue, is_none, ap, inr, map, subst, sym, Err, Some}
 use Rattle.foreign_array.specs.Drained.{Drained}
 use Rattle.foreign_array.specs.Kept.{tree_in}
-use Rattle.kind_tree.specs.TypedView.{typed_of}
+use Rattle.data_types.specs.TypedView.{typed_of}
 use Rattle.layout_rules.specs.Values.{rows_of}
 use Rattle.layout_rules.specs.Walk.{LayoutOk, first_fault}
-use Rattle.value_text.specs.ValueTexts.{lines_text}
+use Rattle.data_types.specs.ValueTexts.{lines_text}
 use Rattle.tree_task.specs.ForeignAnswer.{chunk_unless}
 use Rattle.tree_task.specs.Gathered.{tables_in}
 use Rattle.tree_task.specs.Refusals.{fault_of_check}

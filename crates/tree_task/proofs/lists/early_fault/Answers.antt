@@ -1,6 +1,6 @@
 use Rattle.std.proofs.Common.{◌*◌, ◌+◌, ◌≤◌, length, ap, arith, mul-le-mul}
 use Rattle.arr_import.proofs.Reading.{children-count, kids-typed}
-use Rattle.kind_tree.specs.declared.typed.Typed.{out-Typed}
+use Rattle.data_types.specs.declared.typed.Typed.{out-Typed}
 use Rattle.tree_task.proofs.lists.early_fault.Goals as goal
 
 pub overflow_add-row_bytes : goal.overflow_add-row_bytes

@@ -1,4 +1,4 @@
-use Rattle.kind_tree.specs.TypedView.{typed_of}
+use Rattle.data_types.specs.TypedView.{typed_of}
 use Rattle.layout_rules.specs.Values.{rows_of}
 use Rattle.list_cols.specs.Faults.{explode_fault}
 use Rattle.list_cols.specs.Nested.{Explode}

@@ -1,4 +1,4 @@
-use Rattle.kind_tree.specs.TypedView.{typed_of}
+use Rattle.data_types.specs.TypedView.{typed_of}
 use Rattle.tree_task.specs.ListsAnswer.{nested}
 use Rattle.tree_task.proofs.Chunks.{said-one}
 use Rattle.tree_task.proofs.NewRows.{rows-fault, rows-text}

@@ -1,5 +1,5 @@
 use Rattle.std.proofs.Common.{length}
-use Rattle.kind_tree.specs.TypedView.{typed_of}
+use Rattle.data_types.specs.TypedView.{typed_of}
 use Rattle.layout_rules.specs.Values.{rows_of}
 use Rattle.list_cols.specs.NestFaults.{nest_fault}
 use Rattle.list_cols.specs.Nested.{Nest}

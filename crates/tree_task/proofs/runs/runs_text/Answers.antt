@@ -1,5 +1,5 @@
 use Rattle.std.proofs.Common.{◌≡◌, ◌⊎◌, IfErr, IfOk, refl, subst, sym}
-use Rattle.kind_tree.specs.TypedView.{typed_of}
+use Rattle.data_types.specs.TypedView.{typed_of}
 use Rattle.tree_task.specs.RunsAnswer.{runs_of_array, runs_of_kinds}
 use Rattle.tree_task.specs.TextOrFault.{Fault, Text}
 use Rattle.tree_task.specs.declared.fault.TreeRunFault.TheVariants as run

@@ -1,5 +1,5 @@
 use Rattle.std.proofs.Common.{length, sym}
-use Rattle.kind_tree.specs.TypedView.{typed_of}
+use Rattle.data_types.specs.TypedView.{typed_of}
 use Rattle.layout_rules.specs.Values.{tree_items}
 use Rattle.tree_model.specs.Tree.{children_of}
 use Rattle.union_cols.specs.Tags.{tag_fault, tagged_kinds}

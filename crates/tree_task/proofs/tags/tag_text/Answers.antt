@@ -1,4 +1,4 @@
-use Rattle.kind_tree.specs.TypedView.{typed_of}
+use Rattle.data_types.specs.TypedView.{typed_of}
 use Rattle.tree_task.specs.TagAnswer.{tags_of_columns}
 use Rattle.tree_task.proofs.Chunks.{chunk-fault, chunk-text, said-one}
 use Rattle.tree_task.proofs.tags.tag_text.Goals as goal

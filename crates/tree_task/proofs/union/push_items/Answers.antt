@@ -1,7 +1,7 @@
 use Rattle.std.proofs.Common.{sym}
 use Rattle.layout_rules.specs.Values.{each}
 use Rattle.union_cols.specs.UnionCols.{array_in, kinds_in}
-use Rattle.value_text.specs.NumberedTexts.{numbered_line}
+use Rattle.data_types.specs.NumberedTexts.{numbered_line}
 use Rattle.value_text.proofs.Parts.{appended}
 use Rattle.union_cols.specs.Unions.{union_item}
 use Rattle.tree_task.specs.UnionAnswer.{numbered_item}

@@ -2,7 +2,7 @@ use Rattle.std.proofs.Common.{◌≡◌, ◌∙◌, ◌+◌, length, ap, arith, 
 use Rattle.layout_rules.specs.Values.{each}
 use Rattle.union_cols.specs.UnionCols.{array_in, kinds_in}
 use Rattle.union_cols.specs.Unions.{union_item}
-use Rattle.value_text.specs.NumberedTexts.{numbered_line}
+use Rattle.data_types.specs.NumberedTexts.{numbered_line}
 use Rattle.tree_task.specs.UnionAnswer.{numbered_item}
 use Rattle.tree_task.proofs.UnionLines.{item_lines, lines-more}
 use Rattle.tree_task.proofs.union_length.is_too_long.Goals as goal

@@ -6,7 +6,7 @@ use Rattle.union_cols.specs.UnionAnswers.{union_of}
 use Rattle.union_cols.specs.UnionCols.{array_in, kinds_in}
 use Rattle.union_cols.specs.Unions.{UnionTree, union_items}
 use Rattle.value_text.specs.Lengths.{AreKidLengths}
-use Rattle.value_text.specs.ValueTexts.{text_limit}
+use Rattle.data_types.specs.ValueTexts.{text_limit}
 use Rattle.tree_task.specs.UnionAnswer.{items_text}
 use Rattle.tree_task.proofs.union_length.is_union_too_long.Goals as goal
 

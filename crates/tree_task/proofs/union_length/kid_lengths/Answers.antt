@@ -3,9 +3,9 @@ use Rattle.std.specs.Prelude.{Vec, ℕ}
 use Rattle.std.specs.Global.{Global}
 use Rattle.tree_model.specs.Tree.{Released, child_at, children_of}
 use Rattle.raw_array.specs.Members.{ArrayTree}
-use Rattle.kind_tree.specs.Kinds.{KindTree}
-use Rattle.kind_tree.specs.TypedView.{typed_of}
-use Rattle.kind_tree.proofs.Levels.{get_or-typed}
+use Rattle.data_types.specs.KindTrees.{KindTree}
+use Rattle.data_types.specs.TypedView.{typed_of}
+use Rattle.data_types.proofs.Levels.{get_or-typed}
 use Rattle.layout_rules.specs.Values.{tree_items, value_at}
 use Rattle.root_check.proofs.ChildFaults.{valid_kid}
 use Rattle.union_cols.proofs.Holding.{kid_lawful}

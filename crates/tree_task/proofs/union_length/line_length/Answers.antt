@@ -8,8 +8,8 @@ use Rattle.raw_array.specs.Members.{members_of}
 use Rattle.union_cols.specs.UnionCols.{array_in, kinds_in}
 use Rattle.union_cols.specs.Unions.{id_at, union_item, union_value}
 use Rattle.value_text.specs.Lengths.{capped, text_length}
-use Rattle.value_text.specs.NumberedTexts.{numbered_line}
-use Rattle.value_text.specs.ValueTexts.{value_text}
+use Rattle.data_types.specs.NumberedTexts.{numbered_line}
+use Rattle.data_types.specs.ValueTexts.{value_text}
 use Rattle.tree_task.specs.UnionAnswer.{numbered_item}
 use Rattle.tree_task.proofs.union_length.line_length.Goals as goal
 

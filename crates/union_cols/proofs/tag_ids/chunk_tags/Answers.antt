@@ -1,7 +1,7 @@
 use Rattle.std.proofs.Common.{◌≡◌, ◌∙◌, map, ap, sym}
 use Rattle.std.specs.Prelude.{IfOk, Result, Ok, Err}
 use Rattle.layout_rules.specs.Values.{each, row_items, rows_of, tree_items}
-use Rattle.kind_tree.specs.TypedView.{typed_of}
+use Rattle.data_types.specs.TypedView.{typed_of}
 use Rattle.arr_import.specs.Window.{Window}
 use Rattle.union_cols.specs.Tags.{tag_of}
 use Rattle.union_cols.proofs.Numbering.{map-each}

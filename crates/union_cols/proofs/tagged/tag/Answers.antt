@@ -1,6 +1,6 @@
 use Rattle.std.proofs.Common.{◌≡◌, ◌∙◌, None, length, ap, sym, subst, rules}
 use Rattle.tree_model.specs.Tree.{children_of}
-use Rattle.kind_tree.specs.TypedView.{typed_of}
+use Rattle.data_types.specs.TypedView.{typed_of}
 use Rattle.arr_move.specs.TreeActs.{with_children}
 use Rattle.layout_rules.specs.Values.{tree_items}
 use Rattle.union_cols.specs.TagAnswers.{ChecksAsUnion}

@@ -3,7 +3,7 @@ use Rattle.std.specs.Prelude.{◌==◌, if◌then◌else◌}
 use Rattle.std.proofs.lemmas.List.{length-map}
 use Rattle.tree_model.specs.Tree.{children_of}
 use Rattle.raw_array.specs.Members.{holds_of}
-use Rattle.kind_tree.specs.TypedView.{typed_of}
+use Rattle.data_types.specs.TypedView.{typed_of}
 use Rattle.layout_rules.specs.Values.{row_items, rows_of, tree_items}
 use Rattle.layout_rules.proofs.TreeLaws.{root_holds}
 use Rattle.array_laws.proofs.WindowItems.{length-each}

@@ -4,9 +4,9 @@ use Rattle.std.specs.Global.{Global}
 use Rattle.std.proofs.lemmas.List.{length-map}
 use Rattle.tree_model.specs.Tree.{Released, child_at}
 use Rattle.raw_array.specs.Members.{ArrayTree}
-use Rattle.kind_tree.specs.Kinds.{KindTree}
-use Rattle.kind_tree.specs.TypedView.{typed_of}
-use Rattle.kind_tree.proofs.Levels.{levels-kid, kid-ok, get_or-typed}
+use Rattle.data_types.specs.KindTrees.{KindTree}
+use Rattle.data_types.specs.TypedView.{typed_of}
+use Rattle.data_types.proofs.Levels.{levels-kid, kid-ok, get_or-typed}
 use Rattle.layout_rules.specs.Values.{tree_items, value_at}
 use Rattle.layout_rules.specs.Walk.{LayoutOk}
 use Rattle.value_text.specs.Lengths.{AreKidLengths, AreLengths}

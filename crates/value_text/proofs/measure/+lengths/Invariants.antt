@@ -1,6 +1,6 @@
 use Rattle.std.proofs.Common.{◌+◌, ◌*◌, map}
 use Rattle.tree_model.specs.Tree.{Depth, depth_of_all, trees}
-use Rattle.kind_tree.specs.TypedView.{typed_of}
+use Rattle.data_types.specs.TypedView.{typed_of}
 use Rattle.value_text.specs.Lengths.{AreKidLengths}
 use Rattle.value_text.proofs.measure.+lengths.Given as goal
 

@@ -3,7 +3,7 @@ use Rattle.std.specs.List.{flat_map}
 use Rattle.data_types.specs.Value.{Value}
 use Rattle.layout_rules.specs.Values.{each}
 use Rattle.value_text.specs.Lengths.{AreLengths, capped}
-use Rattle.value_text.specs.ValueTexts.{value_line}
+use Rattle.data_types.specs.ValueTexts.{value_line}
 use Rattle.value_text.proofs.measure.are_too_long.Given as goal
 
 -- the lines so far, behind that of `ok`

@@ -1,4 +1,4 @@
-use Rattle.kind_tree.specs.TypedView.{typed_of}
+use Rattle.data_types.specs.TypedView.{typed_of}
 use Rattle.layout_rules.specs.Values.{value_at}
 use Rattle.value_text.specs.Lengths.{AreLengths}
 use Rattle.value_text.proofs.measure.index_lengths.Given as goal

@@ -2,9 +2,9 @@ use Rattle.std.proofs.Common.{◌≡◌, ◌∙◌, ◌+◌, ◌<◌, ℕ, List,
 use Rattle.data_types.specs.declared.kind.DataType.{DataType}
 use Rattle.tree_model.specs.Tree.{Released, Live, IsLive, trees, maybe_tree, child_at, children_of}
 use Rattle.raw_array.specs.Members.{ArrayTree, members_of}
-use Rattle.kind_tree.specs.Kinds.{KindTree}
-use Rattle.kind_tree.specs.TypedView.{kind_of, kids_of, dict_in}
-use Rattle.kind_tree.specs.declared.typed.Typed.{out-Typed}
+use Rattle.data_types.specs.KindTrees.{KindTree}
+use Rattle.data_types.specs.TypedView.{kind_of, kids_of, dict_in}
+use Rattle.data_types.specs.declared.typed.Typed.{out-Typed}
 use Rattle.layout_rules.specs.Layout.{first, laid_out}
 use Rattle.layout_rules.specs.Values.{field_items, readers, row_items, tree_items}
 use Rattle.layout_rules.specs.Within.{ItemsWithin}

@@ -3,7 +3,7 @@ use Rattle.std.proofs.lemmas.Grind.{merely}
 use Rattle.data_types.specs.Storage.{storage_of}
 use Rattle.tree_model.specs.Tree.{child_at}
 use Rattle.raw_array.specs.Members.{members_of}
-use Rattle.kind_tree.specs.TypedView.{kind_of, kids_of}
+use Rattle.data_types.specs.TypedView.{kind_of, kids_of}
 use Rattle.layout_rules.specs.Layout.{bytes, first}
 use Rattle.layout_rules.specs.Values.{tree_items}
 use Rattle.arr_import.proofs.Reading.{one-child, are-items-there}

@@ -7,8 +7,8 @@ use Rattle.data_types.specs.declared.storage.Storage.{Storage}
 use Rattle.data_types.specs.declared.storage.Storage.TheVariants as storages
 use Rattle.tree_model.specs.Tree.{trees, children_of}
 use Rattle.raw_array.specs.Members.{ArrayTree, members_of}
-use Rattle.kind_tree.specs.TypedView.{typed_of, kind_of, kids_of}
-use Rattle.kind_tree.specs.declared.typed.Typed.{Typed}
+use Rattle.data_types.specs.TypedView.{typed_of, kind_of, kids_of}
+use Rattle.data_types.specs.declared.typed.Typed.{Typed}
 use Rattle.layout_rules.specs.Layout.{is_valid}
 use Rattle.layout_rules.specs.Values.{readers, row_items, value_at}
 use Rattle.arr_import.specs.StoredItems.{stored_item}

@@ -2,7 +2,7 @@ use Rattle.std.proofs.Common.{◌∙◌, ◌+◌, [], ◌∷◌, ◌++◌, ap, a
 use Rattle.std.specs.List.{flat_map}
 use Rattle.layout_rules.specs.Values.{each, value_at}
 use Rattle.arr_import.specs.Cols.{window_of}
-use Rattle.value_text.specs.ValueTexts.{value_line, value_text}
+use Rattle.data_types.specs.ValueTexts.{value_line, value_text}
 use Rattle.value_text.proofs.Parts.{appended, lines-more}
 use Rattle.value_text.proofs.table.push_rows.Goals as goal
 

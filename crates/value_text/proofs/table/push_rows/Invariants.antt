@@ -2,7 +2,7 @@ use Rattle.std.proofs.Common.{◌≡◌, ◌++◌}
 use Rattle.std.specs.List.{flat_map}
 use Rattle.layout_rules.specs.Values.{each, value_at}
 use Rattle.arr_import.specs.Cols.{window_of}
-use Rattle.value_text.specs.ValueTexts.{value_line}
+use Rattle.data_types.specs.ValueTexts.{value_line}
 use Rattle.value_text.proofs.table.push_rows.Given as goal
 
 -- the lines so far

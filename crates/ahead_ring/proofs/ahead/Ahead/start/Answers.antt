@@ -9,7 +9,7 @@ invariant_of-result g c =
     let all = ap coming c.of-whole.ensures in
     let none = ap (λ l. l ++ coming c.args.maker) (sym new.producer.0) in
     let known = new.consumer.1 in (
-      c.requires.0,
+      c.requires,
       tt,
       ((new.pair, new.producer.0 ∙ sym (ap (λ l. l ++ known_items c.in_ok-producer.consumer) new.consumer.0 ∙ known), new.producer.2), all ∙ none),
       (λ _ _. search rules),

@@ -1,7 +1,7 @@
 use Rattle.std.proofs.Common.{subst, sym}
 use Rattle.std.specs.Prelude.{is_some}
-use Rattle.kind_tree.specs.TypedView.{dict_in}
-use Rattle.kind_tree.specs.declared.typed.Typed.{out-Typed}
+use Rattle.data_types.specs.TypedView.{dict_in}
+use Rattle.data_types.specs.declared.typed.Typed.{out-Typed}
 use Rattle.arr_import.proofs.Accesses.{Says, says, none-behind, number-own}
 use Rattle.arr_import.proofs.col.Col.access_is.Goals as goal
 

@@ -1,7 +1,7 @@
 use Rattle.std.proofs.Common.{◌≡◌, ℕ, ◌+◌, ◌<◌, ◌≤◌, length, get_or, ap, ◌∙◌, sym, subst, arith}
 use Rattle.tree_model.specs.Tree.{Released, child_at, children_of}
 use Rattle.raw_array.specs.Members.{members_of}
-use Rattle.kind_tree.specs.TypedView.{typed_of, kids_of}
+use Rattle.data_types.specs.TypedView.{typed_of, kids_of}
 use Rattle.layout_rules.specs.Layout.{first, end}
 use Rattle.layout_rules.specs.Rules.{items_need}
 use Rattle.layout_rules.specs.Values.{value_at, tree_items}

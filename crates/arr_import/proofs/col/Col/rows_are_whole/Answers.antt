@@ -2,11 +2,11 @@ use Rattle.std.proofs.Common.{◌≡◌, ◌∙◌, ◌+◌, ℕ, List, [], ◌�
 use Rattle.data_types.specs.declared.kind.DataType.{DataType}
 use Rattle.tree_model.specs.Tree.{Released, Live, IsLive, trees, maybe_tree, children_of}
 use Rattle.raw_array.specs.Members.{ArrayTree}
-use Rattle.kind_tree.specs.Kinds.{KindTree}
+use Rattle.data_types.specs.KindTrees.{KindTree}
 use Rattle.layout_rules.specs.Layout.{first}
-use Rattle.kind_tree.specs.TypedView.{typed_of, kind_of, kids_of, dict_in}
+use Rattle.data_types.specs.TypedView.{typed_of, kind_of, kids_of, dict_in}
 use Rattle.layout_rules.specs.Values.{field_items, readers, row_items}
-use Rattle.kind_tree.specs.declared.typed.Typed.{out-Typed}
+use Rattle.data_types.specs.declared.typed.Typed.{out-Typed}
 use Rattle.arr_import.proofs.Reading.{kids-typed}
 use Rattle.arr_import.proofs.col.Col.rows_are_whole.Goals as goal
 

@@ -8,8 +8,8 @@ use Rattle.col_build.proofs.builder.Builder.finish_whole.Goals as goal
 pub returns-in_default-clause-kept : goal.returns-in_default-clause-kept
 returns-in_default-clause-kept c kind values holds = whole_holds c.args.self.now kind values holds
 
-pub overflow_cast-laid-2 : goal.overflow_cast-laid-2
-overflow_cast-laid-2 c =
+pub overflow_cast-column-2 : goal.overflow_cast-column-2
+overflow_cast-column-2 c =
     let holds = c.requires.holds.2 in
     let few : c.lay_out.new.self.nulls < 2 ^ 63 = omega (arith, (c.if-not-lay_out.ensures.emptied refl).nulls, holds.nulls, holds.fits.few, nulls-few c.requires.holds.1) in
     omega arith

@@ -1,6 +1,5 @@
-use Rattle.std.proofs.Common.{◌≡◌, ◌≤◌, ◌+◌, ◌*◌, ℕ, Bool, true, false, List, length, refl, sym, subst, arith}
+use Rattle.std.proofs.Common.{◌≡◌, ◌≤◌, ◌+◌, ◌*◌, Bool, true, false, length, refl, sym, arith}
 use Rattle.std.specs.Int.{from_bool}
-use Rattle.col_build.specs.Holding.{HasValidity}
 use Rattle.col_build.proofs.OneMore.{bits-held, more-holds, narrow-more}
 use Rattle.col_build.proofs.ValidityFacts.{null-counted, nulls-few}
 use Rattle.col_build.proofs.builder.Builder.put_between.Goals as goal
@@ -16,7 +15,6 @@ overflow_add-self-3 c =
 pub returns-clause-added : goal.returns-clause-added
 returns-clause-added c value null bytes takes kind values holds =
     let old = c.args.self.now in
-    let HasBits : List ℕ → Type 0 = λ bits. HasValidity bits old.count old.nulls values in
     let room : old.count * 4 + 8 ≤ length old.offsets.items = omega (arith, c.requires.place, old.offsets.ok.0) in
     let end : c.len-end.result ≡ length c.append_bytes.new.bytes.items = omega (arith, c.len-end.ensures, c.append_bytes.new.bytes.ok.0) in
     more-holds old _ kind values value holds takes (record {
@@ -24,7 +22,7 @@ returns-clause-added c value null bytes takes kind values holds =
       shape = refl;
       count = refl;
       nulls = omega (arith, c.from.ensures, null-counted value c.args.null (sym null));
-      validity = c.push_validity.ensures values value (subst HasBits (sym c.make_room.ensures.items) (bits-held old kind values holds)) null;
+      validity = c.in-Ok.ensures.added values value (bits-held old kind values holds) null;
       bytes = narrow-more old.shape c.requires.narrow.0 old.count c.len-end.result values value c.args.bytes.now old.offsets.items
           c.put_number.new.bytes.items old.bytes.items c.append_bytes.new.bytes.items c.requires.narrow.1 bytes room c.in_ok-append_bytes.ensures.added end
           c.put_number.ensures.put holds.bytes;

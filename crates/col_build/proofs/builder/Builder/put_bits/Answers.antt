@@ -1,5 +1,5 @@
 use Rattle.std.proofs.Common.{◌+◌, refl, arith}
-use Rattle.bit_pack.specs.Packed.{le_bytes}
+use Rattle.data_types.specs.Packed.{le_bytes}
 use Rattle.data_types.specs.Value.{Bits}
 use Rattle.col_build.specs.Holding.{kept_offsets, offsets_in}
 use Rattle.col_build.proofs.OneMore.{are_floats, bits-held, more-holds, numbers-more}

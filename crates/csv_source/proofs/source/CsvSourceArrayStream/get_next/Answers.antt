@@ -4,8 +4,8 @@ use Rattle.std.proofs.lemmas.Int.{ints}
 use Rattle.csv_model.specs.Batches.{Chunks}
 use Rattle.csv_read.specs.BatchesLeft.{batches_left}
 use Rattle.csv_source.specs.NextChunks.{IsNextChunk}
-use Rattle.csv_chunks.specs.SourceStreams.{no_batches}
-use Rattle.csv_chunks.proofs.Replies.{no-refusal, refused-answers}
+use Rattle.csv_source.specs.SourceStreams.{no_batches}
+use Rattle.csv_source.proofs.ChunkReplies.{no-refusal, refused-answers}
 use Rattle.csv_source.proofs.Replies.{none-left}
 use Rattle.csv_source.proofs.Streams.{chunk-counts, same-counts}
 use Rattle.stream_face.proofs.Producers.{given-answers, live-or-released, shows-nothing}
@@ -51,7 +51,7 @@ returns-in-Ok g c =
       told = λ _. tt;
       units = c.in-Ok.ensures.units;
       failure = grind (arith, common_steps);
-      faulted = grind (arith, common_steps);
+      row_fault = grind (arith, common_steps);
       repeats = grind (arith, common_steps);
       shows = λ _. shows-nothing _ _ _ _ (λ _ _ _. refl);
     }
@@ -76,7 +76,7 @@ returns-in-Err g c =
       told = λ _. tt;
       units = grind (arith, common_steps);
       failure = refl;
-      faulted = grind (arith, common_steps);
+      row_fault = grind (arith, common_steps);
       repeats = grind (arith, common_steps);
       counts = grind (arith, common_steps);
       shows = λ _. shows-nothing _ _ _ _ (λ _ _ _. refl);
@@ -92,7 +92,7 @@ returns-in-Some g c =
       told = λ _. tt;
       units = grind (arith, common_steps);
       failure = grind (arith, common_steps);
-      faulted = grind (arith, common_steps);
+      row_fault = grind (arith, common_steps);
       repeats = grind (arith, common_steps);
       answers = grind (arith, common_steps);
       counts = grind (arith, common_steps);

@@ -2,7 +2,7 @@ use Rattle.std.proofs.Common.{◌≤◌, arith, sym, subst, length, map}
 use Rattle.std.proofs.lemmas.List.{length-map}
 use Rattle.field_codec.specs.TextColumns.{AreProper}
 use Rattle.data_types.specs.ColumnView.{column_of}
-use Rattle.csv_chunks.proofs.PlainKinds.{proper-flat, proper-kinds}
+use Rattle.csv_source.proofs.PlainKinds.{proper-flat, proper-kinds}
 use Rattle.csv_source.proofs.source.CsvSourceArrayStream.get_schema.Goals as goal
 
 pub export_schema-requires-clause-small : goal.export_schema-requires-clause-small

@@ -3,8 +3,8 @@ use Rattle.std.proofs.lemmas.List.{length-map}
 use Rattle.data_types.specs.ColumnView.{column_of}
 use Rattle.schema_check.specs.ColumnSchema.{SchemaOf}
 use Rattle.tree_model.specs.Tree.{Depth}
-use Rattle.csv_chunks.proofs.PlainKinds.{have-kinds, no-dicts, plain-columns, plain-leaves, proper-flat}
-use Rattle.csv_chunks.proofs.Tables.{left-lawful}
+use Rattle.csv_source.proofs.PlainKinds.{have-kinds, no-dicts, plain-columns, plain-leaves, proper-flat}
+use Rattle.csv_source.proofs.Tables.{left-lawful}
 use Rattle.csv_source.proofs.source.CsvSourceArrayStream.lawful_facts.Goals as goal
 
 pub returns-clause-columns : goal.returns-clause-columns

@@ -3,7 +3,7 @@ use Rattle.std.proofs.lemmas.List.{length-map}
 use Rattle.data_types.specs.ColumnView.{column_of}
 use Rattle.data_types.specs.declared.kind.ColumnType.{ColumnType}
 use Rattle.data_types.specs.declared.kind.DataType.{DataType}
-use Rattle.kind_tree.specs.TypedView.{typed_of}
+use Rattle.data_types.specs.TypedView.{typed_of}
 use Rattle.stage_model.specs.Typing.{column_at, is_struct}
 use Rattle.dict_stage.specs.Recoded.{CanRecodeChunk, type_in}
 use Rattle.dict_stage.proofs.Streams.{can, columns-after, many, one, recode-gives, told-of, type-now}

@@ -4,8 +4,8 @@ use Rattle.layout_rules.specs.Within.{StoredWithin}
 use Rattle.layout_rules.specs.declared.layout.Layout.{Layout}
 use Rattle.layout_rules.specs.declared.layout.Layout.TheVariants.{FixedWidth}
 use Rattle.raw_array.specs.Members.{members_of}
-use Rattle.kind_tree.specs.Kinds.{kind_in}
-use Rattle.kind_tree.specs.TypedView.{kind_of}
+use Rattle.data_types.specs.KindTrees.{kind_in}
+use Rattle.data_types.specs.TypedView.{kind_of}
 use Rattle.row_groups.specs.ItemKeys.{array_of}
 use Rattle.row_groups.proofs.column.Column.place.Goals as goal
 

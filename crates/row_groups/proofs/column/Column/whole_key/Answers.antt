@@ -1,7 +1,7 @@
 use Rattle.std.proofs.Common.{◌≡◌, ◌∙◌, sym, ap}
 use Rattle.layout_rules.specs.Layout.{is_valid}
 use Rattle.data_types.specs.Storage.{storage_of}
-use Rattle.kind_tree.specs.Kinds.{kind_in}
+use Rattle.data_types.specs.KindTrees.{kind_in}
 use Rattle.tree_model.specs.Tree.{children_of}
 use Rattle.raw_array.specs.Members.{members_of}
 use Rattle.row_groups.specs.ItemKeys.{array_of, item_of, stored_as, type_of}

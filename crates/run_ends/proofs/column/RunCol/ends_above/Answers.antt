@@ -1,7 +1,7 @@
 use Rattle.std.proofs.Common.{◌≡◌, ◌∙◌, ap, arith}
 use Rattle.arr_import.specs.Cols.{window_of}
 use Rattle.arr_import.specs.Window.{Window}
-use Rattle.kind_tree.specs.TypedView.{typed_of}
+use Rattle.data_types.specs.TypedView.{typed_of}
 use Rattle.tree_model.specs.Tree.{child_at}
 use Rattle.run_ends.specs.Runs.{Ends, ends_above, run_count}
 use Rattle.run_ends.specs.RunCols.{array_in}

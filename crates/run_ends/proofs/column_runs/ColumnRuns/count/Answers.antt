@@ -1,5 +1,5 @@
 use Rattle.std.proofs.Common.{◌≡◌, ◌∙◌, ap, sym, arith}
-use Rattle.kind_tree.specs.TypedView.{typed_of}
+use Rattle.data_types.specs.TypedView.{typed_of}
 use Rattle.arr_import.specs.Window.{Window}
 use Rattle.layout_rules.specs.Values.{tree_items}
 use Rattle.run_ends.proofs.ValueRuns.{count-is}

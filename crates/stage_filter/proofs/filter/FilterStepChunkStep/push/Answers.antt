@@ -2,7 +2,7 @@ use Rattle.std.proofs.Common.{◌≡◌, ◌≤◌, ◌*◌, ◌∙◌, map, Lis
 use Rattle.std.proofs.Math.Nat.{mul-le-mul_right}
 use Rattle.data_types.specs.ColumnView.{column_of}
 use Rattle.data_types.specs.declared.kind.ColumnType.{ColumnType}
-use Rattle.kind_tree.specs.ColumnKinds.{type_of_columns}
+use Rattle.data_types.specs.ColumnKinds.{type_of_columns}
 use Rattle.unit_pass.specs.Tally.{risen}
 use Rattle.raw_array.specs.Members.{Cost}
 use Rattle.stage_model.specs.Traffic.{Moved, table_blocks, table_nodes}
@@ -38,7 +38,7 @@ pub filtered-requires-clause-shares : goal.filtered-requires-clause-shares
 filtered-requires-clause-shares g c = λ _ _.
     let s = c.args.self.now in
     let cost = Cost c.args.chunk in
-    let all : s.workers * cost ≤ 64 * cost = mul-le-mul_right cost s.few_workers in
+    let all : s.workers.count * cost ≤ 64 * cost = mul-le-mul_right cost s.workers.few in
     omega (arith, all, c.requires.next.5.is.small, c.requires.room)
 
 pub returns-in-Ok-clause-pushed : goal.returns-in-Ok-clause-pushed

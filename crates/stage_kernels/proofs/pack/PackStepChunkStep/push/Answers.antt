@@ -1,10 +1,10 @@
 use Rattle.std.proofs.Common.{rules, arith, ◌≡◌, ◌∙◌, ◌++◌, map, subst, sym}
 use Rattle.data_types.specs.ColumnView.{column_of}
 use Rattle.data_types.specs.Parts.{AreWithin}
-use Rattle.kind_tree.specs.ColumnKinds.{type_of_columns}
-use Rattle.kind_tree.specs.Kinds.{TypedOk}
+use Rattle.data_types.specs.ColumnKinds.{type_of_columns}
+use Rattle.data_types.specs.KindTrees.{TypedOk}
 use Rattle.arr_move.specs.TreeActs.{Distinct}
-use Rattle.column_laws.specs.Picking.{Packed}
+use Rattle.array_laws.specs.Picking.{Packed}
 use Rattle.stage_kernels.specs.Picks.{no_column}
 use Rattle.stage_kernels.proofs.PackedChunks.{pack-gives, packed-chunk, small-chunk}
 use Rattle.stage_kernels.proofs.PackedStreams.{kept-of, made_name, numbers-of}

@@ -30,7 +30,7 @@ not-bad z = cc
 
 -- ---- a refusal
 
--- a stage that wants memory has refused for want of it
+-- a stage that ran out of memory has refused for that
 wanted : (o : Option Refusal) → o ≡ Some wanting → o ≡ None → ⊥
 wanted o is none = let k : None ≡ Some wanting = sym none ∙ is in absurd (cc)
 
@@ -55,7 +55,7 @@ returns-then-self g c =
       told = λ _. tt;
       units = omega (arith, ap Cost c.requires.empty);
       failure = failed;
-      faulted = subst (λ t. IsRowFault (pos 12) up.ending (if t then None else up.fault)) (sym c.if-self.true) tt;
+      row_fault = subst (λ t. IsRowFault (pos 12) up.ending (if t then None else up.fault)) (sym c.if-self.true) tt;
       repeats = record {
         same = λ refusal e. (ap code_of (sym failed ∙ e), sym failed ∙ e, refl);
         counts = λ refusal e. refl;
@@ -104,14 +104,14 @@ returns-in-Err g c =
       };
       code = twelve;
       tells = (refl, not-zero);
-      refuses = λ _. call.gone;
+      refuses = λ _. call.released;
       told = λ _. tt;
       units = call.units;
       failure = refl;
-      faulted = tt;
-      repeats = repeats-never _ _ (pos 12) _ _ _ _ (λ refusal q. some up.failure refusal (sym works ∙ q) call.worked);
+      row_fault = tt;
+      repeats = repeats-never _ _ (pos 12) _ _ _ _ (λ refusal q. some up.failure refusal (sym works ∙ q) call.no_failure);
       answers = λ _. record {
-        chunk = λ live. absurd (subst IsLive call.gone live);
+        chunk = λ live. absurd (subst IsLive call.released live);
         finish = λ z. absurd (not-zero z);
         bad = λ z. absurd (not-bad z);
         wants = λ _. refl;
@@ -146,8 +146,8 @@ returns-in-Ok g c =
       told = λ _. tt;
       units = call.units;
       failure = ap (λ t. if t then Some wanting else n.failure) c.if-self.false ∙ call.failure;
-      faulted = subst (λ t. IsRowFault (to_z w32 (of_z w32 c.in-Ok.code)) n.ending (if t then None else n.fault)) (sym c.if-self.false)
-          (subst (λ z. IsRowFault z n.ending n.fault) (sym e) call.faulted);
+      row_fault = subst (λ t. IsRowFault (to_z w32 (of_z w32 c.in-Ok.code)) n.ending (if t then None else n.fault)) (sym c.if-self.false)
+          (subst (λ z. IsRowFault z n.ending n.fault) (sym e) call.row_fault);
       repeats = record {
         same = λ refusal q.
             let told = call.repeats.same refusal (sym works ∙ q) in

@@ -1,7 +1,7 @@
 use Rattle.std.proofs.lemmas.Grind.{common_steps}
 use Rattle.std.proofs.Common.{IsTrue, ◌≡◌, ◌∙◌, pos, w32, of_z, refl, sym, ap, subst, true≢false, arith}
 use Rattle.raw_schema.specs.Members.{Nodes}
-use Rattle.kind_tree.specs.ColumnKinds.{type_of_columns}
+use Rattle.data_types.specs.ColumnKinds.{type_of_columns}
 use Rattle.schema_check.specs.ColumnSchema.{SchemaOf}
 use Rattle.schema_check.specs.Schemas.{TypedOf}
 use Rattle.layout_rules.specs.Walk.{ChunkOk}
@@ -32,7 +32,7 @@ refuse-requires-clause-tells g c =
 pub refuse-requires-clause-row : goal.refuse-requires-clause-row
 refuse-requires-clause-row g c =
     let n = g.S.ArrayStream.state c.get_next-code.new.self in
-    subst (λ z. IsRowFault z n.ending n.fault) (sym (same c.get_next-code.result c.get_next-code.type_inv)) c.get_next-code.ensures.faulted
+    subst (λ z. IsRowFault z n.ending n.fault) (sym (same c.get_next-code.result c.get_next-code.type_inv)) c.get_next-code.ensures.row_fault
 
 pub invariant_of-self-clause-own_link : goal.invariant_of-self-clause-own_link
 invariant_of-self-clause-own_link g c = λ live lawful works. kept_some c.refuse.new.failure _ c.refuse.ensures.code works
@@ -45,7 +45,7 @@ invariant_of-self-clause-same g c = λ live lawful.
 pub invariant_of-self-clause-ends : goal.invariant_of-self-clause-ends
 invariant_of-self-clause-ends g c = λ live fault q.
     row_ends (why c.refuse.new.failure) (g.S.ArrayStream.state c.get_next-code.new.self) c.get_next-code.result fault c.refuse.ensures.row
-    c.get_next-code.ensures.faulted q
+    c.get_next-code.ensures.row_fault q
 
 pub returns-then-code-ne0 : goal.returns-then-code-ne0
 returns-then-code-ne0 g c =
@@ -74,7 +74,7 @@ returns-then-code-ne0 g c =
       units = c.get_next-code.ensures.units;
       stays = λ fault q. no_fault c.args.self.now.failure fault c.in_default.is q;
       failure = ap (λ x. refusal_or (why c.refuse.new.failure) x n.said) c.get_next-code.ensures.failure;
-      faulted = subst (IsRowFault _ n.ending) (sym c.refuse.ensures.row) (subst (λ z. IsRowFault z n.ending n.fault) (sym e) c.get_next-code.ensures.faulted);
+      row_fault = subst (IsRowFault _ n.ending) (sym c.refuse.ensures.row) (subst (λ z. IsRowFault z n.ending n.fault) (sym e) c.get_next-code.ensures.row_fault);
       repeats = repeats-refused raw.link (Nodes raw.known.schema) raw.failure (why c.refuse.new.failure) s n c.get_next-code.result _ c.in_default.is
           (same c.get_next-code.result c.get_next-code.type_inv) c.refuse.ensures.code c.refuse.ensures.row c.args.pass.now c.get_next-code.new.pass
           (g.T.Tap.seen c.args.tap.now) (g.T.Tap.seen c.get_next-code.new.tap) c.get_next-code.ensures.repeats;
@@ -107,7 +107,7 @@ returns-then-is_released g c =
       why = λ _. why-working raw.link (Nodes raw.known.schema) raw.failure s n c.get_next-code.result c.in_default.is zero (raw_kinds raw);
       stays = λ fault q. no_fault c.args.self.now.failure fault c.in_default.is q;
       failure = ap (λ x. refusal_or (why raw.failure) x n.said) c.get_next-code.ensures.failure;
-      faulted = faulted-working raw.link (Nodes raw.known.schema) raw.failure s n c.get_next-code.result c.in_default.is zero c.get_next-code.ensures.faulted;
+      row_fault = faulted-working raw.link (Nodes raw.known.schema) raw.failure s n c.get_next-code.result c.in_default.is zero c.get_next-code.ensures.row_fault;
       told = λ _. c.get_next-code.ensures.told zero;
       checked = λ live. never_live c.get_next-code.new.out (c.is_released.ensures.0 c.if-is_released.true) live;
       shown = λ live. never_live c.get_next-code.new.out (c.is_released.ensures.0 c.if-is_released.true) live;
@@ -179,7 +179,7 @@ returns-then-admits g c =
       why = λ _. why-working raw.link (Nodes raw.known.schema) raw.failure s n c.get_next-code.result c.in_default.is zero (raw_kinds raw);
       stays = λ fault q. no_fault c.args.self.now.failure fault c.in_default.is q;
       failure = ap (λ x. refusal_or (why raw.failure) x n.said) c.get_next-code.ensures.failure;
-      faulted = faulted-working raw.link (Nodes raw.known.schema) raw.failure s n c.get_next-code.result c.in_default.is zero c.get_next-code.ensures.faulted;
+      row_fault = faulted-working raw.link (Nodes raw.known.schema) raw.failure s n c.get_next-code.result c.in_default.is zero c.get_next-code.ensures.row_fault;
       told = λ _. c.get_next-code.ensures.told (is_zero c.get_next-code.result c.get_next-code.type_inv c.if-code-ne0.false);
       checked = λ _. c.admits.ensures.chunk c.if-admits.true;
       shown = λ _. (g.T.Tap.seen c.get_next-code.new.tap, c.admits.ensures.seen c.if-admits.true);
@@ -245,7 +245,7 @@ returns g c =
           (tells_nothing c.get_next-code.result n.said c.get_next-code.ensures.tells zero) (c.get_next-code.ensures.told zero);
       stays = λ fault q. no_fault c.args.self.now.failure fault c.in_default.is q;
       failure = ap (λ x. refusal_or (why c.refuse_chunk.new.failure) x n.said) c.get_next-code.ensures.failure;
-      faulted = row-own (raw_kinds c.args.self.now) c.get_next-code.new.out (g.S.ArrayStream.state c.get_next-code.new.self) (why c.refuse_chunk.new.failure) _
+      row_fault = row-own (raw_kinds c.args.self.now) c.get_next-code.new.out (g.S.ArrayStream.state c.get_next-code.new.self) (why c.refuse_chunk.new.failure) _
           c.refuse_chunk.ensures.why;
       repeats = repeats-never _ _ _ _ _ _ _ never;
       counts = λ _ z. absurd (refusal (sym e ∙ z));
@@ -272,7 +272,7 @@ returns-in-Some g c =
       why = grind (arith, common_steps);
       stays = grind (arith, common_steps);
       failure = grind (arith, common_steps);
-      faulted = grind (arith, common_steps);
+      row_fault = grind (arith, common_steps);
       repeats = grind (arith, common_steps);
       answers = grind (arith, common_steps);
       counts = grind (arith, common_steps);

@@ -3,7 +3,7 @@ use Rattle.std.proofs.Math.Nat.{mul-le-mul_right}
 use Rattle.std.proofs.lemmas.List.{with_items_is}
 use Rattle.data_types.specs.Parts.{joined_rows}
 use Rattle.data_types.specs.Table.{Row}
-use Rattle.kind_tree.specs.TypedView.{typed_of}
+use Rattle.data_types.specs.TypedView.{typed_of}
 use Rattle.raw_array.specs.Members.{Cost}
 use Rattle.stages.specs.Steps.{TakesIn}
 use Rattle.total_stage.specs.Froms.{CanGoOn, ahead_from}
@@ -41,7 +41,7 @@ add_chunk-added-requires-clause-units g c = λ _ _.
     let s = c.args.self.now in
     let next = c.requires.next in
     let cost = Cost c.args.chunk in
-    let all : s.workers * cost ≤ 64 * cost = mul-le-mul_right cost s.few_workers in
+    let all : s.workers.count * cost ≤ 64 * cost = mul-le-mul_right cost s.workers.few in
     omega (arith, all, next.5.is.small, c.requires.room)
 
 pub returns-in-Ok-clause-pushed : goal.returns-in-Ok-clause-pushed

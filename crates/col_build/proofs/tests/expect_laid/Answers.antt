@@ -1,9 +1,0 @@
-use Rattle.std.proofs.Common.{arith}
-use Rattle.col_build.proofs.Views.{made-count}
-use Rattle.col_build.proofs.tests.expect_laid.Goals as goal
-
-pub let_go_all-requires : goal.let_go_all-requires
-let_go_all-requires g c = omega (arith, made-count c.args.laid.buffers.items _ c.requires.2.buffers, c.requires.3)
-
-pub returns : goal.returns
-returns g c = omega (arith, made-count c.args.laid.buffers.items _ c.requires.2.buffers, c.requires.3, c.let_go_all.ensures.units)

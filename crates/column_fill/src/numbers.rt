@@ -1,0 +1,124 @@
+//! Items of given numbers.
+ghost use Rattle.std.specs.Prelude.{◌≡◌, IfOk};
+ghost use Rattle.data_types.specs.Table.{Flat};
+ghost use Rattle.col_build.specs.Holding.{Holds};
+ghost use Rattle.data_types.specs.ColumnKinds.{type_of_kind};
+ghost use Rattle.data_types.specs.KindTrees.{TypedOk};
+ghost use Rattle.data_types.specs.TypedView.{typed_of};
+ghost use Rattle.arr_import.specs.Plain.{storage_in};
+ghost use Rattle.column_fill.specs.Gathered.{CanGather, CanGatherPlaces, shown_at, values_at};
+
+use crate::{push_item, push_plain};
+use arr_import::{Col, Plain};
+use col_build::Builder;
+use data_types::{DataType, Storage, Typed, clone_kind, storage_of};
+use layout_rules::lawful_trees;
+use raw_array::RawArray;
+use std::alloc::Global;
+use unit_pass::NoMemory;
+
+/// A builder that holds the items of these numbers of an array, each looked up by itself.
+fn gathered_items(
+    alloc: Global,
+    kind: &DataType,
+    typed: &Typed,
+    array: &RawArray,
+    start: u64,
+    kept: &[u32],
+) -> Result<Builder, NoMemory>
+    requires typed { typed_of typed.now ≡ type_of_kind (Flat kind.now) }
+    requires types { TypedOk (typed_of typed.now) }
+    requires items { CanGather kind.now array.now start kept.now }
+    ensures { IfOk result (λ builder. Holds builder kind.now (values_at (type_of_kind (Flat kind.now)) array.now start kept.now)) }
+{
+    lawful_trees();
+    let items = Col::of(typed, array);
+    let mut builder = Builder::new(alloc, clone_kind(alloc, kind)?);
+    let storage = storage_of(kind);
+    for i in kept {
+        push_item(&mut builder, storage, &items, start + u64::from(*i))?;
+    }
+    Ok(builder)
+}
+
+/// A builder that holds the items of these numbers of a column that is read by its places, which are stored so.
+#[inline(always)]
+fn gathered_so(
+    alloc: Global,
+    kind: &DataType,
+    storage: Storage,
+    items: &Plain<'_>,
+    start: u64,
+    kept: &[u32],
+) -> Result<Builder, NoMemory>
+    requires items { CanGatherPlaces kind.now items.now start kept.now }
+    requires stored { storage_in items.now ≡ storage }
+    ensures { IfOk result (λ builder. Holds builder kind.now (shown_at items.now start kept.now)) }
+{
+    let kind = clone_kind(alloc, kind)?;
+    let mut builder = Builder::with_room(alloc, kind, kept.len(), 0)?;
+    for i in kept {
+        push_plain(&mut builder, storage, items, start + u64::from(*i))?;
+    }
+    Ok(builder)
+}
+
+/// The same of items that are stored in any way. How those of common types are is a constant where their loop stands in line.
+fn gathered_places(
+    alloc: Global,
+    kind: &DataType,
+    items: &Plain<'_>,
+    start: u64,
+    kept: &[u32],
+) -> Result<Builder, NoMemory>
+    requires items { CanGatherPlaces kind.now items.now start kept.now }
+    ensures { IfOk result (λ builder. Holds builder kind.now (shown_at items.now start kept.now)) }
+{
+    match items.storage() {
+        Storage::Between { wide: false, text } => {
+            let stored = Storage::Between { wide: false, text };
+            gathered_so(alloc, kind, stored, items, start, kept)
+        }
+        Storage::Wholes { bits: 32, signed } => {
+            let stored = Storage::Wholes { bits: 32, signed };
+            gathered_so(alloc, kind, stored, items, start, kept)
+        }
+        Storage::Wholes { bits: 64, signed } => {
+            let stored = Storage::Wholes { bits: 64, signed };
+            gathered_so(alloc, kind, stored, items, start, kept)
+        }
+        Storage::Wholes { bits: 128, signed } => {
+            let stored = Storage::Wholes { bits: 128, signed };
+            gathered_so(alloc, kind, stored, items, start, kept)
+        }
+        Storage::Truths => gathered_so(alloc, kind, Storage::Truths, items, start, kept),
+        stored => gathered_so(alloc, kind, stored, items, start, kept),
+    }
+}
+
+/// A builder that holds the items of these numbers of an array, in their order. The numbers are counted from an item of the array
+/// on (`start`, from 0). `typed` are the array's checked kinds, of which `kind` is the type.
+///
+/// # Errors
+///
+/// `NoMemory` where there is no memory for them.
+pub fn gathered(
+    alloc: Global,
+    kind: &DataType,
+    typed: &Typed,
+    array: &RawArray,
+    start: u64,
+    kept: &[u32],
+) -> Result<Builder, NoMemory>
+    requires typed { typed_of typed.now ≡ type_of_kind (Flat kind.now) }
+    requires types { TypedOk (typed_of typed.now) }
+    requires items { CanGather kind.now array.now start kept.now }
+    ensures { IfOk result (λ builder. Holds builder kind.now (values_at (type_of_kind (Flat kind.now)) array.now start kept.now)) }
+{
+    lawful_trees();
+    let items = Col::of(typed, array);
+    match items.plain() {
+        Some(places) => gathered_places(alloc, kind, &places, start, kept),
+        None => gathered_items(alloc, kind, typed, array, start, kept),
+    }
+}

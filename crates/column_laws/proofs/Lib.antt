@@ -1,9 +1,0 @@
-pub mod PickedColumns
-pub mod StructRows
-pub mod PackedColumns
-pub mod ReplacedColumn
-pub mod ColumnForm
-pub mod ColumnCosts
-pub mod ColumnDepths
-pub mod ColumnTypes
-pub mod TableForm

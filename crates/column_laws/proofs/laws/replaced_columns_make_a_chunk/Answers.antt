@@ -1,8 +1,0 @@
-use Rattle.column_laws.proofs.ReplacedColumn.{replaced-chunk, replaced-rows}
-use Rattle.column_laws.proofs.laws.replaced_columns_make_a_chunk.Goals as goal
-
-pub returns-clause-chunk : goal.returns-clause-chunk
-returns-clause-chunk c types t place type column live ok one_live one_ok long = replaced-chunk types t place type column live ok one_live one_ok long
-
-pub returns-clause-rows : goal.returns-clause-rows
-returns-clause-rows c types t place type column live ok one_live one_ok lt same = replaced-rows types t place type column live ok one_live one_ok lt same

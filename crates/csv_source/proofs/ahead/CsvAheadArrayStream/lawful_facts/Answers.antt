@@ -1,0 +1,35 @@
+use Rattle.std.proofs.Common.{arith, ◌≤◌, map}
+use Rattle.std.proofs.lemmas.List.{length-map}
+use Rattle.csv_source.proofs.PlainKinds.{have-kinds, no-dicts, plain-columns, plain-leaves, proper-flat}
+use Rattle.data_types.specs.ColumnView.{column_of}
+use Rattle.schema_check.specs.ColumnSchema.{SchemaOf}
+use Rattle.tree_model.specs.Tree.{Depth}
+use Rattle.csv_source.proofs.NextTables.{maker-lawful}
+use Rattle.csv_source.proofs.AheadReplies.{tables-lawful}
+use Rattle.csv_source.proofs.ahead.CsvAheadArrayStream.lawful_facts.Goals as goal
+
+pub returns-clause-columns : goal.returns-clause-columns
+returns-clause-columns g c = λ _.
+    let source = c.args.self.now in
+    let columns = map column_of source.columns in
+    let facts = c.as_slice-columns.ensures in
+    let plain = plain-columns columns facts.proper facts.allowed in
+    let flat = proper-flat columns facts.proper in
+    let long = length-map source.columns column_of in
+    let deep : Depth (SchemaOf columns) ≤ 64 = omega (arith, c.schema_size.ensures.flat_depth columns flat) in
+    record {
+      kinds = have-kinds columns plain;
+      dicts = no-dicts columns plain;
+      few = omega (arith, plain-leaves columns plain, long, facts.few);
+      typed = c.column_schemas_are_lawful.ensures columns (have-kinds columns plain) deep;
+      small = omega (arith, c.schema_size.ensures.flat_nodes columns flat, long, facts.few);
+      not_deep = deep;
+    }
+
+pub returns-clause-tables : goal.returns-clause-tables
+returns-clause-tables g c = λ _.
+    let source = c.args.self.now in
+    let m = source.whole.value in
+    let facts = c.as_slice-columns.ensures in
+    let plain = plain-columns (map column_of source.columns) facts.proper facts.allowed in
+    tables-lawful (map column_of source.columns) m source.refused source.ahead (maker-lawful m source.columns source.same plain source.short) source.last

@@ -1,5 +1,0 @@
-mod Ranges
-mod OneItem
-mod OnceEach
-mod AllItems
-mod FlatTypes

@@ -1,6 +1,0 @@
-use Rattle.std.proofs.Common.{arith}
-use Rattle.lawful_values.proofs.Ranges.{numbered}
-use Rattle.lawful_values.proofs.stored.bytes_make_numbers.Goals as goal
-
-pub returns : goal.returns
-returns c = numbered c.args.stored.now (λ i. omega (arith, c.type_inv.stored i))

@@ -1,0 +1,43 @@
+use Rattle.std.proofs.Common.{◌≡◌, ◌∙◌, List, Ok, ap, map, subst, sym}
+use Rattle.csv_model.specs.Header.{header_of}
+use Rattle.csv_model.specs.Reading.{Record, behind_header, records_of}
+use Rattle.stage_plan.specs.Entries.{entries_of}
+use Rattle.csv_source.specs.AheadSources.{ahead_state}
+use Rattle.field_codec.specs.TextColumns.{AreAllowed, AreProper}
+use Rattle.data_types.specs.ColumnView.{column_of}
+use Rattle.run_model.specs.Outcomes.{request_of}
+use Rattle.stage_plan.specs.PlanWords.{IsPlan}
+use Rattle.pipe_top.proofs.Bodies.{source-is, told-here}
+use Rattle.pipe_top.proofs.ahead.begin_ahead.Goals as goal
+
+-- ---- the header
+pub returns-in-Err-clause-fault : goal.returns-in-Err-clause-fault
+returns-in-Err-clause-fault g c =
+    told-here c.in-Err.fault (request_of c.args.request.now) c.as_slice.result.now c.in_ok-records.records.records (records_of c.args.bytes.items)
+    c.in-Err.ensures.fault c.as_slice.ensures.value c.in_ok-records.ensures.records
+
+-- ---- what the source asks for
+pub source_ahead-requires-clause-proper : goal.source_ahead-requires-clause-proper
+source_ahead-requires-clause-proper g c = subst AreProper (sym (c.read_columns-columns.ensures ∙ c.in_ok-plan.ensures.read)) c.in-Ok.ensures.proper
+
+pub source_ahead-requires-clause-allowed : goal.source_ahead-requires-clause-allowed
+source_ahead-requires-clause-allowed g c = subst AreAllowed (sym (c.read_columns-columns.ensures ∙ c.in_ok-plan.ensures.read)) c.in-Ok.ensures.allowed
+
+-- ---- what was begun
+pub returns-clause-begun : goal.returns-clause-begun
+returns-clause-begun g c =
+    let request = request_of c.args.request.now in
+    let records = records_of c.args.bytes.items in
+    let cols = map column_of c.in-Ok.columns.items in
+    record {
+      columns = cols;
+      found =
+          subst (λ es. header_of (entries_of es) records ≡ Ok cols) c.as_slice.ensures.value
+          (subst (λ (rs : List Record). header_of (entries_of c.as_slice.result.now) rs ≡ Ok cols) c.in_ok-records.ensures.records c.in-Ok.ensures.found);
+      proper = c.in-Ok.ensures.proper;
+      source_is =
+          source-is (ahead_state c.in_ok-source.source) request.mark c.as_slice-mark.result.now cols (map column_of c.read_columns-columns.result.now)
+          (behind_header records) _ request.batch c.in_ok-source.ensures c.as_slice-mark.ensures
+          (c.read_columns-columns.ensures ∙ c.in_ok-plan.ensures.read) (c.in-Ok.ensures.behind ∙ ap behind_header c.in_ok-records.ensures.records);
+      plan_is = subst (λ ts. IsPlan cols ts c.in_ok-plan.plan) c.as_slice-2.ensures.value c.in_ok-plan.ensures.found;
+    }

@@ -1,0 +1,47 @@
+use Rattle.std.proofs.Common.{◌∙◌}
+use Rattle.pipe_top.proofs.Fitting.{dict-fits, filter-fits, pack-fits, plain-fits, select-fits, totals-fits, unpack-fits}
+use Rattle.pipe_top.proofs.any_step.AnyStepPlanStep.of.Goals as goal
+
+pub returns-in-Select-clause-fits : goal.returns-in-Select-clause-fits
+returns-in-Select-clause-fits c = λ before over few.
+    select-fits c.args.out c.new.result.out before c.args.step c.new.ensures.out (c.stages_fit_their_columns.ensures.within before _ over)
+    (c.stages_fit_their_columns.ensures.after before _ over) c.in-Select.picks c.new.result.picks.items (c.new.ensures.picks ∙ c.into_vec.ensures)
+    c.in-Select.is (c.picks_are_distinct.ensures before _ over)
+
+pub returns-in-Pack-clause-fits : goal.returns-in-Pack-clause-fits
+returns-in-Pack-clause-fits c = λ before over few.
+    pack-fits c.args.out c.new-in-Pack.result.out before c.args.step c.new-in-Pack.ensures.out (c.stages_fit_their_columns.ensures.within before _ over)
+    (c.stages_fit_their_columns.ensures.after before _ over) c.in-Pack.rest c.in-Pack.picks c.new-in-Pack.result.rest.items
+    c.new-in-Pack.result.picks.items (c.new-in-Pack.ensures.rest ∙ c.into_vec-in-Pack.ensures) (c.new-in-Pack.ensures.picks ∙ c.into_vec-in-Pack-2.ensures)
+    c.in-Pack.is (c.picks_are_distinct.ensures before _ over) few
+
+pub returns-in-Filter-clause-fits : goal.returns-in-Filter-clause-fits
+returns-in-Filter-clause-fits c = λ before over few.
+    filter-fits c.args.out c.new-in-Filter.result.out before c.args.step c.new-in-Filter.ensures.out
+    (c.stages_fit_their_columns.ensures.within before _ over) (c.stages_fit_their_columns.ensures.after before _ over) c.in-Filter.column
+    c.new-in-Filter.result.column c.in-Filter.test c.in-Filter.constant c.new-in-Filter.ensures.column c.in-Filter.is few
+
+pub returns-in-Unpack-clause-fits : goal.returns-in-Unpack-clause-fits
+returns-in-Unpack-clause-fits c = λ before over few.
+    unpack-fits c.args.out c.new-in-Unpack.result.out before c.args.step c.new-in-Unpack.ensures.out
+    (c.stages_fit_their_columns.ensures.within before _ over) (c.stages_fit_their_columns.ensures.after before _ over) c.in-Unpack.column
+    c.new-in-Unpack.result.place c.new-in-Unpack.ensures.place c.in-Unpack.is few
+
+pub returns-in-Dict-clause-fits : goal.returns-in-Dict-clause-fits
+returns-in-Dict-clause-fits c = λ before over few.
+    dict-fits c.args.out c.new-in-Dict.result.out before c.args.step c.new-in-Dict.ensures.out
+    (c.stages_fit_their_columns.ensures.within before _ over) (c.stages_fit_their_columns.ensures.after before _ over) c.new-in-Dict.result.dict
+    c.in-Dict.column c.new-in-Dict.result.column c.new-in-Dict.ensures.dict c.new-in-Dict.ensures.column c.in-Dict.is few
+
+pub returns-in-Plain-clause-fits : goal.returns-in-Plain-clause-fits
+returns-in-Plain-clause-fits c = λ before over few.
+    plain-fits c.args.out c.new-in-Plain.result.out before c.args.step c.new-in-Plain.ensures.out
+    (c.stages_fit_their_columns.ensures.within before _ over) (c.stages_fit_their_columns.ensures.after before _ over) c.new-in-Plain.result.dict
+    c.in-Plain.column c.new-in-Plain.result.column c.new-in-Plain.ensures.dict c.new-in-Plain.ensures.column c.in-Plain.is few
+
+pub returns-in-Totals-clause-fits : goal.returns-in-Totals-clause-fits
+returns-in-Totals-clause-fits c = λ before over few.
+    totals-fits c.args.out c.new-in-Totals.result.out before c.args.step c.new-in-Totals.ensures.out
+    (c.stages_fit_their_columns.ensures.within before _ over) (c.stages_fit_their_columns.ensures.after before _ over) c.in-Totals.columns
+    c.new-in-Totals.result.picks.items (c.new-in-Totals.ensures.picks ∙ c.into_vec-in-Totals.ensures) c.in-Totals.is
+    (c.stages_keep_columns.ensures.few before _ over)

@@ -1,0 +1,45 @@
+-- What a run comes to over the bytes of its input: the answer, what the sink got of it, what the tap saw and what was made.
+use Rattle.std.specs.Prelude.{◌≡◌, ◌⊎◌, ℕ, List, true, Option, None, Some, IfSome, Result, IfErr, IfOk, OnErr, OnOk}
+use Rattle.run_model.specs.Answer.{Fault, Task, Text}
+use Rattle.run_model.specs.Outcomes.{AtWriteFault, is_decided}
+use Rattle.run_model.specs.declared.fault.RunFault.{RunFault}
+use Rattle.run_model.specs.declared.fault.RunFault.TheVariants as run
+use Rattle.run_model.specs.RunAnswer.{IsAnswer, IsAnswerTo}
+use Rattle.run_model.specs.RunOutcomes.{GotFirst, GotText}
+use Rattle.pipe_top.specs.Traffic.{CountsTask, IsShown, IsShownInPart, IsTraffic, ShowsAsked, ShowsTask}
+use Rattle.stream_face.specs.Shown.{Seen}
+
+-- what it comes to to carry out what is asked for over these bytes
+pub record CarriedOver (asked : Result Task RunFault) (bytes : List ℕ) (result : Result (Unit {0}) RunFault) (taken got : Option (List ℕ))
+    (seen shown : Option (List Seen)) (old_blocks old_nodes blocks nodes : ℕ) : Type 0 where
+  -- on success the answer is a text, and the sink got all of it
+  pub text : OnOk result (GotText (IsAnswerTo asked bytes) taken got)
+  -- a fault that words and bytes decide is the answer
+  pub refused : IfErr result (λ fault. is_decided fault ≡ true → IsAnswerTo asked bytes (Fault fault))
+  -- after a failed write the sink has the first bytes of the text
+  pub first : IfErr result (λ fault. AtWriteFault fault (λ count. GotFirst (IsAnswerTo asked bytes) taken got count))
+  -- on success as many blocks and nodes were made as the task needs, and each chunk of each link was shown
+  pub counts : OnOk result (IfOk asked (λ task. CountsTask task bytes old_blocks old_nodes blocks nodes))
+  pub shows : OnOk result (IfOk asked (λ task. ShowsTask task bytes seen shown))
+  -- on a fault the first ones of each link
+  pub shows_some : OnErr result (ShowsAsked asked bytes seen shown)
+
+-- what a run with these words comes to over these bytes; ReadRose and WriteRose say that the source's and the sink's faults rose
+pub record RanOver (words : List (List ℕ)) (bytes : List ℕ) (fault : Option RunFault) (taken got : Option (List ℕ))
+    (seen shown : Option (List Seen)) (blocks nodes : ℕ) (ReadRose WriteRose : Type 0) : Type 0 where
+  -- success: the answer is a text, and the sink got all of it
+  pub text : fault ≡ None → GotText (IsAnswer words bytes) taken got
+  -- a fault that words and bytes decide is the answer
+  pub refused : IfSome fault (λ f. is_decided f ≡ true → IsAnswer words bytes (Fault f))
+  -- after a failed write the answer is a text, and the sink got its first bytes
+  pub first : IfSome fault (λ f. AtWriteFault f (λ count. GotFirst (IsAnswer words bytes) taken got count))
+  -- on success the tap was shown each chunk of each link, once and in order; on a fault the first ones of each, and nothing where
+  -- there are no links
+  pub shows : fault ≡ None → IsShown words bytes seen shown
+  pub shows_some : IfSome fault (λ f. IsShownInPart words bytes seen shown)
+  -- on success as many blocks and nodes were made as the links or the tree need
+  pub counts : fault ≡ None → IsTraffic words bytes blocks nodes
+  -- where neither rose and the answer is a text, it is given, or there was no memory
+  pub complete : (text : List ℕ) → IsAnswer words bytes (Text text) → ¬ ReadRose → ¬ WriteRose → (fault ≡ None) ⊎ (fault ≡ Some run.NoMemory)
+  -- where it is a fault, it is reported, whatever the sink does
+  pub complete_fault : (f : RunFault) → IsAnswer words bytes (Fault f) → ¬ ReadRose → (fault ≡ Some f) ⊎ (fault ≡ Some run.NoMemory)

@@ -1,4 +1,0 @@
-pub mod PickedColumns
-pub mod DifferentPicks
-pub mod KeptColumns
-pub mod SmallSchemas

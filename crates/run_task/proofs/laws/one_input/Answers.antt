@@ -1,5 +1,0 @@
-use Rattle.std.proofs.Common.{◌≡◌, IfSome, subst}
-use Rattle.run_task.proofs.laws.one_input.Goals as goal
-
-pub returns : goal.returns
-returns c = record { alone = λ words left bytes told are is. subst (λ input. IfSome input (λ l. l ≡ bytes)) is are }
