@@ -1,15 +1,16 @@
 //! The texts of faults of arrays: where the node stands, which rule it breaks, and the rule's place and numbers.
-ghost use Rattle.std.specs.Prelude.{Some};
+ghost use Rattle.std.specs.Prelude.{◌≡◌, Some};
 ghost use Rattle.layout_rules.specs.FaultTexts.{rule_text, layout_fault_text};
 
 use crate::rule::{LayoutFault, LayoutRule};
 use std::fmt;
 
-impl fmt::Display for LayoutRule {
-    ghost output = { λ rule. Some (rule_text rule) };
-
-    fn fmt<W: fmt::Write>(&self, f: &mut fmt::Formatter<W>) -> fmt::Result {
-        f.write_str(match self {
+impl LayoutRule {
+    /// The rule's name.
+    pub fn name(self) -> &'static str
+        ensures { result.now ≡ rule_text self }
+    {
+        match self {
             LayoutRule::Released => "Released",
             LayoutRule::NegativeLength => "NegativeLength",
             LayoutRule::NegativeOffset => "NegativeOffset",
@@ -28,7 +29,15 @@ impl fmt::Display for LayoutRule {
             LayoutRule::TopKind => "TopKind",
             LayoutRule::ViewPlace => "ViewPlace",
             LayoutRule::ViewPrefix => "ViewPrefix",
-        })
+        }
+    }
+}
+
+impl fmt::Display for LayoutRule {
+    ghost output = { λ rule. Some (rule_text rule) };
+
+    fn fmt<W: fmt::Write>(&self, f: &mut fmt::Formatter<W>) -> fmt::Result {
+        f.write_str(self.name())
     }
 }
 

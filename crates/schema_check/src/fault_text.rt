@@ -1,16 +1,17 @@
 //! The texts of faults of schemas: where the node stands, and which rule it breaks.
-ghost use Rattle.std.specs.Prelude.{Some};
+ghost use Rattle.std.specs.Prelude.{◌≡◌, Some};
 ghost use Rattle.schema_check.specs.FaultTexts.{schema_rule_text, schema_fault_text};
 
 use crate::rule::SchemaRule;
 use crate::schema::SchemaFault;
 use std::fmt;
 
-impl fmt::Display for SchemaRule {
-    ghost output = { λ rule. Some (schema_rule_text rule) };
-
-    fn fmt<W: fmt::Write>(&self, f: &mut fmt::Formatter<W>) -> fmt::Result {
-        f.write_str(match self {
+impl SchemaRule {
+    /// The rule's name, without the fault that it holds.
+    pub fn name(self) -> &'static str
+        ensures { result.now ≡ schema_rule_text self }
+    {
+        match self {
             SchemaRule::Released => "Released",
             SchemaRule::Format(_) => "Format",
             SchemaRule::Meta(_) => "Meta",
@@ -18,7 +19,15 @@ impl fmt::Display for SchemaRule {
             SchemaRule::DictIndexType => "DictIndexType",
             SchemaRule::MapShape => "MapShape",
             SchemaRule::Deep => "Deep",
-        })
+        }
+    }
+}
+
+impl fmt::Display for SchemaRule {
+    ghost output = { λ rule. Some (schema_rule_text rule) };
+
+    fn fmt<W: fmt::Write>(&self, f: &mut fmt::Formatter<W>) -> fmt::Result {
+        f.write_str(self.name())
     }
 }
 

@@ -1,5 +1,6 @@
 //! Why a text is no stage, and why stages don't fit columns.
 ghost use Rattle.std.specs.Prelude.{◌≡◌};
+ghost use Rattle.stage_model.specs.FaultTexts.{rule_text, stage_fault_text};
 ghost use Rattle.stage_model.specs.declared.fault.PlanFault.TheVariants as plan;
 ghost use Rattle.stage_model.specs.declared.fault.StageFault.TheVariants as stage;
 
@@ -95,31 +96,37 @@ impl<T: Drop> From<AllocFailed<T>> for PlanFault {
     }
 }
 
+impl StageFault {
+    /// What is written of the fault.
+    pub fn text(self) -> &'static str
+        ensures { result.now ≡ stage_fault_text self }
+    {
+        match self {
+            StageFault::UnknownStage => "unknown stage",
+            StageFault::BadArguments => "bad arguments",
+            StageFault::NoMemory => "out of memory",
+        }
+    }
+}
+
 impl fmt::Display for StageFault {
     ghost use Rattle.std.specs.Prelude.{Some};
-    ghost use Rattle.stage_model.specs.FaultTexts.{stage_fault_text};
 
     ghost output = { λ fault. Some (stage_fault_text fault) };
 
     fn fmt<W: fmt::Write>(&self, f: &mut fmt::Formatter<W>) -> fmt::Result {
-        f.write_str(match self {
-            StageFault::UnknownStage => "unknown stage",
-            StageFault::BadArguments => "bad arguments",
-            StageFault::NoMemory => "out of memory",
-        })
+        f.write_str(self.text())
     }
 }
 
 impl std::error::Error for StageFault {}
 
-impl fmt::Display for PlanRule {
-    ghost use Rattle.std.specs.Prelude.{Some};
-    ghost use Rattle.stage_model.specs.FaultTexts.{rule_text};
-
-    ghost output = { λ rule. Some (rule_text rule) };
-
-    fn fmt<W: fmt::Write>(&self, f: &mut fmt::Formatter<W>) -> fmt::Result {
-        f.write_str(match self {
+impl PlanRule {
+    /// What is written of a stage at which the rule fails.
+    pub fn text(self) -> &'static str
+        ensures { result.now ≡ rule_text self }
+    {
+        match self {
             PlanRule::NoColumn => "no such column",
             PlanRule::SameName => "same name twice",
             PlanRule::WrongType => "wrong column type",
@@ -127,7 +134,17 @@ impl fmt::Display for PlanRule {
             PlanRule::NestedOutput => "nested column in the output",
             PlanRule::NoColumns => "no column left",
             PlanRule::TooWide => "too many columns",
-        })
+        }
+    }
+}
+
+impl fmt::Display for PlanRule {
+    ghost use Rattle.std.specs.Prelude.{Some};
+
+    ghost output = { λ rule. Some (rule_text rule) };
+
+    fn fmt<W: fmt::Write>(&self, f: &mut fmt::Formatter<W>) -> fmt::Result {
+        f.write_str(self.text())
     }
 }
 

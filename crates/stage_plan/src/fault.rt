@@ -1,5 +1,6 @@
 //! Why a schema text names no types.
 ghost use Rattle.std.specs.Prelude.{◌≡◌};
+ghost use Rattle.stage_plan.specs.FaultTexts.{rule_text};
 ghost use Rattle.stage_plan.specs.declared.fault.TypesFault.TheVariants.{NoMemory};
 
 use std::alloc::{AllocError, AllocFailed};
@@ -47,17 +48,25 @@ impl<T: Drop> From<AllocFailed<T>> for TypesFault {
     }
 }
 
+impl TypesRule {
+    /// What is written of an entry at which the rule fails.
+    pub fn text(self) -> &'static str
+        ensures { result.now ≡ rule_text self }
+    {
+        match self {
+            TypesRule::BadEntry => "not a column type",
+            TypesRule::Twice => "named before",
+        }
+    }
+}
+
 impl fmt::Display for TypesRule {
     ghost use Rattle.std.specs.Prelude.{Some};
-    ghost use Rattle.stage_plan.specs.FaultTexts.{rule_text};
 
     ghost output = { λ rule. Some (rule_text rule) };
 
     fn fmt<W: fmt::Write>(&self, f: &mut fmt::Formatter<W>) -> fmt::Result {
-        f.write_str(match self {
-            TypesRule::BadEntry => "not a column type",
-            TypesRule::Twice => "named before",
-        })
+        f.write_str(self.text())
     }
 }
 
