@@ -50,7 +50,7 @@ fn item_of<'a>(items: &Col<'a>, storage: Storage, i: u64) -> Item<'a>
 /// Adds an item to a column in the making that takes it, of a text without testing it again. `storage` is how the column's values
 /// are stored. An `Err` comes only where memory runs out; the column is as before then.
 #[inline(always)]
-pub fn push(builder: &mut Builder, storage: Storage, item: Item<'_>) -> Result<(), NoMemory>
+fn push(builder: &mut Builder, storage: Storage, item: Item<'_>) -> Result<(), NoMemory>
     requires { Takes builder.old storage (value_of item) }
     ensures added { OnOk result (Adds (value_of item.entry) builder.old builder.new) }
     ensures kept { OnErr result (Keeps builder.old builder.new) }
@@ -194,7 +194,7 @@ fn push_valid(
 ///
 /// `NoMemory` where there is no memory for it.
 #[inline(always)]
-pub fn push_plain(
+pub(crate) fn push_plain(
     builder: &mut Builder,
     storage: Storage,
     items: &Plain<'_>,

@@ -1,10 +1,10 @@
 //! What a column in the making takes from a chunk, and the array that is made of it.
 //!
-//! What this crate owns: [`push_item`] adds an item of a column to a builder of its type, where it stands, [`push_item_times`]
-//! adds it many times, and [`push`] adds one that the caller has; a text isn't tested again. [`gathered`] fills a builder with
-//! the items of given numbers, in their order, and [`gathered_runs`] with items of runs ([`Run`]), each as often as its run
-//! says. [`built_column`] makes the array of a builder's column, over a dictionary where it holds the indices; where memory
-//! runs out, all is released.
+//! What this crate owns: [`push_item`] adds an item of a column to a builder of its type, where it stands, and
+//! [`push_item_times`] adds it many times; a text isn't tested again. [`gathered`] fills a builder with the items of given
+//! numbers, in their order, and [`gathered_runs`] with items of runs ([`Run`]), each as often as its run says.
+//! [`built_column`] makes the array of a builder's column, over a dictionary where it holds the indices; where memory runs out,
+//! all is released.
 //!
 //! What it promises: the item that the column has then is the one that was read ([`Takes`](../specs/Takes.antt) says which are
 //! taken, [`Gathered`](../specs/Gathered.antt) of which items a column can be made). The array that items are read from stays
@@ -25,7 +25,7 @@ mod runs;
 
 pub use built::built_column;
 pub use flat::{flat_kind, is_flat_column};
-pub use item::{push, push_item, push_item_times, push_plain};
+pub use item::{push_item, push_item_times};
 pub use laws::fitting_values_make_a_lawful_chunk;
 pub use numbers::gathered;
 pub use runs::{Run, gathered_runs};

@@ -8,7 +8,7 @@ ghost use Rattle.data_types.specs.TypedView.{typed_of};
 ghost use Rattle.arr_import.specs.Plain.{storage_in};
 ghost use Rattle.column_fill.specs.Gathered.{CanGather, CanGatherPlaces, shown_at, values_at};
 
-use crate::{push_item, push_plain};
+use crate::item::{push_item, push_plain};
 use arr_import::{Col, Plain};
 use col_build::Builder;
 use data_types::{DataType, Storage, Typed, clone_kind, storage_of};
@@ -43,7 +43,7 @@ fn gathered_items(
 
 /// A builder that holds the items of these numbers of a column that is read by its places, which are stored so.
 #[inline(always)]
-fn gathered_so(
+fn gathered_of_storage(
     alloc: Global,
     kind: &DataType,
     storage: Storage,
@@ -77,22 +77,22 @@ fn gathered_places(
     match items.storage() {
         Storage::Between { wide: false, text } => {
             let stored = Storage::Between { wide: false, text };
-            gathered_so(alloc, kind, stored, items, start, kept)
+            gathered_of_storage(alloc, kind, stored, items, start, kept)
         }
         Storage::Wholes { bits: 32, signed } => {
             let stored = Storage::Wholes { bits: 32, signed };
-            gathered_so(alloc, kind, stored, items, start, kept)
+            gathered_of_storage(alloc, kind, stored, items, start, kept)
         }
         Storage::Wholes { bits: 64, signed } => {
             let stored = Storage::Wholes { bits: 64, signed };
-            gathered_so(alloc, kind, stored, items, start, kept)
+            gathered_of_storage(alloc, kind, stored, items, start, kept)
         }
         Storage::Wholes { bits: 128, signed } => {
             let stored = Storage::Wholes { bits: 128, signed };
-            gathered_so(alloc, kind, stored, items, start, kept)
+            gathered_of_storage(alloc, kind, stored, items, start, kept)
         }
-        Storage::Truths => gathered_so(alloc, kind, Storage::Truths, items, start, kept),
-        stored => gathered_so(alloc, kind, stored, items, start, kept),
+        Storage::Truths => gathered_of_storage(alloc, kind, Storage::Truths, items, start, kept),
+        stored => gathered_of_storage(alloc, kind, stored, items, start, kept),
     }
 }
 

@@ -9,7 +9,7 @@ use Rattle.column_fill.specs.Takes.{Takes}
 use Rattle.column_fill.proofs.ItemsMoved.{one-more}
 use Rattle.column_fill.specs.Gathered.{shown_at}
 use Rattle.column_fill.proofs.Taken.{next-of, takes-one}
-use Rattle.column_fill.proofs.numbers.gathered_so.Goals as goal
+use Rattle.column_fill.proofs.numbers.gathered_of_storage.Goals as goal
 
 pub loop-i-init : goal.loop-i-init
 loop-i-init c = subst (λ (k : DataType). Holds c.in_ok-builder.builder k []) c.in_ok-kind.ensures.same c.in_ok-builder.ensures

@@ -1,7 +1,7 @@
 use Rattle.std.proofs.Common.{take}
 use Rattle.col_build.specs.Holding.{Holds}
 use Rattle.column_fill.specs.Gathered.{shown_at}
-use Rattle.column_fill.proofs.numbers.gathered_so.Given as goal
+use Rattle.column_fill.proofs.numbers.gathered_of_storage.Given as goal
 
 -- the builder holds the items of the numbers so far
 abbrev pub invariant-loop-i : goal.invariant-loop-i
