@@ -6,8 +6,7 @@ use Rattle.std.specs.Io.KnownBytes.{Appends}
 use Rattle.edge_io.specs.Edge.{Rose}
 use Rattle.edge_io.specs.declared.edge.WriteFault.{WriteFault}
 use Rattle.stage_model.specs.FaultTexts.{rule_text, stage_fault_text}
-use Rattle.stage_plan.specs.declared.fault.TypesRule.{TypesRule}
-use Rattle.stage_plan.specs.declared.fault.TypesRule.TheVariants as types
+use Rattle.stage_plan.specs.FaultTexts.{rule_text as entry_text}
 use Rattle.tree_check.specs.FaultTexts.{tree_fault_text}
 use Rattle.unit_pass.specs.declared.pass.Audit.{Audit}
 use Rattle.run_model.specs.FaultTexts.{fault_text as words_text}
@@ -16,15 +15,11 @@ use Rattle.run_model.specs.declared.fault.RunFault.TheVariants as run
 
 -- ---- the lines
 
-abbrev pub entry_text : TypesRule → List ℕ
-entry_text types.BadEntry = codes ": not a column type"
-entry_text types.Twice = codes ": named before"
-
 -- what is written of a fault
 abbrev pub fault_text : RunFault → List ℕ
 fault_text (run.Words fault) = words_text fault
 fault_text (run.Stage number fault) = codes "stage " ++ decimal number ++ codes ": " ++ stage_fault_text fault
-fault_text (run.Schema entry rule) = codes "schema entry " ++ decimal entry ++ entry_text rule
+fault_text (run.Schema entry rule) = codes "schema entry " ++ decimal entry ++ codes ": " ++ entry_text rule
 fault_text (run.Plan number rule) = codes "stage " ++ decimal number ++ codes ": " ++ rule_text rule
 fault_text run.NoHeader = codes "no header"
 fault_text (run.TooManyColumns count) = codes "header has " ++ decimal count ++ codes " columns"

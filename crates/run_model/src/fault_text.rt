@@ -1,13 +1,11 @@
 //! The text of a fault of a run, of which its line on the sink of diagnostics and its `Display` are made.
 ghost use Rattle.std.specs.Prelude.{◌≡◌, ◌++◌, codes, decimal};
-ghost use Rattle.stage_model.specs.FaultTexts.{rule_text, stage_fault_text};
-ghost use Rattle.run_model.specs.Diagnostics.{entry_text, fault_text};
+ghost use Rattle.run_model.specs.Diagnostics.{fault_text};
 ghost use Rattle.run_model.specs.NumberedTexts.{digits_of, numbered_text, message_text};
 
 use crate::WordsFault;
 use crate::fault::RunFault;
 use itoa::Buffer;
-use stage_plan::{PlanRule, StageFault, TypesRule};
 use std::fmt;
 use tree_check::TreeFault;
 
@@ -54,6 +52,19 @@ fn counted(front: &'static str, number: u64, back: &'static str) -> Told
     })
 }
 
+/// A text with a number, and what is wrong there behind it.
+fn explained(front: &'static str, number: u64, why: &'static str) -> Told
+    ensures { message_text result ≡ front.now ++ decimal number ++ codes ": " ++ why.now }
+{
+    Told::Text(NumberedText {
+        front,
+        first: Some(number),
+        middle: ": ",
+        second: None,
+        back: why,
+    })
+}
+
 /// A text with two numbers.
 fn placed(
     front: &'static str,
@@ -86,9 +97,9 @@ pub(crate) fn message_of(fault: RunFault) -> Told
         RunFault::Words(WordsFault::UsedWithSelftest) => {
             plain("words: --selftest takes no stage, no --schema and no --check")
         }
-        RunFault::Stage { stage, rule } => counted("stage ", stage as u64, stage_text(rule)),
-        RunFault::Schema { entry, rule } => counted("schema entry ", entry, entry_text(rule)),
-        RunFault::Plan { stage, rule } => counted("stage ", stage as u64, rule_text(rule)),
+        RunFault::Stage { stage, rule } => explained("stage ", stage as u64, rule.text()),
+        RunFault::Schema { entry, rule } => explained("schema entry ", entry, rule.text()),
+        RunFault::Plan { stage, rule } => explained("stage ", stage as u64, rule.text()),
         RunFault::NoHeader => plain("no header"),
         RunFault::TooManyColumns { count } => counted("header has ", count, " columns"),
         RunFault::HeaderText { column } => {
@@ -111,42 +122,6 @@ pub(crate) fn message_of(fault: RunFault) -> Told
         RunFault::WriteFault { taken } => counted("write failed after ", taken, " bytes"),
         RunFault::Tree(fault) => Told::Tree(fault),
         RunFault::NoMemory => plain("out of memory"),
-    }
-}
-
-/// What is written of a fault of a stage text.
-fn stage_text(fault: StageFault) -> &'static str
-    ensures { result.now ≡ codes ": " ++ stage_fault_text fault }
-{
-    match fault {
-        StageFault::UnknownStage => ": unknown stage",
-        StageFault::BadArguments => ": bad arguments",
-        StageFault::NoMemory => ": out of memory",
-    }
-}
-
-/// What is written of a stage that doesn't fit the columns before it.
-fn rule_text(rule: PlanRule) -> &'static str
-    ensures { result.now ≡ codes ": " ++ rule_text rule }
-{
-    match rule {
-        PlanRule::NoColumn => ": no such column",
-        PlanRule::SameName => ": same name twice",
-        PlanRule::WrongType => ": wrong column type",
-        PlanRule::BadConstant => ": bad constant",
-        PlanRule::NestedOutput => ": nested column in the output",
-        PlanRule::NoColumns => ": no column left",
-        PlanRule::TooWide => ": too many columns",
-    }
-}
-
-/// What is written of a fault of an entry.
-fn entry_text(rule: TypesRule) -> &'static str
-    ensures { result.now ≡ entry_text rule }
-{
-    match rule {
-        TypesRule::BadEntry => ": not a column type",
-        TypesRule::Twice => ": named before",
     }
 }
 

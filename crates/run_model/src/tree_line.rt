@@ -1,5 +1,5 @@
 //! The line of the fault of a tree. The way to a node may be long, so the line is written piece by piece and takes no memory.
-ghost use Rattle.std.specs.Prelude.{◌≡◌, ◌++◌, codes, decimal, flat_map};
+ghost use Rattle.std.specs.Prelude.{◌++◌, codes, decimal, flat_map};
 ghost use Rattle.std.specs.Fmt.{signed_decimal};
 ghost use Rattle.schema_check.specs.FaultTexts.{schema_rule_text};
 ghost use Rattle.data_types.specs.WayTexts.{step_text, way_text};
@@ -13,7 +13,7 @@ use crate::diagnostics::say;
 use data_types::{DICTIONARY_STEP, Path};
 use edge_io::{Sink, WriteFault};
 use itoa::Buffer;
-use layout_rules::{LayoutFault, LayoutRule};
+use layout_rules::LayoutFault;
 use schema_check::SchemaRule;
 use tree_check::TreeFault;
 use tree_text::TextFault;
@@ -54,7 +54,7 @@ fn tell_schema<E: Sink>(errs: &mut E, path: &Path, rule: SchemaRule) -> Result<(
         (line_of (codes "tree " ++ way_text (steps_of path.now) ++ codes ": schema: " ++ schema_rule_text rule)) }
 {
     tell_way(errs, path)?;
-    say(errs, &[": schema: ", schema_rule_name(rule), "\n"])
+    say(errs, &[": schema: ", rule.name(), "\n"])
 }
 
 /// The line of a rule that fails at a node of an array.
@@ -78,7 +78,7 @@ fn tell_numbers<E: Sink>(errs: &mut E, fault: &LayoutFault) -> Result<(), WriteF
     let place = place.format(fault.place);
     let left = left.format(fault.left);
     let right = right.format(fault.right);
-    let rule = rule_name(fault.rule);
+    let rule = fault.rule.name();
     say(
         errs,
         &[": ", rule, " at ", place, ": ", left, ", ", right, "\n"],
@@ -124,46 +124,5 @@ fn tell_step<E: Sink>(errs: &mut E, step: u32) -> Result<(), WriteFault>
         say(errs, &["/d"])
     } else {
         say(errs, &["/", room.format(step)])
-    }
-}
-
-/// The name of a rule of schemas, without the fault that it holds.
-fn schema_rule_name(rule: SchemaRule) -> &'static str
-    ensures { result.now ≡ schema_rule_text rule }
-{
-    match rule {
-        SchemaRule::Released => "Released",
-        SchemaRule::Format(_) => "Format",
-        SchemaRule::Meta(_) => "Meta",
-        SchemaRule::ChildCount => "ChildCount",
-        SchemaRule::DictIndexType => "DictIndexType",
-        SchemaRule::MapShape => "MapShape",
-        SchemaRule::Deep => "Deep",
-    }
-}
-
-/// The name of a rule of arrays.
-fn rule_name(rule: LayoutRule) -> &'static str
-    ensures { result.now ≡ rule_text rule }
-{
-    match rule {
-        LayoutRule::Released => "Released",
-        LayoutRule::NegativeLength => "NegativeLength",
-        LayoutRule::NegativeOffset => "NegativeOffset",
-        LayoutRule::BufferCount => "BufferCount",
-        LayoutRule::ChildCount => "ChildCount",
-        LayoutRule::Dictionary => "Dictionary",
-        LayoutRule::BufferAbsent => "BufferAbsent",
-        LayoutRule::BufferShort => "BufferShort",
-        LayoutRule::OffsetsFall => "OffsetsFall",
-        LayoutRule::ChildShort => "ChildShort",
-        LayoutRule::NullCount => "NullCount",
-        LayoutRule::NotText => "NotText",
-        LayoutRule::IndexRange => "IndexRange",
-        LayoutRule::TopNulls => "TopNulls",
-        LayoutRule::WindowTooLong => "WindowTooLong",
-        LayoutRule::TopKind => "TopKind",
-        LayoutRule::ViewPlace => "ViewPlace",
-        LayoutRule::ViewPrefix => "ViewPrefix",
     }
 }

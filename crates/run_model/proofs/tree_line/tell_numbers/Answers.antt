@@ -12,6 +12,6 @@ returns g c =
     let right : c.format-right.result.now ≡ signed_decimal fault.right = search rules in
     subst (Says c.say.result (g.E.Sink.taken c.args.errs.now) (g.E.Sink.taken c.say.new.errs)
     (g.E.Sink.faults c.args.errs.now) (g.E.Sink.faults c.say.new.errs))
-    (number-pieces (rule_text fault.rule) (decimal fault.place) (signed_decimal fault.left) (signed_decimal fault.right) c.rule_name-rule.result.now
-    c.format-place.result.now c.format-left.result.now c.format-right.result.now c.rule_name-rule.ensures c.format-place.ensures.text
+    (number-pieces (rule_text fault.rule) (decimal fault.place) (signed_decimal fault.left) (signed_decimal fault.right) c.name-rule.result.now
+    c.format-place.result.now c.format-left.result.now c.format-right.result.now c.name-rule.ensures c.format-place.ensures.text
     left right) c.say.ensures

@@ -14,5 +14,5 @@ returns-in_err-tell_way g c =
 pub returns : goal.returns
 returns g c =
     says-both _ _ _ _ _ _ _ _ _ _
-    (schema-line (way_text (steps_of c.args.path.now)) c.schema_rule_name.result.now (schema_rule_text c.args.rule) c.schema_rule_name.ensures)
+    (schema-line (way_text (steps_of c.args.path.now)) c.name.result.now (schema_rule_text c.args.rule) c.name.ensures)
     c.in_ok-tell_way.ensures c.say.ensures
