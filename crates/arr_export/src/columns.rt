@@ -10,10 +10,9 @@ ghost use Rattle.raw_schema.specs.Members.{Nodes, nodes_of_all};
 ghost use Rattle.schema_check.specs.ColumnSchema.{KindsOk, column_schema, node, struct_format, values_schema};
 ghost use Rattle.arr_export.specs.CodeSchema.{ColumnsOk, code_schema, code_schemas};
 
-use arr_move::built_schema;
 use data_types::{ColKind, ColumnType, DataType};
 use fmt_string::write_format;
-use raw_schema::{RawSchema, SchemaParts, release_all};
+use raw_schema::{RawSchema, SchemaParts, built_schema, release_all};
 use std::alloc::Global;
 use unit_pass::{CHUNK, Name, NoMemory, Pass};
 

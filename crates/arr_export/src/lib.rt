@@ -6,8 +6,6 @@
 //! byte. A column that came back where memory runs out is let go by [`let_go_column`]. The trees belong to the caller, who releases them; their units and nodes are counted in the
 //! pass.
 //!
-//! [`built_array`] makes any array of its parts, and releases them where memory runs out.
-//!
 //! The laws say what the arrays mean to `layout_check`: a column is lawful and has the values that it was made of
 //! ([`encoded_columns_are_lawful`]), also through a dictionary ([`indexed_columns_are_lawful`]), and a table of lawful
 //! columns is a chunk whose rows are the columns' items ([`lawful_columns_make_a_chunk`]); so for values that are made a
@@ -16,7 +14,6 @@
 //! Which columns there are, and how their values come into buffers, are left to others.
 #![tactic(auto)]
 
-mod built;
 mod column_array;
 mod columns;
 mod laws;
@@ -26,7 +23,6 @@ mod table_array;
 mod types;
 mod worked;
 
-pub use built::built_array;
 pub use column_array::{export_column, let_go_column};
 pub use laws::{
     columns_of_values_make_a_chunk, encoded_columns_are_lawful, indexed_columns_are_lawful,

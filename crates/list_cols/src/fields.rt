@@ -8,8 +8,8 @@ ghost use Rattle.unit_pass.specs.Tally.{risen};
 ghost use Rattle.unit_pass.specs.declared.pass.TheConstants.{SUPPLY};
 ghost use Rattle.list_cols.specs.Fields.{exploded_schema, item_field, renamed_field};
 
-use arr_move::{built_schema, with_fields};
-use raw_schema::{RawSchema, SchemaParts};
+use arr_move::with_fields;
+use raw_schema::{RawSchema, SchemaParts, built_schema};
 use std::alloc::Global;
 use unit_pass::{NoMemory, Pass, SUPPLY};
 

@@ -13,7 +13,6 @@ ghost use Rattle.data_types.specs.KindTrees.{TypedOk};
 ghost use Rattle.data_types.specs.TypedView.{kind_of, typed_of};
 ghost use Rattle.layout_rules.specs.Layout.{natural};
 ghost use Rattle.raw_array.specs.Members.{Cost};
-ghost use Rattle.raw_array.specs.Parts.{tree_of_parts};
 ghost use Rattle.raw_array.specs.View.{buffers_of};
 ghost use Rattle.tree_model.specs.Tree.{Depth, Live, absent, trees};
 ghost use Rattle.unit_pass.specs.Tally.{risen};
@@ -22,10 +21,10 @@ ghost use Rattle.list_cols.specs.ListTrees.{list_members, list_tree};
 ghost use Rattle.list_cols.specs.NestedGroups.{AreGroups, HasItems, grouped_lists};
 
 use array_laws::lawful_values_fit;
-use buf_block::{BufView, let_go_all, make};
+use buf_block::{BufView, make};
 use column_fill::{built_column, gathered};
 use data_types::Typed;
-use raw_array::{ArrayParts, RawArray, ReleaseKind, release_all};
+use raw_array::{ArrayParts, RawArray, ReleaseKind, built_array, release_all};
 use row_groups::Groups;
 use std::alloc::Global;
 use unit_pass::{NoMemory, Pass, SUPPLY};
@@ -89,49 +88,6 @@ pub(crate) fn one_child(
     };
     children.push_reserved(child);
     Ok(children)
-}
-
-/// Releases what an array was to be made of.
-fn end_parts(parts: ArrayParts, pass: &mut Pass)
-    requires { pass.old.units + Cost (tree_of_parts parts) ≤ SUPPLY + 1 }
-    ensures units { pass.new.units + 1 ≡ pass.old.units + Cost (tree_of_parts parts) }
-{
-    let ArrayParts {
-        length: _,
-        null_count: _,
-        offset: _,
-        buffers,
-        children,
-        dictionary,
-        kind: _,
-    } = parts;
-    let_go_all(buffers, pass);
-    release_all(children, pass);
-    match dictionary {
-        None => {}
-        Some(tree) => tree.end(pass),
-    }
-}
-
-/// A live array of these parts. Where memory runs out they are released.
-fn built_array(alloc: Global, parts: ArrayParts, pass: &mut Pass) -> Result<RawArray, NoMemory>
-    requires unit { 1 ≤ pass.old.units }
-    requires room { pass.old.units + Cost (tree_of_parts parts) ≤ SUPPLY + 1 }
-    requires few_buffers { length parts.buffers.items < 2 ^ 32 - 1 }
-    requires few_children { length parts.children.items < 2 ^ 32 - 1 }
-    requires not_deep { Depth (tree_of_parts parts) ≤ 128 }
-    ensures tree { IfOk result (λ tree. tree ≡ tree_of_parts parts) }
-    ensures units { pass.new.units + 1 ≡ pass.old.units + (if is_ok result then 0 else Cost (tree_of_parts parts)) }
-    ensures blocks { OnOk result (pass.new.blocks ≡ pass.old.blocks) }
-    ensures nodes { OnOk result (pass.new.nodes ≡ risen pass.old.nodes 1) }
-{
-    match RawArray::build(alloc, parts, pass) {
-        Ok(tree) => Ok(tree),
-        Err((parts, NoMemory)) => {
-            end_parts(parts, pass);
-            Err(NoMemory)
-        }
-    }
 }
 
 /// This many lists, none of them null, of an array's items between these offsets. Where memory runs out the array is released.

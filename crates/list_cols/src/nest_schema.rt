@@ -7,8 +7,8 @@ ghost use Rattle.unit_pass.specs.declared.pass.TheConstants.{SUPPLY};
 ghost use Rattle.list_cols.specs.NestedFields.{list_field, nested_schema, new_field};
 
 use crate::fields::{NULLABLE, copied, one_field, renamed_field};
-use arr_move::{built_schema, with_fields};
-use raw_schema::{RawSchema, SchemaParts, release_all};
+use arr_move::with_fields;
+use raw_schema::{RawSchema, SchemaParts, built_schema, release_all};
 use std::alloc::Global;
 use unit_pass::{NoMemory, Pass, SUPPLY};
 

@@ -12,13 +12,11 @@ ghost use Rattle.run_ends.specs.RunCoding.{Run, end_kind, end_of, ends_schema, o
 ghost use Rattle.run_ends.specs.RunMaking.{HoldsRuns};
 
 use crate::encoder::Making;
-use arr_export::built_array;
-use arr_move::built_schema;
 use column_fill::built_column;
 use data_types::DataType;
 use fmt_string::write_format;
-use raw_array::{ArrayParts, RawArray, ReleaseKind};
-use raw_schema::{RawSchema, SchemaParts};
+use raw_array::{ArrayParts, RawArray, ReleaseKind, built_array};
+use raw_schema::{RawSchema, SchemaParts, built_schema};
 use std::alloc::Global;
 use unit_pass::{NoMemory, Pass, SUPPLY};
 

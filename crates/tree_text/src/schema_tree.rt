@@ -10,8 +10,7 @@ ghost use Rattle.tree_text.specs.LineView.{schema_own, schema_told};
 use crate::cursor::Cursor;
 use crate::fault::TextFault;
 use crate::node_line::{DEEPEST_LEVEL, SchemaLine, SchemaNodeLine, schema_line};
-use arr_move::built_schema;
-use raw_schema::{RawSchema, SchemaParts, release_all};
+use raw_schema::{RawSchema, SchemaParts, built_schema, release_all};
 use std::alloc::Global;
 use unit_pass::{NoMemory, Pass, SUPPLY};
 

@@ -11,12 +11,10 @@ ghost use Rattle.union_cols.specs.TagViews.{starts_in, union_members};
 ghost use Rattle.fmt_string.specs.FormatString.{comma};
 ghost use Rattle.union_cols.specs.UnionFormats.{keyword as keyword_is};
 
-use arr_export::built_array;
-use arr_move::built_schema;
 use buf_block::{BufView, let_go_all, make};
 use itoa::Buffer;
-use raw_array::{ArrayParts, RawArray, ReleaseKind};
-use raw_schema::{RawSchema, SchemaParts};
+use raw_array::{ArrayParts, RawArray, ReleaseKind, built_array};
+use raw_schema::{RawSchema, SchemaParts, built_schema};
 use std::alloc::Global;
 use unit_pass::{NoMemory, Pass, SUPPLY};
 

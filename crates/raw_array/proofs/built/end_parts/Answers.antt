@@ -2,7 +2,7 @@ use Rattle.std.proofs.Common.{ap, arith}
 use Rattle.tree_model.specs.Tree.{maybe_tree}
 use Rattle.raw_array.specs.Members.{cost_of_maybe}
 use Rattle.raw_array.proofs.Buffers.{holds_of-count}
-use Rattle.list_cols.proofs.nest_lists.end_parts.Goals as goal
+use Rattle.raw_array.proofs.built.end_parts.Goals as goal
 
 pub let_go_all-requires : goal.let_go_all-requires
 let_go_all-requires c = omega (arith, c.requires, holds_of-count c.args.parts.buffers.items)
@@ -21,25 +21,23 @@ end-requires c =
       ap (λ d. cost_of_maybe (maybe_tree d)) c.in-Some.is,
     )
 
-pub returns-in-None : goal.returns-in-None
-returns-in-None c = record {
-  units = omega (
-    arith,
-    holds_of-count c.args.parts.buffers.items,
-    c.let_go_all.ensures.units,
-    c.release_all.ensures.units,
-    ap (λ d. cost_of_maybe (maybe_tree d)) c.in-None.is,
-  );
-}
+pub returns-in-None-clause-units : goal.returns-in-None-clause-units
+returns-in-None-clause-units c =
+    omega (
+      arith,
+      holds_of-count c.args.parts.buffers.items,
+      c.let_go_all.ensures.units,
+      c.release_all.ensures.units,
+      ap (λ d. cost_of_maybe (maybe_tree d)) c.in-None.is,
+    )
 
-pub returns-in-Some : goal.returns-in-Some
-returns-in-Some c = record {
-  units = omega (
-    arith,
-    holds_of-count c.args.parts.buffers.items,
-    c.let_go_all.ensures.units,
-    c.release_all.ensures.units,
-    c.end.ensures.units,
-    ap (λ d. cost_of_maybe (maybe_tree d)) c.in-Some.is,
-  );
-}
+pub returns-in-Some-clause-units : goal.returns-in-Some-clause-units
+returns-in-Some-clause-units c =
+    omega (
+      arith,
+      holds_of-count c.args.parts.buffers.items,
+      c.let_go_all.ensures.units,
+      c.release_all.ensures.units,
+      c.end.ensures.units,
+      ap (λ d. cost_of_maybe (maybe_tree d)) c.in-Some.is,
+    )

@@ -1,17 +1,17 @@
-//! Arrays that are made of their parts, or of which nothing is left.
+//! Structures that are made of their parts, or of which nothing is left.
 ghost use Rattle.std.specs.Prelude.{◌≡◌, ◌+◌, ◌-◌, ◌^◌, ◌<◌, ◌≤◌, length, if◌then◌else◌, is_ok, IfOk, OnOk};
 ghost use Rattle.unit_pass.specs.Tally.{risen};
-ghost use Rattle.unit_pass.specs.declared.pass.TheConstants.{SUPPLY};
 ghost use Rattle.tree_model.specs.Tree.{Depth};
 ghost use Rattle.raw_array.specs.Members.{Cost};
 ghost use Rattle.raw_array.specs.Parts.{tree_of_parts};
 
+use crate::array::{ArrayParts, RawArray};
+use crate::release::release_all;
 use buf_block::let_go_all;
-use raw_array::{ArrayParts, RawArray, release_all};
 use std::alloc::Global;
 use unit_pass::{NoMemory, Pass, SUPPLY};
 
-/// Releases what an array was to be made of.
+/// Releases what a structure was to be made of.
 fn end_parts(parts: ArrayParts, pass: &mut Pass)
     requires { pass.old.units + Cost (tree_of_parts parts) ≤ SUPPLY + 1 }
     ensures units { pass.new.units + 1 ≡ pass.old.units + Cost (tree_of_parts parts) }
@@ -34,7 +34,8 @@ fn end_parts(parts: ArrayParts, pass: &mut Pass)
     }
 }
 
-/// A live array of these parts, which draws a unit and counts a node. Where memory runs out the parts are released.
+/// A live structure of these parts, as [`RawArray::build`] makes it: it draws a unit and counts a node. Where memory runs out the
+/// parts are released.
 pub fn built_array(alloc: Global, parts: ArrayParts, pass: &mut Pass) -> Result<RawArray, NoMemory>
     requires unit { 1 ≤ pass.old.units }
     requires room { pass.old.units + Cost (tree_of_parts parts) ≤ SUPPLY + 1 }
