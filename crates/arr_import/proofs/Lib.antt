@@ -1,3 +1,4 @@
 pub mod Reading
 pub mod Accesses
 pub mod PlainColumns
+pub mod WholeRows

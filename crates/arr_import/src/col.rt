@@ -44,8 +44,8 @@ pub struct Col<'a> {
     ghost text_is: { text.now ≡ bytes (members_of array.now) 2 },
 }
 
-/// The validity bits, where there are some.
-fn validity_of(array: &RawArray) -> Option<&[u8]>
+/// The validity bits of an array, where there are some.
+pub fn validity_of(array: &RawArray) -> Option<&[u8]>
     requires { IsLive array.now }
     ensures { lent_bytes result ≡ buffer (members_of array.now) 0 }
 {
@@ -56,8 +56,8 @@ fn validity_of(array: &RawArray) -> Option<&[u8]>
     }
 }
 
-/// The bytes of a buffer, and none where it is absent or the layout has none.
-pub(crate) fn buffer_bytes(array: &RawArray, k: usize) -> &[u8]
+/// The bytes of a buffer, and none where it is absent or there is none of that number.
+pub fn buffer_bytes(array: &RawArray, k: usize) -> &[u8]
     requires live { IsLive array.now }
     requires small { k < 2 ^ 63 }
     ensures { result.now ≡ bytes (members_of array.now) k }

@@ -3,7 +3,7 @@
 //! - [`Col`] is a column: a window over the items of an array. [`Col::value`] shows an item: a null, a number, bytes that
 //!   are lent from the block, a list as the column of its items, or that it is a struct. [`Col::truth`], [`Col::whole`],
 //!   [`Col::bits`] and [`Col::bytes`] show the items of one kind alone, at less cost. [`Col::child`] is a struct's
-//!   child over the struct's window. [`Col::home`] follows an item through its dictionaries.
+//!   child over the struct's window, and [`Col::columns`] has all of them. [`Col::home`] follows an item through its dictionaries.
 //! - [`Col::plain`] settles once how a column is stored, where its items stand in place or between offsets and no dictionary
 //!   behind them, so that an item costs its validity bit and the read alone ([`Plain`]). [`Col::indexed`] finds the dictionary
 //!   of indices once.
@@ -12,7 +12,7 @@
 //! item is stands in `layout_rules`'s `specs/Values.antt`; what a reference shows, in `specs/Shown.antt`. A plain column is
 //! seen as this many items, each by its number (`specs/Plain.antt`).
 //!
-//! Nothing here takes memory, writes or copies bytes. A column looks its buffers up once, so
+//! Nothing here but [`Col::columns`] takes memory, and nothing writes or copies bytes. A column looks its buffers up once, so
 //! that a text costs a bit, two offsets and a slice, whatever the length of the column; a list's items, and a dictionary
 //! but for [`Indexed`], are columns that are made anew for each item that is read. Left to others: whether an array is lawful
 //! (`layout_check`), and taking in a schema and an array together (`tree_import`).
@@ -31,7 +31,8 @@ mod value;
 mod value_ref;
 mod view;
 
-pub use col::Col;
+pub use col::{Col, buffer_bytes, validity_of};
 pub use indexed::Indexed;
 pub use plain::Plain;
+pub use stored::{start_at, truth_at, whole_at};
 pub use value_ref::ValueRef;

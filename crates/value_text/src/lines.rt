@@ -11,7 +11,7 @@ ghost use Rattle.data_types.specs.ValueTexts.{lines_text, text_limit, value_line
 
 use crate::bounded::BoundedText;
 use crate::measure::{has_indexed_lists, is_too_long};
-use crate::table::{columns_of, is_table, push_rows};
+use crate::table::{is_table, push_rows};
 use crate::value::{count_items, push_value};
 use arr_import::Col;
 use data_types::Typed;
@@ -52,7 +52,7 @@ fn push_items(
     let count = count_items(col);
     text.has_room(count * 2)?;
     if is_table(typed) && col.n_children() as u64 <= count {
-        let columns = columns_of(alloc, col)?;
+        let columns = col.columns(alloc)?;
         return push_rows(text, col, &columns);
     }
     push_lines(text, col)

@@ -1,64 +1,27 @@
 //! Where the parts of an item stand: its index, the items of a list, the fields of a struct, and how long the text is that they make.
-ghost use Rattle.std.specs.Prelude.{◌≡◌, ◌==◌, ◌+◌, ◌-◌, ◌*◌, ◌/◌, ◌^◌, ◌<◌, ◌≤◌, ◌≤ℤ◌, ℕ, pos, true, false, IsTrue, IfSome, IfNone, None, Some, length, get_or};
-ghost use Rattle.data_types.specs.Packed.{IsWidth, bit, meant, number_at, offset_width};
+ghost use Rattle.std.specs.Prelude.{◌≡◌, ◌+◌, ◌-◌, ◌*◌, ◌/◌, ◌^◌, ◌<◌, ◌≤◌, ◌≤ℤ◌, ℕ, pos, true, false, IfSome, IfNone, None, Some, length, get_or};
 ghost use Rattle.data_types.specs.Storage.{storage_of as storage_is};
 ghost use Rattle.data_types.specs.Value.{values};
 ghost use Rattle.data_types.specs.Value.Value.{Fields, Items, Null};
 ghost use Rattle.data_types.specs.declared.storage.Storage.TheVariants as storages;
-ghost use Rattle.tree_model.specs.Tree.{Released, IsLive, child_at, children_of, dictionary_of, trees};
+ghost use Rattle.tree_model.specs.Tree.{Released, child_at, children_of, dictionary_of, trees};
 ghost use Rattle.raw_array.specs.Members.{members_of};
 ghost use Rattle.data_types.specs.declared.typed.Typed.{out-Typed};
 ghost use Rattle.data_types.specs.KindTrees.{NodesOk};
 ghost use Rattle.data_types.specs.TypedView.{typed_of, kind_of, kids_of, dict_in};
-ghost use Rattle.layout_rules.specs.Layout.{buffer, bytes, first, is_valid as is_valid_at, natural, offset_in, stored_number};
+ghost use Rattle.layout_rules.specs.Layout.{bytes, first, is_valid as is_valid_at, natural, stored_number};
 ghost use Rattle.layout_rules.specs.Values.{child_item, each, listed, readers, row_items, tree_items, value_at};
 ghost use Rattle.layout_rules.specs.Walk.{LayoutOk};
-ghost use Rattle.arr_import.specs.Lent.{lent_bytes};
 ghost use Rattle.arr_import.specs.StoredItems.{AreItemsThere, IsIndexThere, IsListStorage, IsThere};
 ghost use Rattle.arr_import.specs.Window.{index_at as index_in};
 ghost use Rattle.layout_rules.specs.Rules.{window_limit};
 ghost use Rattle.value_text.specs.Lengths.{AreKidLengths, IsNested, IsNestedAt, text_length};
 
 use crate::lengths::{list_length, row_length};
-use bit_pack::{bit_at, int_at, offset_at};
+use arr_import::{buffer_bytes, start_at, truth_at, validity_of, whole_at};
 use data_types::{Storage, Typed, kinds_of_typed, storage_of};
 use layout_rules::{lawful_items_lie_within, lawful_parts, lawful_root};
 use raw_array::RawArray;
-
-/// The bytes of the buffer behind validity.
-fn stored_in(array: &RawArray) -> &[u8]
-    requires { IsLive array.now }
-    ensures { result.now ≡ bytes (members_of array.now) 1 }
-{
-    if array.n_buffers() > 1 {
-        match array.buffer(1) {
-            Some(bytes) => bytes,
-            None => &[],
-        }
-    } else {
-        &[]
-    }
-}
-
-/// The offset at a place.
-fn start_at(wide: bool, offsets: &[u8], place: u64) -> u64
-    requires there { (place + 1) * offset_width wide ≤ length offsets.now }
-    requires from { pos 0 ≤ℤ offset_in wide offsets.now place }
-    ensures { result ≡ natural (offset_in wide offsets.now place) }
-{
-    offset_at(offsets, place as usize, wide) as u64
-}
-
-/// The whole number at a place.
-fn whole_at(stored: &[u8], place: u64, width: u8, signed: bool) -> i128
-    requires width { IsWidth width }
-    requires widest { width ≡ 16 → IsTrue signed }
-    requires within { (place + 1) * width ≤ length stored.now }
-    ensures { result ≡ meant width signed (number_at stored.now (place * width) width) }
-{
-    let width = usize::from(width);
-    int_at(stored, place as usize * width, width, signed)
-}
 
 /// The place of an item in the buffers.
 fn place_of(typed: &Typed, array: &RawArray, i: u64) -> u64
@@ -112,7 +75,7 @@ pub(crate) fn list_at(wide: bool, typed: &Typed, array: &RawArray, kids: &[Vec<u
     item_is_there(typed, array, i);
     items_are_there(typed, array, i);
     let place = place_of(typed, array, i);
-    let offsets = stored_in(array);
+    let offsets = buffer_bytes(array, 1);
     let here = start_at(wide, offsets, place) as usize;
     let next = start_at(wide, offsets, place + 1) as usize;
     list_length(&kids[0], here, next - here)
@@ -184,25 +147,6 @@ pub(crate) fn nested_is(typed: &Typed, array: &RawArray, i: u64)
     lawful_root(typed, array);
 }
 
-/// The validity bits, where there are some.
-fn validity_of(array: &RawArray) -> Option<&[u8]>
-    requires { IsLive array.now }
-    ensures { lent_bytes result ≡ buffer (members_of array.now) 0 }
-{
-    if array.n_buffers() > 0 {
-        array.buffer(0)
-    } else {
-        None
-    }
-}
-
-fn is_set(bits: &[u8], place: u64) -> bool
-    requires { place < 8 * length bits.now }
-    ensures { result ≡ (bit bits.now place == 1) }
-{
-    bit_at(bits, place as usize)
-}
-
 /// Whether an item's own validity bit isn't clear.
 fn is_valid(typed: &Typed, array: &RawArray, i: u64) -> bool
     requires lawful { LayoutOk (typed_of typed.now) array.now }
@@ -211,7 +155,7 @@ fn is_valid(typed: &Typed, array: &RawArray, i: u64) -> bool
 {
     lawful_root(typed, array);
     match validity_of(array) {
-        Some(bits) => is_set(bits, place_of(typed, array, i)),
+        Some(bits) => truth_at(bits, place_of(typed, array, i)),
         None => true,
     }
 }
@@ -307,7 +251,7 @@ fn index_of(bits: u8, signed: bool, typed: &Typed, array: &RawArray, i: u64) -> 
 {
     item_is_there(typed, array, i);
     let index = whole_at(
-        stored_in(array),
+        buffer_bytes(array, 1),
         place_of(typed, array, i),
         bits / 8,
         signed,

@@ -1,5 +1,5 @@
 //! The rows of a struct column, the columns of whose fields are looked up once.
-ghost use Rattle.std.specs.Prelude.{◌≡◌, None, true, ◌+◌, ◌<◌, ◌++◌, ◌^◌, ℕ, All, IfOk, OnOk, get_or, length, map};
+ghost use Rattle.std.specs.Prelude.{◌≡◌, None, true, ◌+◌, ◌<◌, ◌++◌, ◌^◌, ℕ, All, OnOk, get_or, length, map};
 ghost use Rattle.std.specs.List.{flat_map};
 ghost use Rattle.data_types.specs.Value.{values};
 ghost use Rattle.data_types.specs.Value.Value.{Fields};
@@ -15,7 +15,6 @@ use crate::bounded::BoundedText;
 use crate::value::{count_items, number, push_part, push_value};
 use arr_import::{Col, ValueRef};
 use data_types::{DataType, Typed, kinds_of_typed};
-use std::alloc::Global;
 use unit_pass::NoMemory;
 
 /// Whether the items of a column of these kinds are rows of its own children: a struct without a dictionary.
@@ -28,21 +27,6 @@ pub(crate) fn is_table(typed: &Typed) -> bool
         DataType::Struct => typed.dict.is_none(),
         _ => false,
     }
-}
-
-/// The columns of a struct's fields, over its window.
-pub(crate) fn columns_of<'a>(alloc: Global, table: &Col<'a>) -> Result<Vec<Col<'a>>, NoMemory>
-    requires { IsStruct (window_of table.now).typed }
-    ensures rows { IfOk result (λ columns. (i : ℕ) → map (λ c. item_at (window_of c) i) columns.items
-        ≡ row_items (window_of table.now).typed (window_of table.now).array ((window_of table.now).start + i)) }
-    ensures counts { IfOk result (λ columns. All (λ c. (window_of c).count ≡ (window_of table.now).count) columns.items) }
-{
-    table.rows_are_whole();
-    let mut columns = Vec::new(alloc);
-    for k in 0..table.n_children() {
-        columns.push(table.child(k))?;
-    }
-    Ok(columns)
 }
 
 /// Appends the text of a struct of item `i` of each of these columns.

@@ -3,12 +3,12 @@ use Rattle.std.specs.List.{All}
 use Rattle.layout_rules.specs.Values.{row_items}
 use Rattle.arr_import.specs.Cols.{window_of}
 use Rattle.arr_import.specs.Window.{item_at}
-use Rattle.value_text.proofs.table.columns_of.Given as goal
+use Rattle.arr_import.proofs.col.Col.columns.Given as goal
 
--- the columns so far have the first fields of each row, and the items of the table
+-- the columns so far have the first fields of each row, and the items of the struct
 abbrev pub invariant-loop-k : goal.invariant-loop-k
 invariant-loop-k l = record {
   rows : (i : ℕ) → map (λ c. item_at (window_of c) i) l.columns.items
-      ≡ take l.k (row_items (window_of l.table).typed (window_of l.table).array ((window_of l.table).start + i));
-  counts : All (λ c. (window_of c).count ≡ (window_of l.table).count) l.columns.items;
+      ≡ take l.k (row_items (window_of l.self).typed (window_of l.self).array ((window_of l.self).start + i));
+  counts : All (λ c. (window_of c).count ≡ (window_of l.self).count) l.columns.items;
 }
