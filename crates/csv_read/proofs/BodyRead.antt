@@ -1,8 +1,7 @@
 -- Reading the records of a text into the columns of a body.
-use Rattle.std.proofs.Common.{◌≡◌, ◌≤◌, ◌<◌, ◌+◌, ◌^◌, ◌++◌, ◌∙◌, ℕ, zero, suc, List, [], ◌∷◌, length, map, take, drop, get_or, Result, Ok, Err, refl, sym, ap}
+use Rattle.std.proofs.Common.{◌≡◌, ◌≤◌, ◌<◌, ◌+◌, ◌^◌, ◌++◌, ◌∙◌, ℕ, zero, suc, List, [], ◌∷◌, length, take, drop, get_or, Result, Ok, Err, refl, sym, ap}
 use Rattle.std.proofs.Common.{subst, arith, inl, inr, length-append, append_assoc, append-nil}
 use Rattle.std.proofs.lemmas.List.{map-append, take-append-drop}
-use Rattle.std.proofs.lemmas.List.Folds.{concat-append}
 use Rattle.std.specs.List.{concat}
 use Rattle.col_build.specs.declared.builder.Builder.{Builder}
 use Rattle.data_types.specs.Table.{Column, Kind, Row}
@@ -19,6 +18,7 @@ use Rattle.field_codec.specs.declared.form.FieldForm.{FieldForm}
 use Rattle.field_codec.specs.declared.form.FieldForm.TheVariants.{Truths}
 use Rattle.csv_read.proofs.Bodies.{few-taken, none-before, refused, rows-count}
 use Rattle.csv_read.proofs.Widths.{widths-from}
+use Rattle.col_build.proofs.FitsFacts.{total-push}
 
 -- ---- sizes
 
@@ -28,14 +28,6 @@ field-short [] zero = omega arith
 field-short [] (suc j) = omega arith
 field-short (f ∷ fields) zero = omega (arith, length-append f (concat fields))
 field-short (f ∷ fields) (suc j) = omega (arith, field-short fields j, length-append f (concat fields))
-
--- one more value
-total-push : (values : List Value) (value : Value) → byte_total (values ++ value ∷ []) ≡ byte_total values + length (bytes_of value)
-total-push values value =
-    let joined : concat (map bytes_of (values ++ value ∷ [])) ≡ concat (map bytes_of values) ++ (bytes_of value ++ []) =
-    ap concat (map-append bytes_of values (value ∷ [])) ∙ concat-append (map bytes_of values) (bytes_of value ∷ []) in
-    ap length joined ∙ length-append (concat (map bytes_of values)) (bytes_of value ++ [])
-    ∙ ap (λ (xs : List ℕ). length (concat (map bytes_of values)) + length xs) (append-nil (bytes_of value))
 
 column-push : (j : ℕ) (rows : List Row) (values : Row)
     → byte_total (column_values j (rows ++ values ∷ [])) ≡ byte_total (column_values j rows) + length (bytes_of (get_or values j Null))

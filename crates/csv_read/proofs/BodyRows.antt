@@ -28,6 +28,7 @@ use Rattle.csv_read.specs.declared.body.BodyFault.{BodyFault}
 use Rattle.csv_read.specs.declared.body_columns.BodyColumns.{BodyColumns}
 use Rattle.field_codec.specs.declared.form.FieldForm.{FieldForm}
 use Rattle.field_codec.specs.declared.form.FieldForm.TheVariants.{Truths}
+use Rattle.stage_plan.proofs.Twice.{rest-cons}
 
 -- a column, where one has to be named
 abbrev no_column : Column
@@ -134,11 +135,6 @@ field-room forms builders fields room j f b within =
     }
 
 -- ---- the values of a record's fields
--- the fields from a place on are the one there and those behind it
-split : {X : Type 0} (xs : List X) (j : ℕ) (d : X) → j < length xs → drop j xs ≡ get_or xs j d ∷ drop (j + 1) xs
-split [] j d within = absurd (omega arith)
-split (x ∷ xs) zero d within = refl
-split (x ∷ xs) (suc j) d within = let next : suc j + 1 ≡ suc (j + 1) = omega arith in rw next (split xs j d (omega arith))
 
 field-value : (mark : List ℕ) (k : Kind) (kind : DataType) (text : List ℕ) → k ≡ Flat kind → field_in mark k text ≡ read_field mark kind text
 field-value mark k kind text is = subst (λ (x : Kind). field_in mark x text ≡ read_field mark kind text) (sym is) refl
@@ -153,7 +149,7 @@ values-at mark number columns fields j c kind answer within there flat reads =
     let here : field_in mark (get_or columns j c).kind (get_or fields j []) ≡ answer =
     field-value mark (get_or columns j c).kind kind (get_or fields j []) flat ∙ reads in
     let next : 1 + j + 1 ≡ 1 + (j + 1) = omega arith in
-    rw (split columns j c within, split fields j [] there, here, next) refl
+    rw (rest-cons columns j c within, rest-cons fields j [] there, here, next) refl
 
 with-none : (spelled : Result Row RowFault) → with_values [] spelled ≡ spelled
 with-none (Ok values) = refl

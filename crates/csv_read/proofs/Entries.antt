@@ -5,7 +5,7 @@ use Rattle.std.specs.List.{find}
 use Rattle.std.specs.Str.{bytes_eq}
 use Rattle.csv_model.specs.Header.{first_unknown, is_among, kind_or_text, type_for}
 use Rattle.stage_plan.specs.declared.types.TypeEntry.{TypeEntry}
-use Rattle.csv_read.specs.Entries.{has_text}
+use Rattle.stage_plan.specs.PlanWords.{has_text}
 use Rattle.stage_plan.specs.Entries.{entries_of, entry_of}
 use Rattle.csv_read.proofs.Remaining.{find-of-map, position-of-map, position-same}
 

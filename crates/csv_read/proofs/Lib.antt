@@ -1,5 +1,4 @@
 pub mod Remaining
-pub mod Twice
 pub mod RecordReading
 pub mod RecordSizes
 pub mod Fields

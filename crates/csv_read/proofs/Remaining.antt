@@ -1,14 +1,10 @@
 -- Searches that have come as far as a place: what they find is what they find in the rest.
-use Rattle.std.proofs.Common.{◌≡◌, ◌<◌, ◌≤◌, ◌+◌, ◌∙◌, ℕ, suc, Bool, true, false, cond, List, [], ◌∷◌, length, map, drop, get_or, position, Option, Some, None}
-use Rattle.std.proofs.Common.{option_map, refl, sym, ap, arith, drop-cons}
+use Rattle.std.proofs.Common.{◌≡◌, ◌<◌, ◌≤◌, ◌+◌, ◌∙◌, ℕ, Bool, true, false, cond, List, [], ◌∷◌, length, map, drop, get_or, position, Option, Some, None}
+use Rattle.std.proofs.Common.{option_map, refl, sym, ap}
 use Rattle.std.proofs.lemmas.Iterator.Adapters.{position_from-zero}
 use Rattle.std.proofs.lemmas.List.{drop_all}
 use Rattle.std.specs.List.{find, position_from}
-
-pub rest-cons : {A : Type 0} (xs : List A) (i : ℕ) (d : A) → i < length xs → drop i xs ≡ get_or xs i d ∷ drop (i + 1) xs
-rest-cons xs i d within =
-    let next : suc i ≡ i + 1 = omega arith in
-    drop-cons xs i d within ∙ ap (λ n. get_or xs i d ∷ drop n xs) next
+use Rattle.stage_plan.proofs.Twice.{rest-cons}
 
 position-map : {A B : Type 0} (f : A → B) (p : B → Bool) (n : ℕ) (xs : List A) → position_from p n (map f xs) ≡ position_from (λ a. p (f a)) n xs
 position-map f p n [] = refl

@@ -1,7 +1,6 @@
 pub mod Body
 pub mod ColumnForms
 pub mod BodyRows
-pub mod Entries
 pub mod RecordReader
 pub mod StoredRows
 pub mod Chunks

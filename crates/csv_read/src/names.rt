@@ -1,12 +1,12 @@
 //! The names of columns: that they are text, that none is there twice, and that entries know them.
-ghost use Rattle.std.specs.Prelude.{◌≡◌, ◌≢◌, ◌≤◌, ◌<◌, ℕ, List, [], map, length, IfOk, IfErr, OnOk, IfSome, None, Some};
-ghost use Rattle.csv_model.specs.Header.{first_not_text, first_twice, first_unknown, names_fault, is_among};
-ghost use Rattle.csv_read.specs.Entries.{has_text, texts};
+ghost use Rattle.std.specs.Prelude.{◌≡◌, ◌≢◌, ◌≤◌, ◌<◌, ℕ, List, length, IfErr, OnOk, IfSome, None, Some};
+ghost use Rattle.csv_model.specs.Header.{first_not_text, first_unknown, names_fault, is_among};
+ghost use Rattle.stage_plan.specs.PlanWords.{has_text, texts};
 ghost use Rattle.stage_plan.specs.Entries.{entries_of};
 
 use col_build::is_text;
 use csv_model::HeaderFault;
-use stage_plan::TypeEntry;
+use stage_plan::{TypeEntry, first_twice};
 use std::alloc::Global;
 use std::collections::HashSet;
 use unit_pass::NoMemory;
@@ -48,24 +48,6 @@ fn first_not_text(names: &[&[u8]]) -> Option<usize>
         }
     }
     None
-}
-
-/// The place of the first name that is one of those before it. Where there is none, all names are known.
-fn first_twice<'a>(
-    names: &[&'a [u8]],
-    known: &mut HashSet<&'a [u8]>,
-) -> Result<Option<usize>, NoMemory>
-    requires { known.old.keys ≡ [] }
-    ensures place { IfOk result (λ place. place ≡ first_twice (texts names.now)) }
-    ensures within { IfOk result (λ place. IfSome place (λ p. p < length names.now)) }
-    ensures known { result ≡ Ok None → (name : List ℕ) → has_text known.new.keys name ≡ is_among (texts names.now) name }
-{
-    for place in 0..names.len() {
-        if !known.insert(names[place])? {
-            return Ok(Some(place));
-        }
-    }
-    Ok(None)
 }
 
 /// The place of the first entry whose name isn't known.

@@ -1,7 +1,7 @@
 //! The fields of a record.
 ghost use Rattle.std.specs.Prelude.{◌≡◌, ℕ, List, [], get_or, IfOk};
 ghost use Rattle.csv.specs.Records.{fields_of};
-ghost use Rattle.csv_read.specs.Entries.{texts};
+ghost use Rattle.stage_plan.specs.PlanWords.{texts};
 
 use csv::ByteRecord;
 use std::alloc::Global;

@@ -1,5 +1,5 @@
 -- What the loop over the parts keeps.
-use Rattle.std.proofs.Common.{◌≡◌, ◌≢◌, ◌∙◌, ◌<◌, ◌≤◌, ◌+◌, ◌||◌, ℕ, zero, suc, Bool, true, false, true≢false, List, [], ◌∷◌, ◌++◌, length, take, drop, map}
+use Rattle.std.proofs.Common.{◌≡◌, ◌≢◌, ◌∙◌, ◌<◌, ◌≤◌, ◌+◌, ◌||◌, ℕ, zero, suc, Bool, true, false, true≢false, List, [], ◌∷◌, ◌++◌, length, take, drop}
 use Rattle.std.proofs.Common.{Option, Some, None, Ok, ap, sym, subst, refl, arith, drop-cons, option_map, not}
 use Rattle.std.specs.Borrow.{Bor}
 use Rattle.std.specs.List.{AllZip, list_any}
@@ -15,6 +15,7 @@ use Rattle.std.proofs.lemmas.Slice.Eq.{bytes_eq-Decides}
 use Rattle.stage_plan.specs.declared.types.TypeEntry.{TypeEntry}
 use Rattle.stage_plan.specs.declared.fault.TypesRule.TheVariants.{BadEntry, Twice}
 use Rattle.stage_plan.specs.Code.{entry_of}
+use Rattle.stage_plan.specs.PlanWords.{has_text, texts}
 use Rattle.stage_plan.specs.declared.types.Entry.{Entry}
 use Rattle.data_types.specs.declared.kind.DataType.{DataType}
 use Rattle.fmt_string.specs.FormatString.{FormatIs}
@@ -22,15 +23,9 @@ use Rattle.data_types.specs.Kinds.{KindOk, is_column_type}
 use Rattle.stage_plan.specs.Types.{parts, EntryIs, EntryReads, FirstFaultIs, NamesDiffer, Reads, TypesIs}
 use Rattle.stage_plan.proofs.Walk.{Answer, Named, Settled, Settles, fault, fault_after, fault_only, whole, whole_only}
 
-abbrev texts : List (Bor (List ℕ)) → List (List ℕ)
-texts = map (λ p. p.now)
-
 -- whether one of the names is this
 abbrev pub has_name : List TypeEntry → List ℕ → Bool
 has_name es name = list_any (λ e. bytes_eq name e.name) es
-
-abbrev pub has_key : List (Bor (List ℕ)) → List ℕ → Bool
-has_key keys name = list_any (λ k. bytes_eq name k.now) keys
 
 -- ---- what the calls say
 
@@ -83,7 +78,7 @@ kinds_of_columns text es is = columns_of (parts text) es is.each
 pub record ReadSoFar (items : List (Bor (List ℕ))) (i : ℕ) (keys : List (Bor (List ℕ))) (es : List TypeEntry) : Type 0 where
   pub each : Settled (texts (take i items)) es
   pub differ : NamesDiffer es
-  pub knows : (name : List ℕ) → has_key keys name ≡ has_name es name
+  pub knows : (name : List ℕ) → has_text keys name ≡ has_name es name
 
 pub at_start : (items keys : List (Bor (List ℕ))) (es : List TypeEntry) → keys ≡ [] → es ≡ [] → ReadSoFar items 0 keys es
 at_start items keys es no_keys none =
@@ -120,10 +115,10 @@ module _ (items : List (Bor (List ℕ))) (i : ℕ) (keys : List (Bor (List ℕ))
     abbrev part : List ℕ
     part = (slice_index_or items i d).now
 
-    pub one_more : (after : List (Bor (List ℕ))) (key : Bor (List ℕ)) (e : TypeEntry) → Settles part (Some e) → e.name ≡ key.now → has_key keys key.now ≡ false
+    pub one_more : (after : List (Bor (List ℕ))) (key : Bor (List ℕ)) (e : TypeEntry) → Settles part (Some e) → e.name ≡ key.now → has_text keys key.now ≡ false
         → IsPermutation (key ∷ keys) after → ReadSoFar items (i + 1) after (es ++ e ∷ [])
     one_more after key e settles name new puts =
-        let none : has_name es e.name ≡ false = sym (far.knows e.name) ∙ ap (has_key keys) name ∙ new in
+        let none : has_name es e.name ≡ false = sym (far.knows e.name) ∙ ap (has_text keys) name ∙ new in
         let longer : texts (take (i + 1) items) ≡ texts (take i items) ++ part ∷ [] =
         ap texts (take_more items i d within) ∙ map-append (λ p. p.now) (take i items) (slice_index_or items i d ∷ []) in
         record {
@@ -152,9 +147,9 @@ module _ (items : List (Bor (List ℕ))) (i : ℕ) (keys : List (Bor (List ℕ))
       pub bad_only : Settles part None → (read : Answer) → Reads text read → read ≡ fault_after es BadEntry
       bad_only settles = fault_only text (texts (take i items)) part behind es BadEntry split far.each far.differ settles
 
-      module _ (key : Bor (List ℕ)) (e : TypeEntry) (settles : Settles part (Some e)) (name : e.name ≡ key.now) (old : has_key keys key.now ≡ true) where
+      module _ (key : Bor (List ℕ)) (e : TypeEntry) (settles : Settles part (Some e)) (name : e.name ≡ key.now) (old : has_text keys key.now ≡ true) where
         is_named : Named es e
-        is_named = named es e (sym (far.knows e.name) ∙ ap (has_key keys) name ∙ old)
+        is_named = named es e (sym (far.knows e.name) ∙ ap (has_text keys) name ∙ old)
 
         pub twice : FirstFaultIs text (length es + 1) Twice
         twice = fault text (texts (take i items)) part behind es Twice split far.each far.differ (e, settles, is_named)

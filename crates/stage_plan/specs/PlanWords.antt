@@ -1,6 +1,8 @@
 -- What the code's plans are.
 use Rattle.std.specs.Prelude.{◌≡◌, ℕ, Bool, true, false, List, ◌++◌, get_or, length, map}
 use Rattle.std.specs.Borrow.{Bor}
+use Rattle.std.specs.List.{list_any}
+use Rattle.std.specs.Str.{bytes_eq}
 use Rattle.data_types.specs.ColumnView.{column_of}
 use Rattle.data_types.specs.Parts.{AreWithin, replaced}
 use Rattle.data_types.specs.Table.{Column, Kind}
@@ -9,8 +11,13 @@ use Rattle.stage_model.specs.Typing.{PlanIs, Stage, column, dict_kind, names_of,
 use Rattle.stage_model.specs.declared.stage.StageText.{StageText}
 use Rattle.stage_plan.specs.declared.typing.Plan.{Plan}
 
+-- the texts that are lent
 abbrev pub texts : List (Bor (List ℕ)) → List (List ℕ)
-texts names = map (λ n. n.now) names
+texts borrows = map (λ b. b.now) borrows
+
+-- whether a text is one of those that are lent
+abbrev pub has_text : List (Bor (List ℕ)) → List ℕ → Bool
+has_text borrows text = list_any (λ b. bytes_eq text b.now) borrows
 
 abbrev pub columns_in : List ColumnType → List Column
 columns_in columns = map column_of columns

@@ -22,6 +22,7 @@ mod typing;
 
 pub use fault::{TypesFault, TypesRule};
 pub use laws::one_reading;
+pub use places::first_twice;
 pub use stage_model::{PlanFault, PlanRule, StageFault, StageText};
 pub use stages::read_stage;
 pub use types::{TypeEntry, read_types};

@@ -1,11 +1,12 @@
 //! The places of columns by their names, and names that are there twice.
-ghost use Rattle.std.specs.Prelude.{◌≡◌, ℕ, List, IfOk, IfSome, IfNone, map, is_none, position, true, false};
+ghost use Rattle.std.specs.Prelude.{◌≡◌, ◌<◌, ℕ, List, [], None, Ok, IfOk, IfSome, IfNone, length, map, is_none, position, true, false};
 ghost use Rattle.std.specs.Str.{bytes_eq};
 ghost use Rattle.std.specs.List.{list_any};
+ghost use Rattle.csv_model.specs.Header.{first_twice, is_among};
 ghost use Rattle.data_types.specs.ColumnView.{column_of};
 ghost use Rattle.data_types.specs.Parts.{AreWithin};
 ghost use Rattle.stage_model.specs.Typing.{has_twice, others, place_if, places_of};
-ghost use Rattle.stage_plan.specs.PlanWords.{texts};
+ghost use Rattle.stage_plan.specs.PlanWords.{has_text, texts};
 
 use data_types::ColumnType;
 use std::alloc::Global;
@@ -63,15 +64,28 @@ pub(crate) fn others(alloc: Global, places: &[usize], count: usize) -> Result<Ve
     Ok(rest)
 }
 
+/// The place of the first name that is one of those before it. Where there is none, all names are known.
+pub fn first_twice<'a>(
+    names: &[&'a [u8]],
+    known: &mut HashSet<&'a [u8]>,
+) -> Result<Option<usize>, NoMemory>
+    requires { known.old.keys ≡ [] }
+    ensures place { IfOk result (λ place. place ≡ first_twice (texts names.now)) }
+    ensures within { IfOk result (λ place. IfSome place (λ p. p < length names.now)) }
+    ensures known { result ≡ Ok None → (name : List ℕ) → has_text known.new.keys name ≡ is_among (texts names.now) name }
+{
+    for place in 0..names.len() {
+        if !known.insert(names[place])? {
+            return Ok(Some(place));
+        }
+    }
+    Ok(None)
+}
+
 /// Whether a name is one of those before it.
 pub(crate) fn has_twice(alloc: Global, names: &[&[u8]]) -> Result<bool, NoMemory>
     ensures { IfOk result (λ twice. twice ≡ has_twice (texts names.now)) }
 {
     let mut known = HashSet::new(alloc);
-    for name in names {
-        if !known.insert(*name)? {
-            return Ok(true);
-        }
-    }
-    Ok(false)
+    Ok(first_twice(names, &mut known)?.is_some())
 }

@@ -1,7 +1,7 @@
 use Rattle.std.proofs.Common.{◌≡◌, map, take}
 use Rattle.data_types.specs.ColumnView.{column_of}
 use Rattle.csv_model.specs.Header.{header_columns}
-use Rattle.csv_read.specs.Entries.{texts}
+use Rattle.stage_plan.specs.PlanWords.{texts}
 use Rattle.stage_plan.specs.Entries.{entries_of}
 use Rattle.csv_read.proofs.columns.columns.Given as goal
 

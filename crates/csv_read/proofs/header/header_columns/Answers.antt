@@ -5,7 +5,7 @@ use Rattle.data_types.specs.Kinds.{KindOk}
 use Rattle.csv_model.specs.Header.{header_columns, most_columns, names_fault}
 use Rattle.csv_model.specs.Reading.{Record}
 use Rattle.unit_pass.specs.declared.no_memory.NoMemory.{NoMemory}
-use Rattle.csv_read.specs.Entries.{texts}
+use Rattle.stage_plan.specs.PlanWords.{texts}
 use Rattle.stage_plan.specs.Entries.{entries_of}
 use Rattle.field_codec.specs.TextColumns.{AreAllowed, AreProper, IsAllowed, NamesDiffer}
 use Rattle.csv_read.proofs.HeaderColumns.{columns-differ, columns-have, header-found, no-twice}

@@ -1,5 +1,5 @@
 use Rattle.std.proofs.Common.{◌∙◌, ap, sym, not, arith}
-use Rattle.csv_read.specs.Entries.{has_text}
+use Rattle.stage_plan.specs.PlanWords.{has_text}
 use Rattle.csv_read.proofs.Entries.{unknown-is}
 use Rattle.csv_read.proofs.Remaining.{position-hit, position-none, position-start}
 use Rattle.csv_read.proofs.names.first_unknown.Goals as goal

@@ -1,5 +1,5 @@
 use Rattle.std.proofs.Common.{not}
-use Rattle.csv_read.specs.Entries.{has_text}
+use Rattle.stage_plan.specs.PlanWords.{has_text}
 use Rattle.csv_read.proofs.Remaining.{PositionFrom}
 use Rattle.csv_read.proofs.names.first_unknown.Given as goal
 

@@ -1,6 +1,6 @@
 use Rattle.std.proofs.Common.{◌≡◌, take}
 use Rattle.csv.specs.Records.{fields_of}
-use Rattle.csv_read.specs.Entries.{texts}
+use Rattle.stage_plan.specs.PlanWords.{texts}
 use Rattle.csv_read.proofs.row.fields.Given as goal
 
 abbrev pub invariant-loop-place : goal.invariant-loop-place
