@@ -13,8 +13,9 @@ use Rattle.row_groups.specs.Chains.{places_by_number}
 use Rattle.data_types.specs.Groups.{firsts_of, offsets_of, order_of, places, places_of, same, sums_from}
 use Rattle.row_groups.specs.Walk.{IsGrouped}
 use Rattle.row_groups.proofs.Counted.{all-places}
-use Rattle.row_groups.proofs.Eaches.{get_or-each, length-each}
+use Rattle.row_groups.proofs.Eaches.{get_or-each}
 use Rattle.row_groups.proofs.Ordered.{all-apart, all-below, any-default}
+use Rattle.array_laws.proofs.WindowItems.{length-each}
 
 -- ---- lists by their places
 
