@@ -29,7 +29,7 @@ use raw_schema::RawSchema;
 use std::alloc::Global;
 use std::snapshot::Snapshot;
 use std::thread::Threads;
-use stream_face::{ArrayStream, Tap};
+use stream_face::{ArrayStream, ENOMEM, Tap};
 use unit_pass::{NoMemory, Pass};
 
 /// The records of a text behind its header, as a stream of chunks of at most this many rows, which are read ahead in a thread
@@ -114,7 +114,7 @@ impl<R: Threads + Drop> ArrayStream for CsvAhead<R> {
             }
             Err(NoMemory) => {
                 self.word = LastAnswer::Memory;
-                12
+                ENOMEM
             }
         }
     }

@@ -8,7 +8,7 @@
 //! What it promises: at its start a stream means the batches of the records behind the header, as `csv_model` defines them:
 //! their columns, their rows in chunks, their ending (`specs/SourceStreams.antt`). Both streams mean the same, and are lawful:
 //! a text of at most 2^30 bytes has at most 2^30 rows, whose texts and bytes are at most 2^30 a column, and each of their
-//! values is one of its column's type. A record that spells no row is answered 22, by its number behind the header; out of
+//! values is one of its column's type. A record that spells no row is answered `EINVAL`, by its number behind the header; out of
 //! memory alone is free; both stay. A stream keeps no structure between two calls, and what its calls still count is the
 //! traffic of a source's chunks in `stage_model`. What crosses the threads is columns in the making, which hold no block and no
 //! unit (`specs/Pieces.antt`).

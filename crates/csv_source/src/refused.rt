@@ -5,6 +5,7 @@ ghost use Rattle.data_types.specs.FaultTexts.{row_fault_text};
 use csv_read::BodyFault;
 use data_types::RowFault;
 use std::alloc::Global;
+use stream_face::{EINVAL, ENOMEM};
 use unit_pass::NoMemory;
 
 /// A record that spells no row, and the text of the refusal.
@@ -60,8 +61,8 @@ impl Refused {
         ensures { result ≡ (refusal_of self.now).code }
     {
         match self {
-            Refused::Row(_) => 22,
-            Refused::NoMemory => 12,
+            Refused::Row(_) => EINVAL,
+            Refused::NoMemory => ENOMEM,
         }
     }
 

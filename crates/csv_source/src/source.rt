@@ -24,7 +24,7 @@ use std::alloc::Global;
 use std::io::Read;
 use std::snapshot::Snapshot;
 use std::thread::Threads;
-use stream_face::{ArrayStream, Tap};
+use stream_face::{ArrayStream, ENOMEM, Tap};
 use unit_pass::{NoMemory, Pass};
 
 /// The records of a text behind its header, as a stream of chunks of at most this many rows. It keeps no structure between two
@@ -103,7 +103,7 @@ impl<B: Read + Drop> ArrayStream for CsvSource<B> {
             }
             Err(NoMemory) => {
                 self.word = LastAnswer::Memory;
-                12
+                ENOMEM
             }
         }
     }

@@ -26,7 +26,7 @@ use edge_io::Gate;
 use raw_array::RawArray;
 use std::alloc::Global;
 use std::thread::Threads;
-use stream_face::{ArrayStream, RawStream, Tap};
+use stream_face::{ArrayStream, EINVAL, RawStream, Tap};
 use unit_pass::{NoMemory, Pass, ROOM, SUPPLY};
 
 /// Why a stream that refused has no text.
@@ -91,7 +91,7 @@ fn pull_all<U: ArrayStream, R: Threads + Sync, T: Tap>(
         let code = stream.next(rt, alloc, &mut chunk, pass, tap, gate);
         if code != 0 {
             chunk.discard();
-            return Err(if code == 22 {
+            return Err(if code == EINVAL {
                 fault_of(stream.row_fault())
             } else {
                 DriveFault::NoMemory

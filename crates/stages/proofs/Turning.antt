@@ -14,6 +14,7 @@ use Rattle.data_types.specs.ColumnKinds.{type_of_columns}
 use Rattle.data_types.specs.KindTrees.{KindTree, TypedOk}
 use Rattle.unit_pass.specs.Tally.{Tally, risen}
 use Rattle.stream_face.specs.Calls.{Answers, Counts, IsCode, Shows}
+use Rattle.stream_face.specs.Codes.{enomem}
 use Rattle.stream_face.specs.Lawful.{IsChunkOf, LawfulColumns, LawfulTables}
 use Rattle.stream_face.specs.Shown.{Seen}
 use Rattle.stream_face.specs.Streams.{IsFresh, Stream, Traffic}
@@ -30,7 +31,7 @@ pub zero_code : (code : ℤ) → IsCode code → of_z w32 code ≡ 0 → code �
 zero_code (pos n) is zero = ap pos zero
 zero_code (negsuc n) is zero = absurd (omega (arith, ints, is.0))
 
-pub not-zero : pos 12 ≡ pos 0 → ⊥
+pub not-zero : enomem ≡ pos 0 → ⊥
 not-zero z = cc
 
 -- ---- what is still to come
@@ -61,8 +62,8 @@ began-fresh s m seen later before after lawful ran fresh = record {
 }
 
 -- memory ran out after a call that gave a chunk
-pub shows-wanting : (s n : Stream) (out given : ArrayTree) (seen later : Option (List Seen)) → Shows s.joints n.joints (pos 12) out seen later
-    → Shows s.joints n.joints (pos 12) given seen later
+pub shows-wanting : (s n : Stream) (out given : ArrayTree) (seen later : Option (List Seen)) → Shows s.joints n.joints enomem out seen later
+    → Shows s.joints n.joints enomem given seen later
 shows-wanting s n out given seen later shows = record {
   shown = shows.shown;
   told = shows.told;

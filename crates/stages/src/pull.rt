@@ -8,6 +8,7 @@ ghost use Rattle.raw_array.specs.Members.{ArrayTree, Cost};
 ghost use Rattle.data_types.specs.TypedView.{typed_of};
 ghost use Rattle.unit_pass.specs.declared.pass.TheConstants.{ROOM, SUPPLY};
 ghost use Rattle.stream_face.specs.Calls.{Answers, Counts, IsCode, IsRowFault, Repeats, Shows, Tells};
+ghost use Rattle.stream_face.specs.Codes.{enomem};
 ghost use Rattle.stream_face.specs.Lawful.{LawfulColumns};
 ghost use Rattle.stream_face.specs.Meaning.{meaning};
 ghost use Rattle.stream_face.specs.Streams.{IsFresh, Keeps};
@@ -136,7 +137,7 @@ pub(crate) fn pull<S: ChunkStep, U: ArrayStream, R: Threads + Sync, T: Tap>(
         pass.old pass.new out.new) }
     ensures shows { IsFresh (meaning U.state up.old) → MatchResult result
         (λ code. Shows (meaning U.state up.old).joints (meaning U.state up.new).joints code out.new (T.seen tap.old) (T.seen tap.new))
-        (λ _. Shows (meaning U.state up.old).joints (meaning U.state up.new).joints (pos 12) out.new (T.seen tap.old) (T.seen tap.new)) }
+        (λ _. Shows (meaning U.state up.old).joints (meaning U.state up.new).joints enomem out.new (T.seen tap.old) (T.seen tap.new)) }
 {
     let _units = pass.units();
     let _blocks = pass.blocks();

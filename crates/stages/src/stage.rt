@@ -17,7 +17,7 @@ use raw_array::{Acted, RawArray};
 use raw_schema::RawSchema;
 use std::alloc::Global;
 use std::thread::Threads;
-use stream_face::{ArrayStream, RawStream, Tap};
+use stream_face::{ArrayStream, ENOMEM, RawStream, Tap};
 use unit_pass::{NoMemory, Pass, ROOM};
 
 /// Who answered the last get call: the stage itself, or the stream below it.
@@ -78,7 +78,7 @@ impl<U: ArrayStream, S: ChunkStep> ArrayStream for Stage<U, S> {
             }
             Err(NoMemory) => {
                 self.word = LastAnswer::Memory;
-                12
+                ENOMEM
             }
         }
     }
@@ -126,7 +126,7 @@ impl<U: ArrayStream, S: ChunkStep> ArrayStream for Stage<U, S> {
     {
         if self.no_memory {
             self.word = LastAnswer::Memory;
-            return 12;
+            return ENOMEM;
         }
         match pull(
             &mut self.step,
@@ -145,7 +145,7 @@ impl<U: ArrayStream, S: ChunkStep> ArrayStream for Stage<U, S> {
             Err(NoMemory) => {
                 self.no_memory = true;
                 self.word = LastAnswer::Memory;
-                12
+                ENOMEM
             }
         }
     }

@@ -13,6 +13,7 @@ use Rattle.data_types.specs.ColumnKinds.{type_of_columns}
 use Rattle.schema_check.specs.ColumnSchema.{SchemaOf}
 use Rattle.schema_check.specs.Schemas.{TypedOf}
 use Rattle.stream_face.specs.Calls.{Answers, Begins, Repeats, Shows, Tells}
+use Rattle.stream_face.specs.Codes.{einval, enomem}
 use Rattle.stream_face.specs.Raw.{raw_joints, raw_state, refusal_or}
 use Rattle.stream_face.specs.Shown.{Seen, Shown, grown, of_link, seen_of, shown_table, shown_tables}
 use Rattle.stream_face.specs.Streams.{IsFresh, Stream, is_nil}
@@ -165,11 +166,11 @@ pub raw_wants : (s n : Stream) (link nodes : ℕ) (kept : Option StreamFault) (c
     → Answers s (raw_state link nodes kept n) r out
 raw_wants s n link nodes None code r out is silent of same_code released = absurd is
 raw_wants s n link nodes (Some fault) code r out is silent of same_code released =
-    let twelve : r ≡ pos 12 = same_code ∙ sym of ∙ ap code_of is in
+    let twelve : r ≡ enomem = same_code ∙ sym of ∙ ap code_of is in
     record {
       chunk = λ live. absurd (subst IsLive released live);
-      finish = λ e. absurd (let k : pos 12 ≡ pos 0 = sym twelve ∙ e in cc);
-      bad = λ e. absurd (let k : pos 12 ≡ pos 22 = sym twelve ∙ e in cc);
+      finish = λ e. absurd (let k : enomem ≡ pos 0 = sym twelve ∙ e in cc);
+      bad = λ e. absurd (let k : enomem ≡ einval = sym twelve ∙ e in cc);
       wants = λ _. rw (is, silent) refl;
       codes = inr (inl twelve);
     }

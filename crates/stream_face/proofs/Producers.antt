@@ -8,6 +8,7 @@ use Rattle.raw_array.specs.Members.{ArrayTree}
 use Rattle.tree_model.specs.Tree.{IsLive, Live, Released}
 use Rattle.unit_pass.specs.Tally.{Tally, risen}
 use Rattle.stream_face.specs.Calls.{Answers, Counts, Shows}
+use Rattle.stream_face.specs.Codes.{einval, enomem}
 use Rattle.stream_face.specs.Lawful.{IsChunkOf}
 use Rattle.stream_face.specs.Shown.{Seen, Shown, grown}
 use Rattle.stream_face.specs.Streams.{Stream, Traffic}
@@ -37,7 +38,7 @@ given-answers s n out chunk end = record {
 }
 
 -- the record at which the stream ends
-pub row-answers : (s n : Stream) (row : RowFault) (code : ℤ) (out : ArrayTree) → out ≡ Released → code ≡ pos 22
+pub row-answers : (s n : Stream) (row : RowFault) (code : ℤ) (out : ArrayTree) → out ≡ Released → code ≡ einval
     → (s.ahead ≡ []) × (n.ahead ≡ []) × (s.ending ≡ Some row) → n.fault ≡ Some row → n.said ≡ Some (refused_row row) → Answers s n code out
 row-answers s n row code out gone is ends fault said = record {
   chunk = λ live. absurd (not-released out live gone);
@@ -48,7 +49,7 @@ row-answers s n row code out gone is ends fault said = record {
 }
 
 -- out of memory
-pub wanting-answers : (s n : Stream) (code : ℤ) (out : ArrayTree) → out ≡ Released → code ≡ pos 12 → n.said ≡ Some wanting → Answers s n code out
+pub wanting-answers : (s n : Stream) (code : ℤ) (out : ArrayTree) → out ≡ Released → code ≡ enomem → n.said ≡ Some wanting → Answers s n code out
 wanting-answers s n code out gone is said = record {
   chunk = λ live. absurd (not-released out live gone);
   finish = λ e _. absurd (differ 12 0 (λ (d : 12 ≡ 0). omega (arith, d)) (sym is ∙ e));

@@ -7,6 +7,7 @@ use Rattle.raw_array.specs.Members.{ArrayTree}
 use Rattle.raw_schema.specs.Members.{SchemaTree, Nodes}
 use Rattle.unit_pass.specs.Tally.{Tally, risen}
 use Rattle.schema_check.specs.ColumnSchema.{SchemaOf}
+use Rattle.stream_face.specs.Codes.{einval, enomem}
 use Rattle.stream_face.specs.Lawful.{IsChunkOf}
 use Rattle.stream_face.specs.Shown.{Seen, Shown, grown, of_link}
 use Rattle.stream_face.specs.Streams.{Stream, Traffic}
@@ -28,10 +29,10 @@ abbrev pub IsTold : {A : Type 0} → Option A → A → Type 0
 IsTold None given = Unit {0}
 IsTold (Some told) given = given ≡ told
 
--- a record is at fault only after the code 22, and is the one at which the stream ends
+-- a record is at fault only after the code EINVAL, and is the one at which the stream ends
 abbrev pub IsRowFault : ℤ → Option RowFault → Option RowFault → Type 0
 IsRowFault code ending None = Unit {0}
-IsRowFault code ending (Some fault) = (code ≡ pos 22) × (ending ≡ Some fault)
+IsRowFault code ending (Some fault) = (code ≡ einval) × (ending ≡ Some fault)
 
 -- a stream that has refused answers the same again, and shows and counts nothing
 pub record Repeats (old new : Stream) (code : ℤ) (before after : Tally) (seen shown : Option (List Seen)) : Type 0 where
@@ -52,10 +53,10 @@ pub record SchemaAnswer (columns : List Column) (code : ℤ) (out : SchemaTree) 
 pub record Answers (old new : Stream) (code : ℤ) (out : ArrayTree) : Type 0 where
   pub chunk : IsLive out → (rows : List Row) × (old.ahead ≡ rows ∷ new.ahead) × IsChunkOf old.columns rows out
   pub finish : code ≡ pos 0 → out ≡ Released → (old.ahead ≡ []) × (new.ahead ≡ []) × (old.ending ≡ None)
-  pub bad : code ≡ pos 22
+  pub bad : code ≡ einval
       → (old.ahead ≡ []) × (new.ahead ≡ []) × (fault : RowFault) × (old.ending ≡ Some fault) × (new.fault ≡ Some fault) × (new.said ≡ Some (refused_row fault))
-  pub wants : code ≡ pos 12 → new.said ≡ Some wanting
-  pub codes : (code ≡ pos 0) ⊎ (code ≡ pos 12) ⊎ (code ≡ pos 22)
+  pub wants : code ≡ enomem → new.said ≡ Some wanting
+  pub codes : (code ≡ pos 0) ⊎ (code ≡ enomem) ⊎ (code ≡ einval)
 
 -- the first list begins the second
 abbrev pub Begins : {A : Type 0} → List A → List A → Type 0

@@ -12,14 +12,15 @@ use Rattle.stream_face.specs.declared.fault.StartFault.TheVariants as start
 use Rattle.stream_face.specs.declared.fault.StreamFault.{StreamFault}
 use Rattle.stream_face.specs.declared.fault.StreamFault.TheVariants.{Row, Chunk, Code, NoMemory}
 use Rattle.stream_face.specs.Calls.{IsCode, IsTold, Tells}
+use Rattle.stream_face.specs.Codes.{einval, enomem}
 use Rattle.stream_face.specs.Streams.{Stream}
 use Rattle.stream_face.specs.Texts.{Refusal, chunk_text, memory_text}
 
 abbrev pub code_of : StreamFault → ℤ
-code_of (Row fault) = pos 22
-code_of (Chunk fault) = pos 22
+code_of (Row fault) = einval
+code_of (Chunk fault) = einval
 code_of (Code code) = code
-code_of NoMemory = pos 12
+code_of NoMemory = enomem
 
 -- the text of a refusal: the inner stream's where it refused, else the checked stream's own
 abbrev pub own_text : StreamFault → List ℕ
@@ -37,11 +38,11 @@ fault_text fault (Some refusal) = refusal.text
 -- memory
 abbrev pub IsWhy : ℤ → KindTree → Stream → Stream → Option StreamFault → Type 0
 IsWhy code kinds before after None = code ≡ pos 0
-IsWhy code kinds before after (Some (Row fault)) = (code ≡ pos 22) × Tells code after.said × (after.fault ≡ Some fault)
+IsWhy code kinds before after (Some (Row fault)) = (code ≡ einval) × Tells code after.said × (after.fault ≡ Some fault)
 IsWhy code kinds before after (Some (Chunk fault)) =
-    (code ≡ pos 22) × (after.said ≡ None) × (chunk : ArrayTree) × IsTold before.chunk chunk × (first_chunk_fault kinds chunk ≡ Some (fault_of fault))
-IsWhy code kinds before after (Some NoMemory) = code ≡ pos 12
-IsWhy code kinds before after (Some (Code own)) = (code ≡ own) × Tells code after.said × (code ≢ pos 12) × (code ≡ pos 22 → after.fault ≡ None)
+    (code ≡ einval) × (after.said ≡ None) × (chunk : ArrayTree) × IsTold before.chunk chunk × (first_chunk_fault kinds chunk ≡ Some (fault_of fault))
+IsWhy code kinds before after (Some NoMemory) = code ≡ enomem
+IsWhy code kinds before after (Some (Code own)) = (code ≡ own) × Tells code after.said × (code ≢ enomem) × (code ≡ einval → after.fault ≡ None)
 
 -- why a checked stream refuses a structure that its inner stream gave: it is no chunk, by this first fault, or the tap wants
 -- memory
@@ -54,6 +55,6 @@ IsOwnFault kinds chunk (Code code) = ⊥
 -- why a stream was not started: the code of the inner stream, or the first fault of the schema that it gave; over a lawful
 -- stream only out of memory
 abbrev pub IsStartFault : Stream → Option Refusal → StartFault → Type 0
-IsStartFault inner said (start.Code code) = Tells code said × (code ≢ pos 0) × IsCode code × (IsTrue inner.lawful → code ≡ pos 12)
+IsStartFault inner said (start.Code code) = Tells code said × (code ≢ pos 0) × IsCode code × (IsTrue inner.lawful → code ≡ enomem)
 IsStartFault inner said (start.Schema fault) =
     (said ≡ None) × ((schema : SchemaTree) × IsTold inner.schema schema × IsFirstFault schema fault) × (IsTrue inner.lawful → fault ≡ schemas.NoMemory)

@@ -1,5 +1,6 @@
 pub mod Shown
 pub mod Lawful
+pub mod Codes
 pub mod Texts
 pub mod Streams
 pub mod Calls

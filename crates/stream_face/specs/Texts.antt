@@ -1,8 +1,9 @@
 -- What is said of a get call that refused.
-use Rattle.std.specs.Prelude.{ℕ, ℤ, pos, List, Option, None, Some, codes}
+use Rattle.std.specs.Prelude.{ℕ, ℤ, List, Option, None, Some, codes}
 use Rattle.std.specs.Borrow.{Bor}
 use Rattle.data_types.specs.declared.row_fault.RowFault.{RowFault}
 use Rattle.data_types.specs.FaultTexts.{row_fault_text}
+use Rattle.stream_face.specs.Codes.{einval, enomem}
 
 -- a get call that refused: its code, and the text of its error
 pub record Refusal : Type 0 where
@@ -18,11 +19,11 @@ chunk_text = codes "chunk refused"
 
 -- out of memory
 abbrev pub wanting : Refusal
-wanting = record { code = pos 12; text = memory_text }
+wanting = record { code = enomem; text = memory_text }
 
 -- the record at which a stream ends
 abbrev pub refused_row : RowFault → Refusal
-refused_row fault = record { code = pos 22; text = row_fault_text fault }
+refused_row fault = record { code = einval; text = row_fault_text fault }
 
 abbrev pub text_in : Option Refusal → Option (List ℕ)
 text_in None = None

@@ -2,6 +2,7 @@
 ghost use Rattle.std.specs.Prelude.{◌≡◌, ◌≢◌, ◌≤ℤ◌, pos};
 ghost use Rattle.stream_face.specs.Faults.{code_of, own_text};
 
+use crate::{EINVAL, ENOMEM};
 use data_types::RowFault;
 use layout_rules::LayoutFault;
 use schema_check::SchemaFault;
@@ -35,9 +36,9 @@ impl StreamFault {
         ensures { result ≡ code_of self.now }
     {
         match self {
-            StreamFault::Row(_) | StreamFault::Chunk(_) => 22,
+            StreamFault::Row(_) | StreamFault::Chunk(_) => EINVAL,
             StreamFault::Code(code) => *code,
-            StreamFault::NoMemory => 12,
+            StreamFault::NoMemory => ENOMEM,
         }
     }
 

@@ -20,11 +20,13 @@
 #![tactic(auto)]
 
 mod checked_schema;
+mod codes;
 mod fault;
 mod raw;
 mod stream;
 mod tap;
 
+pub use codes::{EINVAL, ENOMEM};
 pub use fault::{StartFault, StreamFault};
 pub use raw::RawStream;
 pub use stream::ArrayStream;

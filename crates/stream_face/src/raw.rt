@@ -17,6 +17,7 @@ ghost use Rattle.unit_pass.specs.Tally.{risen};
 ghost use Rattle.unit_pass.specs.declared.pass.TheConstants.{CHUNK, ROOM, SUPPLY};
 ghost use Rattle.stream_face.specs.Calls.{Answers, Counts, IsCode, IsRowFault, IsTold, Repeats, Shows, Tells};
 ghost use Rattle.stream_face.specs.Checked.{is_live};
+ghost use Rattle.stream_face.specs.Codes.{einval};
 ghost use Rattle.stream_face.specs.Failures.{why};
 ghost use Rattle.stream_face.specs.Faults.{IsOwnFault, IsStartFault, IsWhy, code_of, fault_text};
 ghost use Rattle.stream_face.specs.Lawful.{LawfulColumns, LawfulTables};
@@ -31,6 +32,7 @@ use crate::checked_schema::CheckedSchema;
 use crate::fault::{Failure, StartFault, StreamFault};
 use crate::stream::ArrayStream;
 use crate::tap::Tap;
+use crate::{EINVAL, ENOMEM};
 use data_types::{RowFault, Typed};
 use edge_io::Gate;
 use layout_check::{check_chunk, chunk_passes};
@@ -57,16 +59,16 @@ pub struct RawStream<S: ArrayStream> {
 /// Why a get call of the inner stream refused.
 fn fault_of(code: i32, row: Option<RowFault>) -> StreamFault
     requires refused { code ≢ pos 0 }
-    requires row { (fault : RowFaultValue) → row ≡ Some fault → code ≡ pos 22 }
+    requires row { (fault : RowFaultValue) → row ≡ Some fault → code ≡ einval }
     ensures code { code_of result ≡ code }
     ensures row { row_or (Some result) row ≡ row }
     ensures why { (kinds : KindTree) (before after : Stream) → Tells code after.said → after.fault ≡ row → IsWhy code kinds before after (Some result) }
 {
-    if code == 12 {
+    if code == ENOMEM {
         return StreamFault::NoMemory;
     }
     match row {
-        Some(row) if code == 22 => StreamFault::Row(row),
+        Some(row) if code == EINVAL => StreamFault::Row(row),
         _ => StreamFault::Code(code),
     }
 }

@@ -20,8 +20,8 @@ chunks-init g c = record {
 }
 
 -- ---- a call that refuses
-pub returns-then-code-eq22 : goal.returns-then-code-eq22
-returns-then-code-eq22 g c =
+pub returns-then-code-eq-EINVAL : goal.returns-then-code-eq-EINVAL
+returns-then-code-eq-EINVAL g c =
     let ran = c.chunks.invariant.ran in
     let start = meaning g.U.ArrayStream.state c.args.stream.now in
     let m = meaning g.U.ArrayStream.state c.chunks.stream in
@@ -39,8 +39,8 @@ returns-then-code-eq22 g c =
       shows = tt;
     }
 
-pub returns-else-code-eq22 : goal.returns-else-code-eq22
-returns-else-code-eq22 g c =
+pub returns-else-code-eq-EINVAL : goal.returns-else-code-eq-EINVAL
+returns-else-code-eq-EINVAL g c =
     let ran = c.chunks.invariant.ran in
     let start = meaning g.U.ArrayStream.state c.args.stream.now in
     let m = meaning g.U.ArrayStream.state c.chunks.stream in

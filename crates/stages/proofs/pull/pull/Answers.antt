@@ -3,6 +3,7 @@ use Rattle.tree_model.specs.Tree.{IsLive, Released}
 use Rattle.data_types.specs.KindTrees.{TypedOk}
 use Rattle.data_types.specs.TypedView.{typed_of}
 use Rattle.stream_face.specs.Calls.{IsCode, IsRowFault, Tells}
+use Rattle.stream_face.specs.Codes.{enomem}
 use Rattle.stream_face.specs.Meaning.{meaning}
 use Rattle.stream_face.proofs.Next as codes
 use Rattle.stages.proofs.Runs.{Called, Ran-counts, Ran-next, Ran-repeats, Ran-shows, Ran-start, Ran-still, Ran-works, kept-both}
@@ -261,6 +262,6 @@ returns-in-Err g c =
       gives = λ _. tt;
       counts = λ _. tt;
       shows = λ at. turning.shows-wanting start n out c.turn.new.out _ _
-          (Ran-shows start m n c.next-code.result (pos 12) out out _ _ _ _ _ (ran.went at) (call.shows (Ran-still start m _ _ _ _ ran at))
+          (Ran-shows start m n c.next-code.result enomem out out _ _ _ _ _ (ran.went at) (call.shows (Ran-still start m _ _ _ _ ran at))
           (λ _. works) (λ left. left));
     }

@@ -5,6 +5,7 @@ use Rattle.data_types.specs.ColumnView.{column_of}
 use Rattle.tree_model.specs.Tree.{IsLive}
 use Rattle.raw_array.specs.Members.{Cost}
 use Rattle.stream_face.specs.Calls.{IsCode, IsRowFault, Shows, Tells}
+use Rattle.stream_face.specs.Codes.{einval, enomem}
 use Rattle.stream_face.specs.Meaning.{meaning}
 use Rattle.stream_face.specs.Texts.{Refusal, wanting}
 use Rattle.stream_face.proofs.Next.{repeats-never, same}
@@ -19,13 +20,13 @@ same-code code is = same code (fits code is)
     fits (pos n) is = omega (arith, ints, is.1)
     fits (negsuc n) is = absurd (omega (arith, ints, is.0))
 
-twelve : IsCode (pos 12)
+twelve : IsCode enomem
 twelve = grind arith
 
-not-zero : pos 12 ≡ pos 0 → ⊥
+not-zero : enomem ≡ pos 0 → ⊥
 not-zero z = cc
 
-not-bad : pos 12 ≡ pos 22 → ⊥
+not-bad : enomem ≡ einval → ⊥
 not-bad z = cc
 
 -- ---- a refusal
@@ -55,7 +56,7 @@ returns-then-self g c =
       told = λ _. tt;
       units = omega (arith, ap Cost c.requires.empty);
       failure = failed;
-      row_fault = subst (λ t. IsRowFault (pos 12) up.ending (if t then None else up.fault)) (sym c.if-self.true) tt;
+      row_fault = subst (λ t. IsRowFault enomem up.ending (if t then None else up.fault)) (sym c.if-self.true) tt;
       repeats = record {
         same = λ refusal e. (ap code_of (sym failed ∙ e), sym failed ∙ e, refl);
         counts = λ refusal e. refl;
@@ -109,7 +110,7 @@ returns-in-Err g c =
       units = call.units;
       failure = refl;
       row_fault = tt;
-      repeats = repeats-never _ _ (pos 12) _ _ _ _ (λ refusal q. some up.failure refusal (sym works ∙ q) call.no_failure);
+      repeats = repeats-never _ _ enomem _ _ _ _ (λ refusal q. some up.failure refusal (sym works ∙ q) call.no_failure);
       answers = λ _. record {
         chunk = λ live. absurd (subst IsLive call.released live);
         finish = λ z. absurd (not-zero z);
