@@ -8,7 +8,7 @@ ghost use Rattle.csv_source.specs.Sources.{stream_of};
 ghost use Rattle.field_codec.specs.TextColumns.{AreAllowed, AreProper, IsAllowed, NamesDiffer};
 ghost use Rattle.data_types.specs.ColumnView.{column_of};
 ghost use Rattle.data_types.specs.Kinds.{KindOk};
-ghost use Rattle.run_model.specs.Words.{most_stages};
+ghost use Rattle.stage_plan.specs.PlanWords.{most_stages};
 ghost use Rattle.run_model.specs.Answer.{Fault};
 ghost use Rattle.run_model.specs.Outcomes.{request_of};
 ghost use Rattle.run_model.specs.RunAnswer.{answer_of_records, input_limit};

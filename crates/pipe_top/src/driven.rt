@@ -6,11 +6,11 @@ ghost use Rattle.stages.specs.Structs.{column_structs};
 ghost use Rattle.stage_model.specs.Links.{Whole};
 ghost use Rattle.stage_model.specs.Stages.{table};
 ghost use Rattle.stage_model.specs.declared.stage.StageText.{StageText as AText};
-ghost use Rattle.stage_plan.specs.PlanWords.{IsPlan};
+ghost use Rattle.stage_plan.specs.PlanWords.{IsPlan, most_stages};
 ghost use Rattle.unit_pass.specs.declared.pass.TheConstants.{ROOM, SUPPLY};
 ghost use Rattle.stream_face.specs.Streams.{kept};
 ghost use Rattle.stage_chain.specs.Chains.{chain_links, chain_traffic, link_shows};
-ghost use Rattle.stage_chain.specs.Plans.{most_stages, plan_stages};
+ghost use Rattle.stage_chain.specs.Plans.{plan_stages};
 ghost use Rattle.csv_write.specs.Faults.{IfRow};
 ghost use Rattle.csv_write.specs.Runs.{Counted, ShowsAll, ShowsSome};
 

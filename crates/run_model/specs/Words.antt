@@ -11,6 +11,8 @@ use Rattle.clap.specs.Simple.{on_top}
 use Rattle.clap.specs.declared.builder.action.ArgAction.TheVariants.{Append, SetTrue}
 use Rattle.clap.specs.declared.error.kind.ErrorKind.{ErrorKind}
 use Rattle.clap.specs.declared.error.kind.ErrorKind.TheVariants.{OutOfMemory}
+use Rattle.fan_out.specs.Counts.{most_workers}
+use Rattle.stage_plan.specs.PlanWords.{most_stages}
 use Rattle.run_model.specs.declared.words.Words.{Words}
 use Rattle.run_model.specs.declared.words.WordsFault.{WordsFault}
 use Rattle.run_model.specs.declared.words.WordsFault.TheVariants.{Refused, TooManyStages, UsedWithCheck, UsedWithSelftest}
@@ -136,17 +138,11 @@ most_batch = 1000000
 abbrev pub default_workers : ℕ
 default_workers = 1
 
-abbrev pub most_workers : ℕ
-most_workers = 64
-
 abbrev pub most_rows : ℕ
 most_rows = 1000000
 
 abbrev pub most_ahead : ℕ
 most_ahead = 64
-
-abbrev pub most_stages : ℕ
-most_stages = 16
 
 -- the number of an option, from 1 to the most, where its text is one; the usual one where the option isn't given
 abbrev pub number_if : ℕ → ℕ → Option Text → Option ℕ

@@ -1,5 +1,5 @@
 -- The stages of a plan, as the definitions see them.
-use Rattle.std.specs.Prelude.{◌≡◌, ℕ, false, List, [], ◌∷◌, drop, map}
+use Rattle.std.specs.Prelude.{◌≡◌, false, List, [], ◌∷◌, drop, map}
 use Rattle.std.specs.List.{list_any}
 use Rattle.std.specs.Vec.Iter.{into_iter_items}
 use Rattle.std.specs.declared.vec.IntoIter.{IntoIter}
@@ -11,10 +11,6 @@ use Rattle.stage_model.specs.declared.stage.Step.{Step}
 use Rattle.stage_plan.specs.PlanWords.{columns_in}
 use Rattle.stage_plan.specs.declared.typing.Plan.{Plan}
 use Rattle.stage_chain.specs.declared.planned.PlannedStage.{PlannedStage}
-
--- the most stages of a plan that is carried out
-abbrev pub most_stages : ℕ
-most_stages = 16
 
 -- a stage: its step, and the columns after it
 abbrev pub stage_in : PlannedStage → Stage

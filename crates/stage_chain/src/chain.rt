@@ -9,10 +9,11 @@ ghost use Rattle.data_types.specs.Table.{Column};
 ghost use Rattle.unit_pass.specs.declared.pass.TheConstants.{CHUNK, ROOM, SUPPLY};
 ghost use Rattle.stages.specs.Structs.{column_structs};
 ghost use Rattle.stage_model.specs.Links.{last_columns};
+ghost use Rattle.stage_plan.specs.PlanWords.{most_stages};
 ghost use Rattle.stream_face.specs.Streams.{Stream, kept};
 ghost use Rattle.stage_chain.specs.Chains.{chain_links, chain_traffic, joints_with, last_rows};
 ghost use Rattle.csv_write.specs.Faults.{IfRow};
-ghost use Rattle.stage_chain.specs.Plans.{AreStages, most_stages, stages_left};
+ghost use Rattle.stage_chain.specs.Plans.{AreStages, stages_left};
 ghost use Rattle.csv_write.specs.Runs.{Counted, ShowsAll, ShowsSome};
 
 use crate::boxed::Boxed;

@@ -11,6 +11,10 @@ use Rattle.stage_model.specs.Typing.{PlanIs, Stage, column, dict_kind, names_of,
 use Rattle.stage_model.specs.declared.stage.StageText.{StageText}
 use Rattle.stage_plan.specs.declared.typing.Plan.{Plan}
 
+-- the most stages of a plan that is carried out
+abbrev pub most_stages : ℕ
+most_stages = 16
+
 -- the texts that are lent
 abbrev pub texts : List (Bor (List ℕ)) → List (List ℕ)
 texts borrows = map (λ b. b.now) borrows
