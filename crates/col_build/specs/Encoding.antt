@@ -132,9 +132,13 @@ is_by_offsets Text = true
 is_by_offsets HexBytes = true
 is_by_offsets _ = false
 
+-- offsets of 32 bits reach fewer bytes than this, and ends of 32 bits fewer items
+abbrev pub narrow_limit : ℕ
+narrow_limit = 2 ^ 31
+
 -- offsets of 32 bits reach this many bytes
 abbrev pub is_within : Bool → Form → ℕ → Bool
-is_within false form total = if is_by_offsets form then nat_lt total (2 ^ 31) else true
+is_within false form total = if is_by_offsets form then nat_lt total narrow_limit else true
 is_within true form total = true
 
 abbrev pub form_fault : Bool → Form → List Value → Value → Option PushFault
@@ -165,11 +169,15 @@ abbrev pub are_bounded : Option Form → ℕ → Bool
 are_bounded None total = true
 are_bounded (Some form) total = if is_by_offsets form then nat_lt total (2 ^ 63) else true
 
+-- the most values of a column
+abbrev pub most_values : ℕ
+most_values = 2 ^ 40
+
 -- each value is one that the column takes, and the offsets reach all bytes
 pub record Fits (kind : DataType) (values : List Value) : Type 0 where
   pub kind_ok : KindOk kind
   pub flat : HasForm (form_of kind)
-  pub few : length values ≤ 2 ^ 40
+  pub few : length values ≤ most_values
   pub each : All (λ value. push_fault kind [] value ≡ None) values
   pub small : are_within (is_wide kind) (form_of kind) (byte_total values) ≡ true
   pub bounded : are_bounded (form_of kind) (byte_total values) ≡ true

@@ -6,7 +6,7 @@ use Rattle.data_types.specs.Storage.{storage_of}
 use Rattle.data_types.specs.declared.storage.Storage.TheVariants as stored
 use Rattle.data_types.specs.Value.{Value, bytes_of}
 use Rattle.data_types.specs.declared.kind.DataType.{DataType}
-use Rattle.col_build.specs.Encoding.{Fits, bit_bytes, if_some, is_set, null_total, offset_bytes, push_fault, stored_item, validity_of}
+use Rattle.col_build.specs.Encoding.{Fits, bit_bytes, if_some, is_set, most_values, null_total, offset_bytes, push_fault, stored_item, validity_of}
 use Rattle.col_build.specs.Shapes.{IsAnswer, shape_in}
 use Rattle.col_build.specs.declared.builder.Builder.{Builder}
 use Rattle.col_build.specs.declared.item.PushFault.{PushFault}
@@ -76,7 +76,7 @@ HoldsSome builder = (kind : DataType) × (values : List Value) × Holds builder 
 
 -- and fewer than the most that there can be
 abbrev pub HoldsFew : Builder → Type 0
-HoldsFew builder = (kind : DataType) × (values : List Value) × Holds builder kind values × (length values < 2 ^ 40)
+HoldsFew builder = (kind : DataType) × (values : List Value) × Holds builder kind values × (length values < most_values)
 
 -- what the old builder held the new one holds
 abbrev pub Keeps : Builder → Builder → Type 0
@@ -92,7 +92,7 @@ IsPushed value old result = (kind : DataType) (values : List Value) → Holds ol
 
 -- the column takes the value
 abbrev pub Takes : Builder → Value → Type 0
-Takes builder value = (kind : DataType) × (values : List Value) × Holds builder kind values × (length values < 2 ^ 40) × (push_fault kind values value ≡ None)
+Takes builder value = (kind : DataType) × (values : List Value) × Holds builder kind values × (length values < most_values) × (push_fault kind values value ≡ None)
 
 -- the column is of whole numbers of this many bytes
 abbrev pub HoldsWholes : ℕ → Builder → Type 0

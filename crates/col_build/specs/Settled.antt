@@ -1,9 +1,9 @@
 -- What a builder holds that has made nothing ahead of further items.
-use Rattle.std.specs.Prelude.{◌≡◌, ◌^◌, ◌<◌, ℕ, Bool, false, List, [], ◌∷◌, ◌++◌, length, Result}
+use Rattle.std.specs.Prelude.{◌≡◌, ◌<◌, ℕ, Bool, false, List, [], ◌∷◌, ◌++◌, length, Result}
 use Rattle.data_types.specs.Storage.{storage_of}
 use Rattle.data_types.specs.Value.{Value}
 use Rattle.data_types.specs.declared.kind.DataType.{DataType}
-use Rattle.col_build.specs.Encoding.{Fits, if_some, null_total, push_fault, validity_of}
+use Rattle.col_build.specs.Encoding.{Fits, if_some, most_values, null_total, push_fault, validity_of}
 use Rattle.col_build.specs.Holding.{HasBytes, Holds}
 use Rattle.col_build.specs.Shapes.{IsAnswer, shape_in}
 use Rattle.col_build.specs.declared.builder.Builder.{Builder}
@@ -27,7 +27,7 @@ HoldsSomeWhole builder = (kind : DataType) × (values : List Value) × HoldsWhol
 
 -- and fewer than the most that there can be
 abbrev pub HoldsFewWhole : Builder → Type 0
-HoldsFewWhole builder = (kind : DataType) × (values : List Value) × HoldsWhole builder kind values × (length values < 2 ^ 40)
+HoldsFewWhole builder = (kind : DataType) × (values : List Value) × HoldsWhole builder kind values × (length values < most_values)
 
 -- what the old builder held the new one holds, with nothing ahead
 abbrev pub Settles : Builder → Builder → Type 0

@@ -7,6 +7,7 @@ use Rattle.data_types.specs.FieldText.{in_range}
 use Rattle.data_types.specs.declared.storage.Storage.{Storage}
 use Rattle.data_types.specs.declared.storage.Storage.TheVariants as stored
 use Rattle.data_types.specs.Value.{Value, Null, Truth, Whole, Bits, Bytes}
+use Rattle.col_build.specs.Encoding.{narrow_limit}
 use Rattle.col_build.specs.declared.item.PushFault.{PushFault}
 use Rattle.col_build.specs.declared.item.PushFault.TheVariants.{WrongKind, OutOfRange, NotText, NoMemory}
 use Rattle.col_build.specs.declared.shape.Shape.{Shape}
@@ -35,7 +36,7 @@ past bits false = 2 ^ bits
 -- offsets of 32 bits reach this many bytes
 abbrev pub reaches : Bool → ℕ → Bool
 reaches true total = true
-reaches false total = nat_lt total (2 ^ 31)
+reaches false total = nat_lt total narrow_limit
 
 abbrev pub text_fault : Bool → List ℕ → Option PushFault
 text_fault false bytes = None

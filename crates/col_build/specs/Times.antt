@@ -1,8 +1,8 @@
 -- An item that a column takes many times.
-use Rattle.std.specs.Prelude.{◌≡◌, ◌⊎◌, ◌+◌, ◌≤◌, ◌<◌, ◌^◌, ℕ, Bool, List, ◌++◌, length, replicate, None}
+use Rattle.std.specs.Prelude.{◌≡◌, ◌⊎◌, ◌+◌, ◌≤◌, ◌<◌, ℕ, Bool, List, ◌++◌, length, replicate, None}
 use Rattle.data_types.specs.Value.{Value}
 use Rattle.data_types.specs.declared.kind.DataType.{DataType}
-use Rattle.col_build.specs.Encoding.{bit_bytes, push_fault}
+use Rattle.col_build.specs.Encoding.{bit_bytes, most_values, push_fault}
 use Rattle.col_build.specs.Holding.{Holds}
 use Rattle.col_build.specs.declared.builder.Builder.{Builder}
 use Rattle.col_build.specs.declared.shape.Shape.{Shape}
@@ -13,7 +13,7 @@ pub record TakesTimes (builder : Builder) (value : Value) (times : ℕ) : Type 0
   pub kind : DataType
   pub values : List Value
   pub holds : Holds builder kind values
-  pub few : length values + times ≤ 2 ^ 40
+  pub few : length values + times ≤ most_values
   pub each : (i : ℕ) → i < times → push_fault kind (values ++ replicate i value) value ≡ None
 
 -- what the old builder held the new one holds, and the value so often behind it

@@ -1,9 +1,9 @@
 //! Columns that items are added to, beside columns of the same items that are pushed to alone.
-ghost use Rattle.std.specs.Prelude.{◌≡◌, ◌≤◌, ◌<◌, ◌^◌, ◌⊎◌, [], List, length, OnOk};
+ghost use Rattle.std.specs.Prelude.{◌≡◌, ◌≤◌, ◌<◌, ◌⊎◌, [], List, length, OnOk};
 ghost use Rattle.data_types.specs.FieldText.{form_of};
 ghost use Rattle.data_types.specs.Kinds.{KindOk};
 ghost use Rattle.data_types.specs.Value.{Value, Bits, Whole};
-ghost use Rattle.col_build.specs.Encoding.{HasForm};
+ghost use Rattle.col_build.specs.Encoding.{HasForm, most_values};
 ghost use Rattle.col_build.specs.Holding.{Adds, Holds, Takes};
 ghost use Rattle.col_build.specs.Items.{value_of};
 
@@ -75,7 +75,7 @@ fn take_one(
     item: Item<'_>,
     any: bool,
 )
-    requires same { (values : List Value) × Holds pushed.old kind.now values × Holds added.old kind.now values × (length values < 2 ^ 40) }
+    requires same { (values : List Value) × Holds pushed.old kind.now values × Holds added.old kind.now values × (length values < most_values) }
     ensures pushed { Adds (value_of item.entry) pushed.old pushed.new }
     ensures added { Adds (value_of item.entry) added.old added.new }
 {

@@ -1,11 +1,11 @@
 //! Values added to a column that takes them. A number or a short text costs one test and the stores, since its place was made
 //! ahead, and behind a null its validity bit.
-ghost use Rattle.std.specs.Prelude.{◌≡◌, ◌≢◌, ◌≤◌, ◌<◌, ◌^◌, ◌+◌, ◌*◌, ◌⊎◌, ◌∷◌, [], Bool, List, true, length, take, vec_len, IfOk, OnOk, OnErr};
+ghost use Rattle.std.specs.Prelude.{◌≡◌, ◌≢◌, ◌≤◌, ◌<◌, ◌+◌, ◌*◌, ◌⊎◌, ◌∷◌, [], Bool, List, true, length, take, vec_len, IfOk, OnOk, OnErr};
 ghost use Rattle.data_types.specs.FieldText.{form_of};
 ghost use Rattle.data_types.specs.Kinds.{KindOk};
 ghost use Rattle.data_types.specs.Value.{Value, Null, Truth, Whole, Bits, Bytes, bytes_of};
 ghost use Rattle.data_types.specs.declared.kind.DataType.{DataType};
-ghost use Rattle.col_build.specs.Encoding.{HasForm, is_null, is_set};
+ghost use Rattle.col_build.specs.Encoding.{HasForm, is_null, is_set, most_values};
 ghost use Rattle.col_build.specs.Holding.{HasBytes, bytes_in, offsets_in};
 ghost use Rattle.col_build.specs.Items.{value_of};
 
@@ -21,7 +21,7 @@ use unit_pass::NoMemory;
 /// Whether an offset of four bytes behind this many items has its place.
 #[inline(always)]
 fn is_offset_there(offsets: &Vec<u8>, count: usize) -> bool
-    requires { count ≤ 2 ^ 40 }
+    requires { count ≤ most_values }
     ensures { result ≡ true → count * 4 + 8 ≤ vec_len offsets.now }
 {
     count * 4 + 8 <= offsets.len()
@@ -86,7 +86,7 @@ impl Builder {
     /// Whether the next number of a width has its place.
     #[inline(always)]
     fn has_place(&self, width: usize) -> bool
-        requires few { self.now.count ≤ 2 ^ 40 }
+        requires few { self.now.count ≤ most_values }
         requires width { width ≤ 16 }
         ensures { result ≡ true → self.now.count * width + width ≤ vec_len self.now.bytes }
     {

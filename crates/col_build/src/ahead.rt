@@ -1,8 +1,9 @@
 //! What is made ahead of further items: bytes behind those of numbers and of narrow offsets, which nothing reads. An item
 //! that finds its place there is stored without a look at the vector's room.
-ghost use Rattle.std.specs.Prelude.{◌≡◌, ◌≢◌, ◌≤◌, ◌<◌, ◌^◌, ◌+◌, ◌*◌, ◌++◌, Bool, true, OnOk, OnErr, length, replicate, take, vec_len};
+ghost use Rattle.std.specs.Prelude.{◌≡◌, ◌≢◌, ◌≤◌, ◌<◌, ◌+◌, ◌*◌, ◌++◌, Bool, true, OnOk, OnErr, length, replicate, take, vec_len};
 ghost use Rattle.data_types.specs.Packed.{IsWidth, le_bytes, stored};
 ghost use Rattle.data_types.specs.FieldText.{in_range};
+ghost use Rattle.col_build.specs.Encoding.{most_values};
 ghost use Rattle.col_build.specs.Holding.{ShapeOk, bytes_in, offsets_in};
 
 use crate::shape::Shape;
@@ -15,7 +16,7 @@ pub(crate) const AHEAD: usize = 1024;
 #[inline(always)]
 pub(crate) fn cut_ahead(shape: Shape, count: usize, offsets: &mut Vec<u8>, bytes: &mut Vec<u8>)
     requires ok { ShapeOk shape }
-    requires few { count ≤ 2 ^ 40 }
+    requires few { count ≤ most_values }
     ensures bytes { bytes.new.items ≡ bytes_in shape count bytes.old.items }
     ensures offsets { offsets.new.items ≡ offsets_in shape count offsets.old.items }
 {

@@ -1,7 +1,7 @@
 //! Bits, added one by one: eight a byte, the least significant first ("Arrow Columnar Format", "Validity bitmaps").
 ghost use Rattle.std.specs.Prelude.{◌≡◌, ◌≢◌, ◌+◌, ◌*◌, ◌/◌, ◌%◌, ◌^◌, ◌<◌, ◌≤◌, ◌++◌, ◌∷◌, [], Bool, true, false, List, length, replicate, IsOk, OnOk, OnErr, vec_len};
 ghost use Rattle.std.specs.Prelude.{vec_capacity};
-ghost use Rattle.col_build.specs.Encoding.{bit_bytes};
+ghost use Rattle.col_build.specs.Encoding.{bit_bytes, most_values};
 ghost use Rattle.col_build.specs.Times.{AddsBits, ShowsBits};
 
 use unit_pass::NoMemory;
@@ -95,7 +95,7 @@ fn push_whole(bits: &mut Vec<u8>, count: usize, flag: bool, whole: usize)
 /// Adds a bit behind this many, this many times, by whole bytes where they are.
 pub(crate) fn push_bits(bits: &mut Vec<u8>, count: usize, flag: bool, times: usize)
     requires shows { ShowsBits count bits.old.items }
-    requires few { count + times ≤ 2 ^ 40 }
+    requires few { count + times ≤ most_values }
     requires room { vec_len bits.old + (times / 8 + 16) ≤ vec_capacity bits.old }
     ensures { AddsBits count flag times bits.old.items bits.new.items }
 {

@@ -17,6 +17,9 @@ use crate::shape::Shape;
 use crate::text::is_text;
 use crate::{Item, PushFault};
 
+/// Offsets of 32 bits reach fewer bytes than this.
+const NARROW_LIMIT: usize = 1 << 31;
+
 /// Appends this many zeros.
 #[inline(always)]
 fn append_zeros(bytes: &mut Vec<u8>, count: usize) -> Result<(), PushFault>
@@ -125,7 +128,7 @@ fn end_item(offsets: &mut Vec<u8>, wide: bool, end: usize) -> Result<(), PushFau
 fn is_reached(wide: bool, total: usize) -> bool
     ensures { result ≡ reaches wide total }
 {
-    wide || total < 1 << 31
+    wide || total < NARROW_LIMIT
 }
 
 /// Why bytes aren't taken behind this many.

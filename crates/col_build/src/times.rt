@@ -1,7 +1,7 @@
 //! An item that is added many times.
-ghost use Rattle.std.specs.Prelude.{◌≡◌, ◌≢◌, ◌≤◌, ◌+◌, ◌/◌, ◌^◌, ◌++◌, Bool, List, true, length, replicate, OnErr, OnOk, vec_capacity, vec_len};
+ghost use Rattle.std.specs.Prelude.{◌≡◌, ◌≢◌, ◌≤◌, ◌+◌, ◌/◌, ◌++◌, Bool, List, true, length, replicate, OnErr, OnOk, vec_capacity, vec_len};
 ghost use Rattle.data_types.specs.Value.{Value};
-ghost use Rattle.col_build.specs.Encoding.{if_some, is_null, is_set, null_total, validity_of};
+ghost use Rattle.col_build.specs.Encoding.{if_some, is_null, is_set, most_values, null_total, validity_of};
 ghost use Rattle.col_build.specs.Holding.{HasBytes, HasValidity};
 ghost use Rattle.col_build.specs.Items.{value_of};
 ghost use Rattle.col_build.specs.Times.{IsBitwise};
@@ -14,7 +14,7 @@ use unit_pass::NoMemory;
 
 /// Makes room for the bits of this many items more.
 fn make_room(bits: &mut Vec<u8>, times: usize) -> Result<(), NoMemory>
-    requires { times ≤ 2 ^ 40 }
+    requires { times ≤ most_values }
     ensures items { bits.new.items ≡ bits.old.items }
     ensures room { OnOk result (vec_len bits.new + (times / 8 + 16) ≤ vec_capacity bits.new) }
 {
@@ -34,7 +34,7 @@ fn repeat_validity(
     times: usize,
 ) -> Result<(), NoMemory>
     requires has { (values : List Value) × HasValidity validity.old.items count nulls values }
-    requires few { count + times ≤ 2 ^ 40 }
+    requires few { count + times ≤ most_values }
     requires behind { null ≡ true → nulls ≢ 0 }
     ensures added { OnOk result ((values : List Value) (value : Value) → HasValidity validity.old.items count nulls values → is_null value ≡ null
         → if_some validity.new.items ≡ validity_of (values ++ replicate times value)) }
