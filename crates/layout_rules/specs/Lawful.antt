@@ -1,11 +1,11 @@
 -- What holds of a lawful array whose type is there: at its root, of its parts, and of its items.
-use Rattle.std.specs.Prelude.{◌≡◌, ℕ, ◌+◌, ◌^◌, ◌<◌, ◌≤◌, ◌≤ℤ◌, pos, length, Some, None}
+use Rattle.std.specs.Prelude.{◌≡◌, ℕ, ◌+◌, ◌<◌, ◌≤◌, ◌≤ℤ◌, pos, length, Some, None}
 use Rattle.data_types.specs.declared.kind.DataType.TheVariants as kinds
 use Rattle.tree_model.specs.Tree.{IsLive, children_of, dictionary_of, child_at}
 use Rattle.raw_array.specs.Members.{ArrayTree, members_of}
 use Rattle.data_types.specs.KindTrees.{KindTree, kind_in}
 use Rattle.layout_rules.specs.Layout.{layout_of, buffer_count, IsLongIfPresent, first, items, end}
-use Rattle.layout_rules.specs.Rules.{one_if, items_need, null_total}
+use Rattle.layout_rules.specs.Rules.{one_if, items_need, null_total, window_limit}
 use Rattle.layout_rules.specs.Walk.{LayoutOk}
 use Rattle.layout_rules.specs.Values.{tree_items}
 use Rattle.layout_rules.specs.Within.{StoredWithin, ViewWithin, ItemsWithin, IndexWithin}
@@ -15,7 +15,7 @@ pub record RootHolds (typed : KindTree) (array : ArrayTree) : Type 0 where
   pub sized : pos 0 ≤ℤ (members_of array).length
   pub placed : pos 0 ≤ℤ (members_of array).offset
   pub many : tree_items array ≡ items (members_of array)
-  pub near : end (members_of array) ≤ 2 ^ 40
+  pub near : end (members_of array) ≤ window_limit
   pub counted : length (members_of array).buffers ≡ buffer_count (layout_of (kind_in typed)) (length (members_of array).buffers)
   pub long : IsLongIfPresent (members_of array)
   pub kids : length (children_of array) ≡ length (children_of typed)
@@ -24,7 +24,7 @@ pub record RootHolds (typed : KindTree) (array : ArrayTree) : Type 0 where
 -- a child, or a dictionary, is lawful under its own type
 pub record PartsHold (typed : KindTree) (array : ArrayTree) : Type 0 where
   pub kids : (k : ℕ) → k < length (children_of typed) → LayoutOk (child_at typed k) (child_at array k)
-  pub few : (k : ℕ) → IsLive (child_at typed k) → tree_items (child_at array k) ≤ 2 ^ 40
+  pub few : (k : ℕ) → IsLive (child_at typed k) → tree_items (child_at array k) ≤ window_limit
   pub dict : (type : KindTree) (dictionary : ArrayTree) → dictionary_of typed ≡ Some type → dictionary_of array ≡ Some dictionary → LayoutOk type dictionary
 
 -- what is read of an item lies within the buffers, the children and the dictionary

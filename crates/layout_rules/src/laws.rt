@@ -1,12 +1,12 @@
 //! What a lawful array promises to its reader, as laws over the definitions. The calls do nothing.
-ghost use Rattle.std.specs.Prelude.{◌≡◌, ◌↔◌, None, Some, IsTrue, is_none, ◌≤ℤ◌, pos, ℕ, ◌+◌, ◌^◌, ◌<◌, ◌≤◌, length, get_or};
+ghost use Rattle.std.specs.Prelude.{◌≡◌, ◌↔◌, None, Some, IsTrue, is_none, ◌≤ℤ◌, pos, ℕ, ◌+◌, ◌<◌, ◌≤◌, length, get_or};
 ghost use Rattle.tree_model.specs.Tree.{Released, IsLive, child_at, children_of, dictionary_of};
 ghost use Rattle.raw_array.specs.Members.{ArrayTree, members_of};
 ghost use Rattle.data_types.specs.declared.typed.Typed.{out-Typed};
 ghost use Rattle.data_types.specs.KindTrees.{KindTree};
 ghost use Rattle.data_types.specs.TypedView.{typed_of, kind_of, kids_of, dict_in};
 ghost use Rattle.layout_rules.specs.Layout.{layout_of, buffer_count, IsLongIfPresent, first, items, end};
-ghost use Rattle.layout_rules.specs.Rules.{one_if, items_need};
+ghost use Rattle.layout_rules.specs.Rules.{one_if, items_need, window_limit};
 ghost use Rattle.layout_rules.specs.Walk.{LayoutOk, ChunkOk, first_fault};
 ghost use Rattle.layout_rules.specs.Values.{tree_items, rows_of};
 ghost use Rattle.layout_rules.specs.Lawful.{RootHolds, PartsHold, ItemsHold, ChunkHolds};
@@ -27,7 +27,7 @@ pub fn lawful_root(typed: &Typed, array: &RawArray)
     ensures length { pos 0 ≤ℤ (members_of array.now).length }
     ensures offset { pos 0 ≤ℤ (members_of array.now).offset }
     ensures items { tree_items array.now ≡ items (members_of array.now) }
-    ensures end { end (members_of array.now) ≤ 2 ^ 40 }
+    ensures end { end (members_of array.now) ≤ window_limit }
     ensures count { length (members_of array.now).buffers ≡ buffer_count (layout_of (kind_of typed.now)) (length (members_of array.now).buffers) }
     ensures long { IsLongIfPresent (members_of array.now) }
     ensures children { length (children_of array.now) ≡ length (kids_of typed.now) }
@@ -38,7 +38,7 @@ pub fn lawful_root(typed: &Typed, array: &RawArray)
 pub fn lawful_parts(typed: &Typed, array: &RawArray)
     requires { LayoutOk (typed_of typed.now) array.now }
     ensures children { (k : ℕ) → k < length (kids_of typed.now) → LayoutOk (get_or (kids_of typed.now) k Released) (child_at array.now k) }
-    ensures few { (k : ℕ) → k < length (kids_of typed.now) → tree_items (child_at array.now k) ≤ 2 ^ 40 }
+    ensures few { (k : ℕ) → k < length (kids_of typed.now) → tree_items (child_at array.now k) ≤ window_limit }
     ensures dictionary { (dict : KindTree) (dictionary : ArrayTree) → dict_in (out-Typed typed.now).dict ≡ Some dict → dictionary_of array.now ≡ Some dictionary
         → LayoutOk dict dictionary }
 {}
