@@ -5,6 +5,7 @@ ghost use Rattle.tree_model.specs.Tree.{Released, trees};
 ghost use Rattle.raw_array.specs.Members.{Cost, cost_of_all};
 ghost use Rattle.raw_schema.specs.Members.{Nodes};
 ghost use Rattle.unit_pass.specs.declared.pass.TheConstants.{ROOM, SUPPLY};
+ghost use Rattle.stream_face.specs.Codes.{einval};
 ghost use Rattle.stream_tests.specs.Strangers.{held_in, holding};
 
 use data_types::RowFault;
@@ -15,7 +16,7 @@ use std::alloc::Global;
 use std::marker::Model;
 use std::process::Abort;
 use std::thread::Threads;
-use stream_face::{ArrayStream, Tap};
+use stream_face::{ArrayStream, EINVAL, Tap};
 use unit_pass::{Pass, ROOM, SUPPLY};
 
 /// What a stream does behind its arrays.
@@ -114,7 +115,7 @@ pub(crate) struct Stranger {
     ghost refused: { code ≢ pos 0 },
     ghost from: { pos 0 ≤ℤ code },
     ghost to: { code ≤ℤ pos 4095 },
-    ghost at_fault: { (fault : RowFaultValue) → row ≡ Some fault → code ≡ pos 22 },
+    ghost at_fault: { (fault : RowFaultValue) → row ≡ Some fault → code ≡ einval },
 }
 
 #[tactic(auto, using(tree_model::proofs::Measures::measures))]
@@ -150,7 +151,7 @@ impl Stranger {
                 assert!(rt; 1 <= code && code <= 4095);
                 (false, code, None)
             }
-            End::Row(row) => (false, 22, Some(row)),
+            End::Row(row) => (false, EINVAL, Some(row)),
         };
         Stranger {
             holdings: Some(Holdings {
