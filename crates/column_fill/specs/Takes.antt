@@ -1,11 +1,11 @@
 -- What a builder takes of a column's items.
-use Rattle.std.specs.Prelude.{◌≡◌, ◌^◌, ◌<◌, List, length, None}
+use Rattle.std.specs.Prelude.{◌≡◌, ◌<◌, List, length, None}
 use Rattle.data_types.specs.Storage.{storage_of}
 use Rattle.data_types.specs.Value.{Value, Null, Truth, Whole, Bits, Bytes}
 use Rattle.data_types.specs.declared.kind.DataType.{DataType}
 use Rattle.data_types.specs.declared.storage.Storage.{Storage}
 use Rattle.data_types.specs.declared.storage.Storage.TheVariants as stored
-use Rattle.col_build.specs.Encoding.{push_fault}
+use Rattle.col_build.specs.Encoding.{most_values, push_fault}
 use Rattle.col_build.specs.Holding.{Holds}
 use Rattle.col_build.specs.declared.builder.Builder.{Builder}
 
@@ -24,7 +24,7 @@ pub record Takes (builder : Builder) (storage : Storage) (value : Value) : Type 
   pub kind : DataType
   pub values : List Value
   pub holds : Holds builder kind values
-  pub few : length values < 2 ^ 40
+  pub few : length values < most_values
   pub stored : storage ≡ storage_of kind
   pub is : IsStored storage value
   pub taken : push_fault kind values value ≡ None

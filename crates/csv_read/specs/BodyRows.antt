@@ -1,5 +1,6 @@
 -- The columns of a body in the making, and one more row for them, under a mark for null.
 use Rattle.std.specs.Prelude.{◌≡◌, ◌≤◌, ◌<◌, ◌+◌, ◌^◌, ◌++◌, ℕ, List, [], ◌∷◌, length, get_or, take, drop, Option, None, Some, Result, Ok, Err}
+use Rattle.col_build.specs.Encoding.{most_values, narrow_limit}
 use Rattle.col_build.specs.Holding.{Adds, Holds}
 pub use Rattle.col_build.specs.Holding.{Takes}
 use Rattle.col_build.specs.declared.builder.Builder.{Builder}
@@ -37,8 +38,8 @@ pub record HasRoom (form : FieldForm) (builder : Builder) (size : ℕ) : Type 0 
   pub values : List Value
   pub in_form : form_of kind ≡ Some (form_in form)
   pub holds : Holds builder kind values
-  pub few : length values < 2 ^ 40
-  pub bytes : byte_total values + size < 2 ^ 31
+  pub few : length values < most_values
+  pub bytes : byte_total values + size < narrow_limit
 
 -- the field spells a value of no more bytes than it has, which the column holds besides
 pub record HasField (mark : List ℕ) (kind : DataType) (values : List Value) (text : List ℕ) (builder : Builder) : Type 0 where
@@ -76,9 +77,9 @@ pub record HasRoomFor (forms : List FieldForm) (builders : List Builder) (fields
   pub columns : List Column
   pub rows : List Row
   pub held : HoldRows forms builders columns rows
-  pub few : length rows < 2 ^ 40
+  pub few : length rows < most_values
   pub narrow : length fields < 2 ^ 32
-  pub bytes : (j : ℕ) → j < length columns → byte_total (column_values j rows) + length (get_or fields j []) < 2 ^ 31
+  pub bytes : (j : ℕ) → j < length columns → byte_total (column_values j rows) + length (get_or fields j []) < narrow_limit
 
 abbrev pub with_values : Row → Result Row RowFault → Result Row RowFault
 with_values values (Ok others) = Ok (values ++ others)

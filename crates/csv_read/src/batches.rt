@@ -1,6 +1,7 @@
 //! The rows of a text, read into builders a batch a call. The reader keeps its place between two calls.
 ghost use Rattle.std.specs.Prelude.{◌≡◌, ◌≤◌, ◌<◌, ◌+◌, ◌*◌, ◌^◌, [], List, map, length, drop, pos, false, true, None, Ok, IfErr, IfOk, IfSome, OnErr, OnOk};
 ghost use Rattle.data_types.specs.ColumnView.{column_of};
+ghost use Rattle.col_build.specs.Encoding.{most_values};
 ghost use Rattle.data_types.specs.Table.{Row};
 ghost use Rattle.field_codec.specs.TextColumns.{AreAllowed, AreProper};
 ghost use Rattle.raw_array.specs.Members.{Cost};
@@ -207,7 +208,7 @@ impl<R: Read> BatchReader<R> {
         pass: &mut Pass,
     ) -> Result<RawArray, NoMemory>
         requires held { (values : List Row) × HoldRows self.old.builders (columns_in self.old) values × (rows ≡ pos (length values))
-            × (length values ≤ 2 ^ 40) }
+            × (length values ≤ most_values) }
         requires few { length self.old.columns < 2 ^ 31 }
         requires units { 1 + 4 * length self.old.columns ≤ pass.old.units }
         ensures stays { self.new ≡ with_builders self.new.builders self.old }

@@ -1,7 +1,7 @@
 //! The columns of a body in the making.
 ghost use Rattle.std.specs.Prelude.{◌≡◌, ◌<◌, ℕ, [], get_or, length, map, IfOk, OnOk};
 ghost use Rattle.std.specs.List.{list_all};
-ghost use Rattle.col_build.specs.Encoding.{HasForm};
+ghost use Rattle.col_build.specs.Encoding.{HasForm, most_values};
 ghost use Rattle.col_build.specs.Holding.{Holds, HoldsSome};
 ghost use Rattle.col_build.specs.declared.builder.Builder.{Builder};
 ghost use Rattle.data_types.specs.ColumnView.{column_of};
@@ -225,7 +225,7 @@ impl BodyColumns {
         pass: &mut Pass,
     ) -> Result<RawArray, NoMemory>
         requires held { (columns : List Column) × (values : List Row) × HoldRows self.old.builders.items columns values × (rows ≡ pos (length values))
-            × (length values ≤ 2 ^ 40) }
+            × (length values ≤ most_values) }
         requires few { length self.old.builders.items < 2 ^ 31 }
         requires units { 1 + 4 * length self.old.builders.items ≤ pass.old.units }
         ensures chunk { IfOk result (λ chunk. (columns : List Column) (values : List Row) → HoldRows self.old.builders.items columns values
@@ -252,7 +252,7 @@ impl BodyColumns {
         texts: bool,
         number: u64,
     ) -> Result<(), BodyFault>
-        requires few { self.old.rows < 2 ^ 40 }
+        requires few { self.old.rows < most_values }
         requires fits { HasRoomFor self.old.forms.items self.old.builders.items (fields_of row.now) }
         requires texts { texts ≡ true → AreTexts (fields_of row.now) }
         ensures added { OnOk result (AddsRow number (fields_of row.now) self.old self.new) }

@@ -4,8 +4,10 @@ ghost use Rattle.data_types.specs.Table.{Column, Row};
 ghost use Rattle.tree_model.specs.Tree.{trees};
 ghost use Rattle.unit_pass.specs.Tally.{risen};
 ghost use Rattle.raw_array.specs.Members.{Cost, cost_of_all};
+ghost use Rattle.col_build.specs.Encoding.{most_values};
 ghost use Rattle.col_build.specs.Holding.{HoldsSome};
 ghost use Rattle.col_build.specs.declared.builder.Builder.{Builder as ABuilder};
+ghost use Rattle.layout_rules.specs.Rules.{window_limit};
 ghost use Rattle.layout_rules.specs.Values.{rows_of};
 ghost use Rattle.layout_rules.specs.Walk.{ChunkOk};
 ghost use Rattle.data_types.specs.ColumnKinds.{type_of_columns};
@@ -21,7 +23,7 @@ use unit_pass::{NoMemory, Pass};
 
 /// A law: the chunk of rows meets the rules of a chunk, and its rows are these ("Arrow Columnar Format", "Struct Layout").
 pub fn chunks_have_their_rows()
-    ensures chunk { (columns : List Column) (rows : List Row) → FitFrom 0 columns rows → length rows ≤ 2 ^ 40
+    ensures chunk { (columns : List Column) (rows : List Row) → FitFrom 0 columns rows → length rows ≤ window_limit
         → ChunkOk (type_of_columns columns) (chunk_of columns rows) }
     ensures rows { (columns : List Column) (rows : List Row) → FitFrom 0 columns rows → All (λ row. length row ≡ length columns) rows
         → rows_of (type_of_columns columns) (chunk_of columns rows) ≡ rows }
@@ -120,7 +122,7 @@ pub fn export_rows(
     pass: &mut Pass,
 ) -> Result<RawArray, NoMemory>
     requires held { (columns : List Column) × (values : List Row) × HoldRows builders.old columns values × (rows ≡ pos (length values))
-        × (length values ≤ 2 ^ 40) }
+        × (length values ≤ most_values) }
     requires few { length builders.old < 2 ^ 31 }
     requires units { 1 + 4 * length builders.old ≤ pass.old.units }
     ensures chunk { IfOk result (λ chunk. (columns : List Column) (values : List Row) → HoldRows builders.old columns values → rows ≡ pos (length values)

@@ -1,6 +1,6 @@
 //! The names of columns: that they are text, that none is there twice, and that entries know them.
 ghost use Rattle.std.specs.Prelude.{◌≡◌, ◌≢◌, ◌≤◌, ◌<◌, ℕ, List, length, IfErr, OnOk, IfSome, None, Some};
-ghost use Rattle.csv_model.specs.Header.{first_not_text, first_unknown, names_fault, is_among};
+ghost use Rattle.csv_model.specs.Header.{first_not_text, first_unknown, names_fault, is_among, most_columns};
 ghost use Rattle.stage_plan.specs.PlanWords.{has_text, texts};
 ghost use Rattle.stage_plan.specs.Entries.{entries_of};
 
@@ -17,7 +17,7 @@ pub(crate) fn check_names(
     names: &[&[u8]],
     entries: &[TypeEntry],
 ) -> Result<(), HeaderFault>
-    requires { length names.now ≤ 1024 }
+    requires { length names.now ≤ most_columns }
     ensures none { OnOk result (names_fault (entries_of entries.now) (texts names.now) ≡ None) }
     ensures fault { IfErr result (λ f. f ≢ HeaderFault.NoMemory → names_fault (entries_of entries.now) (texts names.now) ≡ Some f) }
 {

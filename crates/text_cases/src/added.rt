@@ -1,9 +1,9 @@
 //! Columns of many items, each added by the call for its form, or every eighth by that for any; or many times by one call.
-ghost use Rattle.std.specs.Prelude.{◌≡◌, ◌≤◌, ◌<◌, ◌^◌, [], List, length, OnOk};
+ghost use Rattle.std.specs.Prelude.{◌≡◌, ◌≤◌, ◌<◌, [], List, length, OnOk};
 ghost use Rattle.data_types.specs.FieldText.{form_of};
 ghost use Rattle.data_types.specs.Kinds.{KindOk};
 ghost use Rattle.data_types.specs.Value.{Value, Bits, Whole};
-ghost use Rattle.col_build.specs.Encoding.{HasForm};
+ghost use Rattle.col_build.specs.Encoding.{HasForm, most_values};
 ghost use Rattle.col_build.specs.Holding.{Adds, Holds, Takes};
 ghost use Rattle.col_build.specs.Items.{value_of};
 ghost use Rattle.unit_pass.specs.declared.pass.TheConstants.{SUPPLY};
@@ -84,7 +84,7 @@ fn take_one(
     item: Item<'_>,
     any: bool,
 ) -> io::Result<()>
-    requires same { (values : List Value) × Holds pushed.old kind.now values × Holds added.old kind.now values × (length values < 2 ^ 40) }
+    requires same { (values : List Value) × Holds pushed.old kind.now values × Holds added.old kind.now values × (length values < most_values) }
     ensures pushed { OnOk result (Adds (value_of item.entry) pushed.old pushed.new) }
     ensures added { OnOk result (Adds (value_of item.entry) added.old added.new) }
 {

@@ -1,8 +1,8 @@
 //! Columns whose items are each added many times by one call.
-ghost use Rattle.std.specs.Prelude.{◌≡◌, ◌≤◌, ◌<◌, ◌+◌, ◌^◌, ◌++◌, ℕ, [], List, length, replicate, None, OnOk};
+ghost use Rattle.std.specs.Prelude.{◌≡◌, ◌≤◌, ◌<◌, ◌+◌, ◌++◌, ℕ, [], List, length, replicate, None, OnOk};
 ghost use Rattle.data_types.specs.Value.{Value};
 ghost use Rattle.data_types.specs.declared.kind.DataType.{DataType as AType};
-ghost use Rattle.col_build.specs.Encoding.{push_fault};
+ghost use Rattle.col_build.specs.Encoding.{most_values, push_fault};
 ghost use Rattle.col_build.specs.Holding.{Adds, Holds, HoldsFew, HoldsSome};
 ghost use Rattle.col_build.specs.Items.{value_of};
 ghost use Rattle.col_build.specs.Times.{AddsTimes};
@@ -30,7 +30,7 @@ fn push_one(pushed: &mut Builder, item: Item<'_>) -> io::Result<()>
 
 /// Pushes an item this many times to a column, which tries it each time.
 fn push_each(pushed: &mut Builder, item: Item<'_>, times: usize) -> io::Result<()>
-    requires room { (kind : AType) × (values : List Value) × Holds pushed.old kind values × (length values + times ≤ 2 ^ 40) }
+    requires room { (kind : AType) × (values : List Value) × Holds pushed.old kind values × (length values + times ≤ most_values) }
     ensures pushed { OnOk result (AddsTimes (value_of item.entry) times pushed.old pushed.new) }
     ensures taken { OnOk result ((kind : AType) (values : List Value) → Holds pushed.old kind values → (i : ℕ) → i < times
         → push_fault kind (values ++ replicate i (value_of item.entry)) (value_of item.entry) ≡ None) }
@@ -49,7 +49,7 @@ fn take_times(
     times: usize,
 ) -> io::Result<()>
     requires same { (kind : AType) × (values : List Value) × Holds pushed.old kind values × Holds added.old kind values
-        × (length values + times ≤ 2 ^ 40) }
+        × (length values + times ≤ most_values) }
     ensures pushed { OnOk result (AddsTimes (value_of item.entry) times pushed.old pushed.new) }
     ensures added { OnOk result (AddsTimes (value_of item.entry) times added.old added.new) }
 {

@@ -1,6 +1,6 @@
 -- The row of totals, as columns of one value.
-use Rattle.std.specs.Prelude.{◌≡◌, ℕ, ◌<◌, ◌^◌, List, [], length, get_or, None}
-use Rattle.col_build.specs.Encoding.{push_fault}
+use Rattle.std.specs.Prelude.{◌≡◌, ℕ, ◌<◌, List, [], length, get_or, None}
+use Rattle.col_build.specs.Encoding.{most_values, push_fault}
 use Rattle.col_build.specs.Holding.{Holds}
 use Rattle.col_build.specs.declared.builder.Builder.{Builder}
 use Rattle.data_types.specs.ColumnForms.{IsColumnKind}
@@ -32,5 +32,5 @@ pub record Takes (builder : Builder) (value : Value) : Type 0 where
   pub kind : DataType
   pub values : List Value
   pub holds : Holds builder kind values
-  pub few : length values < 2 ^ 40
+  pub few : length values < most_values
   pub taken : push_fault kind values value ≡ None
