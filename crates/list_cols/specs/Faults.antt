@@ -36,6 +36,10 @@ abbrev pub first_wrong : (ℕ → KindTree → Bool) → ℕ → List KindTree �
 first_wrong is_so k [] = None
 first_wrong is_so k (typed ∷ others) = if is_so k typed then first_wrong is_so (suc k) others else Some k
 
+-- the most columns of a chunk whose rows are made anew
+abbrev pub most_columns : ℕ
+most_columns = 1024
+
 -- ---- what is too long
 
 -- this many rows, items of a list column, or bytes between narrow offsets are named

@@ -1,5 +1,5 @@
 -- A column of lists as an array tree, between offsets of 32 bits ("Arrow Columnar Format", "Variable-size List Layout").
-use Rattle.std.specs.Prelude.{◌<◌, ◌≤◌, ◌^◌, ℕ, pos, false, List, [], ◌∷◌, length, map, None, Some}
+use Rattle.std.specs.Prelude.{◌<◌, ◌≤◌, ℕ, pos, false, List, [], ◌∷◌, length, map, None, Some}
 use Rattle.std.specs.List.{flat_map}
 use Rattle.data_types.specs.Packed.{le_bytes, offset_width}
 use Rattle.data_types.specs.declared.kind.DataType.{DataType}
@@ -8,7 +8,7 @@ use Rattle.data_types.specs.Value.{Value, Items, values}
 use Rattle.tree_model.specs.Tree.{Live, trees, absent}
 use Rattle.raw_array.specs.Members.{ArrayMembers, ArrayTree}
 use Rattle.raw_array.specs.declared.array.ReleaseKind.TheVariants.{Exported}
-use Rattle.col_build.specs.Encoding.{Fits}
+use Rattle.col_build.specs.Encoding.{Fits, narrow_limit}
 use Rattle.data_types.specs.KindTrees.{KindTree}
 use Rattle.arr_export.specs.ArrayTrees.{column_tree, flat_type, made}
 use Rattle.layout_rules.specs.Rules.{window_limit}
@@ -51,5 +51,5 @@ list_value list = Items (values list)
 -- the values have an encoding, and offsets of 32 bits reach them
 pub record FitLists (kind : DataType) (lists : List (List Value)) : Type 0 where
   pub values : Fits kind (joined lists)
-  pub reached : length (joined lists) < 2 ^ 31
+  pub reached : length (joined lists) < narrow_limit
   pub few : length lists ≤ window_limit

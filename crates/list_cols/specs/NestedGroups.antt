@@ -1,5 +1,6 @@
 -- A chunk's rows as groups of the items of a column, and the lists that these are of another one.
-use Rattle.std.specs.Prelude.{◌≡◌, ◌<◌, ◌≤◌, ◌+◌, ◌^◌, ℕ, List, All, length, map, None}
+use Rattle.std.specs.Prelude.{◌≡◌, ◌<◌, ◌≤◌, ◌+◌, ℕ, List, All, length, map, None}
+use Rattle.col_build.specs.Encoding.{narrow_limit}
 use Rattle.data_types.specs.Parts.{column_values}
 use Rattle.data_types.specs.Table.{Flat}
 use Rattle.data_types.specs.Value.{Value}
@@ -65,4 +66,4 @@ pub record AreFirsts (column : ℕ) (typed : KindTree) (array : ArrayTree) (firs
 pub record AreRowGroups (column : ℕ) (typed : KindTree) (array : ArrayTree) (groups : Groups) : Type 0 where
   pub are : AreGroups groups (row_keys column typed array)
   pub firsts : AreFirsts column typed array groups.firsts.items
-  pub few : tree_items array < 2 ^ 31
+  pub few : tree_items array < narrow_limit

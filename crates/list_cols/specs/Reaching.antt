@@ -4,7 +4,7 @@ use Rattle.data_types.specs.FieldText.{Form, form_of}
 use Rattle.data_types.specs.Value.{Value, byte_total}
 use Rattle.data_types.specs.declared.kind.DataType.{DataType}
 use Rattle.data_types.specs.declared.kind.DataType.TheVariants as kinds
-use Rattle.col_build.specs.Encoding.{are_bounded, are_within, is_wide}
+use Rattle.col_build.specs.Encoding.{are_bounded, are_within, is_wide, narrow_limit}
 use Rattle.list_cols.specs.declared.fault.ListFault.{ListFault}
 use Rattle.list_cols.specs.declared.fault.ListFault.TheVariants.{WrongKind, TooLong, NoMemory}
 
@@ -17,7 +17,7 @@ wide_of _ = None
 -- offsets of this width reach this many bytes
 abbrev pub reach : Bool → ℕ → Bool
 reach true total = true
-reach false total = nat_lt total (2 ^ 31)
+reach false total = nat_lt total narrow_limit
 
 -- the offsets of a type are wide or not, or it has none
 abbrev pub OffsetsAre : Bool → Option Form → Option Bool → Type 0

@@ -11,7 +11,7 @@ ghost use Rattle.schema_check.specs.Schemas.{TypedOf};
 ghost use Rattle.unit_pass.specs.Tally.{risen};
 ghost use Rattle.unit_pass.specs.declared.pass.TheConstants.{CHUNK, SUPPLY};
 ghost use Rattle.list_cols.specs.Exploded.{exploded_array, exploded_blocks, exploded_type};
-ghost use Rattle.list_cols.specs.Faults.{IsRefusedBy, explode_fault, explodes, first_wrong, most_named};
+ghost use Rattle.list_cols.specs.Faults.{IsRefusedBy, explode_fault, explodes, first_wrong, most_columns, most_named};
 ghost use Rattle.list_cols.specs.Fields.{exploded_schema};
 ghost use Rattle.list_cols.specs.Nested.{Explode};
 
@@ -46,7 +46,7 @@ pub fn explode(
     requires types { TypedOk (typed_of typed.now) }
     requires chunk { ChunkOk (typed_of typed.now) array }
     requires inside { column < length (children_of (typed_of typed.now)) }
-    requires few { length (children_of (typed_of typed.now)) ≤ 1024 }
+    requires few { length (children_of (typed_of typed.now)) ≤ most_columns }
     requires units { CHUNK ≤ pass.old.units }
     requires room { pass.old.units + (Nodes schema + Cost array) ≤ SUPPLY }
     // The two trees, exactly.

@@ -3,7 +3,7 @@ ghost use Rattle.std.specs.Prelude.{◌≡◌, ◌+◌, ◌-◌, ◌<◌, ◌≤
 ghost use Rattle.std.specs.List.{flat_map};
 ghost use Rattle.arr_export.specs.ArrayTrees.{column_tree, made};
 ghost use Rattle.data_types.specs.Packed.{le_bytes};
-ghost use Rattle.col_build.specs.Encoding.{HasForm};
+ghost use Rattle.col_build.specs.Encoding.{HasForm, narrow_limit};
 ghost use Rattle.column_fill.specs.Gathered.{CanGather, values_at};
 ghost use Rattle.data_types.specs.FieldText.{form_of};
 ghost use Rattle.data_types.specs.Table.{Flat};
@@ -163,7 +163,7 @@ pub(crate) fn list_column(
     requires typed { typed_of kid.now ≡ type_of_kind (Flat (kind_of kid.now)) }
     requires types { TypedOk (typed_of kid.now) }
     requires flat { HasForm (form_of (kind_of kid.now)) }
-    requires groups { (vs : List Value) × AreGroups groups.now vs × HasItems (kind_of kid.now) items.now start vs × (length vs < 2 ^ 31) }
+    requires groups { (vs : List Value) × AreGroups groups.now vs × HasItems (kind_of kid.now) items.now start vs × (length vs < narrow_limit) }
     requires units { 6 ≤ pass.old.units }
     ensures made { IfOk result (λ made. (vs : List Value) → AreGroups groups.now vs
         → made ≡ list_tree (kind_of kid.now) (grouped_lists (type_of_kind (Flat (kind_of kid.now))) items.now start vs)) }

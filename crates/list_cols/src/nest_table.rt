@@ -1,5 +1,6 @@
 //! The array of grouped rows.
-ghost use Rattle.std.specs.Prelude.{◌≡◌, ◌≢◌, ◌⊎◌, ◌+◌, ◌<◌, ◌≤◌, ◌≤ℤ◌, ◌^◌, true, false, pos, IfOk, IfErr, OnOk, MatchResult, length, map};
+ghost use Rattle.std.specs.Prelude.{◌≡◌, ◌≢◌, ◌⊎◌, ◌+◌, ◌<◌, ◌≤◌, ◌≤ℤ◌, true, false, pos, IfOk, IfErr, OnOk, MatchResult, length, map};
+ghost use Rattle.col_build.specs.Encoding.{narrow_limit};
 ghost use Rattle.data_types.specs.KindTrees.{TypedOk, kind_in};
 ghost use Rattle.data_types.specs.TypedView.{kids_of, typed_of};
 ghost use Rattle.layout_rules.specs.Values.{rows_of, tree_items};
@@ -7,7 +8,7 @@ ghost use Rattle.raw_array.specs.Members.{Cost, members_of};
 ghost use Rattle.tree_model.specs.Tree.{IsLive, children_of};
 ghost use Rattle.data_types.specs.Groups.{distinct};
 ghost use Rattle.unit_pass.specs.declared.pass.TheConstants.{CHUNK};
-ghost use Rattle.list_cols.specs.Faults.{most_named};
+ghost use Rattle.list_cols.specs.Faults.{most_columns, most_named};
 ghost use Rattle.list_cols.specs.NestFaults.{is_nest_too_long};
 ghost use Rattle.list_cols.specs.NestedGroups.{AreRowGroups, CanNest};
 ghost use Rattle.list_cols.specs.NestedTables.{FitNested, nested_array};
@@ -29,7 +30,7 @@ use unit_pass::{CHUNK, NoMemory, Pass};
 fn few_rows(array: &RawArray) -> u32
     requires live { IsLive array.now }
     requires sized { pos 0 ≤ℤ (members_of array.now).length }
-    requires few { tree_items array.now < 2 ^ 31 }
+    requires few { tree_items array.now < narrow_limit }
     ensures { result ≡ tree_items array.now }
 {
     row_count(array) as u32
@@ -45,7 +46,7 @@ fn chunk_groups(
     requires types { TypedOk (typed_of typed.now) }
     requires chunk { CanNest column (typed_of typed.now) array.now }
     requires inside { column < length (kids_of typed.now) }
-    requires few { tree_items array.now < 2 ^ 31 }
+    requires few { tree_items array.now < narrow_limit }
     ensures { IfOk result (λ groups. AreRowGroups column (typed_of typed.now) array.now groups) }
 {
     kinds_of_typed(typed);
@@ -75,8 +76,8 @@ fn grouped_table(
     requires types { TypedOk (typed_of typed.now) }
     requires chunk { CanNest column (typed_of typed.now) array.now }
     requires inside { column < length (kids_of typed.now) }
-    requires few { tree_items array.now < 2 ^ 31 }
-    requires narrow { length (kids_of typed.now) ≤ 1024 }
+    requires few { tree_items array.now < narrow_limit }
+    requires narrow { length (kids_of typed.now) ≤ most_columns }
     requires units { CHUNK ≤ pass.old.units }
     ensures made { IfOk result (λ made. made ≡ nested_array column (typed_of typed.now) array.now) }
     ensures fits { OnOk result (FitNested column (map kind_in (children_of (typed_of typed.now))) (rows_of (typed_of typed.now) array.now)) }
@@ -106,7 +107,7 @@ pub(crate) fn nested_table(
 ) -> Result<RawArray, ListFault>
     requires types { TypedOk (typed_of typed.now) }
     requires chunk { CanNest column (typed_of typed.now) array.now }
-    requires narrow { length (children_of (typed_of typed.now)) ≤ 1024 }
+    requires narrow { length (children_of (typed_of typed.now)) ≤ most_columns }
     requires units { CHUNK ≤ pass.old.units }
     ensures made { IfOk result (λ made. made ≡ nested_array column (typed_of typed.now) array.now) }
     ensures fits { OnOk result (FitNested column (map kind_in (children_of (typed_of typed.now))) (rows_of (typed_of typed.now) array.now)) }

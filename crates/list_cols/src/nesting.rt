@@ -9,7 +9,7 @@ ghost use Rattle.raw_array.specs.Members.{Cost};
 ghost use Rattle.raw_schema.specs.Members.{Nodes};
 ghost use Rattle.schema_check.specs.Schemas.{TypedOf};
 ghost use Rattle.unit_pass.specs.declared.pass.TheConstants.{CHUNK, SUPPLY};
-ghost use Rattle.list_cols.specs.Faults.{IsRefusedBy, first_wrong, most_named};
+ghost use Rattle.list_cols.specs.Faults.{IsRefusedBy, first_wrong, most_columns, most_named};
 ghost use Rattle.list_cols.specs.NestFaults.{nest_fault, nests};
 ghost use Rattle.list_cols.specs.Nested.{Nest};
 ghost use Rattle.list_cols.specs.NestedFields.{nested_schema};
@@ -48,7 +48,7 @@ pub fn nest(
     requires types { TypedOk (typed_of typed.now) }
     requires chunk { ChunkOk (typed_of typed.now) array }
     requires inside { column < length (children_of (typed_of typed.now)) }
-    requires few { length (children_of (typed_of typed.now)) ≤ 1024 }
+    requires few { length (children_of (typed_of typed.now)) ≤ most_columns }
     requires units { CHUNK ≤ pass.old.units }
     requires room { pass.old.units + (Nodes schema + Cost array) ≤ SUPPLY }
     // The two trees, exactly.

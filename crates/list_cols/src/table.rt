@@ -1,5 +1,6 @@
 //! The array of the rows whose lists are spread out.
-ghost use Rattle.std.specs.Prelude.{◌≡◌, ◌⊎◌, ◌<◌, ◌≤◌, ◌^◌, ◌+◌, ◌≤ℤ◌, ◌≢◌, pos, true, false, IfOk, IfErr, OnOk, MatchResult, length};
+ghost use Rattle.std.specs.Prelude.{◌≡◌, ◌⊎◌, ◌<◌, ◌≤◌, ◌+◌, ◌≤ℤ◌, ◌≢◌, pos, true, false, IfOk, IfErr, OnOk, MatchResult, length};
+ghost use Rattle.col_build.specs.Encoding.{narrow_limit};
 ghost use Rattle.data_types.specs.KindTrees.{TypedOk};
 ghost use Rattle.data_types.specs.TypedView.{typed_of};
 ghost use Rattle.layout_rules.specs.Layout.{first};
@@ -10,7 +11,7 @@ ghost use Rattle.tree_model.specs.Tree.{IsLive, children_of};
 ghost use Rattle.unit_pass.specs.Tally.{risen};
 ghost use Rattle.unit_pass.specs.declared.pass.TheConstants.{CHUNK};
 ghost use Rattle.list_cols.specs.Exploded.{exploded_array, exploded_blocks, exploded_kinds};
-ghost use Rattle.list_cols.specs.Faults.{is_too_long, most_named};
+ghost use Rattle.list_cols.specs.Faults.{is_too_long, most_columns, most_named};
 ghost use Rattle.list_cols.specs.Nested.{Explode};
 ghost use Rattle.list_cols.specs.Spreading.{AllFit, CanSpread, chunk_runs};
 
@@ -68,9 +69,9 @@ fn made_table(
     requires can { CanSpread column (typed_of typed.now) array.now }
     requires runs { runs.now ≡ chunk_runs column (typed_of typed.now) array.now }
     requires fits { AllFit column (typed_of typed.now) array.now }
-    requires few { length (children_of (typed_of typed.now)) ≤ 1024 }
+    requires few { length (children_of (typed_of typed.now)) ≤ most_columns }
     requires rows { rows ≡ length (Explode column (rows_of (typed_of typed.now) array.now)) }
-    requires short { rows < 2 ^ 31 }
+    requires short { rows < narrow_limit }
     requires units { CHUNK ≤ pass.old.units }
     ensures made { IfOk result (λ made. made ≡ exploded_array column (typed_of typed.now) array.now) }
     ensures cost { IfOk result (λ made. Cost made ≤ 4097) }
@@ -99,7 +100,7 @@ pub(crate) fn spread_table(
 ) -> Result<RawArray, ListFault>
     requires types { TypedOk (typed_of typed.now) }
     requires can { CanSpread column (typed_of typed.now) array.now }
-    requires few { length (children_of (typed_of typed.now)) ≤ 1024 }
+    requires few { length (children_of (typed_of typed.now)) ≤ most_columns }
     requires units { CHUNK ≤ pass.old.units }
     ensures made { IfOk result (λ made. made ≡ exploded_array column (typed_of typed.now) array.now) }
     ensures fits { OnOk result (AllFit column (typed_of typed.now) array.now) }

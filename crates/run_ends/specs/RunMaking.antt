@@ -1,8 +1,8 @@
 -- The columns of runs in the making: their ends, and their values.
-use Rattle.std.specs.Prelude.{◌≡◌, ℕ, ◌^◌, ◌<◌, ◌++◌, List, length, map, drop}
+use Rattle.std.specs.Prelude.{◌≡◌, ℕ, ◌<◌, ◌++◌, List, length, map, drop}
 use Rattle.data_types.specs.declared.kind.DataType.{DataType}
 use Rattle.data_types.specs.Value.{Value}
-use Rattle.col_build.specs.Encoding.{Fits}
+use Rattle.col_build.specs.Encoding.{Fits, narrow_limit}
 use Rattle.col_build.specs.Holding.{Holds}
 use Rattle.run_ends.specs.declared.encoder.Making.{Making}
 use Rattle.run_ends.specs.RunCoding.{Run, runs_from, end_kind, end_of, value_of}
@@ -18,4 +18,4 @@ pub record HoldsUpTo (making : Making) (kind : DataType) (values : List Value) (
   pub split : runs_from 0 values ≡ done ++ runs_from at (drop at values)
   pub holds : HoldsRuns making kind done
   pub fits : Fits kind values
-  pub few : length values < 2 ^ 31
+  pub few : length values < narrow_limit

@@ -1,9 +1,9 @@
 //! Values as runs: what their schema and their array mean. The calls do nothing.
-ghost use Rattle.std.specs.Prelude.{◌≡◌, ◌^◌, ◌<◌, ℕ, List, None, length};
+ghost use Rattle.std.specs.Prelude.{◌≡◌, ◌<◌, ℕ, List, None, length};
 ghost use Rattle.data_types.specs.ColumnForms.{IsColumnKind};
 ghost use Rattle.data_types.specs.Value.{Value};
 ghost use Rattle.data_types.specs.declared.kind.DataType.{DataType};
-ghost use Rattle.col_build.specs.Encoding.{Fits};
+ghost use Rattle.col_build.specs.Encoding.{Fits, narrow_limit};
 ghost use Rattle.run_ends.specs.Runs.{run_values};
 ghost use Rattle.run_ends.specs.RunRules.{RunsOk};
 ghost use Rattle.arr_export.specs.ArrayTrees.{column_tree, flat_type};
@@ -16,8 +16,8 @@ ghost use Rattle.run_ends.specs.RunSchemas.{RunsOf};
 /// that stand side by side have the same one ("Arrow Columnar Format", "Run-End Encoded Layout").
 pub fn coded_values_are_the_values()
     ensures schema { (kind : DataType) → IsColumnKind kind → RunsOf (runs_schema kind) (runs_type kind) }
-    ensures lawful { (kind : DataType) (values : List Value) → Fits kind values → length values < 2 ^ 31 → RunsOk (runs_type kind) (runs_tree kind values) }
-    ensures values { (kind : DataType) (values : List Value) → Fits kind values → length values < 2 ^ 31
+    ensures lawful { (kind : DataType) (values : List Value) → Fits kind values → length values < narrow_limit → RunsOk (runs_type kind) (runs_tree kind values) }
+    ensures values { (kind : DataType) (values : List Value) → Fits kind values → length values < narrow_limit
         → run_values (runs_type kind) (runs_tree kind values) ≡ values }
     ensures apart { (values : List Value) → AreApart (runs_from 0 values) }
 {
@@ -28,11 +28,11 @@ pub fn coded_values_are_the_values()
 /// A law: the items of values as runs can be made into a column, and it is the column of the values ("Arrow Columnar Format",
 /// "Run-End Encoded Layout").
 pub fn decoded_runs_are_the_values()
-    ensures free { (kind : DataType) (values : List Value) → Fits kind values → length values < 2 ^ 31
+    ensures free { (kind : DataType) (values : List Value) → Fits kind values → length values < narrow_limit
         → decode_fault (flat_type kind None) (run_values (runs_type kind) (runs_tree kind values)) ≡ None }
-    ensures column { (kind : DataType) (values : List Value) → Fits kind values → length values < 2 ^ 31
+    ensures column { (kind : DataType) (values : List Value) → Fits kind values → length values < narrow_limit
         → decoded_tree (runs_type kind) (runs_tree kind values) ≡ column_tree kind values None }
-    ensures values { (kind : DataType) (values : List Value) → Fits kind values → length values < 2 ^ 31
+    ensures values { (kind : DataType) (values : List Value) → Fits kind values → length values < narrow_limit
         → values_of (flat_type kind None) (decoded_tree (runs_type kind) (runs_tree kind values)) ≡ values }
 {
     coded_values_are_the_values();

@@ -1,5 +1,5 @@
 //! A column's values as runs.
-ghost use Rattle.std.specs.Prelude.{◌≡◌, ◌≢◌, ◌+◌, ◌^◌, ◌<◌, ◌≤◌, [], true, length, map, IfOk, IfErr, OnOk, MatchResult};
+ghost use Rattle.std.specs.Prelude.{◌≡◌, ◌≢◌, ◌+◌, ◌<◌, ◌≤◌, [], true, length, map, IfOk, IfErr, OnOk, MatchResult};
 ghost use Rattle.unit_pass.specs.Tally.{risen};
 ghost use Rattle.raw_schema.specs.Members.{Nodes};
 ghost use Rattle.raw_array.specs.Members.{Cost};
@@ -7,7 +7,7 @@ ghost use Rattle.data_types.specs.declared.kind.DataType.{DataType as AType};
 ghost use Rattle.data_types.specs.Storage.{storage_of as stored_as};
 ghost use Rattle.data_types.specs.Table.{Flat};
 ghost use Rattle.data_types.specs.FieldText.{form_of};
-ghost use Rattle.col_build.specs.Encoding.{Fits, HasForm};
+ghost use Rattle.col_build.specs.Encoding.{Fits, HasForm, narrow_limit};
 ghost use Rattle.data_types.specs.ColumnKinds.{type_of_kind};
 ghost use Rattle.data_types.specs.KindTrees.{TypedOk, kind_in};
 ghost use Rattle.data_types.specs.TypedView.{typed_of};
@@ -85,7 +85,7 @@ fn runs_are_right(kind: &DataType, typed: &Typed, array: &RawArray)
     requires flat { HasForm (form_of kind.now) }
     requires types { TypedOk (typed_of typed.now) }
     requires lawful { LayoutOk (typed_of typed.now) array.now }
-    requires few { tree_items array.now < 2 ^ 31 }
+    requires few { tree_items array.now < narrow_limit }
     ensures fits { Fits kind.now (values_of (typed_of typed.now) array.now) }
     ensures reads { RunsOf (runs_schema kind.now) (runs_type kind.now) }
     ensures checks { RunsOk (runs_type kind.now) (runs_tree kind.now (values_of (typed_of typed.now) array.now)) }
@@ -107,7 +107,7 @@ fn coded(
     requires types { TypedOk (typed_of typed.now) }
     requires lawful { LayoutOk (typed_of typed.now) array.now }
     requires fits { Fits kind.now (values_of (typed_of typed.now) array.now) }
-    requires few { tree_items array.now < 2 ^ 31 }
+    requires few { tree_items array.now < narrow_limit }
     requires units { 16 ≤ pass.old.units }
     ensures schema { IfOk result (λ made. made.0 ≡ runs_schema kind.now) }
     ensures array { IfOk result (λ made. made.1 ≡ runs_tree kind.now (values_of (typed_of typed.now) array.now)) }
@@ -155,7 +155,7 @@ fn filled(
 ) -> Result<Making, NoMemory>
     requires same { items_of (window_of items.now) ≡ values_in runs.now }
     requires fits { Fits kind.now (values_in runs.now) }
-    requires few { length (values_in runs.now) < 2 ^ 31 }
+    requires few { length (values_in runs.now) < narrow_limit }
     ensures { IfOk result (λ making. HoldsRuns making kind.now (runs_from 0 (values_in runs.now))) }
 {
     let ends = Builder::new(alloc, end_kind());

@@ -7,7 +7,7 @@ use Rattle.data_types.specs.Ways.{Steps}
 use Rattle.layout_rules.specs.Lawful.{ChunkHolds}
 use Rattle.layout_rules.specs.Values.{rows_of, values_of}
 use Rattle.layout_rules.specs.Walk.{ChunkOk, first_chunk_fault}
-use Rattle.list_cols.specs.Faults.{IsRefusedBy}
+use Rattle.list_cols.specs.Faults.{IsRefusedBy, most_columns}
 use Rattle.list_cols.specs.declared.fault.ListFault.{ListFault}
 use Rattle.list_cols.specs.declared.fault.ListFault.TheVariants as lists
 use Rattle.raw_array.specs.Members.{ArrayTree}
@@ -19,7 +19,7 @@ use Rattle.tree_model.specs.Tree.{IsLive, children_of}
 use Rattle.data_types.specs.ValueTexts.{lines_text}
 use Rattle.tree_task.specs.ChunkAnswer.{ChunkAnswer}
 use Rattle.tree_task.specs.ForeignAnswer.{row_value}
-use Rattle.tree_task.specs.ListsAnswer.{column_fault, lines_unless, most_columns, rows_unless, answer_of_column}
+use Rattle.tree_task.specs.ListsAnswer.{column_fault, lines_unless, rows_unless, answer_of_column}
 use Rattle.tree_task.specs.Refusals.{fault_of_list}
 use Rattle.tree_task.specs.TextOrFault.{Answer, Fault, Text}
 use Rattle.tree_task.specs.declared.fault.TreeRunFault.{TreeRunFault}
@@ -37,7 +37,7 @@ column-parts false false count column e = absurd (cc)
 
 module _ (column count : ℕ) where
   -- where there is no fault, there is the column
-  pub column-inside : column_fault column count ≡ None → (count ≤ 1024) × (column < count)
+  pub column-inside : column_fault column count ≡ None → (count ≤ most_columns) × (column < count)
   column-inside none =
       let parts = column-parts (nat_lt most_columns count) (nat_lt column count) count column none in
       let few : nat_lt most_columns count ≡ false = parts.0 in

@@ -6,7 +6,7 @@ use Rattle.std.specs.Prelude.{ℕ, if◌then◌else◌, List, length, map, nat_l
 use Rattle.data_types.specs.Table.{Row}
 use Rattle.data_types.specs.KindTrees.{KindTree}
 use Rattle.layout_rules.specs.Values.{rows_of}
-use Rattle.list_cols.specs.Faults.{explode_fault}
+use Rattle.list_cols.specs.Faults.{explode_fault, most_columns}
 use Rattle.list_cols.specs.NestFaults.{nest_fault}
 use Rattle.list_cols.specs.Nested.{Explode, Nest}
 use Rattle.list_cols.specs.declared.fault.ListFault.{ListFault}
@@ -21,10 +21,6 @@ use Rattle.tree_task.specs.declared.fault.TreeRunFault.{TreeRunFault}
 use Rattle.tree_task.specs.declared.fault.TreeRunFault.TheVariants as run
 
 -- ---- the column
-
--- the most columns of a chunk whose rows are made anew
-abbrev pub most_columns : ℕ
-most_columns = 1024
 
 -- why such a chunk of this many columns has none of this number
 abbrev pub column_fault : ℕ → ℕ → Option TreeRunFault

@@ -5,6 +5,7 @@ ghost use Rattle.data_types.specs.KindTrees.{KindTree, TypedOk};
 ghost use Rattle.data_types.specs.TypedView.{typed_of};
 ghost use Rattle.layout_rules.specs.Values.{rows_of};
 ghost use Rattle.layout_rules.specs.Walk.{ChunkOk, first_chunk_fault};
+ghost use Rattle.list_cols.specs.Faults.{most_columns};
 ghost use Rattle.raw_array.specs.Members.{Cost};
 ghost use Rattle.raw_schema.specs.Members.{Nodes};
 ghost use Rattle.schema_check.specs.Schemas.{TypedOf};
@@ -57,7 +58,7 @@ pub(crate) fn column_kinds(
     ensures passed { IfOk result (λ typed. first_chunk_fault (typed_of typed) array.now ≡ None) }
     ensures there { IfOk result (λ typed. column_fault column (length (children_of (typed_of typed))) ≡ None) }
     ensures inside { IfOk result (λ typed. column < length (children_of (typed_of typed))) }
-    ensures few { IfOk result (λ typed. length (children_of (typed_of typed)) ≤ 1024) }
+    ensures few { IfOk result (λ typed. length (children_of (typed_of typed)) ≤ most_columns) }
     // Whatever is said of rows, this is the answer.
     ensures fault { IfErr result (λ fault. (fault ≡ TreeRunFault.NoMemory)
         ⊎ ((said : KindTree → List Row → Answer) → ChunkAnswer (answer_of_column column said) schema.now array.now (Fault fault))) }
@@ -108,7 +109,7 @@ fn exploded_text(
     requires valid { TypedOk (typed_of typed.now) }
     requires chunk { ChunkOk (typed_of typed.now) array }
     requires inside { column < length (children_of (typed_of typed.now)) }
-    requires few { length (children_of (typed_of typed.now)) ≤ 1024 }
+    requires few { length (children_of (typed_of typed.now)) ≤ most_columns }
     requires some { CHUNK ≤ pass.old.units }
     requires room { pass.old.units + (Nodes schema + Cost array) ≤ SUPPLY }
     ensures text { IfOk result (λ text. Text text.items ≡ exploded column (typed_of typed.now) (rows_of (typed_of typed.now) array)) }
@@ -142,7 +143,7 @@ fn early_fault(alloc: Global, typed: &Typed, array: &RawArray, column: u32) -> O
     requires valid { TypedOk (typed_of typed.now) }
     requires chunk { ChunkOk (typed_of typed.now) array.now }
     requires inside { column < length (children_of (typed_of typed.now)) }
-    requires few { length (children_of (typed_of typed.now)) ≤ 1024 }
+    requires few { length (children_of (typed_of typed.now)) ≤ most_columns }
     ensures { IfSome result (λ fault. (fault ≡ TreeRunFault.NoMemory)
         ⊎ (Fault fault ≡ exploded column (typed_of typed.now) (rows_of (typed_of typed.now) array.now))) }
 {

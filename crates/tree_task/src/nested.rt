@@ -4,6 +4,7 @@ ghost use Rattle.data_types.specs.KindTrees.{TypedOk};
 ghost use Rattle.data_types.specs.TypedView.{typed_of};
 ghost use Rattle.layout_rules.specs.Values.{rows_of};
 ghost use Rattle.layout_rules.specs.Walk.{ChunkOk};
+ghost use Rattle.list_cols.specs.Faults.{most_columns};
 ghost use Rattle.raw_array.specs.Members.{Cost};
 ghost use Rattle.raw_schema.specs.Members.{Nodes};
 ghost use Rattle.schema_check.specs.Schemas.{TypedOf};
@@ -66,7 +67,7 @@ fn nested_text(
     requires valid { TypedOk (typed_of typed.now) }
     requires chunk { ChunkOk (typed_of typed.now) array }
     requires inside { column < length (children_of (typed_of typed.now)) }
-    requires few { length (children_of (typed_of typed.now)) ≤ 1024 }
+    requires few { length (children_of (typed_of typed.now)) ≤ most_columns }
     requires some { CHUNK ≤ pass.old.units }
     requires room { pass.old.units + (Nodes schema + Cost array) ≤ SUPPLY }
     ensures text { IfOk result (λ text. Text text.items ≡ nested column (typed_of typed.now) (rows_of (typed_of typed.now) array)) }
@@ -101,7 +102,7 @@ fn early_fault(alloc: Global, typed: &Typed, array: &RawArray) -> Option<TreeRun
     requires valid { TypedOk (typed_of typed.now) }
     requires chunk { ChunkOk (typed_of typed.now) array.now }
     requires some { 1 ≤ length (children_of (typed_of typed.now)) }
-    requires few { length (children_of (typed_of typed.now)) ≤ 1024 }
+    requires few { length (children_of (typed_of typed.now)) ≤ most_columns }
     // Whatever the column is by which the rows would be grouped.
     ensures { IfSome result (λ fault. (fault ≡ TreeRunFault.NoMemory)
         ⊎ ((column : ℕ) → Fault fault ≡ nested column (typed_of typed.now) (rows_of (typed_of typed.now) array.now))) }
