@@ -18,7 +18,7 @@ use Rattle.col_build.specs.Finished.{blocks_of}
 use Rattle.data_types.specs.ColumnKinds.{type_of_kind}
 use Rattle.data_types.specs.KindTrees.{KindTree}
 use Rattle.layout_rules.specs.Layout.{IsLong, buffer, bytes, end, first, is_valid, natural, stored_number}
-use Rattle.layout_rules.specs.Rules.{one_if}
+use Rattle.layout_rules.specs.Rules.{one_if, window_limit}
 use Rattle.layout_rules.specs.Values.{each, tree_items, value_at, values_of}
 use Rattle.layout_rules.specs.Walk.{LayoutOk}
 use Rattle.layout_rules.specs.Within.{IndexWithin}
@@ -143,7 +143,7 @@ module _ (root : RootLaw) (parts : PartsLaw) (items : ItemsLaw) where
 
 -- the buffers have an index at a place, which is that of an item
 pub record IsPlace (array : ArrayTree) (validity : Option (List ℕ)) (stored : List ℕ) (place j : ℕ) : Type 0 where
-  pub near : place < 2 ^ 41
+  pub near : place < window_limit
   pub long : IsLong (place + 1) validity
   pub there : (place + 1) * 4 ≤ length stored
   pub is : index_in validity stored place ≡ value_at (flat_type index_type None) array j

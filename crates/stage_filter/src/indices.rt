@@ -1,5 +1,5 @@
 //! The indices of some items of a column with a dictionary.
-ghost use Rattle.std.specs.Prelude.{◌≡◌, ◌==◌, ◌+◌, ◌*◌, ◌^◌, ◌<◌, ◌≤◌, ◌≤ℤ◌, pos, length, IfOk, OnOk};
+ghost use Rattle.std.specs.Prelude.{◌≡◌, ◌==◌, ◌+◌, ◌*◌, ◌<◌, ◌≤◌, ◌≤ℤ◌, pos, length, IfOk, OnOk};
 ghost use Rattle.data_types.specs.Table.{Dict};
 ghost use Rattle.data_types.specs.declared.kind.DataType.{DataType as AType};
 ghost use Rattle.data_types.specs.Packed.{bit};
@@ -7,6 +7,7 @@ ghost use Rattle.col_build.specs.Holding.{Adds, Holds, HoldsWholes, Takes};
 ghost use Rattle.tree_model.specs.Tree.{IsLive};
 ghost use Rattle.raw_array.specs.Members.{members_of};
 ghost use Rattle.layout_rules.specs.Layout.{IsLong, buffer, bytes, first, is_valid_by};
+ghost use Rattle.layout_rules.specs.Rules.{window_limit};
 ghost use Rattle.arr_import.specs.Lent.{lent_bytes};
 ghost use Rattle.stage_filter.specs.Kept.{index_in};
 ghost use Rattle.stage_filter.specs.KeptTrees.{index_type, indices_at};
@@ -49,7 +50,7 @@ fn add_index(
     stored: &[u8],
     place: u64,
 ) -> Result<(), NoMemory>
-    requires near { place < 2 ^ 41 }
+    requires near { place < window_limit }
     requires long { IsLong (place + 1) (lent_bytes validity) }
     requires there { (place + 1) * 4 ≤ length stored.now }
     requires takes { Takes builder.old (index_in (lent_bytes validity) stored.now place) }
