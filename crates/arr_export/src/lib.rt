@@ -1,17 +1,19 @@
-//! What is handed out through the C data interface: the schema of columns, and the arrays of columns and of a table.
+//! Columns and tables, exported: the schema of columns, and the arrays of columns and of a table ("The Arrow C Data
+//! Interface", "The ArrowSchema structure", "The ArrowArray structure").
 //!
-//! [`export_schema`] gives a live schema tree ("The Arrow C Data Interface", "The ArrowSchema structure") whose formats are
-//! the canonical spellings of `fmt_string`. [`export_column`] makes a finished column of `col_build` an array, with a
-//! dictionary or without, and [`export_table`] a struct of such columns ("The ArrowArray structure"); neither copies a
-//! byte. A column that came back where memory runs out is let go by [`let_go_column`]. The trees belong to the caller, who releases them; their units and nodes are counted in the
-//! pass.
+//! - [`export_schema`] gives a live schema tree whose formats are the canonical spellings of `fmt_string`.
+//! - [`export_column`] makes a finished column of `col_build` an array, with a dictionary or without, and [`export_table`]
+//!   makes a struct of such columns. Neither copies a byte. Where memory runs out the columns come back; [`let_go_column`]
+//!   lets one go.
+//! - [`built_array`] makes an array of its parts, and releases them where memory runs out.
 //!
 //! The laws say what the arrays mean to `layout_check`: a column is lawful and has the values that it was made of
-//! ([`encoded_columns_are_lawful`]), also through a dictionary ([`indexed_columns_are_lawful`]), and a table of lawful
-//! columns is a chunk whose rows are the columns' items ([`lawful_columns_make_a_chunk`]); so for values that are made a
-//! table, [`columns_of_values_make_a_chunk`].
+//! ([`encoded_columns_are_lawful`]), also through a dictionary ([`indexed_columns_are_lawful`]); a table of lawful columns
+//! is a chunk whose rows are the columns' items ([`lawful_columns_make_a_chunk`]); and so is a table of columns that are
+//! made of values ([`columns_of_values_make_a_chunk`]).
 //!
-//! Which columns there are, and how their values come into buffers, are left to others.
+//! The definitions are in `specs`: `ArrayTrees`, `ValueColumns`, `SchemaSize`; those of schemas in `schema_check`. Left to
+//! others: which columns there are, and how their values come into buffers.
 #![tactic(auto)]
 
 mod column_array;

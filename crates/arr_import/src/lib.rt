@@ -1,4 +1,4 @@
-//! The values of lawful arrays, read in place ("Arrow Columnar Format", "Physical memory layout").
+//! Values of lawful arrays, read in place ("Arrow Columnar Format", "Physical memory layout").
 //!
 //! - [`Col`] is a column: a window over the items of an array. [`Col::value`] shows an item: a null, a number, bytes that
 //!   are lent from the block, a list as the column of its items, or that it is a struct. [`Col::truth`], [`Col::whole`],
@@ -8,9 +8,10 @@
 //!   behind them, so that an item costs its validity bit and the read alone ([`Plain`]). [`Col::indexed`] finds the dictionary
 //!   of indices once.
 //!
-//! Contracts see a column as a window (`specs/Window.antt`): the kinds, the array's tree, and which items of it. What an
-//! item is stands in `layout_rules`'s `specs/Values.antt`; what a reference shows, in `specs/Shown.antt`. A plain column is
-//! seen as this many items, each by its number (`specs/Plain.antt`).
+//! Items are numbered from 0, and a number below the column's length is a condition of each call. No call takes memory,
+//! writes, copies bytes or fails. A column looks its buffers up once, so that a text costs a bit, two offsets and a slice,
+//! whatever the length of the column. A list's items, and a dictionary but for [`Indexed`], are columns that are made anew
+//! for each item that is read.
 //!
 //! Nothing here but [`Col::columns`] takes memory, and nothing writes or copies bytes. A column looks its buffers up once, so
 //! that a text costs a bit, two offsets and a slice, whatever the length of the column; a list's items, and a dictionary

@@ -1,12 +1,15 @@
-//! Laws on lawful arrays: which arrays are lawful is said in `layout_rules`. The calls do nothing.
+//! Laws on lawful arrays, as `layout_rules` defines these. The calls do nothing.
 //!
-//! - On shares, windows and pieces of an array, which workers need: a share shows the same as its source, a window of a lawful
-//!   array is lawful, and pieces that are joined are the whole.
-//! - On columns of a chunk, which stages need: columns that are picked, packed, unpacked or replaced make a chunk of the new
-//!   types, whose rows are the old rows with the same done to each.
+//! - On shares, windows and pieces of an array, which workers need: a share shows the same as its source, a window of a
+//!   lawful array is lawful, and pieces that are joined are the whole.
+//! - On columns of a chunk, which stages need: columns that are picked, packed, unpacked or replaced make a chunk of the
+//!   new types. Its rows are the old rows with the same done to each.
 //! - [`lawful_values_fit`]: the values of a lawful array of a flat type without a dictionary have an encoding
-//!   ([`Fits`](../../col_build/specs/Encoding.antt)), and so has any list of its items, as far as offsets reach their bytes. So
-//!   a column can be made of them.
+//!   ([`Fits`](../../col_build/specs/Encoding.antt)), and so has any list of its items, as far as offsets reach their
+//!   bytes. So a column can be made of them.
+//!
+//! The definitions are in `specs`: `Shown` (what a reader sees of a tree), `Pieces`, `Picking` (columns that are moved),
+//! `Items`.
 #![tactic(auto)]
 
 mod column_examples;

@@ -1,4 +1,5 @@
-//! Reads CSV from standard input and writes the table that the stages of the words make of it to standard output.
+//! The program `arrowpipe`: reads CSV from standard input and writes the table that the stages of its words make of it to
+//! standard output.
 #![tactic(auto)]
 
 use edge_io::{StdSink, StdSource, program_words};

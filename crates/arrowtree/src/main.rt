@@ -1,5 +1,5 @@
-//! Reads the text of a schema tree and an array tree from standard input and writes what a command makes of them to standard
-//! output.
+//! The program `arrowtree`: reads the text of a schema tree and an array tree from standard input and writes what a command
+//! makes of them to standard output.
 #![tactic(auto)]
 
 use edge_io::{StdSink, StdSource, program_words};

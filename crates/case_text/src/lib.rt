@@ -1,9 +1,11 @@
-//! What programs that run cases of text share: the lines of a transcript, the bytes that they spell, and the answers of a case.
+//! Lines, bytes and answers of a transcript, for the programs that run cases of text.
 //!
-//! A transcript is the standard input of such a program, and, where each answer in it is right, its standard output. [`line_of`]
-//! says what a line of it is; a [`Case`] is run once, or once a row; an [`End`] says how a source or a sink of it behaves; [`Answers`] are
-//! written behind it. Bytes stand in a transcript as
-//! text: printable ASCII stands for itself but for `\`; `\n`, `\r`, `\t`, `\\` and `\xHH` are a byte each, and `\e` is none.
+//! A transcript is the standard input of such a program. Where each answer in it is right, it is its standard output too.
+//! [`line_of`] says what a line of it is. A [`Case`] is run once, or once for each of its rows. An [`End`] says how a
+//! source or a sink of a case behaves. [`Answers`] are written behind a case.
+//!
+//! Bytes are written as text: a printable ASCII character is its own byte, but for `\`; `\n`, `\r`, `\t`, `\\` and `\xHH`
+//! are one byte each; `\e` is no byte.
 #![tactic(auto)]
 
 mod answers;

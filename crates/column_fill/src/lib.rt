@@ -1,4 +1,4 @@
-//! What a column in the making takes from a chunk, and the array that is made of it.
+//! Columns that are filled with items of a chunk, and the arrays made of them.
 //!
 //! What this crate owns: [`push_item`] adds an item of a column to a builder of its type, where it stands, and
 //! [`push_item_times`] adds it many times; a text isn't tested again. [`gathered`] fills a builder with the items of given
@@ -6,14 +6,14 @@
 //! [`built_column`] makes the array of a builder's column, over a dictionary where it holds the indices; where memory runs out,
 //! all is released.
 //!
-//! What it promises: the item that the column has then is the one that was read ([`Takes`](../specs/Takes.antt) says which are
-//! taken, [`Gathered`](../specs/Gathered.antt) of which items a column can be made). The array that items are read from stays
-//! as it is. The array that is made is the one that `arr_export` says of the values, and it costs a node and a hold for each
-//! buffer of its encoding, of which there are at most three. [`fitting_values_make_a_lawful_chunk`] is the law for producers: a
-//! table whose columns are made of values that fit ([`Tables`](../specs/Tables.antt)) is lawful, in its columns, its rows and
-//! its chunk.
+//! What the contracts say: the item that a builder has then is the one that was read (`specs/Takes.antt` says which items
+//! are taken, `specs/Gathered.antt` of which a column can be made). The array that is read stays as it is. The new array is
+//! the one that `arr_export` says of the values. It costs a node, and a hold for each buffer of its encoding, of which
+//! there are at most three. `NoMemory` comes only where memory runs out. [`fitting_values_make_a_lawful_chunk`] is the law
+//! for producers: a table whose columns are made of values that fit is lawful, in its columns, its rows and its chunk
+//! (`specs/Tables.antt`).
 //!
-//! What it leaves to others: which items are taken, and what becomes of the chunk.
+//! Left to others: which items are taken, and what becomes of the chunk.
 #![tactic(auto)]
 
 mod built;

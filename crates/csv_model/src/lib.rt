@@ -1,8 +1,9 @@
-//! What CSV text means: the records of a text, the columns of its header, the rows that its records spell under them, and
-//! the text of a table.
+//! Definitions of CSV text: the records of a text, the columns of its header, the rows that its records spell, and the text
+//! of a table.
 //!
-//! The definitions stand in `specs/`: `Reading` (records, rows, faults), `Batches` (rows in chunks of a size), `Header`
-//! (columns, faults), `Text` (the text of a table).
+//! They are in `specs`: `Reading` (records, rows, faults), `Batches` (rows in chunks of a size), `Header` (columns,
+//! faults), `Text` (the text of a table), `Made` (a table made from a number). The calls are laws and worked examples, and
+//! do nothing; [`HeaderFault`] is why a text has no columns. Reading is `csv_read`'s, and writing `csv_write`'s.
 #![tactic(auto)]
 
 mod fault;

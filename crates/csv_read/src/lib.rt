@@ -1,13 +1,16 @@
 //! CSV read: the columns that the header of a text names, and the rows that the records behind the header spell.
 //!
-//! The rules of records are those of `csv_model`: a text is one of records, its first record is the header, and each of its
-//! fields is the name of a column. This crate owns the reading of them. [`read_header`] answers exactly the columns or
-//! exactly the first fault, and [`read_body`] a builder a column, which holds exactly the column's values, or exactly the
-//! fault of the first record that spells no row; only out of memory is free. Which types are asked for is read by
-//! `stage_plan`, and how a column is stored and finished is `col_build`'s.
+//! - [`read_header`] answers the columns, or the first fault ([`HeaderFault`]).
+//! - [`read_body`] answers a builder for each column, which hold exactly the columns' values; or the fault of the first
+//!   record that spells no row, with the record's number from 1 ([`BodyFault`]).
+//! - A [`BatchReader`] reads the rows in batches, and [`export_rows`] makes the chunk of the rows that builders hold.
 //!
-//! Which value a field spells in a column is `data_types`'s table of the flat types, read by `field_codec`; a field that equals
-//! the mark is null. A [`BatchReader`] reads the rows in batches. [`export_rows`] makes the chunk of the rows that builders hold.
+//! The rules of records are those of `csv_model`: a text is a list of records, its first record is the header, and each
+//! field of that is the name of a column. Which value a field spells in a column is said by `FieldText` of `data_types`,
+//! and read by `field_codec`; a field that equals the mark is null. The definitions of reading in batches are in `specs`:
+//! `Body`, `BatchesLeft`, `Chunks`. `NoMemory` comes only where memory runs out; every other answer is the text's.
+//!
+//! Left to others: which types are asked for (`stage_plan`), and how a column is stored and finished (`col_build`).
 #![tactic(auto)]
 
 mod batch_laws;

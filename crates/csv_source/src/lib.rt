@@ -1,9 +1,10 @@
-//! The rows of a CSV text as a stream of chunks, whose batches are read when they are asked for, or ahead by a thread.
+//! Streams of chunks of the rows of a CSV text, which are read when a chunk is asked for, or ahead in a thread.
 //!
-//! What this crate owns: [`CsvSource`], which keeps the contract of [`stream_face::ArrayStream`] over the batches that
-//! [`csv_read::BatchReader`] reads. Its schema is that of its columns, and each of its chunks has the rows of the next batch.
-//! And [`CsvAhead`], which keeps it over the [`Piece`]s that a [`CsvMaker`] makes in a thread beside the caller's: the rows of
-//! a batch, or the record at which they end. [`Refused`] is why one of the two refused.
+//! - A [`CsvSource`] is a [`stream_face::ArrayStream`] over the batches that a [`csv_read::BatchReader`] reads. Its schema
+//!   is that of its columns, and each of its chunks has the rows of the next batch.
+//! - A [`CsvAhead`] is such a stream over the [`Piece`]s that a [`CsvMaker`] makes in a thread beside the caller's: the
+//!   rows of a batch, or the record at which the rows end.
+//! - [`Refused`] is why a call for a chunk refused: the record, or out of memory.
 //!
 //! What it promises: at its start a stream means the batches of the records behind the header, as `csv_model` defines them:
 //! their columns, their rows in chunks, their ending (`specs/SourceStreams.antt`). Both streams mean the same, and are lawful:
@@ -13,8 +14,8 @@
 //! traffic of a source's chunks in `stage_model`. What crosses the threads is columns in the making, which hold no block and no
 //! unit (`specs/Pieces.antt`).
 //!
-//! What it leaves to others: reading and numbering of records (`csv_read`), the thread and its ring (`ahead_ring`), and the
-//! check of what it gives ([`stream_face::RawStream`]).
+//! Left to others: reading and numbering of records (`csv_read`), the thread and its ring (`ahead_ring`), and the check of
+//! what a stream gives ([`stream_face::RawStream`]).
 #![tactic(auto)]
 
 mod ahead;

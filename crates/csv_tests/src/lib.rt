@@ -1,7 +1,7 @@
-//! Tests of the crates between CSV and chunks: the streams of the chunks of records, the text that is written, and faults as they
-//! are printed. What texts of headers and records come to is a case of `run_cases`.
+//! Tests of `csv_read`, `csv_source` and `csv_write`: the streams of the rows of a text, the text that is written, and
+//! faults as they are printed. What texts of headers and records mean is shown by cases of `run_cases`.
 //!
-//! They stand apart from the crates that they test, so that their check needn't prove these once more.
+//! They are a crate of their own, so that their check doesn't prove the crates that they test once more.
 #![tactic(auto)]
 
 #[cfg(test)]

@@ -1,22 +1,25 @@
-//! Types of columns, and the definitions of values, columns, tables and trees of types that all crates above use.
+//! Types of the Arrow columnar format, and the definitions of values, columns, tables and trees of types that all crates
+//! above use.
 //!
-//! This crate owns the types of the columnar format ([`DataType`]), how the values of each are stored ([`Storage`]), what a
-//! column holds ([`ColKind`], [`ColumnType`]), and why a record spells no row ([`RowFault`]). Values and tables stand in
-//! `specs/Value.antt` and `specs/Table.antt`, the numbers that a type may have in `specs/Kinds.antt`, and the texts of fields
-//! in `specs/FieldText.antt`. It also reads the bytes that hexadecimal digits write.
+//! - [`DataType`] is a type, [`Storage`] how its values are stored ([`storage_of`]), [`ColKind`] and [`ColumnType`] what a
+//!   column holds, [`RowFault`] why a record of CSV is no row. [`clone_kind`] and [`clone_columns`] copy, [`is_flat`] says
+//!   of which types a field of CSV can spell the values, and [`decode_hex`] reads bytes from hexadecimal digits.
+//! - A [`Typed`] is the tree of the types of a schema that meets its rules ("The Arrow C Data Interface", "The ArrowSchema
+//!   structure"): a node's type, its children, its dictionary. The law [`kinds_of_typed`] says what one level of it is.
+//! - A [`Path`] is the way from the root of a tree to a node, and its text.
 //!
-//! It owns, too, the types of a tree ("The Arrow C Data Interface", "The ArrowSchema structure"). A [`Typed`] is the tree of
-//! the types of a schema that meets its rules: a node's type, its children, its dictionary. The law [`kinds_of_typed`] says
-//! what one level of it is. A [`Path`] is the way from the root to a node of any tree, and its text. Which trees of types are
-//! valid stands in `specs/KindTrees.antt`, and the types of columns and tables in `specs/ColumnKinds.antt`.
+//! The definitions are in `specs`: `Value` and `Table`, `Kinds` (the numbers that a type may have), `Storage` (the one
+//! table of how values are stored), `FieldText` (fields of CSV), `ValueTexts`, `Packed` (bits and numbers in buffers),
+//! `Parts` (columns picked and packed), `Groups` (distinct values), `KindTrees` (which trees of types are valid),
+//! `ColumnKinds` (the types of columns).
 //!
-//! It promises that a copy of a type or of a column is the same once more, that only out of memory is free, and that the text
-//! of a value of a flat type, under any mark for nulls that it isn't itself, reads back as that value. How a type is spelled is
-//! left to `fmt_string`; which schemas there are and the types that each has to `schema_check`; and reading and writing the
-//! texts of fields to the crates above.
+//! What the contracts say: a copy equals its original; `NoMemory` comes only where memory runs out; and the text of a value
+//! of a flat type reads back as that value, under any mark for nulls that it isn't itself. Left to others: how a type is
+//! spelled (`fmt_string`), the types of a schema (`schema_check`), and reading and writing fields (`field_codec`).
 //!
-//! A new type gets its arms in `DataType` and in `storage_of`; what depends on its layout alone, here and above, goes by its
-//! [`Storage`].
+//! A new type is a variant of [`DataType`] with an arm in [`storage_of`] and one in [`clone_kind`]. [`is_flat`] and
+//! [`is_column_type`] name only the types that differ from others of their storage. `fmt_string` has its format string. All
+//! else goes by its [`Storage`]; docs/CHANGING.md names the files of a type that is stored in a new way.
 #![tactic(auto)]
 
 mod column_view;

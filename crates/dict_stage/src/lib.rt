@@ -1,15 +1,15 @@
-//! The step of the stages that make a column anew: with a dictionary, or without.
+//! The step of the stages that give a column a dictionary, or replace one by its values.
 //!
-//! What this crate owns: [`RecodeStep`], which gives a column of texts or bytes a dictionary of the chunk's distinct values, in
-//! the order in which they first appear, and no null among them, or gives the values back their places. Of each chunk the
-//! other columns are moved.
+//! [`RecodeStep`] gives a column of texts or bytes a dictionary of the chunk's distinct values, in the order in which they
+//! first appear, and without a null; or it makes a plain column of the values of a column with a dictionary. It moves the
+//! other columns of each chunk.
 //!
-//! What it promises: a step's stage gives the chunks that `stage_model` says of it, whose rows are those of the chunks
-//! below it; the dictionary in a chunk is exactly the values' own ([`dictionaries_are_exact`]); each chunk is made with the
-//! blocks of the one column, a node for its struct and one for each array of the column; a lawful stream stays lawful. What
-//! was in the column's place is released.
+//! What the contracts say: a step's stage gives the chunks that `stage_model` says of it, and their rows are those of the
+//! chunks below it. The dictionary of a chunk has exactly the chunk's own values ([`dictionaries_are_exact`]). Each chunk
+//! is made with the blocks of the one column, a node for its struct and one for each array of the column. A lawful stream
+//! stays lawful. The column that is replaced is released.
 //!
-//! What it leaves to others: which column a stage text names (`stage_plan`).
+//! Left to others: which column a stage text names (`stage_plan`).
 #![tactic(auto)]
 
 mod chunk;

@@ -1,7 +1,8 @@
-//! Tests of `drive` over a lawful stream of a producer's own: the text of its rows, and the record at which it ends.
+//! Tests of [`pipe_top::drive`] over a lawful stream of a producer's own: the text of its rows, and the record at which it
+//! ends.
 //!
-//! The stream is a short example for producers ([`own::OwnStream`]): builders make its chunk when it is asked for, and it keeps no
-//! structure between two calls. It knows nothing of texts, so its rows come from the trees of `get_next` alone.
+//! The stream is a short example for producers ([`own::OwnStream`]): builders make its chunk when it is asked for, and it
+//! keeps no structure between two calls. It has no text, so its rows come from the trees of `get_next` alone.
 #![tactic(auto)]
 
 mod chunk;

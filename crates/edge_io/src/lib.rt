@@ -1,12 +1,15 @@
-//! Sources and sinks of bytes: what they are, those in memory, and those of the process.
+//! Sources and sinks of bytes: the two traits, those in memory, and those of the process.
 //!
-//! A [`Source`] and a [`Sink`] are seen by what they have left, what they took and how often they failed. [`read_all`] and
-//! [`write_all`] carry whole texts over any: the bytes are exactly those that the source had left and that the sink took, and a
-//! failure is answered exactly where the count of failures rose. A test can hold a worker at a [`Gate`].
+//! - Contracts see a [`Source`] by the bytes that it has left, a [`Sink`] by the bytes that it took, and both by how often
+//!   they failed. [`read_all`] reads all bytes of a source, and [`write_all`] writes a whole text to a sink. A fault is
+//!   answered exactly where the count of failures rose in the call.
+//! - [`MemSource`] and [`MemSink`] fail where they are asked to. [`CountSource`] gives many bytes and keeps none.
+//! - [`StdSource`] and [`StdSink`] pass on the bytes of a reader and of a writer of the system. A call that a signal
+//!   interrupts is made again. [`program_words`] gives the words of the command line, of which no contract says anything.
+//! - A test can hold a worker at a [`Gate`].
 //!
-//! [`MemSource`] and [`MemSink`] fail where they are asked to; [`CountSource`] gives many bytes and keeps none. [`StdSource`]
-//! and [`StdSink`] stand over a reader and a writer of the system, whose bytes they pass on; a call that a signal interrupts is
-//! made again. [`program_words`] gives the words of the command, of which no contract says anything.
+//! The definitions are in `specs`: `Edge` (what a read and a write do), `Memory` and `Standard` (the sources and sinks
+//! above).
 #![tactic(auto)]
 
 mod arguments;

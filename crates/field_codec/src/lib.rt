@@ -1,13 +1,18 @@
-//! The texts of values, both ways: what a field of text spells in a column of a flat type, and how a value is written.
+//! Fields of CSV for flat types, both ways: the value that a field spells in a column, and the text of a value.
 //!
-//! Which value a text spells, and how it is written, is `data_types`'s table of the flat types (`FieldText`). A column's
-//! [`FieldForm`] is found once, by [`form_of`] or [`flat_form`]; each form then has a call a direction: truth values
-//! ([`read_truth`], [`truth_text`]), whole numbers ([`read_whole`], [`whole_text`]), decimals ([`read_decimal`],
-//! [`decimal_text`]), the bits of floats ([`read_bits`], [`bits_text`]) and bytes by hexadecimal digits ([`read_bytes`],
-//! [`bytes_text`], and of eight and sixteen bytes [`read_eight_bytes`], [`read_sixteen`]). A text of a text column stands as it is, and
-//! whether it is UTF-8 is for `col_build::is_text`.
+//! The definitions are in `specs/FieldText.antt` of `data_types`. [`form_of`] or [`flat_form`] finds a column's
+//! [`FieldForm`] once. Each form then has a call for reading and one for writing:
 //!
-//! Left to others: which text stands for a null, where the fields come from and where their values go.
+//! - truth values: [`read_truth`], [`truth_text`];
+//! - whole numbers of up to 64 bits: [`read_whole`], [`whole_text`];
+//! - decimals: [`read_decimal`], [`decimal_text`];
+//! - the bits of floats, as hexadecimal digits: [`read_bits`], [`bits_text`];
+//! - bytes, as pairs of hexadecimal digits: [`read_bytes`], [`bytes_text`]; those of eight and sixteen bytes also
+//!   [`read_eight_bytes`], [`read_sixteen`].
+//!
+//! A call that reads answers `None` where the field spells no value of the column. A field of a text column is its own
+//! value; `col_build::is_text` says whether it is UTF-8. Left to others: the text of a null, where the fields come from and
+//! where their values go.
 #![tactic(auto)]
 
 mod decimal;

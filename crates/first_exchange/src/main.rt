@@ -1,4 +1,4 @@
-//! A table made by a producer and handed over to a consumer, through "The Arrow C Data Interface".
+//! A program that makes a table as a producer and hands it over to a consumer, through "The Arrow C Data Interface".
 //!
 //! A structure is owned by one holder at a time: a value of type `RawSchema` or `RawArray` is that ownership. It can't be
 //! dropped or copied. It is moved to the next owner, or released by `end`, also on each way out of a function that fails.

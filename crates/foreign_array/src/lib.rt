@@ -1,14 +1,15 @@
-//! Trees of foreign producers: a structure with the private data and the release callback of whoever made it ("The Arrow C Data
+//! Arrays of foreign producers: a structure with the private data and the release callback of its maker ("The Arrow C Data
 //! Interface", "Release callback semantics -- for producers").
 //!
-//! - An [`Owner`] is what a producer keeps beside a tree, and how it is given back. What its release gives is a fact of its type,
-//!   so whoever holds a [`Foreign`] needs no promise from its maker.
-//! - A [`Foreign`] is a live tree with its owner, or released. It is moved, parted into tree and owner, or released: the tree
-//!   first, then the owner, once. It must be spent.
-//! - [`drain`] shows chunks to a [`Visit`] and releases each, in order and on every outcome; from the first one that is refused on
-//!   it only releases.
+//! - An [`Owner`] is what a producer keeps beside a tree, and how it is given back. What its release gives is a fact of its
+//!   type, so the holder of a [`Foreign`] needs no promise from its maker.
+//! - A [`Foreign`] is a live tree with its owner, or released. It is moved, parted into tree and owner, or released: the
+//!   tree first, then the owner, once. It can't be dropped.
+//! - [`drain`] shows chunks to a [`Visit`] and releases each, in order and on every outcome. From the first chunk on that
+//!   isn't lawful, or whose visit runs out of memory, it only releases, and it answers that fault ([`DrainFault`]).
 //!
-//! Left to others: whether a chunk is lawful (`layout_check`), and what a visitor does with its rows.
+//! The definitions are in `specs`: `Kept` (a tree with its owner), `Drained`. Left to others: whether a chunk is lawful
+//! (`layout_check`), and what a visitor does with its rows.
 #![tactic(auto)]
 
 mod draining;

@@ -1,6 +1,6 @@
-//! Tests of trees of foreign producers: an owner that holds a block, released once, and chunks that are drained.
+//! Tests of `foreign_array`: an owner that holds a block, released once, and chunks that are drained.
 //!
-//! They stand apart from the crate that they test, so that its check needn't prove these once more.
+//! They are a crate of their own, so that their check doesn't prove the crate that they test once more.
 #![tactic(auto)]
 
 #[cfg(test)]

@@ -1,13 +1,12 @@
-//! Distinct texts, numbered in the order in which they come.
+//! Distinct texts, numbered in the order in which they first appear.
 //!
-//! What this crate owns: [`Distinct`], which lends texts, keeps each once, and tells of each text its number among them and
-//! whether it is new. A text is copied nowhere.
+//! A [`Distinct`] is given texts, lends them and keeps each once. It answers the number of each text, from 0, and whether
+//! the text is new. No text is copied. `NoMemory` comes only where memory runs out.
 //!
-//! What it promises: the numbers are those of the order of first appearance, whatever the texts are. Ordinary texts are found by
-//! their hash in a constant number of steps; of those that hash alike, beyond the first few, by their order, so that no choice of
-//! texts takes more than a number of steps that grows with the logarithm of how many there are.
-//!
-//! What it leaves to others: which items of a column the texts are.
+//! What the contracts say (`specs/Distinct.antt`): the numbers are those of the order of first appearance, whatever the
+//! texts are. Ordinary texts are found by their hash in a constant number of steps. Of texts with one hash, those beyond
+//! the first few are found by their order. So no choice of texts takes more than a number of steps that grows with the
+//! logarithm of the number of texts; no clause counts steps. Left to others: which items of a column the texts are.
 #![tactic(auto)]
 
 mod distinct;

@@ -1,19 +1,24 @@
-//! List columns: rows that are grouped by a column, and rows whose lists are spread out.
+//! List columns of a chunk: rows grouped by a column, and rows whose lists are spread out ("Arrow Columnar Format",
+//! "Variable-size List Layout").
 //!
-//! What this crate owns: the definitions of both ([`Nested`](../specs/Nested.antt)); of the schema and the array of rows whose lists are
-//! spread out ([`Fields`](../specs/Fields.antt), [`Exploded`](../specs/Exploded.antt)), and of grouped rows
-//! ([`NestedFields`](../specs/NestedFields.antt), [`NestedTables`](../specs/NestedTables.antt), over list columns,
-//! [`ListTrees`](../specs/ListTrees.antt)); of their faults ([`Faults`](../specs/Faults.antt), [`NestFaults`](../specs/NestFaults.antt)).
-//! [`nest`] groups the rows of a chunk; [`explode`] spreads out the lists in a column, and [`exploded_rows`] says how many rows there
-//! would be.
+//! - [`nest`] groups the rows of a chunk: a row for each distinct value of one column, with lists of the values of the
+//!   others.
+//! - [`explode`] spreads out the lists of a column: a row for each item of each list. [`exploded_rows`] says how many rows
+//!   that makes.
+//! - Both take a schema and an array and give new ones. Where they refuse, what was handed in comes back with a
+//!   [`ListFault`]. [`wrong_to_nest`] and [`wrong_to_explode`] find the first column at fault, by its number from 0.
 //!
-//! What it promises: the new schema, the new array and its rows are exactly those of the definitions, and what isn't grouped or spread
-//! out comes back with exactly its fault. A table of flat columns that is made of rows is a chunk with these rows
-//! ([`flat_tables_have_their_rows`]), a column of lists has these lists ([`list_trees_are_lawful`]), and a table of grouped rows these
-//! rows ([`nested_tables_have_their_rows`], [`nested_schemas_have_their_kinds`]). Grouped and spread out again, rows of two columns come
-//! key by key, in order ([`keys_come_together`]).
+//! The definitions are in `specs`: `Nested` (rows that are grouped and spread out); `NestedFields`, `NestedTables` and
+//! `ListTrees` (the schema, the array and the list columns of grouped rows); `Fields` and `Exploded` (the schema and the
+//! array of rows whose lists are spread out); `Faults` and `NestFaults`.
 //!
-//! What it leaves to others: whether a chunk is lawful, and which values are the same (`row_groups`).
+//! What the contracts say: the new schema, the new array and its rows are exactly those of the definitions, and each fault
+//! has exactly its cause. The laws: a table of flat columns that is made of rows is a chunk with these rows
+//! ([`flat_tables_have_their_rows`]); a column of lists has these lists ([`list_trees_are_lawful`]); a table of grouped
+//! rows has these rows ([`nested_tables_have_their_rows`], [`nested_schemas_have_their_kinds`]); grouped and spread out
+//! again, rows of two columns are in the order of their keys ([`keys_come_together`]).
+//!
+//! Left to others: whether a chunk is lawful (`layout_check`), and which values are the same (`row_groups`).
 #![tactic(auto)]
 
 mod columns;

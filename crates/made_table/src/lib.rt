@@ -1,11 +1,11 @@
-//! The text of a table that is made from a number, in place of an input.
+//! The CSV text of a table that is made from a number n, in place of an input.
 //!
-//! It is CSV: the header `id,name,amount,paid`, then the rows 1 to n. Row i has i as its `id`, an item named for the last
+//! It has the header `id,name,amount,paid` and then the rows 1 to n. Row i has i as its `id`, an item named for the last
 //! digit of i, an amount of i and a quarter, and `true` where i is odd. Each line ends with a line feed, and no field is
-//! quoted. So whoever knows n knows each byte.
+//! quoted. So n alone gives each byte.
 //!
-//! The text takes one block of memory, which is asked for before the first byte is written, and a row takes no memory of its
-//! own. The definitions stand in `specs/Made.antt`.
+//! [`made`] asks for the one block of memory of the text before it writes the first byte, and answers `NoMemory` only where
+//! there is none. A row takes no memory of its own. The definitions are in `specs/Made.antt` of `csv_model`.
 #![tactic(auto)]
 
 ghost use Rattle.std.specs.Prelude.{◌≡◌, ◌≤◌, ◌++◌, ℕ, length, codes, IfOk, OnOk};

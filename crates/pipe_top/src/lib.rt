@@ -1,25 +1,26 @@
 //! The top call, [`run`]: from the words of the command and the bytes of a source to the text of a sink.
 //!
-//! The words ask for a table by stages, or for the check of a tree that is given as a text. For a table, `run` reads the source
-//! to its end, or makes its rows where the words ask for that. It reads the records of the CSV text as a stream of chunks, each
-//! a struct of array structures under the schema of its columns, and hands them from stage to stage over Arrow streams. Each
-//! chunk is checked as a stranger's would be and shown to a tap. It reads the values of the last stream from where they stand,
-//! and writes the text of the table. A tree is read and checked as a stranger's would be, and the text is a report on it; the
-//! tap sees nothing of it.
+//! The words ask for a table by stages, or for the check of a tree that is given as a text. For a table, [`run`] reads the
+//! source to its end, or makes its rows where the words ask for that. It reads the records of the CSV text as a stream of
+//! chunks, each a struct of array structures under the schema of its columns, and hands them from stage to stage over Arrow
+//! streams. Each chunk is checked as a foreign producer's would be, and shown to a tap. It reads the values of the last
+//! stream in place, and writes the text of the table. A tree is read and checked as a foreign producer's would be, and the
+//! text is a report on it; the tap sees nothing of it.
 //!
-//! It promises that on success the sink got exactly the text that the definitions give (`specs/RunAnswer.antt` of
-//! `run_model`), which knows nothing of chunks, that each refusal has its cause, and that each structure and each hold that was
-//! made is given up again on every path. Each fault has a line of its own, which goes to a sink of diagnostics, and so does the audit's where the words
-//! ask for it; no line takes memory, and a failed write there changes nothing else.
+//! What the contracts say: on success the sink got exactly the text that the definitions give (`specs/RunAnswer.antt` of
+//! `run_model`), which know nothing of chunks; each refusal has its cause; and each structure and each hold that was made
+//! is given up again on every path. Each fault has a line of its own, which goes to a sink of diagnostics, and so does the
+//! audit's where the words ask for it. No line takes memory, and a failed write there changes nothing else.
 //!
-//! It owns what a run shows and counts (`specs/Traffic.antt`), and the law that all words and bytes have an answer, and one
-//! alone ([`one_answer`]). [`run_task`] does what the words ask for, by steps of any type.
-//! [`AnyStep`] is a step of one of the eight kinds, and [`drive`] the chain of stages over a stream by these steps.
+//! `specs/Traffic.antt` says what a run shows and counts. The law [`one_answer`] says that all words and bytes have exactly
+//! one answer. [`run_task`] does what the words ask for, by steps of any type; [`AnyStep`] is a step of one of the eight
+//! kinds; [`drive`] is the chain of stages over a stream by these steps; [`run_to_exit`] answers the exit status of a
+//! process.
 //!
-//! What it leaves to others: what the words ask for, the faults, the outcome and the lines (`run_model`), what CSV means
+//! Left to others: what the words ask for, the faults, the outcome and the lines (`run_model`), what CSV means
 //! (`csv_model`), what stages mean (`stage_model`) and how they are spelled (`stage_plan`), the source (`csv_source`), the
-//! chain of stages (`stage_chain`), the check of a tree (`tree_check`), the structures (`raw_schema`, `raw_array`), and sources
-//! and sinks of bytes (`edge_io`).
+//! chain of stages (`stage_chain`), the check of a tree (`tree_check`), the structures (`raw_schema`, `raw_array`), and
+//! sources and sinks of bytes (`edge_io`).
 #![tactic(auto)]
 
 mod ahead;

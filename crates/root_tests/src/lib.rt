@@ -1,6 +1,6 @@
-//! Tests of columns whose type stands at the root of a tree alone: run-end encoded ones, made from texts of trees.
+//! Tests of `run_ends`: run-end encoded arrays at the root of a tree, made from texts of trees.
 //!
-//! They stand apart from the crates that they test, so that the checks of these needn't prove them once more.
+//! They are a crate of their own, so that their check doesn't prove the crates that they test once more.
 #![tactic(auto)]
 
 #[cfg(test)]

@@ -1,15 +1,16 @@
-//! The items of a column, grouped by value.
+//! Items of a column, grouped by value.
 //!
-//! What this crate owns: which values of a flat type are the same, which are the distinct ones of a column, and where the items of each
-//! stand ([`Groups`](../specs/Groups.antt)); [`grouped`], which finds them, and [`first_items`], which finds the first of each alone.
-//! [`small_groups`] computes them on examples.
+//! [`grouped`] finds the groups of a column of a flat type: its distinct values in order of first appearance, and the
+//! numbers of the items of each ([`Groups`]). [`first_items`] finds only the first item of each. [`small_groups`] computes
+//! the definitions on examples. These are in `specs/Groups.antt` of `data_types`: which values of a flat type are the same,
+//! which are the distinct ones of a column, and which items have each.
 //!
-//! What it promises: the groups are exactly those, in order of first appearance. A null is a value of its own, and floats are compared
-//! by their bits. An item costs a constant number of steps, whatever the values are, but for the logarithm of how many there are where
-//! they were chosen to hash alike (`item_keys`), and at most 12 bytes beside what each distinct value takes. The bytes of the items are
-//! lent and copied nowhere, and the array stays as it is.
+//! A null is a value of its own, and floats are compared by their bits. An item costs a constant number of steps, whatever
+//! the values are, but for the logarithm of their number where they were chosen to have one hash (`item_keys`); and at most
+//! 12 bytes beside what each distinct value takes. The bytes of the items are lent and not copied, and the array stays as
+//! it is. `NoMemory` comes only where memory runs out.
 //!
-//! What it leaves to others: which array is lawful (`layout_rules`), and the columns that are made of its items (`column_fill`).
+//! Left to others: which array is lawful (`layout_rules`), and the columns that are made of its items (`column_fill`).
 #![tactic(auto)]
 
 mod column;

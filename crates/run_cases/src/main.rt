@@ -1,10 +1,12 @@
-//! Runs of the top call, written as a transcript: reads cases from standard input, and writes them again with what came of each.
+//! A program that runs cases of the top call, [`pipe_top::run`]: it reads a transcript from standard input, and writes it
+//! again with what came of each case.
 //!
-//! A case is a `$` line with the words of the command, `<` lines of input, and `@` lines where a source, a sink or the tap is to behave
-//! in a way of its own. Behind it stands what came of it, which is read over and written anew: `>` lines of the text, `!` lines of
-//! diagnostics, `|` lines of chunks that a tap was shown, and a `=` line of the status. A `?` line is a row: the case once more, its
-//! parts in the places `{}`, `{1}`, `{2}` of the case, and behind `->` what came of it. An empty line or a `#` line ends a case and
-//! is copied. So a transcript whose answers are right comes out as it went in.
+//! A case is a `$` line with the words of the command, `<` lines of input, and `@` lines where a source, a sink or the tap
+//! is to behave in a way of its own. Behind it is what came of it, which is skipped in the input and written anew: `>`
+//! lines of the text, `!` lines of diagnostics, `|` lines of chunks that a tap was shown, and a `=` line of the status. A
+//! `?` line is a row: the case once more, its parts in the places `{}`, `{1}`, `{2}` of the case, and behind `->` what came
+//! of it. An empty line or a `#` line ends a case and is copied. So a transcript whose answers are right comes out as it
+//! went in.
 #![tactic(auto)]
 
 mod plan;

@@ -1,23 +1,26 @@
-//! Run-end encoded columns at the root of a tree: their schemas read, their arrays checked, their items read in place ("Arrow Columnar
-//! Format", "Run-End Encoded Layout"; "The Arrow C Data Interface", "Data type description -- format strings").
+//! Run-end encoded arrays at the root of a tree: their schemas read, their arrays checked, their items read in place
+//! ("Arrow Columnar Format", "Run-End Encoded Layout"; "The Arrow C Data Interface", "Data type description -- format
+//! strings").
 //!
-//! - [`read_runs`] answers the kinds of a schema of the format `+r`, or its first fault.
-//! - [`check_runs`] tries the rules of such an array in the order of [`RunsRule`]; the answer is the first that fails, or `Ok` exactly
-//!   where none does. Takes no memory.
-//! - [`RunCol`] shows the items of an array that passed: an item's value, and the run that it lies in, which is searched for. A
-//!   walk over all items asks for the first item behind each run instead.
+//! - [`read_runs`] answers the kinds of a schema of the format `+r` ([`RunTyped`]), or its first fault
+//!   ([`RunsSchemaFault`]).
+//! - [`check_runs`] tries the rules of such an array in the order of [`RunsRule`]. It answers the first that fails, with a
+//!   place and two numbers, or `Ok` exactly where none does. It takes no memory.
+//! - [`RunCol`] shows the items of an array that passed: an item's value, and the run that it lies in, found by binary
+//!   search. A walk over all items asks for the first item behind each run instead.
 //! - [`ColumnRuns`] finds the runs of equal values in a column of any lawful array.
-//! - [`encode`] makes a column's values into runs, and [`decode`] the items of runs into a column; [`CodeFault`] is why not,
-//!   and [`encode_fault`] says so of a column without a copy.
-//! - [`coded_values_are_the_values`] is the law of values as runs: their schema is in order, their array is lawful and has these
-//!   values, and no two neighbouring runs have equal ones; [`decoded_runs_are_the_values`] that they are the same column again.
+//! - [`encode`] makes runs of a column's values, and [`decode`] a column of the items of runs. Otherwise they answer a
+//!   [`CodeFault`]; [`encode_fault`] answers that of a column without a copy.
+//! - Laws: [`coded_values_are_the_values`] says that values as runs have a valid schema and a lawful array with these
+//!   values, and that no two neighbouring runs have equal ones; [`decoded_runs_are_the_values`] that decoding gives the
+//!   same column.
 //!
-//! The ends are walked once by the check, and items never are: a window's length costs nothing. An end may be as far as 2^63 - 1
-//! whatever the window. `encode` and `decode` alone copy bytes of an array.
+//! The check walks the ends once, and never the items: the length of a window costs nothing. An end is at most 2^63 - 1,
+//! whatever the window. Only [`encode`] and [`decode`] copy bytes of an array.
 //!
-//! What runs are, and the values of their items, stands in `specs/Runs.antt`, a schema in `RunSchemas`, the rules in `RunRules`,
-//! values as runs and runs as a column in `RunCoding`, and which aren't made so in `CodeFaults`. Left to others: runs below the root, which
-//! `fmt_string` refuses, and what a child's items are (`arr_import`).
+//! The definitions are in `specs`: `Runs` (runs, and the values of items), `RunSchemas`, `RunRules`, `RunCoding` (values as
+//! runs, and runs as a column), `CodeFaults`. Left to others: runs below the root, which `fmt_string` refuses, and what a
+//! child's items are (`arr_import`).
 #![tactic(auto)]
 
 mod check;

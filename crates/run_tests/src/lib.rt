@@ -1,7 +1,7 @@
-//! Tests of the top call that need more than texts: gates and threads, an input that is too long to be held, and faults as values.
+//! Tests of the top call, [`pipe_top::run`], that need more than texts: gates and threads, an input that is too long to be
+//! held, and faults as values. Runs whose inputs and answers are texts are cases of `run_cases`.
 //!
-//! Runs whose inputs and answers are texts are cases of `run_cases`. The tests stand apart from the crate that they test, so that its
-//! check needn't prove it once more.
+//! They are a crate of their own, so that their check doesn't prove the crate that they test once more.
 #![tactic(auto)]
 
 #[cfg(test)]

@@ -1,9 +1,11 @@
-//! What the stages of a run mean: the grammar of their texts, their typing, what each makes of a table and of chunks, the
-//! links of a chain of stages, and the blocks and nodes that a run makes.
+//! Definitions of stages: the grammar of their texts, their typing, what each makes of a table and of chunks, the links of
+//! a chain of stages, and the blocks and nodes that a run makes.
 //!
-//! The definitions stand in `specs/`: `StageGrammar` (texts), `Typing` (steps and the columns after them), `Stages`
-//! (tables and chunks), `Dictionary` (distinct values), `Links` (the chunks of each link, and the whole table), `Traffic`
-//! (blocks and nodes). The laws over them are calls that do nothing. Reading and typing are `stage_plan`'s.
+//! They are in `specs`: `StageGrammar` (texts), `Typing` (steps and the columns after them), `Stages` (tables and chunks),
+//! `Dictionary` (distinct values), `Links` (the chunks of each link, and the whole table), `Traffic` (blocks and nodes).
+//! The calls are laws and worked examples, and do nothing. [`StageText`] is a stage by names of columns, [`Step`] one by
+//! numbers of columns, and [`StageFault`] and [`PlanFault`] are why a text is no stage and why stages don't fit columns.
+//! Reading and typing are `stage_plan`'s.
 #![tactic(auto)]
 
 mod fault;

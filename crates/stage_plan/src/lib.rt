@@ -1,13 +1,15 @@
-//! The types of columns that a schema text names, and the stages that stage texts name.
+//! Schema texts and stage texts, read; and stages typed over columns.
 //!
-//! A schema text, as `a:l;b:u`, is one or more entries separated by `;`. An entry is the name of a column, the first
-//! `:`, and a format string ("The Arrow C Data Interface", "Data type description: format strings"). This crate owns
-//! that grammar: the entries of a text, or its first fault. What a format string spells is `fmt_string`'s; which
-//! columns an input has is left to the crates above.
+//! - [`read_types`] reads a schema text, as `a:l;b:u`: one or more entries separated by `;`. An entry is the name of a
+//!   column, the first `:`, and a format string ("The Arrow C Data Interface", "Data type description -- format strings").
+//!   The answer is the entries, or the first fault ([`TypesFault`]). What a format string spells is `fmt_string`'s.
+//! - [`read_stage`] reads a stage text, as `select=a,b`: the name of a stage, the first `=`, and arguments. The answer is
+//!   the stage that `stage_model` says of the text, or its fault ([`StageFault`]).
+//! - [`type_plan`] answers the steps and the columns after each stage ([`Plan`]), or the first stage that doesn't fit its
+//!   columns, with the rule that it breaks ([`PlanFault`]).
 //!
-//! A stage text, as `select=a,b`, is the name of a stage, the first `=`, and arguments. What a text is as a stage, and
-//! what stages mean, is `stage_model`'s; this crate reads the texts, and tells what the stages are over columns, or
-//! the first fault.
+//! `NoMemory` comes only where memory runs out. The definitions of schema texts are in `specs/Types.antt`, those of stages
+//! in `stage_model`. Left to the crates above: which columns an input has.
 #![tactic(auto)]
 
 mod after;

@@ -1,21 +1,21 @@
-//! Streams of chunks ("The Arrow C Stream Interface"): the trait that every stream keeps, the tap, and the checked joint
-//! round a stream.
+//! Streams of chunks ("The Arrow C Stream Interface"): the trait of all streams, the checked stream, and the tap that is
+//! shown its chunks.
 //!
-//! What this crate owns: what a stream means (`specs/Streams.antt`), what holds of a lawful one (`specs/Lawful.antt`), what its
-//! calls answer (`specs/Calls.antt`), and what is shown of its chunks (`specs/Shown.antt`).
+//! - An [`ArrayStream`] gives its schema and then its chunks, one a call, in structures that the caller owns. A call
+//!   answers 0 or an error code from 1 to 4095: a [`RawStream`] answers 12 (ENOMEM), 22 (EINVAL), or the code of the stream
+//!   below it. Contracts see one ghost member, `state`: what the stream still gives, how it ends, what it holds and what
+//!   its calls still count. A stream that isn't lawful may give anything.
+//! - A [`RawStream`] is a checked stream, over any stream. It asks that one for its schema once and checks it. It checks
+//!   each chunk under that schema, and shows it to a [`Tap`] before it hands it on. What the check refuses is released, and
+//!   a refusal stays.
+//! - A [`Tap`] is shown each chunk of each link, with the link's number.
 //!
-//! - An [`ArrayStream`] gives its schema and then its chunks, one a call, in structures that the caller owns. Contracts see
-//!   one ghost member, `state`: what the stream still gives, how it ends, what it holds and what its calls still count. What
-//!   a stream that isn't lawful gives may be anything.
-//! - A [`RawStream`] stands at a joint. It asks a stream for its schema once and checks it; each chunk is checked under that
-//!   schema and shown to a [`Tap`] before it is handed on. What the check refuses is released, and a refusal stays.
-//! - A [`Tap`] is shown each chunk of each link.
+//! What the contracts say: a chunk that comes out of a [`RawStream`] passes the check, whoever made it; a refusal names its
+//! cause; the units are balanced on every outcome; over a lawful stream the check never refuses, and the answers, the
+//! counts and what is shown are those of the stream's meaning.
 //!
-//! What it promises: a chunk that comes out of a [`RawStream`] passes the check, whoever made it; a refusal names its cause;
-//! the units are balanced on every outcome; over a lawful stream the check never refuses, and the answers, the counts and
-//! what is shown are those of the stream's meaning.
-//!
-//! What it leaves to others: the streams themselves, what a stage makes of the stream below it, and when a gate is passed
+//! The definitions are in `specs`: `Streams` (what a stream means), `Lawful`, `Calls` (what its calls answer), `Shown`,
+//! `Faults`. Left to others: the streams themselves, what a stage makes of the stream below it, and when a gate is passed
 //! (`edge_io`).
 #![tactic(auto)]
 

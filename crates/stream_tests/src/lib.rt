@@ -1,7 +1,8 @@
-//! Tests of streams: joints over a stream and over a stranger, a tap that keeps what it is shown, the workers of a chunk, and what
-//! the holder of a stage learns of the dictionary in a chunk.
+//! Tests of `stream_face`, `record_tap`, `fan_out` and `dict_stage`: checked streams over lawful and over other streams, a
+//! tap that keeps what it is shown, the workers of a chunk, and what the holder of a stage learns of the dictionary in a
+//! chunk. Holds of a block that threads let go are tested here too.
 //!
-//! They stand apart from the crates that they test, so that their check needn't prove these once more.
+//! They are a crate of their own, so that their check doesn't prove the crates that they test once more.
 #![tactic(auto)]
 
 #[cfg(test)]

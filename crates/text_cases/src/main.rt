@@ -1,11 +1,11 @@
-//! Texts and what public calls make of them, as a transcript: reads cases from standard input, and writes them again with what
-//! came of each.
+//! A program that runs cases of the crates' public calls on texts: it reads a transcript from standard input, and writes it
+//! again with what came of each case.
 //!
-//! A case is a `$` line, whose first word says what is called and whose other words are what it is called with, and `<` lines
-//! of input. Behind it stands what came of it, which is read over and written anew: `>` lines of what was answered, `!` lines
-//! of faults, and a `=` line of what was made. A `?` line is a row: the case once more, its parts in the places `{}`, `{1}`,
-//! `{2}` of the case, and behind `->` all lines that came of it. Any other line ends a case and is copied. So a transcript that
-//! tells the truth comes out as it went in.
+//! A case is a `$` line, whose first word says what is called and whose other words are what it is called with, and `<`
+//! lines of input. Behind it is what came of it, which is skipped in the input and written anew: `>` lines of what was
+//! answered, `!` lines of faults, and a `=` line of what was made. A `?` line is a row: the case once more, its parts in
+//! the places `{}`, `{1}`, `{2}` of the case, and behind `->` all lines that came of it. Any other line ends a case and is
+//! copied. So a transcript whose answers are right comes out as it went in.
 #![tactic(auto)]
 
 mod added;

@@ -1,7 +1,7 @@
-//! Tests of the crates that read and write texts: values that no text brings forth. What a text brings forth is a case of
-//! `text_cases`.
+//! Tests of the crates that read and write texts, for values that no text makes: faults such as out of memory, and structs
+//! of columns. What a text makes is shown by cases of `text_cases`.
 //!
-//! They stand apart from the crates that they test, so that their check needn't prove these once more.
+//! They are a crate of their own, so that their check doesn't prove the crates that they test once more.
 #![tactic(auto)]
 
 #[cfg(test)]

@@ -1,16 +1,16 @@
-//! The step of a stage that totals columns: of all rows it makes one, which has the count, the sum, the least and the greatest
+//! The step of a stage that totals columns: of all rows it makes one, with the count, the sum, the least and the greatest
 //! of the numbers of each picked column.
 //!
-//! What this crate owns: [`TotalsStep`], which has the rows of each chunk added up by workers (`fan_out`), each a piece of
-//! them column by column, joins what they answer, releases the chunk, and at the end gives one chunk of one row.
+//! [`TotalsStep`] has workers (`fan_out`) add up the rows of each chunk, each a piece of them column by column. It joins
+//! their answers, releases the chunk, and at the end gives one chunk of one row.
 //!
-//! What it promises: its stage gives the one chunk that `stage_model` says of totals, and none where the stream below ends at
-//! a record; its columns are of the types that `stage_model` names, and a lawful stream stays lawful. Sums are exact: no sum
-//! of a lawful stream's numbers leaves its type. The number of workers changes none of this. The chunk is made anew, with a
-//! node of its own and one for each column.
+//! What the contracts say: its stage gives the one chunk that `stage_model` says of totals, and none where the stream below
+//! ends at a refused record. Its columns are of the types that `stage_model` names, and a lawful stream stays lawful. Sums
+//! are exact: no sum of a lawful stream's numbers leaves its type. The number of workers changes none of this. The chunk is
+//! made anew, with a node of its own and one for each column.
 //!
-//! What it leaves to others: which columns a stage text names (`stage_plan`), and the chunk of the row, which `csv_read` makes
-//! of builders.
+//! The definitions are in `specs`: `Totals`, `Sums`, `Rows`. Left to others: which columns a stage text names
+//! (`stage_plan`), and the chunk of the row, which `csv_read` makes of builders.
 #![tactic(auto)]
 
 mod chunk;

@@ -1,17 +1,19 @@
-//! What the program for trees does between its words and its lines.
+//! The commands of the program for trees: what a run does between its words and its lines.
 //!
-//! - [`read_command`] reads the command that the words are.
-//! - [`run_over_source`] reads the source to its end, reads the two trees that its text tells of, checks them as the command asks, and
-//!   writes the text of the command to the sink, or gives the first fault: of the words, of reading, of the text, of the schema,
-//!   of the array, of the command, of writing.
+//! - [`read_command`] reads the [`Command`] that the words spell, or answers none.
+//! - [`run_over_source`] reads the source to its end, reads the two trees of its text, checks them as the command asks, and
+//!   writes the text of the command to the sink. Otherwise it answers the first fault: of the words, of reading, of the
+//!   text, of the schema, of the array, of the command, of writing ([`TreeRunFault`]).
 //! - [`TreeOutcome`] is what a run came to, and [`write_diagnostics`] writes the line of its fault.
-//! - Laws say that words and bytes have one answer ([`one_answer`]), and that no fault has an out-of-memory inside it
-//!   ([`memory_stands_alone`]).
+//! - Laws say that words and bytes have exactly one answer ([`one_answer`]), and that no fault has an out-of-memory inside
+//!   it ([`memory_stands_alone`]).
 //!
-//! The answer to words and bytes stands in `specs/Answer.antt`, that of each command to two trees in a file of its own
-//! (`RowsAnswer`, `UnionAnswer`, `TagAnswer`, `ForeignAnswer`, `RunsAnswer`, `FlatAnswer`, `ListsAnswer`), what a run comes to in `specs/Over.antt`, causes and statuses in
-//! `specs/Faults.antt`. Left to others: the lines of trees (`tree_text`), the rules of schemas and arrays (`schema_check`,
-//! `layout_check`), unions (`union_cols`), runs (`run_ends`), the chunks of foreign producers (`foreign_array`), the rows that are grouped or whose lists are spread out (`list_cols`), the texts of values (`value_text`).
+//! The definitions are in `specs`: `Answer` (the answer to words and bytes), `RowsAnswer`, `UnionAnswer`, `TagAnswer`,
+//! `ForeignAnswer`, `RunsAnswer`, `FlatAnswer`, `ListsAnswer` (that of each command to two trees), `Over` (what a run comes
+//! to), `Faults` (causes and statuses). Left to others: the lines of trees (`tree_text`), the rules of schemas and arrays
+//! (`schema_check`, `layout_check`), unions (`union_cols`), runs (`run_ends`), the chunks of foreign producers
+//! (`foreign_array`), rows that are grouped or whose lists are spread out (`list_cols`), and the texts of values
+//! (`value_text`).
 #![tactic(auto)]
 
 mod answer;

@@ -1,6 +1,6 @@
-//! Tests of trees of raw structures: their making, shares, moves and releases.
+//! Tests of `raw_schema` and `raw_array`: how trees are made, shared, moved, narrowed and released.
 //!
-//! They stand apart from the crates that they test, so that their check needn't prove these once more.
+//! They are a crate of their own, so that their check doesn't prove the crates that they test once more.
 #![tactic(auto)]
 
 #[cfg(test)]

@@ -1,18 +1,19 @@
-//! Unions at the root of a tree: their schemas read, their arrays checked, their items read in place ("Arrow Columnar Format",
-//! "Union Layout"; "The Arrow C Data Interface", "Data type description -- format strings").
+//! Unions at the root of a tree: their schemas read, their arrays checked, their items read in place ("Arrow Columnar
+//! Format", "Union Layout"; "The Arrow C Data Interface", "Data type description -- format strings").
 //!
-//! - [`read_union`] answers the kinds of a union's schema, or its first fault.
-//! - [`check_union`] tries the rules of a union's array in the order of [`UnionRule`]; the answer is the first that fails, or `Ok`
-//!   exactly where none does. Takes no memory.
-//! - [`UnionCol`] shows the items of an array that passed: an item's id, its value, and where it stands in its child.
-//! - [`tag`] makes a chunk's columns the children of a union, whose items are the first columns that aren't null.
+//! - [`read_union`] answers the kinds of a union's schema ([`UnionTyped`]), or its first fault ([`UnionSchemaFault`]).
+//! - [`check_union`] tries the rules of a union's array in the order of [`UnionRule`]. It answers the first that fails,
+//!   with a place and two numbers, or `Ok` exactly where none does. It takes no memory.
+//! - [`UnionCol`] shows the items of an array that passed: an item's type id, its value, and its number in its child.
+//! - [`tag`] makes a chunk's columns the children of a union, whose items are the first columns that aren't null. Otherwise
+//!   the chunk comes back with a [`TagFault`].
 //!
-//! An item's child is looked up by its id in a table, never by a search. Ids and offsets outside the array's window are never
-//! looked at; a child that no item names is checked all the same. Nothing here copies bytes of an array.
+//! An item's child is looked up by its id in a table, never by a search. Ids and offsets outside the array's window are
+//! never read. A child that no item names is checked too. No call copies bytes of an array.
 //!
-//! What a union's format is stands in `specs/UnionFormats.antt`, its schema in `UnionSchemas`, the rules in `UnionRules`, the
-//! items and values in `Unions`, and what is made of a chunk in `Tags`. Left to others: unions below the root, which `fmt_string`
-//! refuses, and what a child's items are (`arr_import`).
+//! The definitions are in `specs`: `UnionFormats`, `UnionSchemas`, `UnionRules`, `Unions` (items and values), `Tags` (what
+//! is made of a chunk). Left to others: unions below the root, which `fmt_string` refuses, and what a child's items are
+//! (`arr_import`).
 #![tactic(auto)]
 
 mod check;

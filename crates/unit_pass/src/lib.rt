@@ -1,9 +1,13 @@
-//! Units of ownership, and what every crate above shares: out of memory, and names as bytes.
+//! Units of ownership for live structures and holds of blocks, and two types that all crates above share: [`NoMemory`] and
+//! [`Name`], a name as bytes.
 //!
-//! Each live node of a tree and each hold of a block carries one [`Unit`], so the units outside the passes are the
-//! holders. A [`Desk`] gives out [`SUPPLY`] units in a [`Pass`] and closes only once they are all back, so a run that
-//! closes its desk has lost no holder. A pass also counts the blocks and nodes that were made with it. Which call draws a
-//! unit, and which counts, is left to the crates above.
+//! Each live node of a tree and each hold of a block carries one [`Unit`], so the units outside the passes count the live
+//! nodes and the holds. A [`Desk`] gives out [`SUPPLY`] units in a [`Pass`] and closes only once all of them are back, so a
+//! run that closes its desk has lost no structure and no hold. A pass also counts the blocks and nodes that were made with
+//! it. A closed desk answers these counts as an [`Audit`].
+//!
+//! The definitions are in `specs`: `Tally` (what the counts are), `Names`. Left to the crates above: which call draws a
+//! unit, and which one counts.
 #![tactic(auto)]
 
 mod name;
