@@ -35,7 +35,7 @@ fn end_no_validity(mut buffers: Vec<Option<BufView>>)
 }
 
 /// A table: a live struct of these columns with this many rows, none of them null ("Arrow Columnar Format", "Struct
-/// Layout"). Columns that are longer stand in it as they are. It draws one unit and counts one node. Where memory runs out the
+/// Layout"). Columns that are longer are in it as they are. It draws one unit and counts one node. Where memory runs out the
 /// columns come back.
 #[inline(always)]
 pub fn export_table(

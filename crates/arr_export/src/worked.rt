@@ -1,4 +1,4 @@
-//! Trees and rows that the definitions compute as they stand here.
+//! Trees and rows on which the definitions are computed.
 ghost use Rattle.std.specs.Prelude.{◌≡◌, pos, negsuc, true, false, [], ◌∷◌, map, None, Some, codes};
 ghost use Rattle.data_types.specs.declared.kind.DataType.TheVariants.{Int, Utf8};
 ghost use Rattle.data_types.specs.Value.{Null, Whole, Bytes};

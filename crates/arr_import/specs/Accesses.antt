@@ -13,7 +13,7 @@ access_of_bits bits =
     else if bits == 128 then Int128
     else Other
 
--- the items that are stored so, and whether a dictionary stands behind them
+-- the items that are stored so, and whether they have a dictionary
 abbrev pub access_of : Storage → Bool → Access
 access_of storages.Truths is_index = Truths
 access_of (storages.Between false text) is_index = Between32

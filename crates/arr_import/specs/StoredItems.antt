@@ -44,7 +44,7 @@ abbrev pub AreBetween : Bool → Storage → Type 0
 AreBetween wide (storages.Between broad text) = broad ≡ wide
 AreBetween wide _ = ⊥
 
--- no dictionary can stand behind it
+-- it has no dictionary
 abbrev pub IsOwn : Storage → Type 0
 IsOwn (storages.Wholes bits signed) = ⊥
 IsOwn _ = Unit {0}

@@ -34,7 +34,7 @@ items_of w = each (value_at w.typed w.array) w.start w.count
 abbrev pub child_window : Window → ℕ → Window
 child_window w k = record { typed = child_at w.typed k; array = child_at w.array k; start = first (members_of w.array) + w.start; count = w.count }
 
--- ---- where an item stands once its dictionaries are followed
+-- ---- where an item is once its dictionaries are followed
 
 pub record Home : Type 0 where
   pub window : Window
@@ -58,7 +58,7 @@ home_from typed array start count i = record { window = record { typed = typed; 
 abbrev pub home_of : Window → ℕ → Home
 home_of w i = home_from w.typed w.array w.start w.count i
 
--- a window is all items of the dictionary that stands behind an array
+-- a window is all items of an array's dictionary
 pub record IsDictionary (w : Window) (dict : Option KindTree) (dictionary : Option ArrayTree) : Type 0 where
   pub typed : dict ≡ Some w.typed
   pub array : dictionary ≡ Some w.array

@@ -5,7 +5,7 @@ ghost use Rattle.arr_import.specs.Accesses.{access_of};
 use data_types::Storage;
 
 /// How the items of a column are read: in one of the common ways, each with its width, or in any other. It is found once for
-/// a column, so that an item costs one test of it. No dictionary stands behind numbers that are read in a common way.
+/// a column, so that an item costs one test of it. Numbers that are read in a common way have no dictionary.
 #[derive(Clone, Copy)]
 pub(crate) enum Access {
     Truths,
@@ -18,7 +18,7 @@ pub(crate) enum Access {
     Other,
 }
 
-/// How the items are read that are stored so, by whether a dictionary stands behind them.
+/// How the items are read that are stored so, by whether they have a dictionary.
 pub(crate) fn access_of(storage: Storage, is_index: bool) -> Access
     ensures { result ≡ access_of storage is_index }
 {

@@ -1,4 +1,4 @@
-//! Where an item stands once its dictionaries are followed.
+//! Where an item is once its dictionaries are followed.
 ghost use Rattle.std.specs.Prelude.{◌≡◌, true, None, MatchOption, ◌+◌, ◌<◌, ◌≤ℤ◌, pos};
 ghost use Rattle.tree_model.specs.Tree.{dictionary_of};
 ghost use Rattle.raw_array.specs.Members.{members_of};

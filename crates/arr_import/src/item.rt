@@ -1,4 +1,4 @@
-//! The items of a column whose own values they are: no dictionary stands behind them.
+//! The items of a column without a dictionary.
 ghost use Rattle.std.specs.Prelude.{◌≡◌, true, ◌==◌, ◌+◌, ◌*◌, ◌<◌, ◌≤◌, length, get_or};
 ghost use Rattle.data_types.specs.Packed.{bit};
 ghost use Rattle.raw_array.specs.Members.{members_of};

@@ -91,7 +91,7 @@ impl<'a> Col<'a> {
 }
 
 impl<'a> Col<'a> {
-    /// What an item is where no dictionary stands behind it, or where it is null.
+    /// What an item is where it has no dictionary, or where it is null.
     pub(crate) fn own_item_is(&self, i: u64)
         requires inside { i < self.now.count }
         requires own { is_valid_at (members_of self.now.array.now) (self.now.start + i) ≡ true → dict_in (out-Typed self.now.typed.now).dict ≡ None }
@@ -115,7 +115,7 @@ impl<'a> Col<'a> {
         ensures own { IsNumber self.now.access → dict_in (out-Typed self.now.typed.now).dict ≡ None }
     {}
 
-    /// A dictionary stands behind whole numbers alone.
+    /// Only whole numbers have a dictionary.
     pub(crate) fn has_no_dictionary(&self)
         requires { IsOwn self.now.storage }
         ensures { dict_in (out-Typed self.now.typed.now).dict ≡ None }

@@ -35,7 +35,7 @@ pub struct Plain<'a> {
 }
 
 impl<'a> Col<'a> {
-    /// What each item is, and that it can be read, where no dictionary stands behind them.
+    /// What each item is, and that it can be read, where they have no dictionary.
     fn items_are_stored(&self)
         requires own { dict_in (out-Typed self.now.typed.now).dict ≡ None }
         ensures near { first (members_of self.now.array.now) + (self.now.start + self.now.count) ≤ window_limit }

@@ -33,7 +33,7 @@ impl<'a> Col<'a> {
         home.own_value(place)
     }
 
-    /// Where item `i` stands: this column and `i` where it has no dictionary or the index is null, else what the
+    /// Where item `i` is: this column and `i` where it has no dictionary or the index is null, else what the
     /// dictionary's `home` gives at the index. A struct's fields are the items of that column's children at the number
     /// that is given.
     pub fn home(&self, i: i64) -> (Col<'a>, i64)

@@ -1,4 +1,4 @@
-//! Views, read in place ("Arrow Columnar Format", "Variable-size binary view layout"): a short item's bytes stand in its
+//! Views, read in place ("Arrow Columnar Format", "Variable-size binary view layout"): a short item's bytes are in its
 //! view, a long one's in the data buffer that its view names.
 ghost use Rattle.std.specs.Prelude.{◌≡◌, true, pos, ◌+◌, ◌*◌, ◌<◌, ◌≤◌, length};
 ghost use Rattle.data_types.specs.Packed.{meant, number_at};
@@ -14,7 +14,7 @@ use bit_pack::offset_at;
 use data_types::kinds_of_typed;
 use layout_rules::{lawful_has_no_fault, lawful_items_lie_within, lawful_root};
 
-/// The longest item that stands in its view.
+/// The longest item that is in its view.
 const MOST_IN_VIEW: i64 = 12;
 
 /// One of the four numbers of a view.

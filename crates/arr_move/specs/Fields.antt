@@ -10,7 +10,7 @@ Fields s picks = with_children s (map (child_at s) picks)
 
 -- ---- new fields over old ones
 
--- what stands in a place: the new field, or the old one where there is no new one
+-- what is in a place: the new field, or the old one where there is no new one
 abbrev pub new_or_old : SchemaTree → SchemaTree → SchemaTree
 new_or_old Released old = old
 new_or_old (Live members children dictionary) old = Live members children dictionary

@@ -42,7 +42,7 @@ pub fn take_fields(
     }
 }
 
-/// A new schema with copies of a schema's own texts, whose children stand released.
+/// A new schema with copies of a schema's own texts, whose children are released.
 #[tactic(auto, using(crate::proofs::Vacant::vacant))]
 fn vacant_schema(
     alloc: Global,
@@ -188,7 +188,7 @@ fn move_fields(moved: &mut PartlyMovedSchema, picks: &[usize], top: &mut RawSche
     }
 }
 
-/// Moves one field into a place of the new schema; a field that stands released leaves the place as it is.
+/// Moves one field into a place of the new schema; a field that is released leaves the place as it is.
 fn move_field(moved: &mut PartlyMovedSchema, pick: usize, top: &mut RawSchema, place: usize)
     requires pick { pick < length (children_of moved.old) }
     requires shallow { Depth (child_at moved.old pick) ≤ 127 }

@@ -127,7 +127,7 @@ fn filled(schema: RawSchema, top: RawSchema, pass: &mut Pass) -> RawSchema
     top
 }
 
-/// A schema of which some fields are replaced: a live one of the new ones stands in its place, and in the place of a released one the
+/// A schema of which some fields are replaced: a live one of the new ones takes its place, and in the place of a released one the
 /// old field, which is moved whole. The top has the old one's format, name, flags and metadata. The rest of the old schema is
 /// released. All memory is taken first: where memory runs out the schema comes back as it was, and the new fields are released.
 pub fn with_fields(

@@ -25,7 +25,7 @@ fn view(rt: &impl Abort, alloc: Global, bytes: &[u8], pass: &mut Pass) -> BufVie
     }
 }
 
-/// A structure of an array whose children stand released.
+/// A structure of an array whose children are released.
 #[tactic(auto, using(crate::proofs::Vacant::vacant))]
 fn array(
     rt: &impl Abort,

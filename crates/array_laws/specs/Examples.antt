@@ -47,7 +47,7 @@ long_text = 104 ∷ 101 ∷ 108 ∷ 108 ∷ 111 ∷ 44 ∷ 32 ∷ 119 ∷ 111 �
 abbrev pub no_view : List ℕ
 no_view = 255 ∷ 255 ∷ 255 ∷ 255 ∷ 0 ∷ 0 ∷ 0 ∷ 0 ∷ 0 ∷ 0 ∷ 0 ∷ 0 ∷ 0 ∷ 0 ∷ 0 ∷ 0 ∷ []
 
--- five texts, of which the second is null; behind the data buffer stands its length
+-- five texts, of which the second is null; its length follows the data buffer
 abbrev pub texts : ArrayTree
 texts =
     column 5 (negsuc 0) 0

@@ -9,6 +9,6 @@ use Rattle.layout_rules.specs.Values.{tree_items, value_at}
 abbrev pub IsItemOf : KindTree → ArrayTree → Value → Type 0
 IsItemOf typed array value = (value ≡ Null) ⊎ ((i : ℕ) × (i < tree_items array) × (value ≡ value_at typed array i))
 
--- no number stands twice
+-- no number is there twice
 abbrev pub AreApart : List ℕ → Type 0
 AreApart numbers = (i j : ℕ) → i < j → j < length numbers → get_or numbers i 0 ≢ get_or numbers j 0

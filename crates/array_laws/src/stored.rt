@@ -1,4 +1,4 @@
-//! The range of the numbers that stand in a buffer.
+//! The range of the numbers in a buffer.
 ghost use Rattle.std.specs.Prelude.{◌*◌, ◌<◌, ◌^◌, ℕ};
 ghost use Rattle.data_types.specs.Packed.{number_at};
 ghost use Rattle.tree_model.specs.Tree.{IsLive};

@@ -2,7 +2,7 @@
 use crate::spelling::{push_line, read_bytes};
 use std::alloc::{AllocError, Global};
 
-/// What stands behind `$`, and the `<` and `@` lines below it.
+/// What follows `$`, and the `<` and `@` lines below it.
 #[derive(Drop)]
 pub struct Case {
     pub words: String,
@@ -16,7 +16,7 @@ const PLACES: [&str; 9] = [
     "{1}", "{2}", "{3}", "{4}", "{5}", "{6}", "{7}", "{8}", "{9}",
 ];
 
-/// A line with a row in the places `{}`, and its parts, which stand apart by one blank, in the places `{1}` to `{9}`.
+/// A line with a row in the places `{}`, and its parts, with one blank between them, in the places `{1}` to `{9}`.
 fn filled_line(alloc: Global, line: &str, row: &str) -> Result<String, AllocError> {
     let mut text = line.replace(alloc, "{}", row)?;
     for (place, part) in PLACES.into_iter().zip(row.split(' ')) {
@@ -26,7 +26,7 @@ fn filled_line(alloc: Global, line: &str, row: &str) -> Result<String, AllocErro
 }
 
 impl Case {
-    /// The case that a `$` line begins, behind which these words stand.
+    /// The case that a `$` line with these words begins.
     pub fn new(alloc: Global, words: &str) -> Result<Case, AllocError> {
         Ok(Case {
             words: String::from_str(alloc, words)?,
@@ -54,7 +54,7 @@ impl Case {
         })
     }
 
-    /// The bytes of each word; the words stand apart by one blank. None where a word spells none.
+    /// The bytes of each word; the words have one blank between them. None where a word spells none.
     pub fn words(&self, alloc: Global) -> Result<Option<Vec<Vec<u8>>>, AllocError> {
         let mut words = Vec::new(alloc);
         if self.words.is_empty() {

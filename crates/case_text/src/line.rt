@@ -3,7 +3,7 @@
 /// A line of a transcript, without its line end.
 #[derive(Clone, Copy, Debug, PartialEq)]
 pub enum Line<'l> {
-    /// `$ ..` begins a case: what stands behind the sign and a blank.
+    /// `$ ..` begins a case: what follows the sign and a blank.
     Case(&'l str),
     /// `< ..` or `@ ..` belongs to the case: the whole line.
     Part(&'l str),
@@ -17,7 +17,7 @@ pub enum Line<'l> {
     Other,
 }
 
-/// What stands behind a sign and one blank.
+/// What follows a sign and one blank.
 fn behind(text: &str) -> &str {
     match text.split_once(' ') {
         Some((_sign, rest)) => rest,

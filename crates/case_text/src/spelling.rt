@@ -1,7 +1,7 @@
 //! Bytes as text.
 use std::alloc::{AllocError, Global};
 
-/// Where a text stands: outside an escape, behind a `\`, behind `\x`, and behind the first digit of that.
+/// The place in a text: outside an escape, behind a `\`, behind `\x`, and behind the first digit of that.
 #[derive(Clone, Copy)]
 enum Place {
     Plain,
@@ -36,7 +36,7 @@ fn escaped(byte: u8) -> Option<Step> {
     }
 }
 
-/// What a byte does at a place. None where it can't stand there.
+/// What a byte does at a place. None where it isn't allowed there.
 fn step(place: Place, byte: u8) -> Option<Step> {
     match place {
         Place::Plain if byte == b'\\' => Some((Place::Escape, None)),
@@ -103,7 +103,7 @@ pub fn spelling_of(alloc: Global, bytes: &[u8]) -> Result<String, AllocError> {
     Ok(text)
 }
 
-/// The texts that spell the lines of the bytes, without line ends. A `\` stands behind the last one where it has no line end.
+/// The texts that spell the lines of the bytes, without line ends. A `\` follows the last one where it has no line end.
 pub fn spelled_lines(alloc: Global, bytes: &[u8]) -> Result<Vec<String>, AllocError> {
     let mut lines = Vec::new(alloc);
     let mut line = Vec::new(alloc);

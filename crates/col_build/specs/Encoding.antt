@@ -8,7 +8,7 @@ use Rattle.data_types.specs.Packed.{le_bytes, stored, offset_width}
 use Rattle.data_types.specs.FieldText.{Form, Truths, Wholes, FloatBits, Text, HexBytes, SizedHex, Decimals, form_of, in_range}
 use Rattle.data_types.specs.Kinds.{KindOk}
 use Rattle.data_types.specs.Value.{Value, Null, Truth, Whole, Bits, Bytes}
--- whether a value is null, the bytes that stand between two offsets, and how many there are of a column's values
+-- whether a value is null, the bytes between two offsets, and how many there are of a column's values
 pub use Rattle.data_types.specs.Value.{is_null, bytes_of, byte_total}
 pub use Rattle.data_types.specs.ColumnForms.{HasForm}
 use Rattle.data_types.specs.declared.kind.DataType.{DataType}
@@ -49,7 +49,7 @@ abbrev pub is_set : Value → Bool
 is_set (Truth truth) = truth
 is_set _ = false
 
--- where items that stand one behind the other begin, from a place on, and where the last one ends
+-- where items one behind the other begin, from a place on, and where the last one ends
 abbrev pub ends : ℕ → List (List ℕ) → List ℕ
 ends at [] = at ∷ []
 ends at (item ∷ items) = at ∷ ends (at + length item) items

@@ -11,7 +11,7 @@ use Rattle.col_build.specs.declared.item.PushFault.{PushFault}
 use Rattle.col_build.specs.declared.shape.Shape.{Shape}
 use Rattle.col_build.specs.declared.shape.Shape.TheVariants as shapes
 
--- the builder of a type holds these values, and its buffers are theirs as they stand
+-- the builder of a type holds these values, and its buffers are theirs as they are
 pub record HoldsWhole (builder : Builder) (kind : DataType) (values : List Value) : Type 0 where
   pub is_kind : builder.kind ≡ kind
   pub shape : builder.shape ≡ shape_in (storage_of kind)

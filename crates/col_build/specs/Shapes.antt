@@ -13,7 +13,7 @@ use Rattle.col_build.specs.declared.item.PushFault.TheVariants.{WrongKind, OutOf
 use Rattle.col_build.specs.declared.shape.Shape.{Shape}
 use Rattle.col_build.specs.declared.shape.Shape.TheVariants as shapes
 
--- the shape of what is stored so; only what stands in its place or between offsets has one
+-- the shape of what is stored so; only what is in its place or between offsets has one
 abbrev pub shape_in : Storage → Shape
 shape_in stored.Truths = shapes.Truths
 shape_in (stored.Wholes bits signed) = shapes.Wholes (bits / 8) signed
@@ -42,7 +42,7 @@ abbrev pub text_fault : Bool → List ℕ → Option PushFault
 text_fault false bytes = None
 text_fault true bytes = if is_utf8 bytes then None else Some NotText
 
--- where this many bytes stand between the offsets
+-- where this many bytes are between the offsets
 abbrev pub between_fault : Bool → Bool → ℕ → List ℕ → Option PushFault
 between_fault wide text total bytes = if reaches wide (total + length bytes) then text_fault text bytes else Some OutOfRange
 

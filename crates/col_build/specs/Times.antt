@@ -35,7 +35,7 @@ IsBitwise shape = (shape ≡ shapes.Truths) ⊎ (shape ≡ shapes.Sized 0)
 abbrev pub ShowsBits : ℕ → List ℕ → Type 0
 ShowsBits count bytes = (flags : List Bool) × (length flags ≡ count) × (bytes ≡ bit_bytes flags)
 
--- behind this many bits one of them stands so often
+-- behind this many bits one of them is there so often
 abbrev pub AddsBits : ℕ → Bool → ℕ → List ℕ → List ℕ → Type 0
 AddsBits count flag times old new =
     (flags : List Bool) → length flags ≡ count → old ≡ bit_bytes flags → new ≡ bit_bytes (flags ++ replicate times flag)

@@ -31,7 +31,7 @@ pub(crate) fn cut_ahead(shape: Shape, count: usize, offsets: &mut Vec<u8>, bytes
     }
 }
 
-/// Makes zeros behind this many bytes, where the next numbers will stand.
+/// Makes zeros behind this many bytes, where the next numbers will be.
 pub(crate) fn fill_ahead(bytes: &mut Vec<u8>, start: usize, width: usize) -> Result<(), NoMemory>
     requires start { start ≤ vec_len bytes.old }
     requires width { width ≤ 16 }

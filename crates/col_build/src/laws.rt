@@ -1,4 +1,4 @@
-//! Encodings that the definitions compute as they stand here.
+//! Encodings on which the definitions are computed.
 ghost use Rattle.std.specs.Prelude.{◌≡◌, pos, negsuc, true, false, [], ◌∷◌, None, Some, codes};
 ghost use Rattle.data_types.specs.declared.kind.DataType.TheVariants.{Bool, Int, Float, Utf8, FixedBinary};
 ghost use Rattle.data_types.specs.Value.{Null, Truth, Whole, Bits, Bytes};

@@ -110,8 +110,8 @@ fn append_fitting(
     append_number(bytes, width, low)
 }
 
-/// Appends a whole number that is in the range of its width. Sixteen bytes hold each number. The code of each width stands
-/// by itself, so that its bounds are constants.
+/// Appends a whole number that is in the range of its width. Sixteen bytes hold each number. Each width has code of its own,
+/// so that its bounds are constants.
 #[inline(always)]
 pub(crate) fn append_whole(
     bytes: &mut Vec<u8>,

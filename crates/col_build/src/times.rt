@@ -24,8 +24,8 @@ fn make_room(bits: &mut Vec<u8>, times: usize) -> Result<(), NoMemory>
     }
 }
 
-/// Adds the validity bits of an item that stands this many times more, behind this many, this many of them nulls. One that is null
-/// stands behind another null.
+/// Adds the validity bits of an item that is there this many times more, behind this many, this many of them nulls. One that is null
+/// is behind another null.
 fn repeat_validity(
     validity: &mut Vec<u8>,
     count: usize,
@@ -75,7 +75,7 @@ impl Builder {
     ///
     /// # Errors
     ///
-    /// `NoMemory` where there is no memory for them. The item stands less often then, or not at all.
+    /// `NoMemory` where there is no memory for them. The item is there less often then, or not at all.
     pub fn add_times(&mut self, item: Item<'_>, times: u64) -> Result<(), NoMemory>
         requires takes { TakesTimes self.old (value_of item) times }
         ensures added { OnOk result (AddsTimes (value_of item.entry) times self.old self.new) }

@@ -4,7 +4,7 @@ use Rattle.data_types.specs.Kinds.{is_flat}
 use Rattle.data_types.specs.KindTrees.{KindTree}
 use Rattle.tree_model.specs.Tree.{Released, Live, absent, present}
 
--- values of a flat column kind, behind which no dictionary stands
+-- values of a flat column kind, without a dictionary
 abbrev pub is_flat_column : KindTree → Bool
 is_flat_column Released = false
 is_flat_column (Live kind kids absent) = is_flat kind

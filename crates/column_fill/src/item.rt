@@ -124,7 +124,7 @@ fn push_rare(
     push(builder, storage, item_of(items, storage, i))
 }
 
-/// Adds an item of a column, of the common ways to store it where it stands.
+/// Adds an item of a column, of the common ways to store it where it is.
 #[inline(always)]
 pub fn push_item(
     builder: &mut Builder,
@@ -215,7 +215,7 @@ pub(crate) fn push_plain(
 ///
 /// # Errors
 ///
-/// `NoMemory` where there is no memory for them. The item stands less often then, or not at all.
+/// `NoMemory` where there is no memory for them. The item is there less often then, or not at all.
 pub fn push_item_times(
     builder: &mut Builder,
     storage: Storage,

@@ -63,7 +63,7 @@ fn gathered_of_storage(
     Ok(builder)
 }
 
-/// The same of items that are stored in any way. How those of common types are is a constant where their loop stands in line.
+/// The same of items that are stored in any way. How those of common types are is a constant where their loop is inlined.
 fn gathered_places(
     alloc: Global,
     kind: &DataType,

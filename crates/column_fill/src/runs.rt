@@ -16,7 +16,7 @@ use raw_array::RawArray;
 use std::alloc::Global;
 use unit_pass::NoMemory;
 
-/// An item of a column, by its number from 0 on, and how many times it stands.
+/// An item of a column, by its number from 0 on, and how many times it is there.
 #[derive(Clone, Copy)]
 pub struct Run {
     pub item: u64,

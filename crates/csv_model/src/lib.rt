@@ -18,7 +18,7 @@ pub use fault::HeaderFault;
 pub use header::worked_headers;
 pub use laws::records_are_read_in_turn;
 
-/// Texts that the definitions read and write as they stand here.
+/// Texts on which the definitions are computed.
 pub fn worked_texts()
     ensures null_field { echo [] (codes "a,b\n1,\n") ≡ Text (codes "a,b\n1,\n") }
     ensures null_alone { echo [] (codes "x\n\"\"\n") ≡ Text (codes "x\n\"\"\n") }

@@ -24,7 +24,7 @@ pub record BatchesLeft : Type 0 where
 abbrev pub columns_in : BatchesLeft → List Column
 columns_in s = map column_of s.columns
 
--- before the first batch of these records, which stand behind the header
+-- before the first batch of these records behind the header
 abbrev pub all_left : List Record → List ColumnType → List ℕ → BatchesLeft
 all_left records columns mark = record { columns = columns; mark = mark; read = 0; records = records; builders = [] }
 

@@ -24,7 +24,7 @@ pub record HoldRows (builders : List Builder) (columns : List Column) (rows : Li
   pub held : HoldEach builders columns rows
   pub widths : All (λ row. length row ≡ length columns) rows
 
--- the builders hold the rows that these records, which stand behind the header, spell under a mark for null
+-- the builders hold the rows that these records behind the header spell under a mark for null
 pub record HoldsBody (mark : List ℕ) (builders : List Builder) (columns : List Column) (records : List Record) : Type 0 where
   pub rows : List Row
   pub spelled : body mark columns records ≡ Ok rows

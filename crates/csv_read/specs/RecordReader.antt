@@ -42,7 +42,7 @@ text_left rem reader = told_by (source_of rem reader)
 abbrev pub records_left : {R : Type 0} → (R → Option (List ℕ)) → Reader R → List Record
 records_left rem reader = records_from default_config (length (text_left rem reader) + 1) (reader_state reader) (text_left rem reader)
 
--- the reader stands between two records, and reads the next one by the default settings, however many fields it has
+-- the reader is between two records, and reads the next one by the default settings, however many fields it has
 pub record IsReading {R : Type 0} (rem : R → Option (List ℕ)) (reader : Reader R) : Type 0 where
   pub config : reader_config reader ≡ default_config
   pub trim : reader_trim reader ≡ trim.None

@@ -80,7 +80,7 @@ impl<R: Read> Model for BatchReader<R> {
 impl<R: Read> BatchReader<R> {
     ghost use Rattle.csv_read.specs.BatchesLeft.{IsNextBatch, IsNextFault, all_left, at_end, batches_left, behind, columns_in, with_builders};
 
-    /// Stands before the first batch of the records that are left, which stand behind the header. A field that equals the
+    /// Begins before the first batch of the records that are left behind the header. A field that equals the
     /// mark is null.
     pub fn start(
         alloc: Global,
@@ -126,7 +126,7 @@ impl<R: Read> BatchReader<R> {
     ///
     /// The first of these records that spells no row is the fault, and in it that it has another number of fields than there
     /// are columns, or else its first field that is no value of its column. Records are numbered from 1 behind the header,
-    /// over all batches. Want of memory alone is free. After an error no record is left.
+    /// over all batches. `NoMemory` comes only where memory runs out. After an error no record is left.
     pub fn next(&mut self, alloc: Global, batch: u64) -> Result<bool, BodyFault>
         requires some { 1 ≤ batch }
         ensures columns { self.new.columns ≡ self.old.columns }

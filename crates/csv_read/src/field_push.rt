@@ -70,7 +70,7 @@ fn push_text(text: &[u8], known: bool, builder: &mut Builder) -> PushOutcome
     outcome(builder.add_bytes(text))
 }
 
-/// Adds a whole number of this many bits where a field spells one. They are a constant where it stands in line.
+/// Adds a whole number of this many bits where a field spells one. They are a constant where it is inlined.
 #[inline(always)]
 fn push_whole(bits: u8, signed: bool, text: &[u8], builder: &mut Builder) -> PushOutcome
     requires flat { IsFlatForm (Wholes bits signed) }
@@ -154,7 +154,7 @@ fn push_truth(text: &[u8], builder: &mut Builder) -> PushOutcome
     }
 }
 
-/// Adds this many bits of a float where a field spells them. Their number is a constant where it stands in line.
+/// Adds this many bits of a float where a field spells them. Their number is a constant where it is inlined.
 #[inline(always)]
 fn push_bits(bits: u8, text: &[u8], builder: &mut Builder) -> PushOutcome
     requires flat { IsFlatForm (FloatBits bits) }

@@ -22,7 +22,7 @@ use std::io::Read;
 /// The columns that the header of a text names, each of the type of the first entry of its name, and of text where there is
 /// none. The header is the first of the records, and those behind it are left.
 ///
-/// The first fault counts, in the order of the variants of [`HeaderFault`]; out of memory alone is free. After an error no
+/// The first fault counts, in the order of the variants of [`HeaderFault`]; `NoMemory` comes only where memory runs out. After an error no
 /// record is left.
 pub fn read_header<R: Read>(
     alloc: Global,

@@ -18,7 +18,7 @@ impl SharedText {
     ghost use Rattle.std.specs.Prelude.{◌≡◌};
     ghost use Rattle.std.specs.Arc.{arc_value};
 
-    /// Stands before the first byte.
+    /// Begins before the first byte.
     pub(crate) fn new(bytes: Arc<Vec<u8>>) -> SharedText
         ensures at { result.at ≡ 0 }
         ensures bytes { result.bytes ≡ bytes }

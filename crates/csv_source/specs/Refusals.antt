@@ -32,6 +32,6 @@ said_by words.Nothing why = None
 said_by words.Memory why = Some wanting
 said_by words.Refusal why = refusal_in why
 
--- a record is told of only where it is the fault
+-- a record is named only where it is the fault
 abbrev pub TellsOf : BodyFault → Refused → Type 0
 TellsOf fault why = (row : RowFault) → row_of why ≡ Some row → fault ≡ faults.Row row

@@ -18,7 +18,7 @@ AreShort records = (length records ≤ 2 ^ 30) × (field_bytes records ≤ 2 ^ 3
 abbrev pub no_batches : Option RowFault → Chunks
 no_batches ending = record { chunks = []; ending = ending }
 
--- no link stands below a source
+-- no link is below a source
 abbrev pub no_joints : ℕ → List Shown
 no_joints link = []
 

@@ -55,7 +55,7 @@ pub struct CsvAhead<R: Threads + Drop> {
 impl<R: Threads + Drop> CsvAhead<R> {
     ghost use Rattle.csv_source.specs.AheadSources.{ahead_state};
 
-    /// Stands before the first chunk of the records that are left, which stand behind the header. A field that equals the
+    /// Begins before the first chunk of the records that are left behind the header. A field that equals the
     /// mark is null. Each chunk has `batch` rows, and the last one those that are left. At most twice `ahead` chunks are read
     /// before they are taken.
     pub fn start(

@@ -30,7 +30,7 @@ pub struct CsvMaker {
 impl CsvMaker {
     ghost use Rattle.csv_source.specs.Pieces.{maker_pieces, pieces_of};
 
-    /// Stands before the first of the records that are left, which stand behind the header. A field that equals the mark is null.
+    /// Begins before the first of the records that are left behind the header. A field that equals the mark is null.
     /// Each batch has `batch` records, and the last one those that are left.
     pub fn start(
         alloc: Global,
@@ -53,7 +53,7 @@ impl CsvMaker {
         Ok(CsvMaker::over(alloc, batches, batch))
     }
 
-    /// Stands before the first of the batches that are left.
+    /// Begins before the first of the batches that are left.
     pub(crate) fn over(alloc: Global, batches: BatchReader<SharedText>, batch: u32) -> CsvMaker
         requires some { 1 ≤ length batches.columns }
         requires some_rows { 1 ≤ batch }

@@ -1,4 +1,4 @@
-//! Why the source refused, and what is told of it.
+//! Why a call for a chunk refused: the code, the text and the record at fault.
 ghost use Rattle.std.specs.Prelude.{◌≡◌, IfOk, string_bytes};
 ghost use Rattle.data_types.specs.FaultTexts.{row_fault_text};
 

@@ -51,7 +51,7 @@ pub struct CsvSource<B: Read + Drop> {
 impl<B: Read + Drop> CsvSource<B> {
     ghost use Rattle.csv_source.specs.Sources.{source_state, stream_of};
 
-    /// Stands before the first chunk of the records that are left, which stand behind the header. A field that equals the
+    /// Begins before the first chunk of the records that are left behind the header. A field that equals the
     /// mark is null. Each chunk has `batch` rows, and the last one those that are left.
     pub fn start(
         alloc: Global,

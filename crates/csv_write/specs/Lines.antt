@@ -1,4 +1,4 @@
--- Where a writer of records into memory stands.
+-- Where a writer of records into memory is.
 use Rattle.std.specs.Prelude.{ℕ, ◌≡◌, ◌==◌, ◌++◌, ⊤, Bool, false, not, List, [], ◌∷◌, length, Option, Some, Vec}
 use Rattle.std.specs.Global.{Global}
 use Rattle.csv.specs.Writing.{default_writer, field_text, fields_written, has_written, row_body, text_written, writer_setup}

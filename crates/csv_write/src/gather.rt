@@ -39,7 +39,7 @@ fn fault_of(row: Option<RowFault>) -> DriveFault
     }
 }
 
-/// Writes the rows of a chunk, which are read from where they stand.
+/// Writes the rows of a chunk, which are read from where they are.
 fn add_chunk(
     alloc: Global,
     typed: &Typed,
@@ -114,7 +114,7 @@ fn pull_all<U: ArrayStream, R: Threads + Sync, T: Tap>(
 }
 
 /// Adds the rows of all chunks that a lawful stream still gives to a text, and gives the text. The stream is spent.
-// Stands alone, since a chain of streams has one for each of its levels.
+// A function of its own, since a chain of streams has one for each of its levels.
 #[inline(never)]
 pub fn write_rows<U: ArrayStream, R: Threads + Sync, T: Tap>(
     stream: RawStream<U>,

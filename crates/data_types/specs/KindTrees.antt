@@ -38,7 +38,7 @@ KidsOk kinds.Map kids = IsOneChild kids IsPairOfColumns
 KidsOk kinds.Struct kids = Unit {0}
 KidsOk _ kids = IsNoChild kids
 
--- a dictionary stands behind whole numbers alone
+-- only whole numbers have a dictionary
 abbrev pub DictOk : DataType → MaybeTree DataType → Type 0
 DictOk kind absent = Unit {0}
 DictOk (kinds.Int bits signed) (present dict) = Unit {0}

@@ -25,8 +25,8 @@ bytes_text bytes = flat_map byte_text bytes
 abbrev pub joined : List (List ℕ) → List ℕ
 joined texts = join_with_byte 44 texts
 
--- Null is `~`; a whole number is decimal; the bits of a float are `x` and 16 lower-case hexadecimal digits; bytes stand behind
--- `=`; the items of a list stand in brackets and the fields of a struct in braces, with commas between them.
+-- Null is `~`; a whole number is decimal; the bits of a float are `x` and 16 lower-case hexadecimal digits; bytes follow
+-- `=`; the items of a list are in brackets and the fields of a struct in braces, with commas between them.
 abbrev mutual
   pub value_text : Value → List ℕ
   value_text Null = codes "~"

@@ -66,7 +66,7 @@ pub fn is_flat(kind: &DataType) -> bool
     }
 }
 
-/// Whether an item stands alone, in its place or between offsets.
+/// Whether an item is stored in place or between offsets.
 fn is_flat_storage(storage: Storage) -> bool
     ensures { result ≡ is_some (stored_form storage) }
 {

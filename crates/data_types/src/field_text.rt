@@ -6,7 +6,7 @@ ghost use Rattle.data_types.specs.FieldText.{read_field, written_text, IsFlatKin
 
 use crate::DataType;
 
-/// Fields that the definitions read and write as they stand here.
+/// Fields on which the definitions are computed.
 pub fn worked_field_texts()
     ensures empty { read_field [] (Int 8 true) [] ≡ Some Null }
     ensures truths { read_field [] Bool (codes "TRUE") ≡ Some (Truth true) }

@@ -5,8 +5,8 @@ ghost use Rattle.std.specs.Cmp.Lexicographic.{nat_list_eq_equiv, pointwise};
 ghost use Rattle.data_types.specs.KindTrees.{most_levels};
 ghost use Rattle.data_types.specs.Ways.{Steps, path_of, steps_of};
 
-/// Where a node stands: the numbers of the children on the way to it, or [`DICTIONARY_STEP`]. The first `depth` of the
-/// steps lead there; what stands behind them means nothing, and two paths are equal where their steps are.
+/// Where a node is: the numbers of the children on the way to it, or [`DICTIONARY_STEP`]. The first `depth` of the
+/// steps lead there; what follows them means nothing, and two paths are equal where their steps are.
 #[derive(Clone, Copy, Debug)]
 pub struct Path {
     pub depth: u8,

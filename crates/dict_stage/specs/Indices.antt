@@ -18,7 +18,7 @@ abbrev pub is_text : List ℕ → Value → Bool
 is_text text (Bytes bytes) = bytes_eq bytes text
 is_text text _ = false
 
--- where the text stands among the entries; a null has no index
+-- where the text is among the entries; a null has no index
 abbrev pub index_in : List Value → Value → Value
 index_in entries (Bytes text) = Whole (pos (position_or_len (is_text text) entries))
 index_in entries _ = Null

@@ -129,7 +129,7 @@ fn unscaled(places: usize, text: &[u8]) -> Option<u128>
     long_unscaled(places, text)
 }
 
-/// The number without sign of a short text, at once where the point stands before exactly this many bytes.
+/// The number without sign of a short text, at once where the point is before exactly this many bytes.
 #[inline(always)]
 fn quick_unscaled(places: usize, text: &[u8]) -> Option<u64>
     requires { length text.now + places ≤ 18 }
@@ -142,7 +142,7 @@ fn quick_unscaled(places: usize, text: &[u8]) -> Option<u64>
     short_unscaled(places, text)
 }
 
-/// Whether a point stands before exactly this many bytes, and some before it.
+/// Whether a point is before exactly this many bytes, and some before it.
 #[inline(always)]
 fn is_placed(places: usize, text: &[u8]) -> bool
     ensures some { result ≡ true → 0 < places }
@@ -170,7 +170,7 @@ fn placed_unscaled(places: usize, text: &[u8]) -> Option<u64>
     with_digits(whole, &text[point + 1..])
 }
 
-/// The same of a short text, wherever its point stands.
+/// The same of a short text, wherever its point is.
 #[inline(never)]
 fn short_unscaled(places: usize, text: &[u8]) -> Option<u64>
     requires { length text.now + places ≤ 18 }

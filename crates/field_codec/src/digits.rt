@@ -35,7 +35,7 @@ pub fn with_digits(number: u64, text: &[u8]) -> Option<u64>
     }
 }
 
-/// The same of a text that is mostly of few digits: each such count is a constant where its loop stands in line.
+/// The same of a text that is mostly of few digits: each such count is a constant where its loop is inlined.
 #[inline(always)]
 pub fn with_few_digits(number: u64, text: &[u8]) -> Option<u64>
     requires { (number + 1) * 10 ^ length text.now ≤ 10 ^ 18 }

@@ -17,7 +17,7 @@ pub enum FieldForm {
     Wholes { bits: u8, signed: bool },
     /// The bits of a float, by hexadecimal digits.
     FloatBits { bits: u8 },
-    /// UTF-8 as it stands.
+    /// UTF-8 as it is.
     Text,
     /// Bytes by pairs of hexadecimal digits.
     HexBytes,

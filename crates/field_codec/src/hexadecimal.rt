@@ -197,7 +197,7 @@ pub fn bytes_text<'a>(bytes: &[u8], room: &'a mut Vec<u8>) -> Result<&'a [u8], N
     Ok(room.as_slice())
 }
 
-/// Writes the pairs of digits of bytes. Eight and sixteen, which are common, are constants where their loops stand in line.
+/// Writes the pairs of digits of bytes. Eight and sixteen, which are common, are constants where their loops are inlined.
 #[inline(always)]
 fn write_bytes(bytes: &[u8], text: &mut [u8])
     requires { length text.old ≡ 2 * length bytes.now }

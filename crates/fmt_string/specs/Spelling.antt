@@ -1,4 +1,4 @@
--- The canonical spelling of a type: its keyword, and what stands behind it; a width of 128 bits is left out.
+-- The canonical spelling of a type: its keyword, and what follows it; a width of 128 bits is left out.
 use Rattle.std.specs.Prelude.{ℕ, Bool, true, false, List, [], ◌++◌, codes, decimal, if◌then◌else◌, ◌==◌}
 use Rattle.std.specs.Fmt.{signed_decimal}
 use Rattle.fmt_string.specs.FormatString.{comma}
@@ -63,7 +63,7 @@ abbrev pub width_text : Bool → List ℕ
 width_text false = []
 width_text true = codes ",256"
 
--- what stands behind the keyword
+-- what follows the keyword
 abbrev pub rest_of : DataType → List ℕ
 rest_of (kinds.FixedBinary size) = decimal size
 rest_of (kinds.FixedList size) = decimal size

@@ -1,4 +1,4 @@
-//! What stands behind `d:`: a precision, a scale and perhaps a width, or their first fault.
+//! What follows `d:`: a precision, a scale and perhaps a width, or their first fault.
 ghost use Rattle.std.specs.Prelude.{◌≡◌, ◌+◌, ◌<◌, ◌≤◌, ◌^◌, ◌++◌, ◌∷◌, min, neg_ℤ, pos, length, take, drop, FitsSigned, IfOk, IfErr, IfSome, IfNone};
 ghost use Rattle.std.specs.Int.{w32};
 ghost use Rattle.std.specs.Str.Parse.{digits_value};

@@ -107,7 +107,7 @@ fn outcome(
     (drained, visit.chunks, visit.rows)
 }
 
-/// What is told of the chunk at fault: its number, and its fault with the two numbers; and how many chunks were shown.
+/// What is answered of the chunk at fault: its number, and its fault with the two numbers; and how many chunks were shown.
 fn fault_of(
     rt: &impl Abort,
     found: (Result<(), DrainFault>, u64, i64),

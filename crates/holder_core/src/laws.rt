@@ -14,7 +14,7 @@ pub fn deed_leaves_once()
     ensures once { DeedAtMostOnce }
 {}
 
-/// A read that is answered with the bytes stands in a state where the deed is at home.
+/// A read that is answered with the bytes is in a state where the deed is at home.
 pub fn reads_at_home()
     ensures { ReadsAtHome }
 {}

@@ -35,7 +35,7 @@ slot slots text step = get_or slots (slot_in (length slots) (hash_in text) step)
 abbrev pub AreTaken : List ℕ → List ℕ → ℕ → Type 0
 AreTaken slots text steps = (step : ℕ) → step < steps → slot slots text step ≢ 0
 
--- the text's number stands in the first of its slots that was free
+-- the text's number is in the first of its slots that was free
 pub record IsPlaced (slots : List ℕ) (text : List ℕ) (number : ℕ) : Type 0 where
   pub step : ℕ
   pub within : step < most_steps
@@ -53,7 +53,7 @@ Tree = BTreeMap (ℕ × Bor (List ℕ)) ℕ
 abbrev pub found : Tree → Bor (List ℕ) → Option ℕ
 found tree text = get key_cmp tree (second_hash_in text.now, text)
 
--- all its slots were taken, and its number stands in the tree
+-- all its slots were taken, and its number is in the tree
 pub record IsBeside (slots : List ℕ) (tree : Tree) (text : List ℕ) (number : ℕ) : Type 0 where
   pub taken : AreTaken slots text most_steps
   pub is : (key : Bor (List ℕ)) → bytes_eq key.now text ≡ true → found tree key ≡ Some number

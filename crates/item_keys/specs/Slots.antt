@@ -1,4 +1,4 @@
--- Where the number of a text stands.
+-- Where the number of a text is.
 use Rattle.std.specs.Prelude.{ℕ, ◌+◌, ◌-◌, ◌/◌, ◌^◌, List, bit_and}
 use Rattle.std.specs.Hash.DefaultHasher as sipping
 use Rattle.std.specs.Hash.FoldHasher as folding

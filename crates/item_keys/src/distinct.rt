@@ -12,7 +12,7 @@ use unit_pass::NoMemory;
 
 /// Distinct texts that are lent, numbered from 0 on in the order in which they come.
 ///
-/// A text's number stands in one of eight slots that its hash names. Where other texts have all eight, it stands in a tree, ordered
+/// A text's number is in one of eight slots that its hash names. Where other texts have all eight, it is in a tree, ordered
 /// by a second hash and then by the text: so a look-up takes at most eight steps and those of a tree, whatever the texts are.
 #[derive(Drop)]
 pub struct Distinct<'a> {
@@ -103,7 +103,7 @@ impl<'a> Distinct<'a> {
         }
     }
 
-    /// Adds a text that is new. Its number stands in this slot.
+    /// Adds a text that is new. Its number is in this slot.
     #[inline(never)]
     fn add_at(&mut self, at: usize, text: &'a [u8]) -> Result<(u32, bool), NoMemory>
         requires few { NumbersFew self.old }
@@ -138,7 +138,7 @@ impl<'a> Distinct<'a> {
         }
     }
 
-    /// Adds a text that is new. Its number stands in the tree.
+    /// Adds a text that is new. Its number is in the tree.
     fn add_beside(&mut self, second: u64, text: &'a [u8]) -> Result<(u32, bool), NoMemory>
         requires few { NumbersFew self.old }
         requires full { (texts : List (List ℕ)) → Numbers self.old texts → IsFull self.old texts text.now }

@@ -1,4 +1,4 @@
-//! Where a text's number stands.
+//! Where a text's number is.
 ghost use Rattle.std.specs.Prelude.{◌≡◌, ◌<◌, ◌≤◌, ◌^◌};
 ghost use Rattle.item_keys.specs.Slots.{hash_in, second_hash_in, slot_in};
 

@@ -1,4 +1,4 @@
-//! Texts that stand in a buffer which isn't text as a whole.
+//! Texts in a buffer which isn't text as a whole.
 ghost use Rattle.std.specs.Prelude.{◌≡◌, IsTrue, ◌+◌, ◌-◌, ◌<◌, ◌≤◌, length, take, drop, IsUtf8};
 ghost use Rattle.std.specs.Str.{IsCharBoundary};
 ghost use Rattle.layout_check.specs.Scans.{IsRun};

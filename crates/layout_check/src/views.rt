@@ -15,7 +15,7 @@ use crate::nulls::is_valid;
 use bit_pack::{offset_at, unsigned_at};
 use layout_rules::{Layout, Numbers};
 
-/// The longest item that stands in its view.
+/// The longest item that is in its view.
 pub const MOST_IN_VIEW: i64 = 12;
 
 /// How many data buffers there are.

@@ -20,7 +20,7 @@ use Rattle.layout_rules.specs.Views.{view_length, view_prefix, view_buffer, view
 use Rattle.layout_rules.specs.declared.layout.Layout.{Layout}
 use Rattle.layout_rules.specs.declared.layout.Layout.TheVariants.{NoBuffers, ByOffsets, ListOffsets, FixedItems, ByChildren, Views}
 
--- A live node with its type: the members, the parts, and what stands below the type.
+-- A live node with its type: the members, the parts, and what is below the type.
 pub record Node : Type 0 where
   pub kind : DataType
   pub kids : List KindTree

@@ -14,7 +14,7 @@ use Rattle.arr_export.specs.ArrayTrees.{column_tree, flat_type, made}
 use Rattle.layout_rules.specs.Rules.{window_limit}
 use Rattle.data_types.specs.Groups.{sums_from}
 
--- the offsets of lists of these lengths that stand one behind the other: where each begins, and where the last one ends
+-- the offsets of lists of these lengths one behind the other: where each begins, and where the last one ends
 abbrev pub list_offsets : List ℕ → List ℕ
 list_offsets counts = flat_map (le_bytes (offset_width false)) (sums_from 0 counts)
 

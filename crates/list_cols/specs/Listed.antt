@@ -1,4 +1,4 @@
--- The items of lists, one list behind the other, and how often each row stands once they are spread out.
+-- The items of lists, one list behind the other, and how often each row is there once they are spread out.
 use Rattle.std.specs.Prelude.{◌≡◌, ◌+◌, ◌<◌, ◌≤◌, ◌^◌, ℕ, List, ◌++◌, length, Option, None, Some}
 use Rattle.std.specs.List.{flat_map}
 use Rattle.data_types.specs.Storage.{storage_of}
@@ -16,7 +16,7 @@ use Rattle.list_cols.specs.Nested.{items_in}
 abbrev pub listed : (ℕ → Value) → ℕ → List Value
 listed lists count = flat_map items_in (each lists 0 count)
 
--- an item that stands as often as a list has items
+-- an item that is there as often as a list has items
 abbrev pub run_of : ℕ → Value → Run
 run_of item list = record { item = item; times = length (items_in list) }
 

@@ -24,7 +24,7 @@ list_field field =
 abbrev pub nested_field : ℕ → SchemaTree → ℕ → SchemaTree
 nested_field column schema k = if k == column then child_at schema k else list_field (child_at schema k)
 
--- what stands in a field's place before the old one moves into it: a list over the field, and nothing for the column's own
+-- what is in a field's place before the old one moves into it: a list over the field, and nothing for the column's own
 abbrev pub new_field : ℕ → SchemaTree → ℕ → SchemaTree
 new_field column schema k = if k == column then Released else list_field (child_at schema k)
 

@@ -20,7 +20,7 @@ use Rattle.row_groups.specs.declared.groups.Groups.{Groups}
 use Rattle.list_cols.specs.Faults.{first_wrong}
 use Rattle.list_cols.specs.NestFaults.{nests}
 
--- for each distinct value the items of an array that stand where it stands, counted from an item of the array on
+-- for each distinct value the items of an array that are where it is, counted from an item of the array on
 abbrev pub grouped_lists : KindTree → ArrayTree → ℕ → List Value → List (List Value)
 grouped_lists typed array start vs = map (λ key. values_at typed array start (places_of key vs)) (distinct vs)
 

@@ -50,7 +50,7 @@ pub(crate) fn renamed_field(
     built_schema(alloc, parts, pass)
 }
 
-/// Appends fields that stand released, this many, to a list that has room for them.
+/// Appends fields that are released, this many, to a list that has room for them.
 fn push_vacant(fields: &mut Vec<RawSchema>, count: usize)
     requires room { vec_len fields.old + count ≤ vec_capacity fields.old }
     ensures fields { fields.new.items ≡ fields.old.items ++ replicate count Released }
@@ -62,7 +62,7 @@ fn push_vacant(fields: &mut Vec<RawSchema>, count: usize)
     }
 }
 
-/// This many fields, which stand released but for one. Where memory runs out that one is released.
+/// This many fields, which are released but for one. Where memory runs out that one is released.
 pub(crate) fn one_field(
     alloc: Global,
     count: usize,
@@ -100,7 +100,7 @@ fn item_field(alloc: Global, list: &RawSchema, pass: &mut Pass) -> Result<RawSch
     renamed_field(alloc, list.name(), list.child(0), pass)
 }
 
-/// The field of a list's items, and the places of all others, which stand released.
+/// The field of a list's items, and the places of all others, which are released.
 fn item_fields(
     alloc: Global,
     schema: &RawSchema,

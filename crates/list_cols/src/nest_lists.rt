@@ -151,7 +151,7 @@ pub(crate) fn picked_column(
     }
 }
 
-/// A list for each group, of the items of an array that stand where the group's stand, counted from item `start` on.
+/// A list for each group, of the items of an array that are where the group's are, counted from item `start` on.
 pub(crate) fn list_column(
     alloc: Global,
     kid: &Typed,

@@ -58,7 +58,7 @@ fn new_field(
     }
 }
 
-/// A list over each field, and the place of the column by which rows are grouped, which stands released.
+/// A list over each field, and the place of the column by which rows are grouped, which is released.
 fn new_fields(
     alloc: Global,
     schema: &RawSchema,

@@ -1,4 +1,4 @@
-//! How often each row stands once the lists of a column are spread out.
+//! How often each row is there once the lists of a column are spread out.
 ghost use Rattle.std.specs.Prelude.{◌≡◌, ◌+◌, ◌^◌, ◌<◌, ◌≤◌, [], IfNone, IfOk, IfSome, length};
 ghost use Rattle.arr_import.specs.Cols.{window_of};
 ghost use Rattle.arr_import.specs.Window.{item_at, items_of};

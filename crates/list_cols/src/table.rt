@@ -29,7 +29,7 @@ use raw_array::{RawArray, release_all};
 use std::alloc::Global;
 use unit_pass::{CHUNK, NoMemory, Pass};
 
-/// The number of items of a chunk's columns that stand before its first row.
+/// The number of items of a chunk's columns before its first row.
 fn first_of(array: &RawArray) -> u64
     requires live { IsLive array.now }
     requires from { pos 0 ≤ℤ (members_of array.now).offset }
@@ -38,7 +38,7 @@ fn first_of(array: &RawArray) -> u64
     array.offset() as u64
 }
 
-/// How often each row of a chunk stands once the lists of a column are spread out.
+/// How often each row of a chunk is there once the lists of a column are spread out.
 fn chunk_runs(
     alloc: Global,
     typed: &Typed,

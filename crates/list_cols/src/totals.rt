@@ -12,7 +12,7 @@ use crate::runs::{count_items, list_at};
 use arr_import::Col;
 use column_fill::Run;
 
-/// No buffer has so many bytes.
+/// No buffer has this many bytes.
 const TOO_MANY: u64 = 1 << 63;
 
 /// A number of bytes and as many more, where that is below 2^63.

@@ -1,4 +1,4 @@
--- What stands between the header of a text and its rows.
+-- What is between the header of a text and its rows.
 use Rattle.std.specs.Prelude.{◌≡◌, List, Ok}
 use Rattle.csv_model.specs.Batches.{batches_in}
 use Rattle.csv_model.specs.Header.{header_of}

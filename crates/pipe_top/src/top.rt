@@ -84,7 +84,7 @@ pub fn run<R: Threads + Sync, S: Source, K: Sink, E: Sink, T: Tap>(
     // After a fault that is no failed write the sink is as before.
     ensures no_memory { result.fault ≡ Some RunFault.NoMemory → Keeps (K.taken sink.old) (K.taken sink.new) }
     ensures unwritten { IfSome result.fault (λ fault. is_write_fault fault ≡ false → Keeps (K.taken sink.old) (K.taken sink.new)) }
-    // Want of memory is a fault of its own: no other fault has one inside it.
+    // Out of memory is a fault of its own: no other fault has one inside it.
     ensures memory_alone { IfSome result.fault (λ fault. has_memory_inside fault ≡ false) }
     // The status is a function of the fault, and the source has lost a prefix.
     ensures status { result.status ≡ status_of result.fault }

@@ -15,7 +15,7 @@ use unit_pass::{NoMemory, Pass};
 /// The buffers, the children and the dictionary of a node that isn't made yet.
 type Owned = (Vec<Option<BufView>>, Vec<RawArray>, Option<RawArray>);
 
-/// The same parts in places of their own; the buffers stand beside the node's unit.
+/// The same parts in places of their own; the buffers are beside the node's unit.
 struct Placed {
     children: Kids<RawArray>,
     dictionary: Option<Place<RawArray>>,

@@ -6,7 +6,7 @@ ghost use Rattle.raw_array.specs.Members.{ArrayTree, Cost, LeastAmount, Like, On
 ghost use Rattle.raw_array.specs.Windows.{Window};
 
 /// A law: trees whose amounts are nowhere above their fellows are ordered, cost the same and are as deep. What a share
-/// leaves of its source stands below it, so does what a share leaves that memory ran out for, and so do any number of
+/// leaves of its source is below it, so does what a share leaves that memory ran out for, and so do any number of
 /// shares.
 #[tactic(auto, using(crate::proofs::Amounts::amounts))]
 pub fn like_trees_are_ordered()

@@ -6,7 +6,7 @@ ghost use Rattle.raw_array.specs.Members.{Cost};
 use crate::array::{Gone, RawArray, State};
 
 impl RawArray {
-    /// Moves a structure into the place of a child that stands released ("Moving child arrays"); the given one is
+    /// Moves a structure into the place of a child that is released ("Moving child arrays"); the given one is
     /// released then. Takes no memory, and no unit changes hands.
     #[tactic(auto, using(crate::proofs::Moved::moved))]
     pub fn put_child(&mut self, i: usize, child: &mut RawArray)

@@ -76,7 +76,7 @@ pub(crate) fn end_all(mut children: Kids<RawArray>, pass: &mut Pass)
     children.destroy_empty();
 }
 
-/// Releases all structures of a list, which stand under no parent, and gives them up: [`RawArray::end`] for each of them.
+/// Releases all structures of a list, which have no parent, and gives them up: [`RawArray::end`] for each of them.
 #[tactic(auto, using(tree_model::proofs::Measures::measures))]
 pub fn release_all(mut children: Vec<RawArray>, pass: &mut Pass)
     requires { pass.old.units + cost_of_all (trees children.items) ≤ SUPPLY }

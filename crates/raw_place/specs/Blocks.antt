@@ -7,6 +7,6 @@ use mir.Raw.{raw}
 use mir.Syntax.{Ty}
 use Rattle.std.specs.Allocator.{owned_block}
 
--- the memory of one value of R at p, whatever stands there, and the right `frees` to give the block back
+-- the memory of one value of R at p, whatever is there, and the right `frees` to give the block back
 abbrev pub room_owns : (Ty → Ptr → Fml) → RattleType → Ptr → Fml
 room_owns frees R p = owned_block frees (raw (lone R.mir)) p

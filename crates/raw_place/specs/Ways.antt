@@ -1,4 +1,4 @@
--- Where the values of a vector stand, and the pointers that lead to them.
+-- Where the values of a vector are, and the pointers that lead to them.
 use base.Fml.{Fml, feq}
 use denote.RattleType.{RattleType}
 use denote.RawPtr.{Ptr}
@@ -6,7 +6,7 @@ use Prim.Native.Nat.{ℕ, zero, suc}
 use Rattle.std.specs.Prelude.{List, [], ◌∷◌, ◌++◌}
 use Rattle.std.specs.Ptr.{ptr_add}
 
--- `at` leads to the value of that number, of values of R side by side of which the first stands at `first`
+-- `at` leads to the value of that number, of values of R side by side of which the first is at `first`
 abbrev pub leads : RattleType → Ptr → ℕ → Ptr → Fml
 leads R first number at = feq Ptr at (ptr_add R number first)
 

@@ -150,7 +150,7 @@ impl<T> Pointer<T> {
         }
     }
 
-    /// Where the value stands.
+    /// Where the value is.
     pub fn at(&self) -> *mut T
         ensures { result ≡ ptr_add T.row self.now.number self.now.first }
     {

@@ -31,7 +31,7 @@ impl RawSchema {
         }
     }
 
-    /// The binary metadata's bytes as they stand, or `None` for a null pointer.
+    /// The binary metadata's bytes as they are, or `None` for a null pointer.
     pub fn metadata(&self) -> Option<&[u8]>
         requires { IsLive self.now }
         ensures { MatchOption result ((members_of self.now).metadata ≡ None) (λ text. (members_of self.now).metadata ≡ Some text.now) }

@@ -12,7 +12,7 @@ use raw_place::{Kids, Place, put_if, take_if};
 use std::alloc::Global;
 use unit_pass::{Name, NoMemory, Pass};
 
-/// The parts of a node that stand in places of their own.
+/// The parts of a node in places of their own.
 struct Placed {
     children: Kids<RawSchema>,
     dictionary: Option<Place<RawSchema>>,

@@ -76,7 +76,7 @@ pub(crate) fn end_all(mut children: Kids<RawSchema>, pass: &mut Pass)
     children.destroy_empty();
 }
 
-/// Releases all structures of a list, which stand under no parent, and gives them up: [`RawSchema::end`] for each of them.
+/// Releases all structures of a list, which have no parent, and gives them up: [`RawSchema::end`] for each of them.
 #[tactic(auto, using(tree_model::proofs::Measures::measures))]
 pub fn release_all(mut children: Vec<RawSchema>, pass: &mut Pass)
     requires { pass.old.units + nodes_of_all (trees children.items) ≤ SUPPLY }

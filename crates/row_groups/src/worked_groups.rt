@@ -3,7 +3,7 @@ ghost use Rattle.std.specs.Prelude.{◌≡◌, ◌^◌, ◌∷◌, [], codes};
 ghost use Rattle.data_types.specs.Value.Value.{Bits, Bytes, Null};
 ghost use Rattle.data_types.specs.Groups.{distinct, firsts_of, offsets_of, order_of};
 
-/// What the definitions say of few values: which are distinct, and where they stand.
+/// What the definitions say of few values: which are distinct, and where they are.
 pub fn small_groups()
     // x, y, x.
     ensures distinct { distinct (Bytes (codes "x") ∷ Bytes (codes "y") ∷ Bytes (codes "x") ∷ []) ≡ Bytes (codes "x") ∷ Bytes (codes "y") ∷ [] }

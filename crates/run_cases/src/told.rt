@@ -81,7 +81,7 @@ fn end_text(alloc: Global, ran: &Ran) -> Result<String, AllocError> {
     Ok(text)
 }
 
-/// What was written, told and shown.
+/// The text, the lines of diagnostics and the chunks that were shown.
 fn texts_of(alloc: Global, ran: &Ran) -> Result<Answers, AllocError> {
     let mut answers = Answers::new(alloc);
     answers.push_text(alloc, ">", ran.text.taken())?;

@@ -47,7 +47,7 @@ abbrev pub FailsIf : SchemaTree → Option SchemaFound → Type 0
 FailsIf schema None = Unit {0}
 FailsIf schema (Some found) = RunsSchemaFails schema found
 
--- It is the first fault, if it is no out-of-memory, which never stands inside another fault.
+-- It is the first fault, if it is no out-of-memory, which is never inside another fault.
 abbrev pub IsRunsFault : SchemaTree → RunsSchemaFault → Type 0
 IsRunsFault schema fault = IsWhole fault × FailsIf schema (named fault)
 

@@ -30,7 +30,7 @@ pub record Run : Type 0 where
   pub value : Value
   pub stop : ℕ
 
--- The runs of values that stand from a place on: a value ends a run where the next one isn't the same, or none is there.
+-- The runs of values from a place on: a value ends a run where the next one isn't the same, or none is there.
 abbrev pub runs_from : ℕ → List Value → List Run
 runs_from at [] = []
 runs_from at (value ∷ []) = record { value = value; stop = suc at } ∷ []
@@ -41,7 +41,7 @@ runs_from at (value ∷ next ∷ rest) =
 abbrev pub IsRun : List Value → ℕ → ℕ → Type 0
 IsRun values i stop = runs_from i (drop i values) ≡ record { value = get_or values i Null; stop = stop } ∷ runs_from stop (drop stop values)
 
--- no two runs that stand side by side have the same value
+-- no two runs that are side by side have the same value
 abbrev pub AreApart : List Run → Type 0
 AreApart [] = Unit {0}
 AreApart (run ∷ []) = Unit {0}

@@ -13,7 +13,7 @@ ghost use Rattle.run_ends.specs.RunCoding.{AreApart, decoded_tree, runs_from, ru
 ghost use Rattle.run_ends.specs.RunSchemas.{RunsOf};
 
 /// A law: the schema of values as runs is in order and has their kinds, their array is lawful and has these values, and no two runs
-/// that stand side by side have the same one ("Arrow Columnar Format", "Run-End Encoded Layout").
+/// that are side by side have the same one ("Arrow Columnar Format", "Run-End Encoded Layout").
 pub fn coded_values_are_the_values()
     ensures schema { (kind : DataType) → IsColumnKind kind → RunsOf (runs_schema kind) (runs_type kind) }
     ensures lawful { (kind : DataType) (values : List Value) → Fits kind values → length values < narrow_limit → RunsOk (runs_type kind) (runs_tree kind values) }

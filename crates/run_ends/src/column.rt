@@ -110,7 +110,7 @@ impl<'a> RunCol<'a> {
         self.behind(i as u64, run as u64) as i64
     }
 
-    /// Where item `i` stands: the column of the values, and the number of the item there, which is that of its run.
+    /// Where item `i` is: the column of the values, and the number of the item there, which is that of its run.
     pub fn item(&self, i: i64) -> (Col<'a>, i64)
         requires from { pos 0 ≤ℤ i }
         requires below { i <ℤ pos (items (members_of (array_in self.now))) }
@@ -164,7 +164,7 @@ impl<'a> RunCol<'a> {
         low
     }
 
-    /// A law: where the search has ended stands the run that was looked for.
+    /// A law: where the search has ended is the run that was looked for.
     fn search_ended(&self, place: u64, low: u64, high: u64)
         requires parted { Parted (ends_above (ends_in (kinds_in self.now) (array_in self.now)) place) (run_count (array_in self.now)) low high }
         requires met { high ≤ low }

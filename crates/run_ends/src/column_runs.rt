@@ -1,4 +1,4 @@
-//! The runs of a column's values: items that stand side by side and have the same value.
+//! The runs of a column's values: items that are side by side and have the same value.
 ghost use Rattle.std.specs.Prelude.{◌≡◌, ◌↔◌, IsTrue, is_none, true};
 ghost use Rattle.tree_model.specs.Tree.{child_at};
 ghost use Rattle.data_types.specs.TypedView.{typed_of};

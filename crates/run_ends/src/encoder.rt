@@ -38,7 +38,7 @@ use std::alloc::Global;
 use unit_pass::{NoMemory, Pass};
 
 /// The values of a lawful column as runs ("Arrow Columnar Format", "Run-End Encoded Layout"): a root without a name over ends of kind
-/// `i` and values of the column's kind. A run has items that stand side by side and have the same value, as many as there are, so
+/// `i` and values of the column's kind. A run has items that are side by side and have the same value, as many as there are, so
 /// that no two neighbouring runs have equal values; no items give no runs. The column stays as it is.
 ///
 /// Six nodes are made, and the blocks of two columns. Where the answer is a fault, nothing is left of them.

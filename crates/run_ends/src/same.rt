@@ -8,7 +8,7 @@ ghost use Rattle.run_ends.specs.RunCoding.{is_same};
 use arr_import::{Col, ValueRef};
 
 /// Whether two items of a column have the same value: floats by their bits, bytes byte by byte, and a null is the same as a null,
-/// whatever stands under it. Lists and structs are the same as nothing.
+/// whatever is under it. Lists and structs are the same as nothing.
 #[inline(always)]
 pub(crate) fn is_same(items: &Col, i: u64, j: u64) -> bool
     requires inside { i < (window_of items.now).count }

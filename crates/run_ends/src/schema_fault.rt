@@ -7,7 +7,7 @@ use schema_check::SchemaFault;
 use schema_meta::MetaFault;
 use std::alloc::{AllocError, AllocFailed};
 
-/// Why a schema is none of a run-end encoded array, tried from the first to the last. An out-of-memory never stands inside
+/// Why a schema is none of a run-end encoded array, tried from the first to the last. An out-of-memory is never inside
 /// another fault.
 #[derive(Clone, Copy, Debug, PartialEq, Eq)]
 pub enum RunsSchemaFault {

@@ -1,4 +1,4 @@
--- Which faults of a run have an out-of-memory inside them. No run reports one of these: its out-of-memory stands alone.
+-- Which faults of a run have an out-of-memory inside them. No run reports one of these: its out-of-memory is a fault of its own.
 use Rattle.std.specs.Prelude.{Bool, true, false}
 use Rattle.fmt_string.specs.declared.fault.FormatFault.{FormatFault}
 use Rattle.fmt_string.specs.declared.fault.FormatFault.TheVariants as format

@@ -29,11 +29,11 @@ text_rule name = record (new_rule name) { long = Some name }
 abbrev pub flag_rule : Text → Rule
 flag_rule name = record (text_rule name) { action = Some SetTrue }
 
--- words that stand alone, any number of them
+-- words that are no options, as many as there are
 abbrev pub words_rule : Text → Rule
 words_rule name = record (new_rule name) { action = Some Append }
 
--- the words stand after the program's name, and there is no help flag
+-- the words are those after the program's name, and there is no help flag
 abbrev pub bare_command : App
 bare_command = on_top (λ s. record s { no_binary_name = true; disable_help_flag = true }) (new_app (codes "arrowpipe"))
 
@@ -57,7 +57,7 @@ arrowpipe =
 
 -- ---- what its matches hold
 
--- the texts of the options, and the words that stand alone
+-- the texts of the options, and the words that are no options
 pub record Given : Type 0 where
   pub schema : Option Text
   pub batch : Option Text
@@ -90,7 +90,7 @@ given_in rows = record {
 
 -- ---- numbers
 
--- a digit stands first, which is `0` only where it stands alone
+-- a digit is first, which is `0` only as the whole text
 abbrev pub begins_number : Text → Bool
 begins_number [] = false
 begins_number (c ∷ cs) = is_ascii_digit c && (not (c == 48) || (length cs == 0))
@@ -186,7 +186,7 @@ fits_check options = if options.check && asks_of_table options then Err UsedWith
 abbrev pub few_stages : Options → Result Options WordsFault
 few_stages options = if nat_lt most_stages (length options.stages) then Err TooManyStages else fits_check options
 
--- the rules on what stands beside the stages: refused options meet none
+-- the rules on what is beside the stages: refused options meet none
 abbrev pub ruled : Option Options → Result Options WordsFault
 ruled None = Err Refused
 ruled (Some options) = few_stages options

@@ -3,7 +3,7 @@
 //! [STAGE ...]`.
 //!
 //! The command is a simple one of `clap`, without help and version flags, and its words are those after the program's
-//! name. Here stands what the words mean: the options that `clap` promises for them and the words that stand alone,
+//! name. This module says what the words mean: the options that `clap` promises for them and the words that are no options,
 //! which are the stages' texts, in order. Words are refused where `clap` doesn't take them, and then where `--batch`
 //! isn't decimal digits, without sign or leading zero, of a number from 1 to 1,000,000, or `--workers` of one from 1 to 64,
 //! or `--selftest` of one from 1 to 1,000,000, or `--ahead` of one from 1 to 64; more than 16 stages are a fault of their
@@ -42,7 +42,7 @@ const MOST_ROWS: u32 = 1_000_000;
 /// The largest number of `--ahead`.
 const MOST_AHEAD: u32 = 64;
 
-/// The most words that may stand alone.
+/// The most words that may be no options.
 const MOST_STAGES: usize = 16;
 
 /// What the words ask for. The texts are borrowed from the words.
@@ -65,7 +65,7 @@ pub struct Words<'a> {
     pub null: Option<&'a str>,
     /// The number of `--ahead`, how many batches a round reads in a thread ahead of the stages: 1 to 64.
     pub ahead: Option<u32>,
-    /// The words that stand alone, each a text as it stands, in order: at most 16.
+    /// The words that are no options, each a text as it is, in order: at most 16.
     pub stages: Vec<&'a str>,
 }
 
@@ -75,11 +75,11 @@ pub enum WordsFault {
     /// `clap` doesn't take them: an unknown option, an option twice, or one without its text. Or the text of `--batch`,
     /// of `--workers`, of `--selftest` or of `--ahead` is no number that may be.
     Refused,
-    /// More than 16 words stand alone.
+    /// More than 16 words are no options.
     TooManyStages,
-    /// `--check` stands with a stage or with `--schema`, and there are no more than 16 stages.
+    /// `--check` is given with a stage or with `--schema`, and there are no more than 16 stages.
     UsedWithCheck,
-    /// `--selftest` stands with a stage, with `--schema` or with `--check`, and there is neither of the two faults above.
+    /// `--selftest` is given with a stage, with `--schema` or with `--check`, and there is neither of the two faults above.
     UsedWithSelftest,
 }
 
@@ -128,7 +128,7 @@ impl fmt::Display for WordsError {
 impl std::error::Error for WordsError {}
 
 /// Reads the words after the program's name. `--schema -a:u` is refused and `--schema=-a:u` taken, since a text
-/// that stands as a word of its own may not begin with `-`, unless it is `-` alone; so it is with `--null` and with a
+/// that is a word of its own may not begin with `-`, unless it is `-` alone; so it is with `--null` and with a
 /// stage. Behind `--` each word is a stage, whatever it begins with.
 pub fn read_words<'a>(alloc: Global, words: &'a [String]) -> Result<Words<'a>, WordsError>
     ensures taken { IfOk result (λ w. words_of (texts_of words.now) ≡ Ok (options_of w)) }
@@ -193,7 +193,7 @@ fn flag_option<'a>(alloc: Global, name: &'a str) -> Arg<'a>
     text_option(alloc, name).action(ArgAction::SetTrue)
 }
 
-/// Words that stand alone, any number of them.
+/// Words that are no options, as many as there are.
 fn lone_words<'a>(alloc: Global, name: &'a str) -> Arg<'a>
     ensures rule { rule_of result ≡ words_rule name.entry.now }
     ensures local { result.global ≡ false }
@@ -339,14 +339,14 @@ fn number(text: &str, least: u32, most: u32) -> Option<u32>
     }
 }
 
-/// Whether a digit stands first, which is `0` only where it stands alone.
+/// Whether a digit is first, which is `0` only as the whole text.
 fn begins_number(text: &[u8]) -> bool
     ensures { result ≡ begins_number text.now }
 {
     matches!(text, [b'0'] | [b'1'..=b'9', ..])
 }
 
-/// The words that stand alone.
+/// The words that are no options.
 fn lone_texts<'a>(
     alloc: Global,
     matches: &ArgMatches<'a>,

@@ -30,7 +30,7 @@ ChildrenFit kinds.Map kids = tree_count kids ≡ 1
 ChildrenFit kinds.Struct kids = Unit {0}
 ChildrenFit _ kids = tree_count kids ≡ 0
 
--- a dictionary stands behind whole numbers alone
+-- only whole numbers have a dictionary
 abbrev pub IndexFits : DataType → MaybeTree SchemaMembers → Type 0
 IndexFits kind absent = Unit {0}
 IndexFits (kinds.Int bits signed) (present dict) = Unit {0}

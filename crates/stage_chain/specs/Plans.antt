@@ -38,6 +38,6 @@ stages_by _ _ = []
 abbrev pub links_of : Plan → List (List Column)
 links_of plan = map (λ link. columns_in link.items) plan.links.items
 
--- the stages of a plan: its steps, and the columns after each, which stand behind those that are read
+-- the stages of a plan: its steps, and the columns after each, behind those that are read
 abbrev pub plan_stages : Plan → List Stage
 plan_stages plan = stages_by plan.steps.items (drop 1 (links_of plan))

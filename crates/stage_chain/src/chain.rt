@@ -1,4 +1,4 @@
-//! The chain of the stages, over numbers that are types: a stream of each stage stands over the stream of the one before it.
+//! The chain of the stages, over numbers that are types: a stream of each stage is over the stream of the one before it.
 ghost use Rattle.std.specs.Prelude.{◌≡◌, ◌≤◌, ◌+◌, ◌*◌, ◌++◌, ◌∷◌, ◌^◌, List, Option, Some, None, Err, ℕ, [], IsTrue, IfOk, IfErr, OnOk, OnErr, length, nat_lt};
 ghost use Rattle.std.specs.Prelude.{if◌then◌else◌};
 ghost use Rattle.std.specs.Thread.{IsSync};
@@ -123,7 +123,7 @@ impl<N: Chain> Chain for Succ<N> {
 
     const LEFT: usize = if N::LEFT < 64 { N::LEFT + 1 } else { N::LEFT };
 
-    // Stands alone, so that no level holds the code of those behind it.
+    // A function of its own, so that no level holds the code of those behind it.
     #[inline(never)]
     fn drive_from<W: PlanStep, S: ArrayStream, R: Threads + Sync, T: Tap>(
         rt: &R,

@@ -59,7 +59,7 @@ pub fn drive_steps<W: PlanStep, S: ArrayStream, R: Threads + Sync, T: Tap>(
     gate: &(dyn Gate + Sync),
 ) -> Result<Vec<u8>, DriveFault>
     requires live { IsTrue (S.state source).live }
-    // The source is lawful and stands over no other checked stream.
+    // The source is lawful and is over no other checked stream.
     requires lawful { IsTrue (S.state source).lawful }
     requires no_joints { (link : ℕ) → (S.state source).joints link ≡ [] }
     // None of its columns is a struct.

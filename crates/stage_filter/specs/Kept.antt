@@ -16,7 +16,7 @@ use Rattle.stage_model.specs.declared.stage.Const.{Const}
 use Rattle.stage_model.specs.declared.stage.Test.{Test}
 use Rattle.stage_model.specs.declared.stage.Test.TheVariants as tests
 
--- a value that stands so to a constant passes
+-- a value passes that compares so to a constant
 abbrev pub order_passes : Test → Ordering → Bool
 order_passes tests.Eq order = is_eq order
 order_passes tests.Ne order = is_ne order

@@ -66,7 +66,7 @@ fn kept_by_null(
 
 // ---- comparisons
 
-/// Whether a value that stands so to the constant passes.
+/// Whether a value passes that compares so to the constant.
 #[inline(always)]
 fn order_passes(test: Test, order: Ordering) -> bool
     ensures { result ≡ order_passes test order }
@@ -82,7 +82,7 @@ fn order_passes(test: Test, order: Ordering) -> bool
     }
 }
 
-/// Whether a value passes that stands so to the constant, or in no way.
+/// Whether a value passes that compares so to the constant, or in no way.
 #[inline(always)]
 fn comparison_passes(test: Test, order: Option<Ordering>) -> bool
     requires { compares test ≡ true }
@@ -94,7 +94,7 @@ fn comparison_passes(test: Test, order: Option<Ordering>) -> bool
     }
 }
 
-/// How an item stands to a truth value; a null, and an item of another kind, in no way.
+/// How an item compares to a truth value; a null, and an item of another kind, in no way.
 #[inline(always)]
 fn truth_order(items: &Col<'_>, i: u32, constant: bool) -> Option<Ordering>
     requires { i < (window_of items.now).count }
@@ -129,7 +129,7 @@ fn kept_by_truth(
     Ok(kept)
 }
 
-/// How an item stands to a whole number; a null, and an item of another kind, in no way.
+/// How an item compares to a whole number; a null, and an item of another kind, in no way.
 #[inline(always)]
 fn whole_order(items: &Col<'_>, i: u32, constant: &i128) -> Option<Ordering>
     requires { i < (window_of items.now).count }
@@ -164,7 +164,7 @@ fn kept_by_whole(
     Ok(kept)
 }
 
-/// How an item stands to bytes; a null, and an item of another kind, in no way.
+/// How an item compares to bytes; a null, and an item of another kind, in no way.
 #[inline(always)]
 fn bytes_order(items: &Col<'_>, i: u32, constant: &[u8]) -> Option<Ordering>
     requires { i < (window_of items.now).count }
@@ -176,7 +176,7 @@ fn bytes_order(items: &Col<'_>, i: u32, constant: &[u8]) -> Option<Ordering>
     }
 }
 
-/// The numbers of the items that pass a comparison with bytes, each by how it stands to them.
+/// The numbers of the items that pass a comparison with bytes, each by how it compares to them.
 fn kept_by_order(
     alloc: Global,
     items: &Col<'_>,
@@ -275,7 +275,7 @@ fn kept_by_bytes(
 
 // ---- any test
 
-/// The numbers of the items that pass, of those from one number to another. The loop of each kind of constant stands by itself.
+/// The numbers of the items that pass, of those from one number to another. Each kind of constant has a loop of its own.
 pub(crate) fn kept_rows(
     alloc: Global,
     items: &Col<'_>,

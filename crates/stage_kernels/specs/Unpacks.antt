@@ -1,4 +1,4 @@
--- A struct column that is unpacked: its columns stand in its place.
+-- A struct column that is unpacked: its columns take its place.
 use Rattle.std.specs.Prelude.{◌≡◌, ◌<◌, ◌≤◌, ℕ, List, length, map}
 use Rattle.data_types.specs.declared.kind.ColumnType.{ColumnType}
 use Rattle.data_types.specs.ColumnView.{column_of}

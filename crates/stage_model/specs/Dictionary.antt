@@ -8,7 +8,7 @@ use Rattle.data_types.specs.Value.{Value, Bytes}
 abbrev pub has_bytes : List (List ℕ) → List ℕ → Bool
 has_bytes texts text = list_any (λ t. bytes_eq t text) texts
 
--- the values that stand in none of the texts before them
+-- the values that are in none of the texts before them
 abbrev pub distinct_behind : List (List ℕ) → List Value → List Value
 distinct_behind before [] = []
 distinct_behind before (Bytes text ∷ values) =

@@ -20,7 +20,7 @@ equals_sign = 61
 abbrev pub comma : ℕ
 comma = 44
 
--- what stands before the first such byte of a text, and behind it
+-- what precedes the first such byte of a text, and what follows it
 pub record Cut : Type 0 where
   pub front : List ℕ
   pub behind : List ℕ
@@ -35,7 +35,7 @@ cut_at byte text = option_map (cut_behind text) (position (λ b. b == byte) text
 
 -- ---- names
 
--- the names that stand between the commas, one more than there are of these
+-- the names between the commas, one more than there are of these
 abbrev pub names_in : List ℕ → List (List ℕ)
 names_in arguments = slice_split (λ b. b == comma) arguments
 
@@ -74,7 +74,7 @@ pub record TestWord : Type 0 where
 abbrev pub test_word : List ℕ → Test → TestWord
 test_word word test = record { word = word; test = test }
 
--- the tests that stand alone, and those that a constant follows
+-- the tests without a constant, and those that a constant follows
 abbrev pub lone_tests : List TestWord
 lone_tests = test_word (codes "null") tests.Null ∷ test_word (codes "valid") tests.Valid ∷ []
 
@@ -139,7 +139,7 @@ read_by None arguments = Err UnknownStage
 read_by (Some word) None = Err BadArguments
 read_by (Some word) (Some arguments) = ok_or (word.read arguments) BadArguments
 
--- the stage of a text that is cut at its first `=`, or has none: the name is what stands before it, or the whole text
+-- the stage of a text that is cut at its first `=`, or has none: the name is what precedes it, or the whole text
 abbrev pub stage_cut : List StageWord → List ℕ → Option Cut → Result StageText StageFault
 stage_cut words text None = read_by (word_named words text) None
 stage_cut words text (Some cut) = read_by (word_named words cut.front) (Some cut.behind)

@@ -38,7 +38,7 @@ window_end off len number count = min ((off + len) - number) count
 
 -- ---- filter
 
--- how a value stands to a constant: numbers as numbers, false below true, texts and bytes by their bytes; a null in no way
+-- how a value compares to a constant: numbers as numbers, false below true, texts and bytes by their bytes; a null in no way
 abbrev pub compared : Value → Const → Option Ordering
 compared (Truth truth) (consts.Truth constant) = Some (bool_cmp truth constant)
 compared (Whole number) (consts.Whole constant) = Some (int_cmp number constant)

@@ -11,7 +11,7 @@ use unit_pass::NoMemory;
 /// Why a text is no stage.
 #[derive(Clone, Copy, Debug, PartialEq, Eq)]
 pub enum StageFault {
-    /// What stands before the first `=` is no stage's name.
+    /// What precedes the first `=` is no stage's name.
     UnknownStage,
     /// The name is a stage's, and the `=` is missing or the arguments aren't the stage's.
     BadArguments,

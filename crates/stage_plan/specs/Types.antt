@@ -23,7 +23,7 @@ colon = 58
 abbrev pub Lacks : ℕ → List ℕ → Type 0
 Lacks byte = AllByRecursion (λ b. b ≢ byte)
 
--- what stands before the first such byte of the text, and behind it
+-- what precedes the first such byte of the text, and what follows it
 pub record CutsAt (byte : ℕ) (text front behind : List ℕ) : Type 0 where
   pub first : Lacks byte front
   pub split : text ≡ front ++ byte ∷ behind

@@ -2,7 +2,7 @@
 ghost use Rattle.std.specs.Prelude.{◌≡◌, ◌==◌, IfSome, IfNone, position, Some, None};
 ghost use Rattle.stage_model.specs.StageGrammar.{cut_at, cut_behind};
 
-/// What stands before the first such byte of a text, and behind it.
+/// What precedes the first such byte of a text, and what follows it.
 pub(crate) fn cut(text: &[u8], byte: u8) -> Option<(&[u8], &[u8])>
     ensures found { IfSome result (λ x. cut_at byte text.now ≡ Some (record { front = x.0.now; behind = x.1.now })) }
     ensures none { IfNone result (cut_at byte text.now ≡ None) }

@@ -14,7 +14,7 @@ use std::alloc::Global;
 use unit_pass::{Name, NoMemory};
 
 /// The stage that a text spells: the name of a stage, the first `=`, and arguments, apart by commas. A name of a column is
-/// any text without a comma; the constant of a filter is all that stands behind its second comma.
+/// any text without a comma; the constant of a filter is all that follows its second comma.
 ///
 /// Each text is one stage or has one fault, which is answered unless memory runs out.
 pub fn read_stage(alloc: Global, text: &str) -> Result<StageText, StageFault>
@@ -189,7 +189,7 @@ fn read_test(text: &[u8]) -> Option<(Test, &[u8])>
     Some((test, constant))
 }
 
-/// The test of a word that stands alone.
+/// The test of a word that no constant follows.
 fn lone_test(word: &[u8]) -> Option<Test>
     ensures { result ≡ test_named lone_tests word.now }
 {
@@ -227,7 +227,7 @@ fn read_pack(alloc: Global, arguments: &[u8]) -> Result<Option<StageText>, NoMem
     Ok(Some(StageText::Pack { made, names }))
 }
 
-/// The one name that stands there, or none where there are more.
+/// The one name, or none where there are more.
 fn one_name(alloc: Global, arguments: &[u8]) -> Result<Option<Name>, NoMemory>
     ensures { IfOk result (λ read. (stage : List ℕ → AStage) → option_map stage read ≡ one_name stage (names_in arguments.now)) }
 {

@@ -25,7 +25,7 @@ pub struct TypeEntry {
     pub kind: DataType,
 }
 
-/// An entry whose name stands in the text.
+/// An entry whose name is lent from the text.
 #[derive(Drop)]
 struct Entry<'a> {
     name: &'a [u8],

@@ -24,7 +24,7 @@ use stream_face::{ArrayStream, RawStream, Tap};
 use unit_pass::{NoMemory, Pass, ROOM, SUPPLY};
 
 /// Pushes the chunk that the stream below gave, or tells the step that it came to its end. What is given then lies in `out`,
-/// which stands released where that is nothing. Whether that is all: more is pulled where a chunk was taken and none given.
+/// which is released where that is nothing. Whether that is all: more is pulled where a chunk was taken and none given.
 fn turn<S: ChunkStep, R: Threads + Sync>(
     step: &mut S,
     typed: &Typed,

@@ -19,12 +19,12 @@ use Rattle.stream_face.specs.Texts.{Refusal, refused_row, wanting}
 abbrev pub IsCode : ℤ → Type 0
 IsCode code = (pos 0 ≤ℤ code) × (code ≤ℤ pos 4095)
 
--- it is 0 and no refusal is told, or it isn't, and the refusal has it
+-- it is 0 and there is no refusal, or it isn't, and the refusal has it
 abbrev pub Tells : ℤ → Option Refusal → Type 0
 Tells code None = code ≡ pos 0
 Tells code (Some refusal) = (code ≡ refusal.code) × (code ≢ pos 0)
 
--- what is given is what was told, if anything was
+-- what is given is the one that is known, where one is
 abbrev pub IsTold : {A : Type 0} → Option A → A → Type 0
 IsTold None given = Unit {0}
 IsTold (Some told) given = given ≡ told

@@ -158,7 +158,7 @@ impl<S: ArrayStream> RawStream<S> {
 
     /// Asks the inner stream for its schema, once, and checks it. On a refusal the inner stream is handed back, and all units
     /// are back.
-    // Stands alone, since a chain of streams has one for each of its levels.
+    // A function of its own, since a chain of streams has one for each of its levels.
     #[inline(never)]
     pub fn start(
         alloc: Global,

@@ -8,7 +8,7 @@ use std::thread;
 use std::thread::Threads;
 use unit_pass::{NoMemory, Pass, SUPPLY, open_desk};
 
-/// What a holder told: whether its turn came, whether it still read the bytes then, and whether it freed the block.
+/// What a holder answered: whether its turn came, whether it still read the bytes then, and whether it freed the block.
 #[derive(Clone, Copy, Debug, PartialEq, Drop)]
 struct Told {
     turn_came: bool,
@@ -16,7 +16,7 @@ struct Told {
     freed: bool,
 }
 
-/// A hold with the units of its thread and its turn, counted from 0, and what it told.
+/// A hold with the units of its thread and its turn, counted from 0, and what it answered.
 struct Holder {
     hold: Option<Hold>,
     pass: Pass,
@@ -48,7 +48,7 @@ fn let_go_in_turn(holder: &mut Holder, turns: &AtomicU64) {
     turns.fetch_add(1, Ordering::SeqCst);
 }
 
-/// A holder that hasn't told.
+/// A holder that hasn't answered.
 fn waiting(hold: Hold, pass: &mut Pass, turn: u64) -> Holder {
     Holder {
         hold: Some(hold),
@@ -93,7 +93,7 @@ fn three_holders(rt: &impl Abort, alloc: Global, turns: [u64; 3], pass: &mut Pas
     holders
 }
 
-/// Takes in what a holder has left, and answers what it told.
+/// Takes in what a holder has left, and gives what it answered.
 fn ended(rt: &impl Abort, holder: Option<Holder>, pass: &mut Pass) -> Option<Told> {
     let Some(
         Holder {
@@ -114,7 +114,7 @@ fn ended(rt: &impl Abort, holder: Option<Holder>, pass: &mut Pass) -> Option<Tol
     told
 }
 
-/// Takes in what three holders have left, and answers what they told, by number.
+/// Takes in what three holders have left, and gives what they answered, by number.
 fn three_told(rt: &impl Abort, holders: Vec<Holder>, pass: &mut Pass) -> [Option<Told>; 3] {
     let mut holders = holders;
     let third = ended(rt, holders.pop(), pass);
@@ -125,7 +125,7 @@ fn three_told(rt: &impl Abort, holders: Vec<Holder>, pass: &mut Pass) -> [Option
     [first, second, third]
 }
 
-/// What the three holders of a block told, by number.
+/// What the three holders of a block answered, by number.
 fn told_by_turns<R: Threads + Abort + Sync>(
     rt: &R,
     alloc: Global,

@@ -118,7 +118,7 @@ fn two_rows(rt: &impl Abort, alloc: Global, pass: &mut Pass) -> RawArray {
     }
 }
 
-/// What workers told of a chunk: the answers in order, or none where memory ran out, and the least amount that is left.
+/// What workers answered of a chunk: the answers in order, or none where memory ran out, and the least amount that is left.
 #[derive(Debug, PartialEq, Drop)]
 struct Told {
     windows: Option<Vec<(i64, i64)>>,

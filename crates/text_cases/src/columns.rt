@@ -180,7 +180,7 @@ fn tell_long_buffers(
     Ok(told.text(alloc, text.as_bytes())?)
 }
 
-/// Tells a finished column, and lets it go. Where it is long, its buffers stand in lines of their own.
+/// Tells a finished column, and lets it go. Where it is long, its buffers are in lines of their own.
 fn tell_column(
     alloc: Global,
     column: FinishedColumn,

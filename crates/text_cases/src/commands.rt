@@ -5,7 +5,7 @@ use run_model::{WordsError, read_words};
 use std::alloc::Global;
 use std::io;
 
-/// `words WORD..`: what the words ask for, as it is printed, or the fault, behind which `audit` stands where that is asked for.
+/// `words WORD..`: what the words ask for, as it is printed, or the fault, with `audit` behind it where that is asked for.
 pub(crate) fn tell_words(
     alloc: Global,
     words: &[Vec<u8>],

@@ -9,7 +9,7 @@ use case_text::spelling_of;
 use std::alloc::{AllocError, Global};
 use std::io;
 
-/// How deep lists and structs that are told lie in one another.
+/// How deep lists and structs whose text is made lie in one another.
 const LEVELS: u8 = 9;
 
 /// Tells the items of a column, each in a line.

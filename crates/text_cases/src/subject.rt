@@ -13,7 +13,7 @@ use std::io;
 use std::io::{Error, ErrorKind};
 use std::str::from_utf8;
 
-/// Want of memory, as the program's own error.
+/// Out of memory, as the program's own error.
 pub(crate) fn no_memory() -> Error {
     Error::from(ErrorKind::OutOfMemory)
 }

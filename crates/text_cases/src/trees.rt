@@ -112,7 +112,7 @@ pub(crate) fn tell_tree(
     }
 }
 
-/// The tree below another one: these lines stand before its schema's first line, and those before its array's.
+/// The tree below another one: these lines come before its schema's first line, and those before its array's.
 fn below(alloc: Global, text: &[u8], schema: &[u8], array: &[u8]) -> Result<Vec<u8>, AllocError> {
     let mut made = Vec::new(alloc);
     let (mut schema, mut array) = (Some(schema), Some(array));
@@ -133,7 +133,7 @@ fn below(alloc: Global, text: &[u8], schema: &[u8], array: &[u8]) -> Result<Vec<
     Ok(made)
 }
 
-/// `places`, with a tree as input: its first fault as it stands, as a child of a struct, and there behind a dictionary.
+/// `places`, with a tree as input: its first fault as it is, as a child of a struct, and there behind a dictionary.
 pub(crate) fn tell_places(alloc: Global, text: &[u8], told: &mut Transcript) -> io::Result<()> {
     tell_tree(alloc, text, TreeCase::Verdict, told)?;
     let child = below(alloc, text, b"S =+s ~ 0 1 0 ~\n", b"A 0 0 0 1 1 0\nB ~\n")?;

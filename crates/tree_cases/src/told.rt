@@ -58,7 +58,7 @@ fn end_text(alloc: Global, ran: &Ran) -> Result<String, AllocError> {
     Ok(text)
 }
 
-/// What was written and told.
+/// The text and the lines of diagnostics.
 fn texts_of(alloc: Global, ran: &Ran) -> Result<Answers, AllocError> {
     let mut answers = Answers::new(alloc);
     answers.push_text(alloc, ">", ran.text.taken())?;

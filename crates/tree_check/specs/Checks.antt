@@ -86,7 +86,7 @@ pub record CountsTrees (bytes : List ℕ) (old_blocks old_nodes blocks nodes : �
 
 -- ---- the program's answers
 
--- the fault of a text, of a schema or of an array as the check's: out of memory stands for itself
+-- the fault of a text, of a schema or of an array as the check's: out of memory is itself
 abbrev pub text_refused : TextFault → CheckFault
 text_refused texts.NoMemory = check.NoMemory
 text_refused (texts.Line line) = check.Tree (trees.Text (texts.Line line))

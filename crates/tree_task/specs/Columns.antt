@@ -4,7 +4,7 @@ use Rattle.std.specs.Char.{is_ascii_digit}
 use Rattle.std.specs.Str.{all_ascii_digits}
 use Rattle.std.specs.Str.Parse.{digits_value}
 
--- a digit stands first, which is `0` only where it stands alone
+-- a digit is first, which is `0` only as the whole text
 abbrev pub begins_number : List ℕ → Bool
 begins_number [] = false
 begins_number (c ∷ cs) = is_ascii_digit c && (not (c == 48) || (length cs == 0))

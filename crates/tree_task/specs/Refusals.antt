@@ -1,4 +1,4 @@
--- The fault of a run by that of a check. Want of memory stands for itself, and the way to a node has 0 in each place behind it.
+-- The fault of a run by that of a check. Out of memory is itself, and the way to a node has 0 in each place behind it.
 use Rattle.data_types.specs.Ways.{path_of, steps_of}
 use Rattle.layout_rules.specs.Walk.{Fault as ArrayFault}
 use Rattle.layout_rules.specs.declared.rule.LayoutFault.{LayoutFault}

@@ -13,7 +13,7 @@ use Rattle.tree_task.specs.RunsAnswer.{numbered_run}
 abbrev pub run_lines : ℕ → List Value → List ℕ
 run_lines at values = flat_map numbered_line (map numbered_run (runs_from at (drop at values)))
 
--- from item i on there stands this run, before the item `stop`, and the next one there
+-- from item i on this run lies, before the item `stop`, and the next one there
 pub record Reaches (u : RunTree) (array : ArrayTree) (i run stop : ℕ) : Type 0 where
   pub ordered : i ≤ stop
   pub within : stop ≤ items (members_of array)

@@ -1,4 +1,4 @@
--- The fault of a run by that of the schema or the array of a run-end encoded column. Want of memory stands for itself, and the way to
+-- The fault of a run by that of the schema or the array of a run-end encoded column. Out of memory is itself, and the way to
 -- a node has 0 in each place behind it.
 use Rattle.data_types.specs.Ways.{path_of, steps_of}
 use Rattle.root_check.specs.Schemas.{KidFault}

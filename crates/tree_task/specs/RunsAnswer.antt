@@ -1,5 +1,5 @@
 -- A line for each run of equal values of a flat column: the place behind its last item, and its value ("Arrow Columnar Format",
--- "Run-End Encoded Layout"); or the first fault of the schema, of the array, and of the column's kind and its number of items. It is told
+-- "Run-End Encoded Layout"); or the first fault of the schema, of the array, and of the column's kind and its number of items. It is given
 -- by the values alone, whatever tree their runs are made.
 use Rattle.std.specs.Prelude.{◌≡◌, ℕ, List, map, Option, None, Some, Result, Ok, Err}
 use Rattle.data_types.specs.Value.{Value}

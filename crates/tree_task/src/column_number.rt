@@ -19,7 +19,7 @@ pub(crate) fn column_number(text: &str) -> Option<u32>
     }
 }
 
-/// Whether a digit stands first, which is `0` only where it stands alone.
+/// Whether a digit is first, which is `0` only as the whole text.
 fn begins_number(text: &[u8]) -> bool
     ensures { result ≡ begins_number text.now }
 {

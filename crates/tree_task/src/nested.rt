@@ -96,7 +96,7 @@ fn nested_text(
 }
 
 /// Why nothing is made where the number of rows shows that the text would be too long: each row is an item of each list column, of two
-/// bytes at least with what stands behind it. It is a column of another kind, or else the text is refused as out of memory. More rows
+/// bytes at least with what follows it. It is a column of another kind, or else the text is refused as out of memory. More rows
 /// than a list has items are left to the call that groups them.
 fn early_fault(alloc: Global, typed: &Typed, array: &RawArray) -> Option<TreeRunFault>
     requires valid { TypedOk (typed_of typed.now) }

@@ -29,7 +29,7 @@ pub(crate) fn union_tells_often(typed: &UnionTyped) -> bool {
 }
 
 /// Whether the text of a union's items would have more than 2^31 bytes. Each item of each child is measured once, however often it
-/// is told. `NoMemory` comes also where there are too many items to measure.
+/// is written. `NoMemory` comes also where there are too many items to measure.
 pub(crate) fn is_union_too_long(
     alloc: Global,
     typed: &UnionTyped,

@@ -265,7 +265,7 @@ fn one_of_two(rt: &impl Abort, tree: RawArray, i: usize, left: u64, pass: &mut P
     child
 }
 
-/// A structure over both, of which the first is put in once it stands.
+/// A structure over both, of which the first is put in once it is made.
 fn put_before(
     rt: &impl Abort,
     alloc: Global,

@@ -315,7 +315,7 @@ fn one_of_two(rt: &impl Abort, tree: RawSchema, i: usize, left: u64, pass: &mut 
     child
 }
 
-/// A structure over both, of which the first is put in once it stands.
+/// A structure over both, of which the first is put in once it is made.
 fn put_before(
     rt: &impl Abort,
     alloc: Global,

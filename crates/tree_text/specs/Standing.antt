@@ -1,4 +1,4 @@
--- Which line may stand at a place of a text of trees, and the first line that may not.
+-- Which line is allowed at a place of a text of trees, and the first line that isn't.
 use Rattle.std.specs.Prelude.{◌≡◌, ℕ, ◌+◌, ◌*◌, ℤ, pos, negsuc, Bool, true, nat_lt, nat_le, ◌&&◌, ◌||◌, ◌==◌, if◌then◌else◌, List, [], ◌∷◌}
 use Rattle.std.specs.Prelude.{◌++◌, codes, replicate, Option, None, Some, take, drop, length}
 use Rattle.std.specs.Option.{option_map, option_and_then}
@@ -140,21 +140,21 @@ abbrev pub array_parts : ℕ → NodeLine ArrayNumbers → List Place
 array_parts level ReleasedLine = []
 array_parts level (LiveLine own children dictionaries) = replicate own.buffers AtBuffer ++ replicate (children + dictionaries) (AtArray (level + 1))
 
--- what a line that may stand at a place announces; none where it may not
+-- what a line that is allowed at a place announces; none where it isn't allowed
 abbrev pub next : Place → List ℕ → Option (List Place)
 next AtFirst line = if bytes_eq line (codes "tree 1") then Some [] else None
 next (AtSchema level) line = if nat_le level deepest_level then option_map (schema_parts level) (read_schema_line line) else None
 next (AtArray level) line = if nat_le level deepest_level then option_map (array_parts level) (read_array_line line) else None
 next AtBuffer line = option_map (λ bytes. []) (read_buffer_line line)
 
--- ---- the first line that may not stand
+-- ---- the first line that isn't allowed
 
--- the line's own number where it may not stand, and else what comes later
+-- the line's own number where it isn't allowed, and else what comes later
 abbrev pub fault_or : ℕ → Option (Option ℕ) → Option ℕ
 fault_or number None = Some number
 fault_or number (Some later) = later
 
--- lines from a number on against the places that are expected: none where each line may stand and no place is left
+-- lines from a number on against the places that are expected: none where each line is allowed and no place is left
 abbrev pub first_fault : List Place → List (List ℕ) → ℕ → Option ℕ
 first_fault [] [] number = None
 first_fault [] (line ∷ rest) number = Some number
@@ -165,6 +165,6 @@ first_fault (place ∷ places) (line ∷ rest) number = fault_or number (option_
 abbrev pub all_places : List Place
 all_places = AtFirst ∷ AtSchema 1 ∷ AtArray 1 ∷ []
 
--- This line of the text, counted from 1, is the first that may not stand where it stands, or is missing there.
+-- This line of the text, counted from 1, is the first that isn't allowed at its place, or is missing there.
 abbrev pub TreeLineIs : List ℕ → ℕ → Type 0
 TreeLineIs bytes number = first_fault all_places (lines bytes) 1 ≡ Some number

@@ -113,7 +113,7 @@ array_lines t = lines_of released_array array_node_lines t
 abbrev pub tree_lines : SchemaTree → ArrayTree → List (List ℕ)
 tree_lines schema array = codes "tree 1" ∷ (schema_lines schema ++ array_lines array)
 
--- ---- what has lines: a number's range, how many parts a node may have, and how deep a node may stand
+-- ---- what has lines: a number's range, how many parts a node may have, and how deep a node may be
 
 -- the most buffers and the most children of a node
 abbrev pub most_parts : ℕ
@@ -162,7 +162,7 @@ pub record ArrayNodeFits (own : ArrayMembers) (children : ℕ) : Type 0 where
   pub buffers : AllByRecursion BufferFits own.buffers
   pub kind : own.kind ≡ Exported
 
--- no node of a tree whose root is on a level stands too deep, and each live one can be told
+-- no node of a tree whose root is on a level is too deep, and each live one can be spelled
 abbrev mutual
   pub TreeFits : {M : Type 0} → (M → ℕ → Type 0) → ℕ → Tree M → Type 0
   TreeFits NodeFits level Released = level ≤ deepest_level

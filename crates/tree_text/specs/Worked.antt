@@ -19,7 +19,7 @@ use Rattle.tree_text.specs.Report.{ReportOf}
 abbrev text_of : List (List ℕ) → List ℕ
 text_of ls = flat_map (λ (line : List ℕ). line ++ (10 ∷ [])) ls
 
--- this is the first line that may not stand, or is missing
+-- this is the first line that isn't allowed, or is missing
 abbrev FirstFaultAt : List (List ℕ) → ℕ → Type 0
 FirstFaultAt ls n = TreeLineIs (text_of ls) n
 

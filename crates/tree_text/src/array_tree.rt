@@ -149,7 +149,7 @@ fn node_line(bytes: &[u8], cursor: Cursor, level: u32) -> Result<(ArrayLine, Cur
     }
 }
 
-/// The tree whose node stands at a cursor on a level, and the cursor behind it. Of what was made before a fault, no unit is
+/// The tree whose node is at a cursor on a level, and the cursor behind it. Of what was made before a fault, no unit is
 /// out.
 #[cycle(array)]
 #[tactic(auto, using(crate::proofs::ArrayNodes::steps))]
@@ -176,7 +176,7 @@ pub fn array(
     }
 }
 
-/// The live node whose line stands before a cursor.
+/// The live node whose line is before a cursor.
 #[cycle(array)]
 #[tactic(auto, using(crate::proofs::ArrayNodes::steps))]
 fn live(
@@ -222,7 +222,7 @@ fn live(
     }
 }
 
-/// This many trees whose nodes stand on one level.
+/// This many trees whose nodes are on one level.
 #[cycle(array)]
 #[tactic(auto, using(crate::proofs::ArrayNodes::steps))]
 fn arrays(

@@ -50,7 +50,7 @@ fn told_buffer(
     }
 }
 
-/// The buffer whose line stands at a cursor, and the cursor behind it.
+/// The buffer whose line is at a cursor, and the cursor behind it.
 fn buffer(
     alloc: Global,
     bytes: &[u8],
@@ -102,7 +102,7 @@ fn added(
     }
 }
 
-/// This many buffers whose lines stand from a cursor on, and the cursor behind them.
+/// This many buffers whose lines are from a cursor on, and the cursor behind them.
 #[tactic(auto, using(raw_array::proofs::Buffers::buffer_lists))]
 pub fn buffers(
     alloc: Global,

@@ -5,9 +5,9 @@ use unit_pass::NoMemory;
 /// Why a text gives no trees.
 #[derive(Clone, Copy, Debug, PartialEq, Eq)]
 pub enum TextFault {
-    /// The first line, from 1, that may not stand where it stands. A line that is missing has the number after the last.
+    /// The first line, from 1, that isn't allowed at its place. A line that is missing has the number after the last.
     Line { line: u64 },
-    /// There are more than 1,048,576 lines, whatever stands in them.
+    /// There are more than 1,048,576 lines, whatever they hold.
     TooManyLines,
     /// Memory ran out; the text may have trees or not.
     NoMemory,

@@ -7,7 +7,7 @@ ghost use Rattle.tree_text.specs.Answers.{most_lines};
 /// The most lines of a text.
 const MOST_LINES: u64 = 1 << 20;
 
-/// What stands before the first of a byte in a text, and what stands behind it.
+/// What precedes the first of a byte in a text, and what follows it.
 pub fn cut(text: &[u8], byte: u8) -> Option<(&[u8], &[u8])>
     ensures parts { IfSome result (λ r. slice_split (λ b. b == byte) text.now ≡ r.0.now ∷ slice_split (λ b. b == byte) r.1.now) }
     ensures behind { IfSome result (λ r. r.1.now ≡ drop (length r.0.now + 1) text.now) }
@@ -27,7 +27,7 @@ fn place_of(text: &[u8], byte: u8) -> Option<usize>
     text.iter().position(|b| *b == byte)
 }
 
-/// A line without the carriage return that may stand at its end.
+/// A line without the carriage return that may be at its end.
 fn without_return(line: &[u8]) -> &[u8]
     ensures { result.now ≡ strip_carriage_return line.now }
 {

@@ -10,7 +10,7 @@ use crate::tokens::{present, token};
 use std::alloc::Global;
 use unit_pass::NoMemory;
 
-/// The deepest level on which a node may stand. The root has level 1.
+/// The deepest level on which a node may be. The root has level 1.
 pub const DEEPEST_LEVEL: u32 = 100;
 
 /// The most buffers or children of a node.

@@ -73,8 +73,8 @@ fn both_trees(
 }
 
 /// The schema tree and the array tree that a text spells, line by line ("The Arrow C Data Interface", "Structure
-/// definitions"). More than 1,048,576 lines are refused whatever stands in them, and else the first line that may not
-/// stand where it stands. Each live array is one that was made by an export, and each buffer is the whole of a block of its
+/// definitions"). More than 1,048,576 lines are refused whatever they hold, and else the first line that isn't
+/// allowed at its place. Each live array is one that was made by an export, and each buffer is the whole of a block of its
 /// own. A unit is drawn for each live node and each present buffer, of which a text has at most as many as lines; after a
 /// fault no unit is out. Time and memory grow with the bytes of the text.
 #[tactic(auto, using(crate::proofs::WholeText::text_steps))]

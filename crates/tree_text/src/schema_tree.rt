@@ -119,7 +119,7 @@ fn node_line(
     }
 }
 
-/// The tree whose node stands at a cursor on a level, and the cursor behind it. Of what was made before a fault, no unit is
+/// The tree whose node is at a cursor on a level, and the cursor behind it. Of what was made before a fault, no unit is
 /// out.
 #[cycle(schema)]
 #[tactic(auto, using(crate::proofs::SchemaSteps::steps))]
@@ -146,7 +146,7 @@ pub fn schema(
     }
 }
 
-/// The live node whose line stands before a cursor.
+/// The live node whose line is before a cursor.
 #[cycle(schema)]
 #[tactic(auto, using(crate::proofs::SchemaSteps::steps))]
 fn live(
@@ -178,7 +178,7 @@ fn live(
     }
 }
 
-/// This many trees whose nodes stand on one level.
+/// This many trees whose nodes are on one level.
 #[cycle(schema)]
 #[tactic(auto, using(crate::proofs::SchemaSteps::steps))]
 fn schemas(

@@ -55,7 +55,7 @@ fn escaped(percent: u8, high: u8, low: u8) -> Option<u8>
     }
 }
 
-/// The byte that stands at a place of a token's text, and the place behind it.
+/// The byte at a place of a token's text, and the place behind it.
 fn byte_at(text: &[u8], at: usize) -> Option<(u8, usize)>
     requires { at < length text.now }
     ensures read { IfSome result (λ r. read_bytes (drop at text.now) ≡ onto (Some r.0) (read_bytes (drop r.1 text.now))) }

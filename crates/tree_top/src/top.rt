@@ -54,7 +54,7 @@ pub fn run_tree<S: Source, K: Sink, E: Sink>(
     ensures write_fault { IfSome result.fault (λ fault. AtWriteFault fault (λ taken. Rose (K.faults sink.old) (K.faults sink.new))) }
     // After a fault that is no failed write the sink is as before.
     ensures unwritten { IfSome result.fault (λ fault. is_write_fault fault ≡ false → Keeps (K.taken sink.old) (K.taken sink.new)) }
-    // Want of memory is a fault of its own: no other fault has one inside it.
+    // Out of memory is a fault of its own: no other fault has one inside it.
     ensures memory_alone { IfSome result.fault (λ fault. has_memory_inside fault ≡ false) }
     // The status is a function of the fault, and the source has lost a prefix.
     ensures status { result.status ≡ status_of result.fault }

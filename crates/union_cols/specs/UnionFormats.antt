@@ -54,7 +54,7 @@ pub record AtId (list : List ℕ) (place : ℕ) : Type 0 where
   pub none : NoNewId ids rest
   pub place_is : place ≡ length (ids_before ids)
 
--- Behind the digits of an id stands another byte than a comma.
+-- The digits of an id are followed by another byte than a comma.
 pub record BehindId (list : List ℕ) (place : ℕ) : Type 0 where
   pub ids : List ℕ
   pub id : ℕ

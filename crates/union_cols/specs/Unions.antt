@@ -1,4 +1,4 @@
--- Unions ("Arrow Columnar Format", "Union Layout"): where an item stands, and its value.
+-- Unions ("Arrow Columnar Format", "Union Layout"): where an item is, and its value.
 use Rattle.std.specs.Prelude.{◌≡◌, ℕ, ◌+◌, ◌==◌, ℤ, pos, negsuc, Bool, true, false, if◌then◌else◌, List, length, get_or, All, position, Option, Some, None}
 use Rattle.data_types.specs.Value.{Value}
 use Rattle.data_types.specs.Packed.{meant, number_at}
@@ -27,7 +27,7 @@ pub record UnionTypedOk (u : UnionTree) : Type 0 where
 abbrev pub id_at : ArrayMembers → ℕ → ℤ
 id_at own i = meant 1 true (number_at (bytes own 0) (first own + i) 1)
 
--- where a dense union's item stands in its child: four bytes with a sign in buffer 1
+-- where a dense union's item is in its child: four bytes with a sign in buffer 1
 abbrev pub start_at : ArrayMembers → ℕ → ℤ
 start_at own i = offset false own (first own + i)
 

@@ -73,7 +73,7 @@ impl<'a> UnionCol<'a> {
         self.node.id(i as u64) as u8
     }
 
-    /// Where item `i` stands: the column of the child that has the item's id, and the number of the item there. The number is the
+    /// Where item `i` is: the column of the child that has the item's id, and the number of the item there. The number is the
     /// stored offset of a dense union, and the item's own place in a sparse one.
     #[inline(always)]
     pub fn item(&self, i: i64) -> (Col<'a>, i64)

@@ -119,7 +119,7 @@ fn behind_comma(text: &[u8]) -> Option<&[u8]>
     if *first == b',' { Some(rest) } else { None }
 }
 
-/// The id in front of a text, where it isn't among the ids before it, and what stands behind its digits.
+/// The id in front of a text, where it isn't among the ids before it, and what follows its digits.
 fn new_id<'a>(ids: &[u8], text: &'a [u8]) -> Option<(u8, &'a [u8])>
     requires { AreIds ids.now }
     ensures ids { IfSome result (λ found. AreIds (ids.now ++ found.0 ∷ [])) }

@@ -9,7 +9,7 @@ ghost use Rattle.layout_rules.specs.Rules.{window_limit};
 /// Where values of numbers stop growing: above every id.
 const LARGEST: u64 = 1 << 40;
 
-/// How many digits stand in front.
+/// How many digits are in front.
 fn digits_len(text: &[u8]) -> usize
     ensures { result ≡ prefix_len is_ascii_digit text.now }
 {

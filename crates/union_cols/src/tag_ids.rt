@@ -1,4 +1,4 @@
-//! Which column each item of a union comes from, and where it stands there.
+//! Which column each item of a union comes from, and where it is there.
 ghost use Rattle.std.specs.Prelude.{◌≡◌, ◌+◌, ◌<◌, ◌≤◌, ◌^◌, ◌∷◌, [], ℕ, All, IfOk, IsTrue, if◌then◌else◌, get_or, length, map};
 ghost use Rattle.data_types.specs.Value.{Null, is_null};
 ghost use Rattle.tree_model.specs.Tree.{children_of};

@@ -47,7 +47,7 @@ fn move_fields(moved: &mut PartlyMovedSchema, count: usize, top: &mut RawSchema)
     }
 }
 
-/// Moves one child into the same place of the new top; a child that stands released leaves the place as it is.
+/// Moves one child into the same place of the new top; a child that is released leaves the place as it is.
 fn move_field(moved: &mut PartlyMovedSchema, place: usize, top: &mut RawSchema)
     requires inside { place < length (children_of moved.old) }
     requires shallow { Depth (child_at moved.old place) ≤ 127 }

@@ -1,4 +1,4 @@
-//! The tops of a union that is made: a schema and an array whose children stand released.
+//! The tops of a union that is made: a schema and an array whose children are released.
 ghost use Rattle.std.specs.Prelude.{◌≡◌, ◌+◌, ◌-◌, ◌^◌, ◌<◌, ◌≤◌, ◌++◌, ◌∷◌, ◌≤ℤ◌, [], ℕ, pos, decimal, None, IfOk, OnOk, IsTrue, if◌then◌else◌, is_ok, length, replicate, vec_len, vec_capacity, MatchResult};
 ghost use Rattle.tree_model.specs.Tree.{IsLive, Live, Released, absent, child_at, children_of, trees};
 ghost use Rattle.raw_array.specs.Members.{Cost, holds_of};
@@ -77,7 +77,7 @@ fn vacant_fields(alloc: Global, places: usize) -> Result<Vec<RawSchema>, NoMemor
     Ok(children)
 }
 
-/// The schema of a union over this many children, which stand released, under the name of another schema with as many.
+/// The schema of a union over this many children, which are released, under the name of another schema with as many.
 #[tactic(auto, using(arr_move::proofs::Vacant::vacant))]
 pub(crate) fn vacant_schema(
     alloc: Global,
@@ -178,7 +178,7 @@ fn vacant_columns(alloc: Global, places: usize) -> Result<Vec<RawArray>, NoMemor
     Ok(children)
 }
 
-/// A union of this length with these buffers over this many children, which stand released.
+/// A union of this length with these buffers over this many children, which are released.
 #[tactic(auto, using(arr_move::proofs::Vacant::vacant))]
 fn vacant_union(
     alloc: Global,
@@ -216,7 +216,7 @@ fn vacant_union(
     built_array(alloc, parts, pass)
 }
 
-/// The array of a union of this length with these ids, and with offsets where there are some, over this many children, which stand
+/// The array of a union of this length with these ids, and with offsets where there are some, over this many children, which are
 /// released.
 pub(crate) fn vacant_array(
     alloc: Global,

@@ -98,7 +98,7 @@ fn columns_fault(array: &RawArray, dense: bool) -> Option<TagFault>
     None
 }
 
-/// The two tops of the union, whose children stand released. All memory is taken here.
+/// The two tops of the union, whose children are released. All memory is taken here.
 fn union_tops(
     alloc: Global,
     typed: &Typed,

@@ -20,7 +20,7 @@ pub fn small_unions()
     ensures dense_is_lawful { union_fault (numbers_and_bytes true) (dense_union (5 ∷ 7 ∷ 5 ∷ [])) ≡ None }
     ensures window { values_of_union (numbers_and_bytes true) dense_window ≡ Bytes (codes "hi") ∷ Whole (pos 11) ∷ [] }
     ensures window_is_lawful { union_fault (numbers_and_bytes true) dense_window ≡ None }
-    // A sparse union's item stands in its child at the item's own place.
+    // A sparse union's item is in its child at the item's own place.
     ensures sparse { values_of_union (numbers_and_bytes false) sparse_window ≡ Bytes (codes "hi") ∷ [] }
     ensures sparse_is_lawful { union_fault (numbers_and_bytes false) sparse_window ≡ None }
     // An id that no child has; one above 127 is below 0.

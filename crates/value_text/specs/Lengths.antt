@@ -34,7 +34,7 @@ pub record AreKidLengths (lengths : List (Vec ℕ Global)) (kids : List KindTree
 abbrev pub AreLonger : List (Vec ℕ Global) → ℕ → Type 0
 AreLonger lengths place = (k : ℕ) (d : Vec ℕ Global) → k < length lengths → place < length (get_or lengths k d).items
 
--- at a place of each stand those of the fields of a struct
+-- at a place of each are those of the fields of a struct
 pub record AreFieldLengths (lengths : List (Vec ℕ Global)) (place : ℕ) (row : List Value) : Type 0 where
   pub many : length row ≡ length lengths
   pub each : (k : ℕ) (d : Vec ℕ Global) → k < length lengths → get_or (get_or lengths k d).items place 0 ≡ text_length (get_or row k Null)

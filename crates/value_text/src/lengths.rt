@@ -82,7 +82,7 @@ pub(crate) fn bytes_length(bytes: &[u8]) -> u32
     sum
 }
 
-/// The length of the text of a list of this many items, whose lengths stand from a place on.
+/// The length of the text of a list of this many items, whose lengths begin at a place.
 pub(crate) fn list_length(lengths: &[u32], from: usize, count: usize) -> u32
     requires { from + count ≤ length lengths.now }
     ensures { (item : ℕ → Value) → AreLengths lengths.now item (length lengths.now)
@@ -95,7 +95,7 @@ pub(crate) fn list_length(lengths: &[u32], from: usize, count: usize) -> u32
     plus(sum, 2)
 }
 
-/// The length of the text of a struct whose fields' lengths stand at a place of each of these.
+/// The length of the text of a struct whose fields' lengths are at a place of each of these.
 pub(crate) fn row_length(kids: &[Vec<u32>], place: usize) -> u32
     requires { AreLonger kids.now place }
     ensures { (row : List Value) → AreFieldLengths kids.now place row → result ≡ text_length (Fields (values row)) }

@@ -1,5 +1,5 @@
 //! The lengths of the texts of an array's items, found before any text is made. Each item of the array, of its children and of
-//! its dictionaries is measured once, however often it is told.
+//! its dictionaries is measured once, however often it is written.
 ghost use Rattle.std.specs.Prelude.{◌≡◌, ◌+◌, ◌<◌, ◌≤◌, ◌^◌, ℕ, None, Some, IfOk, length, map, get_or, nat_lt};
 ghost use Rattle.data_types.specs.Value.{Value};
 ghost use Rattle.tree_model.specs.Tree.{Released, IsLive, Depth, depth_of_all, trees, child_at, children_of, dictionary_of};
@@ -31,7 +31,7 @@ pub fn has_indexed_lists(typed: &Typed) -> bool {
     lists_indices(typed, false)
 }
 
-/// The same of kinds that stand below a list, or don't.
+/// The same of kinds that are below a list, or don't.
 #[cycle(kinds)]
 fn lists_indices(typed: &Typed, is_listed: bool) -> bool {
     match &typed.dict {
