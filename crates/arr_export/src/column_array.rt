@@ -74,8 +74,8 @@ pub fn export_column(
     }
 }
 
-/// Lets the buffers of a finished column go, and releases its dictionary, where there is one: what is owed for a column that
-/// [`export_column`] gave back.
+/// Lets the buffers of a finished column go, and releases its dictionary, where there is one. It is for a column that
+/// [`export_column`] gave back. Takes no memory.
 #[inline(never)]
 pub fn let_go_column(column: FinishedColumn, dictionary: Option<RawArray>, pass: &mut Pass)
     requires { pass.old.units + cost_of_maybe (maybe_tree dictionary) + count_by is_some column.buffers.items ≤ SUPPLY }

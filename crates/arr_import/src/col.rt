@@ -118,7 +118,7 @@ impl<'a> Col<'a> {
         }
     }
 
-    /// The number of items.
+    /// The number of items of the window.
     pub fn len(&self) -> i64
         ensures { result ≡ pos (window_of self.now).count }
     {

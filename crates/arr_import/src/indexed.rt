@@ -24,7 +24,7 @@ pub struct Indexed<'a> {
 impl<'a> Col<'a> {
     ghost use Rattle.arr_import.specs.Indexing.{shown_by, entries_of};
 
-    /// The column as indices, where it has a dictionary.
+    /// The column as indices ("Arrow Columnar Format", "Dictionary-encoded Layout"); none where it has no dictionary.
     pub fn indexed(&self) -> Option<Indexed<'a>>
         ensures some { IfSome result (λ indexed. shown_by indexed ≡ window_of self.now) }
         ensures behind { IfSome result (λ indexed. IsDictionary (entries_of indexed) (dictionary_of (window_of self.now).typed)
@@ -45,7 +45,7 @@ impl<'a> Col<'a> {
 impl<'a> Indexed<'a> {
     ghost use Rattle.arr_import.specs.Indexing.{shown_by, entries_of, index_in, has_index};
 
-    /// The dictionary's items.
+    /// The dictionary's items, as a column.
     #[inline(always)]
     pub fn entries(&self) -> &Col<'a>
         ensures window { window_of result.now ≡ entries_of self.now }
@@ -55,7 +55,7 @@ impl<'a> Indexed<'a> {
         &self.entries
     }
 
-    /// The index that stands for item `i`, a number of the entries; none where it is null. The entry may be null all the same.
+    /// The index that is stored for item `i`, a number of the entries; none where item `i` is null. The entry may be null.
     #[inline(always)]
     pub fn index(&self, i: i64) -> Option<u64>
         requires from { pos 0 ≤ℤ i }

@@ -57,7 +57,7 @@ impl<'a> Col<'a> {
         }
     }
 
-    /// The bits of item `i` where it is a float. None as [`Col::truth`].
+    /// The bits of item `i` where it is a float of 16, 32 or 64 bits, in the low bits of the answer. None as [`Col::truth`].
     #[inline(always)]
     pub fn bits(&self, i: i64) -> Option<u64>
         requires from { pos 0 ≤ℤ i }

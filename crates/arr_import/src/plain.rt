@@ -64,7 +64,8 @@ impl<'a> Col<'a> {
         self.offset + self.start
     }
 
-    /// The column by its places, where its items are stored in place or between offsets, and are no indices of a dictionary.
+    /// The column by its places, where its items are stored in place or between offsets, without a dictionary; none for any
+    /// other column.
     pub fn plain(&self) -> Option<Plain<'a>>
         ensures some { IfSome result (λ plain. ShowsItems plain (window_of self.now).count (item_at (window_of self.now))) }
         ensures stored { IfSome result (λ plain. storage_in plain ≡ storage_of (kind_in (window_of self.now).typed)) }
@@ -105,14 +106,14 @@ fn is_plain(storage: Storage) -> bool
 }
 
 impl<'a> Plain<'a> {
-    /// How the items are stored.
+    /// How the items are stored ("Arrow Columnar Format", "Physical memory layout").
     pub fn storage(&self) -> Storage
         ensures { result ≡ storage_in self.now }
     {
         self.storage
     }
 
-    /// Whether item `i` isn't null.
+    /// Whether item `i`, counted from 0, isn't null ("Arrow Columnar Format", "Validity bitmaps").
     #[inline(always)]
     pub fn is_valid(&self, i: u64) -> bool
         requires { IsItemThere self.now i }
@@ -126,7 +127,7 @@ impl<'a> Plain<'a> {
 }
 
 impl<'a> Plain<'a> {
-    /// What item `i` of truth values is where it isn't null.
+    /// Item `i` of truth values. Where it is null, the answer is any.
     #[inline(always)]
     pub fn truth(&self, i: u64) -> bool
         requires there { IsItemThere self.now i }
@@ -136,7 +137,7 @@ impl<'a> Plain<'a> {
         truth_at(self.stored, self.first + i)
     }
 
-    /// What item `i` of whole numbers of this many bits is where it isn't null.
+    /// Item `i` of whole numbers of this many bits, with a sign or without. Where it is null, the answer is any.
     #[inline(always)]
     pub fn whole(&self, bits: u8, signed: bool, i: u64) -> i128
         requires there { IsItemThere self.now i }
@@ -146,7 +147,7 @@ impl<'a> Plain<'a> {
         whole_at(self.stored, self.first + i, bits / 8, signed)
     }
 
-    /// The bits of item `i` of floats of this many bits where it isn't null.
+    /// The bits of item `i` of floats of this many bits, in the low bits of the answer. Where it is null, the answer is any.
     #[inline(always)]
     pub fn float_bits(&self, bits: u8, i: u64) -> u64
         requires there { IsItemThere self.now i }
@@ -156,7 +157,7 @@ impl<'a> Plain<'a> {
         bits_at(self.stored, self.first + i, bits / 8)
     }
 
-    /// The bytes of item `i` of this many bytes each where it isn't null.
+    /// The bytes of item `i` of this many bytes each. Where it is null, the answer is any.
     #[inline(always)]
     pub fn sized(&self, size: u32, i: u64) -> &'a [u8]
         requires there { IsItemThere self.now i }
@@ -166,7 +167,8 @@ impl<'a> Plain<'a> {
         bytes_at(self.stored, self.first + i, size)
     }
 
-    /// The bytes of item `i` of texts or bytes between offsets, wide or not, where it isn't null.
+    /// The bytes of item `i` of texts or bytes between offsets, of 64 bits where they are wide and else of 32. Where it is
+    /// null, the answer is any.
     #[inline(always)]
     pub fn between(&self, wide: bool, i: u64) -> &'a [u8]
         requires there { IsItemThere self.now i }

@@ -5,6 +5,7 @@ ghost use Rattle.layout_rules.specs.Layout.{natural, offset_in};
 
 use bit_pack::{bit_at, int_at, offset_at, unsigned_at};
 
+/// The truth value at a place ("Arrow Columnar Format", "Validity bitmaps": the least significant bit first).
 #[inline(always)]
 pub fn truth_at(stored: &[u8], place: u64) -> bool
     requires { place < 8 * length stored.now }
@@ -13,6 +14,7 @@ pub fn truth_at(stored: &[u8], place: u64) -> bool
     bit_at(stored, place as usize)
 }
 
+/// The whole number at a place, of a width in bytes, with a sign or without.
 #[inline(always)]
 pub fn whole_at(stored: &[u8], place: u64, width: u8, signed: bool) -> i128
     requires width { IsWidth width }
@@ -24,6 +26,7 @@ pub fn whole_at(stored: &[u8], place: u64, width: u8, signed: bool) -> i128
     int_at(stored, place as usize * width, width, signed)
 }
 
+/// The number without sign at a place, of a width of at most 8 bytes.
 #[inline(always)]
 pub fn bits_at(stored: &[u8], place: u64, width: u8) -> u64
     requires width { IsWidth width }
@@ -35,6 +38,7 @@ pub fn bits_at(stored: &[u8], place: u64, width: u8) -> u64
     unsigned_at(stored, place as usize * width, width)
 }
 
+/// The bytes at a place, of items of a width in bytes.
 #[inline(always)]
 pub fn bytes_at(stored: &[u8], place: u64, width: u32) -> &[u8]
     requires within { (place + 1) * width ≤ length stored.now }
@@ -45,7 +49,7 @@ pub fn bytes_at(stored: &[u8], place: u64, width: u32) -> &[u8]
     &stored[from..from + width]
 }
 
-/// An offset of a list or a text.
+/// The offset of a list or a text at a place, of 64 bits where offsets are wide and else of 32.
 #[inline(always)]
 pub fn start_at(wide: bool, offsets: &[u8], place: u64) -> u64
     requires there { (place + 1) * offset_width wide ≤ length offsets.now }
@@ -55,6 +59,7 @@ pub fn start_at(wide: bool, offsets: &[u8], place: u64) -> u64
     offset_at(offsets, place as usize, wide) as u64
 }
 
+/// The bytes between the offset at a place and the next one ("Arrow Columnar Format", "Variable-size binary layout").
 #[inline(always)]
 pub fn text_at<'a>(wide: bool, offsets: &[u8], text: &'a [u8], place: u64) -> &'a [u8]
     requires there { (place + 1 + 1) * offset_width wide ≤ length offsets.now }

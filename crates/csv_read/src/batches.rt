@@ -37,9 +37,8 @@ fn end<R: Read>(records: &mut Records<R>, body: &mut BodyColumns)
     body.builders.clear();
 }
 
-/// The records behind the header of a text, whose rows are read in batches.
-///
-/// [`read_body`](crate::read_body) reads them all at once.
+/// The records behind the header of a text, whose rows are read in batches. [`read_body`](crate::read_body) reads them all at
+/// once.
 #[derive(Drop)]
 pub struct BatchReader<R: Read> {
     records: Records<R>,
@@ -80,8 +79,8 @@ impl<R: Read> Model for BatchReader<R> {
 impl<R: Read> BatchReader<R> {
     ghost use Rattle.csv_read.specs.BatchesLeft.{IsNextBatch, IsNextFault, all_left, at_end, batches_left, behind, columns_in, with_builders};
 
-    /// Begins before the first batch of the records that are left behind the header. A field that equals the
-    /// mark is null.
+    /// A reader of the records that are left behind the header, at the first batch of them. A field that equals the mark is
+    /// null. `NoMemory` comes only where memory runs out.
     pub fn start(
         alloc: Global,
         records: Records<R>,
@@ -121,12 +120,14 @@ impl<R: Read> BatchReader<R> {
         self.body.builders.as_slice()
     }
 
-    /// Reads the next `batch` records, or all that are left where they are fewer, and answers whether there was one. A builder
-    /// a column holds their rows then, and no other.
+    /// Reads the next `batch` records, or all that are left where they are fewer, and answers whether there was one. A
+    /// builder for each column holds their rows then, and no other.
     ///
-    /// The first of these records that spells no row is the fault, and in it that it has another number of fields than there
-    /// are columns, or else its first field that is no value of its column. Records are numbered from 1 behind the header,
-    /// over all batches. `NoMemory` comes only where memory runs out. After an error no record is left.
+    /// # Errors
+    ///
+    /// The first of these records that spells no row, by its number from 1 behind the header, over all batches: it has
+    /// another number of fields than there are columns, or else a field, of which the first counts, that is no value of its
+    /// column. `NoMemory` comes only where memory runs out. After an error no record is left.
     pub fn next(&mut self, alloc: Global, batch: u64) -> Result<bool, BodyFault>
         requires some { 1 ≤ batch }
         ensures columns { self.new.columns ≡ self.old.columns }
@@ -199,7 +200,8 @@ impl<R: Read> BatchReader<R> {
         Ok(Some(BatchRows::of(builders, from, batch)))
     }
 
-    /// The chunk of the rows that were read last, as [`export_rows`](crate::export_rows) makes it of the builders.
+    /// The chunk of the rows that were read last, as [`export_rows`](crate::export_rows) makes it of the builders. `rows` is
+    /// their number. `NoMemory` comes only where memory runs out.
     pub fn export(
         &mut self,
         alloc: Global,

@@ -49,12 +49,14 @@ impl fmt::Display for BodyFault {
 
 impl std::error::Error for BodyFault {}
 
-/// Reads all records that are left behind the header, into a builder a column. A field that equals the mark is
+/// Reads all records that are left behind the header, and answers a builder for each column. A field that equals the mark is
 /// null.
 ///
-/// The first record that spells no row is the fault, and in it that it has another number of fields than there are columns,
-/// or else its first field that is no value of its column. Records are numbered from 1 behind the header. `NoMemory` comes only
-/// where memory runs out.
+/// # Errors
+///
+/// The first record that spells no row, by its number from 1 behind the header: it has another number of fields than there
+/// are columns, or else a field, of which the first counts, that is no value of its column. `NoMemory` comes only where
+/// memory runs out.
 pub fn read_body<R: Read + Drop>(
     alloc: Global,
     records: Records<R>,

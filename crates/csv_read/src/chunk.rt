@@ -110,9 +110,9 @@ fn column_arrays(
     Ok(arrays)
 }
 
-/// The chunk of the rows that builders hold: their buffers are moved into blocks, and no byte is copied. It draws a unit for
-/// each structure and each buffer, and counts them. `NoMemory` comes only where memory runs out, and gives all units back. The
-/// spares are room that serves for many chunks.
+/// The chunk of the rows that builders hold ("Arrow Columnar Format", "Struct Layout"): their buffers are moved into blocks,
+/// and no byte is copied. It draws a unit for each structure and each buffer, and counts the nodes and the blocks. `NoMemory`
+/// comes only where memory runs out, and gives all units back. The spares are room that serves for many chunks.
 #[inline(always)]
 pub fn export_rows(
     alloc: Global,

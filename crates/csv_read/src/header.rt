@@ -22,8 +22,10 @@ use std::io::Read;
 /// The columns that the header of a text names, each of the type of the first entry of its name, and of text where there is
 /// none. The header is the first of the records, and those behind it are left.
 ///
-/// The first fault counts, in the order of the variants of [`HeaderFault`]; `NoMemory` comes only where memory runs out. After an error no
-/// record is left.
+/// # Errors
+///
+/// The first fault, in the order of the variants of [`HeaderFault`]; `NoMemory` comes only where memory runs out. After an
+/// error no record is left.
 pub fn read_header<R: Read>(
     alloc: Global,
     records: &mut Records<R>,

@@ -50,7 +50,8 @@ impl<R: Read> Model for Records<R> {
 }
 
 impl<'a> Records<&'a [u8]> {
-    /// Begins before the header of a text. The text is read by `csv`'s default settings after one byte order mark.
+    /// The records of a text, its header first. The text is read by `csv`'s default settings after one byte order mark.
+    /// `NoMemory` comes only where memory runs out.
     pub fn start(alloc: Global, bytes: &'a [u8]) -> Result<Records<&'a [u8]>, NoMemory>
         ensures records { IfOk result (λ records. records.records ≡ records_of bytes.now) }
         ensures size { IfOk result (λ records. records.size ≤ length bytes.now) }
@@ -59,7 +60,7 @@ impl<'a> Records<&'a [u8]> {
         Records::over(alloc, bytes, texts)
     }
 
-    /// Begins behind the header of a text. A text of no records has none behind it.
+    /// The records of a text behind its header. A text of no records has none. `NoMemory` comes only where memory runs out.
     pub fn behind_header(alloc: Global, bytes: &'a [u8]) -> Result<Records<&'a [u8]>, NoMemory>
         ensures records { IfOk result (λ records. records.records ≡ behind_header (records_of bytes.now)) }
         ensures size { IfOk result (λ records. records.size ≤ length bytes.now) }
@@ -71,7 +72,7 @@ impl<'a> Records<&'a [u8]> {
 }
 
 impl Records<SharedText> {
-    /// Begins before the header of a text that several owners share, as [`start`](Records::start) does.
+    /// The records of a text that several owners share, as [`start`](Records::start) has them.
     pub fn start_shared(alloc: Global, bytes: Arc<Vec<u8>>) -> Result<Records<SharedText>, NoMemory>
         ensures records { IfOk result (λ records. records.records ≡ records_of (arc_value bytes).items) }
         ensures size { IfOk result (λ records. records.size ≤ vec_len (arc_value bytes)) }
@@ -82,7 +83,7 @@ impl Records<SharedText> {
 }
 
 impl<R: Read> Records<R> {
-    /// Begins before the header of the text that a source gives. That the text is UTF-8 may be known.
+    /// The records of the text that a source gives, its header first. That the text is UTF-8 may be known.
     fn over(alloc: Global, source: R, texts: bool) -> Result<Records<R>, NoMemory>
     where
         R: Drop,

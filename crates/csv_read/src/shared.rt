@@ -6,7 +6,7 @@ use std::io;
 use std::io::Read;
 use std::sync::Arc;
 
-/// The bytes of a text that several owners share, read from its start on. It may go to another thread.
+/// A text that several owners share, with the place in bytes up to which this owner has read it. It may go to another thread.
 #[derive(Drop)]
 pub struct SharedText {
     bytes: Arc<Vec<u8>>,
@@ -18,7 +18,7 @@ impl SharedText {
     ghost use Rattle.std.specs.Prelude.{◌≡◌};
     ghost use Rattle.std.specs.Arc.{arc_value};
 
-    /// Begins before the first byte.
+    /// The text, of which nothing is read yet.
     pub(crate) fn new(bytes: Arc<Vec<u8>>) -> SharedText
         ensures at { result.at ≡ 0 }
         ensures bytes { result.bytes ≡ bytes }

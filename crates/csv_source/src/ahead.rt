@@ -39,7 +39,7 @@ pub struct CsvAhead<R: Threads + Drop> {
     // What is to come; nothing once it is released.
     ahead: Option<Ahead<R, CsvMaker>>,
     columns: TextColumns,
-    // What was to be read at the start. It has no bytes: clauses tell of it how the stream ends, also where memory ran out
+    // What was to be read at the start. It has no bytes: clauses say by it how the stream ends, also where memory ran out
     // in the middle of the text.
     whole: Snapshot<CsvMaker>,
     // Room that serves for all chunks.
@@ -55,9 +55,9 @@ pub struct CsvAhead<R: Threads + Drop> {
 impl<R: Threads + Drop> CsvAhead<R> {
     ghost use Rattle.csv_source.specs.AheadSources.{ahead_state};
 
-    /// Begins before the first chunk of the records that are left behind the header. A field that equals the
-    /// mark is null. Each chunk has `batch` rows, and the last one those that are left. At most twice `ahead` chunks are read
-    /// before they are taken.
+    /// A stream of the records that are left behind the header, at its first chunk. A field that equals the mark is null.
+    /// Each chunk has `batch` rows, and the last one those that are left. At most twice `ahead` chunks are read before they
+    /// are taken. `NoMemory` comes only where memory runs out.
     pub fn start(
         alloc: Global,
         rt: R,

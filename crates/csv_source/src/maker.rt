@@ -30,8 +30,8 @@ pub struct CsvMaker {
 impl CsvMaker {
     ghost use Rattle.csv_source.specs.Pieces.{maker_pieces, pieces_of};
 
-    /// Begins before the first of the records that are left behind the header. A field that equals the mark is null.
-    /// Each batch has `batch` records, and the last one those that are left.
+    /// A maker of the records that are left behind the header, at the first of them. A field that equals the mark is null.
+    /// Each batch has `batch` records, and the last one those that are left. `NoMemory` comes only where memory runs out.
     pub fn start(
         alloc: Global,
         records: Records<SharedText>,
@@ -53,7 +53,7 @@ impl CsvMaker {
         Ok(CsvMaker::over(alloc, batches, batch))
     }
 
-    /// Begins before the first of the batches that are left.
+    /// A maker of the batches that are left, at the first of them.
     pub(crate) fn over(alloc: Global, batches: BatchReader<SharedText>, batch: u32) -> CsvMaker
         requires some { 1 ≤ length batches.columns }
         requires some_rows { 1 ≤ batch }

@@ -44,7 +44,7 @@ impl RefusedRecord {
 impl Refused {
     ghost use Rattle.csv_source.specs.Refusals.{TellsOf, refusal_of, row_of};
 
-    /// The refusal for a fault of the records. Memory may run out for its text.
+    /// The refusal for a fault of the records. Where memory runs out for the text of a record's, it is `NoMemory`.
     pub fn of(alloc: Global, fault: BodyFault) -> Refused
         ensures { TellsOf fault result }
     {
@@ -57,6 +57,7 @@ impl Refused {
         }
     }
 
+    /// The code of the call for a chunk: 22 (EINVAL) for a record, 12 (ENOMEM) where memory ran out.
     pub fn code(&self) -> i32
         ensures { result ≡ (refusal_of self.now).code }
     {
@@ -66,6 +67,7 @@ impl Refused {
         }
     }
 
+    /// The text of the error ("The Arrow C Stream Interface", "The ArrowArrayStream structure", `get_last_error`).
     pub fn text(&self) -> &str
         ensures { result.now ≡ (refusal_of self.now).text }
     {
@@ -75,7 +77,7 @@ impl Refused {
         }
     }
 
-    /// The record at fault.
+    /// The record at fault; none where memory ran out.
     pub fn row(&self) -> Option<RowFault>
         ensures { result ≡ row_of self.now }
     {

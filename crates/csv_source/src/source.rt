@@ -27,11 +27,11 @@ use std::thread::Threads;
 use stream_face::{ArrayStream, ENOMEM, Tap};
 use unit_pass::{NoMemory, Pass};
 
-/// The records of a text behind its header, as a stream of chunks of at most this many rows. It keeps no structure between two
-/// calls. It can't be dropped.
+/// The records of a text behind its header, as a stream of chunks of at most this many rows ("The Arrow C Stream Interface").
+/// It keeps no structure between two calls. It can't be dropped.
 pub struct CsvSource<B: Read + Drop> {
     batches: BatchReader<B>,
-    // What was to be read at the start. It has no bytes: clauses tell of it how the stream ends, also where memory ran out
+    // What was to be read at the start. It has no bytes: clauses say by it how the stream ends, also where memory ran out
     // in the middle of the text.
     whole: Snapshot<BatchReader<B>>,
     batch: u32,
@@ -51,8 +51,8 @@ pub struct CsvSource<B: Read + Drop> {
 impl<B: Read + Drop> CsvSource<B> {
     ghost use Rattle.csv_source.specs.Sources.{source_state, stream_of};
 
-    /// Begins before the first chunk of the records that are left behind the header. A field that equals the
-    /// mark is null. Each chunk has `batch` rows, and the last one those that are left.
+    /// A stream of the records that are left behind the header, at its first chunk. A field that equals the mark is null.
+    /// Each chunk has `batch` rows, and the last one those that are left. `NoMemory` comes only where memory runs out.
     pub fn start(
         alloc: Global,
         records: Records<B>,

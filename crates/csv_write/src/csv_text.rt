@@ -27,8 +27,8 @@ use field_codec::FieldForm;
 use std::alloc::Global;
 use unit_pass::{Name, NoMemory};
 
-/// The text of a table in the making: the names of its columns, and the rows of the chunks that were added. Contracts see
-/// by `HasText` which columns it is of and what it has written. After a `NoMemory` it is good for nothing but to be dropped.
+/// The text of a table as it is made: the names of its columns, and the rows of the chunks that were added. Contracts see by
+/// `HasText` which columns it is of and what it has written. After a `NoMemory` it can only be dropped.
 #[derive(Drop)]
 pub struct CsvText {
     // In a place of its own: a writer of records is large, and a text in the making is moved about.

@@ -114,6 +114,11 @@ fn pull_all<U: ArrayStream, R: Threads + Sync, T: Tap>(
 }
 
 /// Adds the rows of all chunks that a lawful stream still gives to a text, and gives the text. The stream is spent.
+///
+/// # Errors
+///
+/// The record at which the stream ends, or `NoMemory`, which comes only where memory runs out. Either way all units of the
+/// stream are back.
 // A function of its own, since a chain of streams has one for each of its levels.
 #[inline(never)]
 pub fn write_rows<U: ArrayStream, R: Threads + Sync, T: Tap>(

@@ -6,7 +6,7 @@ pub trait Gate {
     fn pass(&self, worker: u32);
 }
 
-/// A gate at which nobody waits.
+/// A gate that is always open.
 #[derive(Drop)]
 pub struct OpenGate;
 

@@ -1,10 +1,10 @@
-//! Why an exchange comes to nothing.
+//! Why an exchange failed.
 use col_build::PushFault;
 use std::{fmt, io};
 use tree_import::ImportFault;
 use unit_pass::NoMemory;
 
-/// Why the exchange came to nothing. Whoever answers it has released what it owned.
+/// Why the exchange failed. The one who answers it has released what it owned.
 #[derive(Debug, Drop)]
 pub enum Fault {
     NoMemory,

@@ -18,7 +18,7 @@ use raw_array::RawArray;
 use std::fmt;
 use unit_pass::{NoMemory, Pass, SUPPLY};
 
-/// Who is shown chunks.
+/// A visitor that is shown chunks.
 pub trait Visit {
     /// The rows of each chunk that it was shown, where it states them.
     ghost seen: { Self → Option (List (List Row)) };

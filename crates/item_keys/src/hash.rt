@@ -14,7 +14,7 @@ pub(crate) fn hash_of(text: &[u8]) -> u32
     (hasher.finish() >> 32) as u32
 }
 
-/// A second hash of a text, of 64 bits: SipHash-1-3, of which nobody can choose many texts that are alike.
+/// A second hash of a text, of 64 bits: SipHash-1-3, for which nobody can choose many texts with one hash.
 #[inline(never)]
 pub(crate) fn second_hash_of(text: &[u8]) -> u64
     ensures { result ≡ second_hash_in text.now }

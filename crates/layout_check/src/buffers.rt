@@ -103,7 +103,8 @@ fn need(node: &WellFormedNode, k: usize) -> u128
     }
 }
 
-/// An absent buffer of which this many bytes are needed: at the buffer, 0 and the need.
+/// Whether buffer `k` is absent and this many bytes of it are needed, more than 0. The place is `k`, and the numbers are 0
+/// and the need.
 pub fn missing(needed: u128, array: &RawArray, k: usize) -> Option<Numbers>
     requires live { IsLive array.now }
     requires inside { k < length (members_of array.now).buffers }
@@ -126,7 +127,8 @@ pub fn missing(needed: u128, array: &RawArray, k: usize) -> Option<Numbers>
     }
 }
 
-/// A buffer that is there and has fewer bytes than are needed: at the buffer, its length and the need.
+/// Whether buffer `k` is there and has fewer bytes than are needed. The place is `k`, and the numbers are its length and the
+/// need, in bytes.
 pub fn too_short(needed: u128, array: &RawArray, k: usize) -> Option<Numbers>
     requires live { IsLive array.now }
     requires inside { k < length (members_of array.now).buffers }

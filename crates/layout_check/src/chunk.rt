@@ -17,7 +17,7 @@ use data_types::{DataType, Path, Typed};
 use layout_rules::{LayoutFault, LayoutRule, Numbers, lawful_root, layout_of};
 use raw_array::RawArray;
 
-/// [`check_array`], and then at the root: the type is a struct without a dictionary, and no item is null. Takes no
+/// Runs [`check_array`], and then checks the root: its type is a struct without a dictionary, and no item is null. Takes no
 /// memory.
 #[tactic(auto, using(crate::proofs::Chunks::lawful))]
 pub fn check_chunk(typed: &Typed, array: &RawArray) -> Result<(), LayoutFault>
@@ -29,7 +29,7 @@ pub fn check_chunk(typed: &Typed, array: &RawArray) -> Result<(), LayoutFault>
     check_top(typed, array)
 }
 
-/// Whether [`check_chunk`] finds no fault.
+/// Whether [`check_chunk`] finds no fault. Takes no memory.
 pub fn chunk_passes(typed: &Typed, array: &RawArray) -> bool
     requires { TypedOk (typed_of typed.now) }
     ensures { IsTrue result ↔ ChunkOk (typed_of typed.now) array.now }
@@ -37,8 +37,8 @@ pub fn chunk_passes(typed: &Typed, array: &RawArray) -> bool
     passes(typed, array) && top_passes(typed, array)
 }
 
-/// How many items of a lawful array's window are null: with a layout that has no buffer each is ("Arrow Columnar
-/// Format", "Validity bitmaps" and "Null Layout").
+/// How many items of a lawful array's window are null ("Arrow Columnar Format", "Validity bitmaps"). With a layout that has
+/// no buffer all are ("Null Layout"). Takes no memory.
 #[tactic(auto, using(crate::proofs::Chunks::nulls))]
 pub fn nulls_of(typed: &Typed, array: &RawArray) -> i64
     requires { LayoutOk (typed_of typed.now) array.now }

@@ -13,7 +13,7 @@ use raw_array::RawArray;
 /// The most places that a window may lie in.
 const MOST_PLACES: u64 = 1 << 40;
 
-/// A number below 0: the number, and 0.
+/// Whether a number is below 0. The numbers are it and 0.
 pub fn negative(number: i64) -> Option<Numbers>
     ensures passed { IfNone result (pos 0 ≤ℤ number) }
     ensures fault { result ≡ fault_if (is_negative number) 0 number (pos 0) }
@@ -29,7 +29,7 @@ pub fn negative(number: i64) -> Option<Numbers>
     }
 }
 
-/// A number that has to be another: found and needed.
+/// Whether two numbers of parts differ. The numbers are the one that was found and the one that is needed.
 pub fn wrong_count(found: usize, needed: usize) -> Option<Numbers>
     ensures { result ≡ count_wrong found needed }
 {
@@ -81,7 +81,7 @@ pub fn dictionary_wrong(dict: &Option<Box<Typed>>, array: &RawArray) -> Option<N
     wrong_count(found, needed)
 }
 
-/// The places up to a window's end are at most 2^40: their number, and 2^40.
+/// Whether there are more than 2^40 places up to a window's end. The numbers are how many there are, and 2^40.
 pub fn window_too_long(stop: u64) -> Option<Numbers>
     ensures { result ≡ fault_if (nat_lt window_limit stop) 0 (pos stop) (pos window_limit) }
 {

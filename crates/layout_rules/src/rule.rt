@@ -1,9 +1,9 @@
 //! The rules of arrays, and the fault where one fails.
 use data_types::Path;
 
-/// What an array must meet ("Arrow Columnar Format", "Physical memory layout"). At a node the rules are tried from the
-/// first to the last of this list, but that the two on views come before [`LayoutRule::NotText`]. A fault's place is 0 where none is named here. The places up
-/// to the window's end are its offset and its length together.
+/// What an array must meet ("Arrow Columnar Format", "Physical memory layout"). At a node the rules are tried from the first
+/// to the last of this list, but that the two on views come before [`LayoutRule::NotText`]. A fault's place is 0 where none
+/// is named here. The places up to the window's end are its offset and its length together.
 #[derive(Clone, Copy, Debug, PartialEq, Eq)]
 pub enum LayoutRule {
     /// The node is released.

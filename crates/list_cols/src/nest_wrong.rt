@@ -8,7 +8,8 @@ ghost use Rattle.list_cols.specs.NestFaults.{nests};
 use column_fill::is_flat_column;
 use data_types::{Typed, kinds_of_typed};
 
-/// The first column that isn't of a flat column kind, or has a dictionary.
+/// The number from 0 of the first column that isn't of a flat column kind, or has a dictionary. None where all are. Takes no
+/// memory.
 pub fn wrong_to_nest(typed: &Typed) -> Option<u32>
     requires few { length (kids_of typed.now) < 2 ^ 32 }
     ensures { result ≡ first_wrong nests 0 (children_of (typed_of typed.now)) }

@@ -29,7 +29,8 @@ fn explodes(column: usize, k: usize, typed: &Typed) -> bool
     }
 }
 
-/// The first column that isn't what it must be where the lists of `column` are spread out.
+/// The number from 0 of the first column that isn't what it must be where the lists of `column` are spread out: `column` is
+/// no list of a flat column kind, or another one isn't of a flat column kind. None where all are. Takes no memory.
 pub fn wrong_to_explode(typed: &Typed, column: usize) -> Option<u32>
     requires few { length (kids_of typed.now) < 2 ^ 32 }
     ensures { result ≡ first_wrong (explodes column) 0 (children_of (typed_of typed.now)) }

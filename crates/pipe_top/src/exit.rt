@@ -20,7 +20,7 @@ use std::process::ExitCode;
 use std::thread::Threads;
 use stream_face::NoTap;
 
-/// [`run`] with a tap that keeps nothing and a gate at which nobody waits. It answers the exit status.
+/// [`run`] with a tap that keeps nothing and a gate that is always open. It answers the exit status.
 pub fn run_to_exit<R: Threads + Sync, S: Source, K: Sink, E: Sink>(
     rt: &R,
     alloc: Global,

@@ -22,7 +22,7 @@ use stream_face::Tap;
 use unit_pass::open_desk;
 
 /// Reads the source to its end and writes the text of the table that the stages make of the table that it spells, or the report
-/// of the tree that it tells of.
+/// of the tree that it spells.
 ///
 /// `words` are those after the program's name:
 /// `[--schema TEXT] [--batch N] [--workers W] [--audit] [--check] [--selftest N] [--null MARK] [--ahead A] [STAGE ...]`. A
@@ -36,7 +36,7 @@ use unit_pass::open_desk;
 /// stages over its columns, of the records.
 ///
 /// With `--check`, which takes no stage and no schema text, the source is a schema tree and an array tree as lines of text. They
-/// are checked as a stranger's would be, and the text is the report of the array. The first of these faults is reported: of the
+/// are checked as a foreign producer's would be, and the text is the report of the array. The first of these faults is reported: of the
 /// words, of reading, of the text, of the schema, of the array. The tap sees nothing, and `N`, `W`, `A` and the mark change nothing.
 ///
 /// With `--selftest N`, which takes no stage, no schema text and no `--check`, the source is left alone: `N` rows are made in

@@ -10,7 +10,7 @@ use edge_io::{Sink, WriteFault, write_all};
 use itoa::Buffer;
 use unit_pass::Audit;
 
-/// Tells of the fault, where there is one, and of the audit where it is wanted.
+/// Writes the line of the fault, where there is one, and that of the audit where it is wanted.
 pub fn write_diagnostics<E: Sink>(
     errs: &mut E,
     fault: Option<RunFault>,

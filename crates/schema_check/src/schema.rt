@@ -62,7 +62,7 @@ pub fn kinds_are_valid()
 }
 
 /// The kinds of a schema, or the first rule that fails at the first node at which one does ("The Arrow C Data
-/// Interface", "The ArrowSchema structure", "Data type description: format strings"). Names, flags and nullability
+/// Interface", "The ArrowSchema structure", "Data type description -- format strings"). Names, flags and nullability
 /// aren't looked at. A schema of more than 64 levels is walked to the node at level 65 and no deeper. What was made is
 /// given back where the answer is a fault. Memory is taken for the tree of kinds alone, a node of it for each node of the
 /// schema, and for the texts of its formats: metadata takes none, so its bytes never make the answer `NoMemory`.

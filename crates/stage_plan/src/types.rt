@@ -33,7 +33,7 @@ struct Entry<'a> {
 }
 
 /// The entries of a text, in order: names, each with the first `:` and a format string behind it, apart by `;` ("The
-/// Arrow C Data Interface", "Data type description: format strings").
+/// Arrow C Data Interface", "Data type description -- format strings").
 ///
 /// The first entry at fault counts, and in it `BadEntry` before `Twice`. The types of columns are those whose values a
 /// field of a CSV record can spell; of these `w:N` has N from 1 to 65,536, and a decimal has 128 bits and a scale from

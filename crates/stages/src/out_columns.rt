@@ -15,7 +15,7 @@ use std::alloc::Global;
 use std::marker::Model;
 use unit_pass::{CHUNK, NoMemory, Pass};
 
-/// Columns whose schema can be made. Contracts see their list.
+/// Columns whose schema can be made: of valid kinds, with at most 2^15 structures and 64 levels. Contracts see their list.
 #[derive(Drop)]
 pub struct OutColumns {
     list: Vec<ColumnType>,
@@ -71,7 +71,8 @@ impl OutColumns {
         self.list.as_slice()
     }
 
-    /// The schema of the columns. It draws a unit and counts a node for each of its structures.
+    /// The schema of the columns ("The Arrow C Data Interface", "The ArrowSchema structure"). It draws a unit and counts a
+    /// node for each of its structures. `NoMemory` comes only where memory runs out, and gives the units back.
     pub fn schema(&self, alloc: Global, pass: &mut Pass) -> Result<RawSchema, NoMemory>
         requires room { CHUNK ≤ pass.old.units }
         ensures tree { IfOk result (λ schema. schema ≡ SchemaOf (map column_of self.now)) }

@@ -46,7 +46,7 @@ impl<U: ArrayStream, S: ChunkStep> Stage<U, S> {
     ghost use Rattle.stages.specs.declared.stage.LastAnswer.TheVariants as words;
     ghost use Rattle.std.specs.Prelude.{false};
 
-    /// A stage over a lawful stream. Takes no memory.
+    /// A stage over a lawful stream, whose columns the step fits. Takes no memory.
     pub fn start(up: RawStream<U>, step: S) -> Stage<U, S>
         requires lawful { IsTrue (meaning U.state up).lawful }
         requires fits { S.fits step (meaning U.state up).columns }

@@ -31,7 +31,8 @@ pub enum StreamFault {
 }
 
 impl StreamFault {
-    /// The code of the call.
+    /// The code of the call: 22 (EINVAL) for a record or a chunk at fault, 12 (ENOMEM) where memory ran out, and else the
+    /// inner stream's own ("The Arrow C Stream Interface", "The ArrowArrayStream structure").
     pub fn code(&self) -> i32
         ensures { result ≡ code_of self.now }
     {

@@ -42,7 +42,8 @@ use std::alloc::Global;
 use std::thread::Threads;
 use unit_pass::{CHUNK, NoMemory, Pass, ROOM, SUPPLY};
 
-/// A stream whose schema was checked, and whose chunks are checked and shown to a tap. It can't be dropped.
+/// A stream whose schema was checked, and whose chunks are checked and shown to a tap ("The Arrow C Stream Interface", "The
+/// ArrowArrayStream structure"). It can't be dropped: it is released, and then discarded.
 pub struct RawStream<S: ArrayStream> {
     inner: S,
     link: u32,
@@ -156,8 +157,11 @@ impl<S: ArrayStream> RawStream<S> {
     ghost use Rattle.stream_face.specs.Meaning.{below, meaning, raw_fault, raw_kinds, raw_link, raw_schema};
     ghost use Rattle.data_types.specs.ColumnKinds.{type_of_columns};
 
-    /// Asks the inner stream for its schema, once, and checks it. On a refusal the inner stream is handed back, and all units
-    /// are back.
+    /// Asks the inner stream for its schema, once, and checks it. `link` is the number under which its chunks are shown.
+    ///
+    /// # Errors
+    ///
+    /// The inner stream comes back, with its code or the first fault of its schema, and all units are back.
     // A function of its own, since a chain of streams has one for each of its levels.
     #[inline(never)]
     pub fn start(
@@ -228,8 +232,9 @@ impl<S: ArrayStream> RawStream<S> {
         self.known.typed()
     }
 
-    /// The next chunk, checked and shown to the tap; a released array where there is none; or a code that isn't 0. What the
-    /// check refuses is released. After a code that isn't 0 every later call answers the same and does nothing.
+    /// The next chunk, checked and shown to the tap, in a released structure, which stays released where no chunk is left; or
+    /// a code that isn't 0 ([`StreamFault::code`](crate::StreamFault::code)). What the check refuses is released. After a
+    /// code that isn't 0 every later call answers the same and does nothing.
     pub fn next<R: Threads + Sync, T: Tap>(
         &mut self,
         rt: &R,
@@ -291,7 +296,7 @@ impl<S: ArrayStream> RawStream<S> {
         self.inner.lawful_facts();
     }
 
-    /// Why the last call of `next` refused.
+    /// Why the last call of `next` refused; none where it didn't.
     pub fn fault(&self) -> Option<StreamFault>
         ensures { result ≡ raw_fault self.now }
     {
@@ -301,7 +306,7 @@ impl<S: ArrayStream> RawStream<S> {
         }
     }
 
-    /// The record at fault, where that is why.
+    /// The record at fault, where the last call of `next` refused for it.
     pub fn row_fault(&self) -> Option<RowFault>
         ensures { result ≡ (meaning S.state self.now).fault }
     {
@@ -314,7 +319,8 @@ impl<S: ArrayStream> RawStream<S> {
         }
     }
 
-    /// The error of the last call, where its code wasn't 0. Takes no memory.
+    /// The text of the error of the last call, where its code wasn't 0 ("The ArrowArrayStream structure", `get_last_error`).
+    /// Takes no memory.
     pub fn last_error(&self) -> Option<&str>
         ensures { lent_text result ≡ text_in (meaning S.state self.now).said }
     {

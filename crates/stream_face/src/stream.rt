@@ -20,12 +20,14 @@ use std::thread::Threads;
 use unit_pass::{Pass, ROOM, SUPPLY};
 
 /// A stream of chunks ("The Arrow C Stream Interface", "The ArrowArrayStream structure"). It can't be dropped: it is
-/// released, and then discarded. It is used by one thread at a time.
+/// released, and then discarded. It is used by one thread at a time. A get call answers 0, or an error code from 1 to 4095
+/// (of errno).
 pub trait ArrayStream {
     /// What the stream means.
     ghost state: { Self → Stream };
 
-    /// Gives the schema of the chunks, or a code that isn't 0 ("The ArrowArrayStream structure", `get_schema`).
+    /// Gives the schema of the chunks in a released structure; or answers a code that isn't 0, and the structure stays
+    /// released ("The ArrowArrayStream structure", `get_schema`). The caller owns the schema.
     fn get_schema(&mut self, alloc: Global, out: &mut RawSchema, pass: &mut Pass) -> i32
         requires live { IsTrue (state self.old).live }
         requires empty { out.old ≡ Released }
@@ -38,8 +40,8 @@ pub trait ArrayStream {
         ensures units { pass.new.units + Nodes out.new ≡ pass.old.units }
         ensures lawful { IsTrue (state self.old).lawful → SchemaAnswer (state self.old).columns result out.new (state self.new).said pass.old pass.new };
 
-    /// Gives the next chunk, or a released array where there is none, or a code that isn't 0 ("The ArrowArrayStream
-    /// structure", `get_next`).
+    /// Gives the next chunk in a released structure, or leaves it released where no chunk is left; or answers a code that
+    /// isn't 0, and it stays released ("The ArrowArrayStream structure", `get_next`). The caller owns the chunk.
     fn get_next<R: Threads + Sync, T: Tap>(
         &mut self,
         rt: &R,
@@ -66,11 +68,12 @@ pub trait ArrayStream {
         ensures counts { IsFresh (state self.old) → result ≡ pos 0 → Counts (state self.old).due (state self.new).due pass.old pass.new out.new }
         ensures shows { IsFresh (state self.old) → Shows (state self.old).joints (state self.new).joints result out.new (T.seen tap.old) (T.seen tap.new) };
 
-    /// The error of the last get call, where its code wasn't 0. Takes no memory.
+    /// The text of the error of the last get call, where its code wasn't 0 ("The ArrowArrayStream structure",
+    /// `get_last_error`). Takes no memory.
     fn get_last_error(&self) -> Option<&str>
         ensures { lent_text result ≡ text_in (state self.now).said };
 
-    /// The record at fault, after the code of a bad ending.
+    /// The record at fault, where the last call for a chunk refused for it.
     fn fault(&self) -> Option<RowFault>
         ensures { result ≡ (state self.now).fault };
 
@@ -78,7 +81,8 @@ pub trait ArrayStream {
     fn is_released(&self) -> bool
         ensures { result ≡ not (state self.now).live };
 
-    /// Releases the stream with all that it keeps, once. Takes no memory.
+    /// Releases the stream with all that it keeps, once ("The ArrowArrayStream structure", `release`). A released one stays
+    /// as it is. Takes no memory.
     fn release(&mut self, pass: &mut Pass) -> Acted
         requires { pass.old.units + kept (state self.old) ≤ SUPPLY }
         ensures acted { result ≡ Acted.Acted ↔ IsTrue (state self.old).live }

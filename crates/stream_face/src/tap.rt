@@ -11,7 +11,7 @@ use raw_schema::RawSchema;
 use std::alloc::Global;
 use unit_pass::NoMemory;
 
-/// What is shown each chunk of each link.
+/// A listener that is shown each chunk of each link. Link 0 is the source's, and link K that of stage K.
 pub trait Tap {
     /// What it was shown, where it states it.
     ghost seen: { Self → Option (List Seen) };

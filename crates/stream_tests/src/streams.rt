@@ -1,4 +1,4 @@
-//! Tests of checked streams, over strangers' streams that give small trees.
+//! Tests of checked streams, over streams that may be unlawful and give small trees.
 ghost use Rattle.std.specs.Prelude.{◌≡◌, ◌<◌, ◌≤◌, IsTrue, is_some};
 ghost use Rattle.tree_model.specs.Tree.{trees, depth_of_all};
 ghost use Rattle.stream_face.specs.Meaning.{meaning};

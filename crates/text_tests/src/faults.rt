@@ -1,4 +1,4 @@
-//! The texts of faults that no text brings forth: out of memory, pairs too long to be written, and records at fault.
+//! The texts of faults that no text causes: out of memory, pairs too long to be written, and records at fault.
 use col_build::PushFault;
 use data_types::RowFault;
 use fmt_string::FormatFault;

@@ -27,10 +27,14 @@ fn check_trees(alloc: Global, schema: &RawSchema, array: &RawArray) -> Result<Ve
     }
 }
 
-/// The report of the array whose tree a text spells behind its schema's, or the first fault: of the text, of the schema
-/// ("The Arrow C Data Interface", "The ArrowSchema structure"), of the array ("Arrow Columnar Format", "Physical memory
-/// layout"). The array may be of any kind. What was read is released on every path. `NoMemory` comes only where memory runs out;
-/// the texts of needs and windows take none, so a tree of 2^40 items is checked in the time of its text.
+/// The report of the array whose tree a text spells behind its schema's. The array may be of any kind. What was read is
+/// released on every path.
+///
+/// # Errors
+///
+/// The first fault: of the text, of the schema ("The Arrow C Data Interface", "The ArrowSchema structure"), of the array
+/// ("Arrow Columnar Format", "Physical memory layout"). `NoMemory` comes only where memory runs out. The numbers of a fault
+/// take none, so a tree of 2^40 items is checked in the time of its text.
 pub fn check_tree(alloc: Global, bytes: &[u8], pass: &mut Pass) -> Result<Vec<u8>, CheckFault>
     requires { ROOM ≤ pass.old.units }
     ensures report { IfOk result (λ report. ChecksTo bytes.now (Ok report.items)) }

@@ -100,7 +100,7 @@ pub fn import(
 }
 
 impl Imported {
-    /// The array's items.
+    /// The array's items, as a column.
     pub fn col(&self) -> Col<'_>
         ensures window { window_of result ≡ whole (typed_of self.now.typed) self.now.array }
         ensures values { items_of (window_of result) ≡ values_of (typed_of self.now.typed) self.now.array }
@@ -117,6 +117,7 @@ impl Imported {
         &self.typed
     }
 
+    /// The array, lent. It meets the schema's kinds.
     pub fn array(&self) -> &RawArray
         ensures array { result.now ≡ self.now.array }
         ensures lawful { LayoutOk (typed_of self.now.typed) self.now.array }

@@ -6,7 +6,7 @@ ghost use Rattle.tree_task.specs.Columns.{column_number};
 
 use crate::column_number::column_number;
 
-/// What is asked for.
+/// What the words ask for.
 #[derive(Clone, Copy, Debug, PartialEq, Eq)]
 pub enum Command {
     /// A line for each item of a tree of any kind.
@@ -29,7 +29,7 @@ pub enum Command {
     Nest { column: u32 },
 }
 
-/// The command that the words after the program's name are, if they are one.
+/// The command that the words after the program's name spell; none where they spell none.
 pub fn read_command(words: &[String]) -> Option<Command>
     ensures { result ≡ command_of (texts_of words.now) }
 {

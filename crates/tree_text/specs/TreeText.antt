@@ -156,7 +156,7 @@ abbrev pub BufferFits : Option Buffer → Type 0
 BufferFits None = Unit {0}
 BufferFits (Some buffer) = AreBytes buffer.bytes × (buffer.amount ≡ whole)
 
--- what an array node's lines can tell: one that a text tells of is made by an export
+-- what an array node's lines can spell: one that a text spells is made by an export
 pub record ArrayNodeFits (own : ArrayMembers) (children : ℕ) : Type 0 where
   pub numbers : ArrayNumbersFit (numbers_of own) children
   pub buffers : AllByRecursion BufferFits own.buffers

@@ -130,7 +130,7 @@ fn give_up_parts(parts: ArrayParts, pass: &mut Pass)
     }
 }
 
-/// What the line at a cursor tells of a node on a level, and the cursor behind it.
+/// What the line at a cursor says of a node on a level, and the cursor behind it.
 #[tactic(auto, using(crate::proofs::ArrayNodes::line_steps))]
 fn node_line(bytes: &[u8], cursor: Cursor, level: u32) -> Result<(ArrayLine, Cursor), TextFault>
     requires { IsCursor bytes.now cursor }

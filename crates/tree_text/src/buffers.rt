@@ -29,7 +29,7 @@ fn whole_view(alloc: Global, bytes: Vec<u8>, pass: &mut Pass) -> Result<BufView,
     }
 }
 
-/// What the line at a cursor tells of a buffer, and the cursor behind it.
+/// What the line at a cursor says of a buffer, and the cursor behind it.
 #[tactic(auto, using(crate::proofs::ArraySteps::line_steps))]
 fn told_buffer(
     alloc: Global,

@@ -1,4 +1,4 @@
-//! What one line tells: a node's own members and how many parts it has, or a buffer.
+//! What one line says: a node's own members and how many parts it has, or a buffer.
 ghost use Rattle.std.specs.Prelude.{◌≡◌, ◌∷◌, [], Some, None, IfOk, IfSome, IfNone, option_map, Option};
 ghost use Rattle.tree_text.specs.Standing.{fields, read_schema_line, read_array_line, read_buffer_line, read_schema_fields, read_array_fields};
 ghost use Rattle.tree_text.specs.LineView.{IsOther, schema_told, array_told, buffer_told, six};
@@ -27,7 +27,7 @@ pub struct SchemaNodeLine {
     pub dictionaries: u64,
 }
 
-/// What a schema node's line tells.
+/// What a schema node's line says.
 #[derive(Drop)]
 pub enum SchemaLine {
     Released,
@@ -45,14 +45,14 @@ pub struct ArrayNodeLine {
     pub dictionaries: u64,
 }
 
-/// What an array node's line tells.
+/// What an array node's line says.
 #[derive(Clone, Copy)]
 pub enum ArrayLine {
     Released,
     Live(ArrayNodeLine),
 }
 
-/// What a buffer's line tells.
+/// What a buffer's line says.
 #[derive(Drop)]
 pub enum BufferLine {
     Absent,

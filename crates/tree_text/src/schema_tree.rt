@@ -94,7 +94,7 @@ fn built(
     built_schema(alloc, parts, pass)
 }
 
-/// What the line at a cursor tells of a node on a level, and the cursor behind it.
+/// What the line at a cursor says of a node on a level, and the cursor behind it.
 #[tactic(auto, using(crate::proofs::SchemaSteps::line_steps))]
 fn node_line(
     alloc: Global,

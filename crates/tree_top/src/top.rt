@@ -15,19 +15,20 @@ use tree_task::{
 };
 use unit_pass::open_desk;
 
-/// Reads the source to its end and writes the text that a command makes of the trees that it tells of.
+/// Reads the source to its end and writes the text that a command makes of the schema tree and the array tree of that text.
 ///
-/// `words` are those after the program's name, and the text is `ok` and a line for each item of the array. Without words the array
-/// may be of any kind, and a line is the text of an item's value. Under `union` it is read as a union ("Arrow Columnar Format", "Union
-/// Layout"), and a line begins with the item's type id. Under `tag` and `tagdense` the columns of a chunk are made the children of a
-/// sparse or dense union, and a line is the number of the first column that isn't null in a row, with its value. Under `foreign` a
-/// chunk is given to an owner with a release of its own, and drained. Under `runs` there is a line for each run of equal values of a
-/// flat column, with the place behind its last item and its value. Under `flat` the array is read as a run-end encoded one ("Arrow
-/// Columnar Format", "Run-End Encoded Layout"). Under `explode` and `nest` a column of a chunk is named by its number: its lists are
-/// spread out, a row for each item, or the rows are grouped by its values, and there is a line for each row that is made. A text of more than 2^31 bytes is refused as out of memory.
+/// `words` are those after the program's name. The text is `ok` and a line for each item of the array. Without words the
+/// array may be of any kind, and a line is the text of an item's value. Under `union` it is read as a union ("Arrow Columnar
+/// Format", "Union Layout"), and a line begins with the item's type id. Under `tag` and `tagdense` the columns of a chunk are
+/// made the children of a sparse or dense union, and a line is the number of the first column that isn't null in a row, with
+/// its value. Under `foreign` a chunk is given to an owner with a release of its own, and drained. Under `runs` there is a
+/// line for each run of equal values of a flat column, with the place behind its last item and its value. Under `flat` the
+/// array is read as a run-end encoded one ("Arrow Columnar Format", "Run-End Encoded Layout"). Under `explode` and `nest` a
+/// column of a chunk is named by its number from 0: its lists are spread out, a row for each item, or the rows are grouped by
+/// its values, and there is a line for each row that is made. A text of more than 2^31 bytes is refused as out of memory.
 ///
-/// The first of these faults is reported: of the words, of reading, of the text, of the schema, of the array, of the command, of
-/// writing. To `errs` goes the line `arrowtree: status N` of a fault.
+/// The first of these faults is reported: of the words, of reading, of the text, of the schema, of the array, of the command,
+/// of writing. To `errs` goes the line `arrowtree: status N` of a fault.
 pub fn run_tree<S: Source, K: Sink, E: Sink>(
     alloc: Global,
     words: &[String],

@@ -12,7 +12,7 @@ pub const ROOM: u64 = 1 << 26;
 /// The most units that one chunk of a lawful stream costs.
 pub const CHUNK: u64 = 1 << 15;
 
-/// What a closed desk tells of the work that was done through its passes.
+/// The counts of a closed desk: what was made through its passes.
 #[derive(Clone, Copy, Debug, PartialEq, Eq)]
 pub struct Audit {
     /// The blocks of bytes that were made.

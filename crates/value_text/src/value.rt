@@ -1,4 +1,4 @@
-//! The text of an item of a column.
+//! The text of an item of a column, appended to a text.
 ghost use Rattle.std.specs.Prelude.{◌≡◌, ◌+◌, ◌<◌, ◌++◌, ◌^◌, pos, OnOk};
 ghost use Rattle.data_types.specs.Value.{Value, values};
 ghost use Rattle.data_types.specs.Value.Value.{Fields, Items, Null, Truth, Whole, Bits, Bytes};
