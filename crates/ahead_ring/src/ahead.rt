@@ -1,4 +1,4 @@
-//! The items of a maker, made ahead of who takes them.
+//! The items of a maker, made in a thread ahead of the caller who takes them.
 ghost use Rattle.std.specs.Prelude.{◌≡◌, ◌≤◌, true, IfOk};
 ghost use Rattle.ahead_ring.specs.Coming.{Gives};
 ghost use Rattle.ahead_ring.specs.declared.maker.Given.TheVariants.{NoMemory as Refused};

@@ -1,8 +1,8 @@
-//! What gives items one by one.
+//! The trait of makers, which give items one by one.
 ghost use Rattle.std.specs.Prelude.{List};
 ghost use Rattle.ahead_ring.specs.Coming.{Makes};
 
-/// The answer of a call for an item.
+/// What a call for an item answers.
 #[derive(Drop)]
 pub enum Given<I> {
     /// The next item.
@@ -13,7 +13,7 @@ pub enum Given<I> {
     NoMemory,
 }
 
-/// What gives the items of a finite list, in order and each once.
+/// A maker of the items of a finite list, in order and each once.
 pub trait Maker {
     /// What is given. It may be dropped; to go from thread to thread it must be one that may.
     type Item: Drop;

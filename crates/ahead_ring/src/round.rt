@@ -1,4 +1,4 @@
-//! A round: at most this many items made and pushed.
+//! A round: a maker makes at most a number of items and pushes them into the ring.
 ghost use Rattle.std.specs.Prelude.{◌≤◌};
 ghost use Rattle.rtrb.specs.Ring.{sent, known_free, SameProducer};
 ghost use Rattle.ahead_ring.specs.Coming.{IsRound};

@@ -1,4 +1,4 @@
-//! Round upon round: when no item of one is left, the next is joined and the one behind it started.
+//! The rounds, one after another: when no item of one is left, the next is joined and the one behind it started.
 ghost use Rattle.std.specs.Prelude.{◌≡◌, ◌≢◌, ◌≤◌, ◌*◌, ◌++◌, [], length, None, Some, IfSome};
 ghost use mathlib.Core.List.{IsPrefix};
 ghost use Rattle.rtrb.specs.Ring.{sent, received, known_free, known_items, producer_capacity, IsPair};

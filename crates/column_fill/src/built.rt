@@ -1,4 +1,4 @@
-//! The array of a column in the making.
+//! The array that is made of a builder's column.
 ghost use Rattle.std.specs.Prelude.{◌≡◌, ◌+◌, ◌≤◌, List, Option, IfOk, OnErr, OnOk};
 ghost use Rattle.data_types.specs.Value.{Value};
 ghost use Rattle.data_types.specs.declared.kind.DataType.{DataType as AType};

@@ -1,4 +1,4 @@
-//! Items that are moved into a column in the making.
+//! Items of a column added to a builder.
 ghost use Rattle.std.specs.Prelude.{◌≡◌, ◌≢◌, ◌<◌, ◌*◌, Bool, true, if◌then◌else◌, OnErr, OnOk};
 ghost use Rattle.data_types.specs.declared.storage.Storage.{Storage as AStorage};
 ghost use Rattle.data_types.specs.declared.storage.Storage.TheVariants.{Between, Truths, Wholes};
@@ -124,7 +124,8 @@ fn push_rare(
     push(builder, storage, item_of(items, storage, i))
 }
 
-/// Adds an item of a column, of the common ways to store it where it is.
+/// Adds an item of a column to a builder of its type. The common ways to store an item are tried first, in line. `NoMemory`
+/// comes only where memory runs out.
 #[inline(always)]
 pub fn push_item(
     builder: &mut Builder,

@@ -1,4 +1,4 @@
-//! Items of given numbers.
+//! A builder filled with the items of given numbers.
 ghost use Rattle.std.specs.Prelude.{◌≡◌, IfOk};
 ghost use Rattle.data_types.specs.Table.{Flat};
 ghost use Rattle.col_build.specs.Holding.{Holds};

@@ -1,4 +1,4 @@
-//! Items of runs.
+//! A builder filled with the items of runs.
 ghost use Rattle.std.specs.Prelude.{◌≡◌, IfOk};
 ghost use Rattle.data_types.specs.Table.{Flat};
 ghost use Rattle.col_build.specs.Holding.{Holds};

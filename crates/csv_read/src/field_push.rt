@@ -35,7 +35,7 @@ enum PushOutcome {
     NoMemory,
 }
 
-/// What an add of a value that the column takes comes to.
+/// The answer for an add of a value that the column takes.
 #[inline(always)]
 fn outcome(added: Result<(), NoMemory>) -> PushOutcome
     ensures added { result ≡ Added → is_err added ≡ false }

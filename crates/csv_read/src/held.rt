@@ -1,4 +1,4 @@
-//! The rows of a batch apart from its reader.
+//! The rows of a batch, taken out of their reader.
 ghost use Rattle.std.specs.Prelude.{◌≡◌, ◌≤◌, ◌<◌, ◌+◌, ◌*◌, ◌^◌, length, map, IfOk, OnErr, OnOk};
 ghost use Rattle.data_types.specs.ColumnView.{column_of};
 ghost use Rattle.data_types.specs.ColumnKinds.{type_of_columns};

@@ -1,4 +1,4 @@
-//! The records of a text as a stream of chunks.
+//! The records of a text as a stream of chunks, which are read when they are asked for.
 ghost use Rattle.std.specs.Prelude.{◌≡◌, ◌≤◌, ◌^◌, None, Some, map, length, vec_len, IfOk};
 ghost use Rattle.std.specs.Coded.{codes};
 ghost use Rattle.csv_model.specs.Batches.{batches_in};

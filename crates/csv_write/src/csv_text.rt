@@ -1,4 +1,4 @@
-//! The text of a table in the making: its header, and the rows of chunks, read in place.
+//! The text of a table as it is made: its header, and the rows of chunks, read in place.
 //!
 //! A field is written from the item of its column, which is read as the form of the column has it ([`Col::whole`] and its
 //! like). The form is found once for a table, and a chunk's columns once for a chunk, with how their items are read: those that

@@ -1,4 +1,4 @@
-//! Which types a column may have, which of them a field can spell, and a type copied.
+//! Which types a column may have, which of them a field can spell, and copies of types.
 ghost use Rattle.std.specs.Prelude.{◌≡◌, IfOk, IfErr, is_some};
 ghost use Rattle.data_types.specs.FieldText.{stored_form};
 ghost use Rattle.data_types.specs.Kinds.{KindOk, HasZone, is_flat, is_within, is_column_type};
@@ -7,7 +7,7 @@ use crate::{DataType, Storage, storage_of};
 use std::alloc::Global;
 use unit_pass::{Name, NoMemory};
 
-/// The same type once more. Only a timestamp's zone takes memory.
+/// A copy of a type. Only a timestamp's zone takes memory. `NoMemory` comes only where memory runs out.
 pub fn clone_kind(alloc: Global, kind: &DataType) -> Result<DataType, NoMemory>
     requires { KindOk kind.now }
     ensures same { IfOk result (λ copy. copy ≡ kind.now) }

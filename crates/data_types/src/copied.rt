@@ -1,4 +1,4 @@
-//! Columns once more.
+//! Copies of columns.
 ghost use Rattle.std.specs.Prelude.{◌≡◌, All, IfOk, map};
 ghost use Rattle.data_types.specs.ColumnForms.{KindsOk};
 ghost use Rattle.data_types.specs.ColumnView.{column_of, kind_of};
@@ -7,7 +7,7 @@ use crate::{ColKind, ColumnType, clone_kind, struct_of};
 use std::alloc::Global;
 use unit_pass::NoMemory;
 
-/// The same columns once more. `NoMemory` comes only where memory runs out.
+/// A copy of columns. `NoMemory` comes only where memory runs out.
 #[cycle(copy)]
 pub fn clone_columns(alloc: Global, columns: &[ColumnType]) -> Result<Vec<ColumnType>, NoMemory>
     requires { All (λ c. KindsOk (kind_of c.kind)) columns.now }
@@ -20,7 +20,7 @@ pub fn clone_columns(alloc: Global, columns: &[ColumnType]) -> Result<Vec<Column
     Ok(copy)
 }
 
-/// The same column once more. `NoMemory` comes only where memory runs out.
+/// A copy of a column. `NoMemory` comes only where memory runs out.
 #[cycle(copy)]
 pub fn clone_column(alloc: Global, column: &ColumnType) -> Result<ColumnType, NoMemory>
     requires { KindsOk (kind_of column.now.kind) }
@@ -31,7 +31,7 @@ pub fn clone_column(alloc: Global, column: &ColumnType) -> Result<ColumnType, No
     Ok(ColumnType { name, kind })
 }
 
-/// What a column holds, once more.
+/// A copy of what a column holds.
 #[cycle(copy)]
 fn column_kind(alloc: Global, kind: &ColKind) -> Result<ColKind, NoMemory>
     requires { KindsOk (kind_of kind.now) }

@@ -12,6 +12,7 @@ pub struct CountSource {
 }
 
 impl CountSource {
+    /// A source of this many bytes.
     pub fn new(total: u64) -> CountSource
         ensures { count_left result ≡ total }
     {

@@ -37,7 +37,7 @@ pub enum WriteFault {
     Failed { taken: u64 },
 }
 
-/// Where bytes come from.
+/// A source of bytes. Contracts see the bytes that it has left, where it states them, and how often it has failed.
 pub trait Source {
     /// The bytes not yet given, where the source states them.
     ghost left: { Self → Option (List ℕ) };
@@ -45,7 +45,8 @@ pub trait Source {
     /// How often the source has failed.
     ghost faults: { Self → ℕ };
 
-    /// Gives some of the bytes that are left.
+    /// Gives some of the bytes that are left, at most as many as there is room for; or says that none is left, or that it
+    /// failed.
     fn read(&mut self, room: &mut [u8]) -> Got
         requires { 0 < length room.old }
         ensures within { GivesWithin result (length room.old) }
@@ -54,7 +55,7 @@ pub trait Source {
         ensures cause { ReadFailsFor (faults self.old) (faults self.new) result };
 }
 
-/// Where bytes go to.
+/// A sink of bytes. Contracts see the bytes that it took, where it states them, and how often it has failed.
 pub trait Sink {
     /// The bytes taken so far, where the sink states them.
     ghost taken: { Self → Option (List ℕ) };
@@ -62,7 +63,7 @@ pub trait Sink {
     /// How often the sink has failed.
     ghost faults: { Self → ℕ };
 
-    /// Takes some of these bytes.
+    /// Takes some of these bytes, from the first on; or says that it failed.
     fn write(&mut self, piece: &[u8]) -> Took
         requires { 0 < length piece.now }
         ensures within { TakesWithin result (length piece.now) }

@@ -1,4 +1,4 @@
-//! A chunk read by workers.
+//! A chunk read by workers: the call that cuts it into pieces and joins the workers.
 ghost use Rattle.std.specs.Prelude.{◌≡◌, ◌-◌, ◌*◌, ◌<◌, ◌≤◌, length, IfOk, OnOk};
 ghost use Rattle.raw_array.specs.Members.{Cost, LeastAmount, Like, LoweredBy};
 ghost use Rattle.data_types.specs.KindTrees.{TypedOk};

@@ -1,4 +1,4 @@
-//! What is done on a window of a chunk's rows.
+//! The trait of jobs, which are done on a window of a chunk's rows.
 ghost use Rattle.std.specs.Prelude.{◌≤ℤ◌, ℤ, pos, List, length, IfOk};
 ghost use Rattle.data_types.specs.Table.{Row};
 ghost use Rattle.data_types.specs.KindTrees.{KindTree, TypedOk};

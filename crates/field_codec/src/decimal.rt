@@ -13,7 +13,8 @@ use crate::digits::{with_digits, with_few_digits};
 use crate::number::{SHORT, front, short_front, split_sign};
 use crate::powers::{long_power, power};
 
-/// The decimal that a text spells, by its number in units of 10^-places.
+/// The decimal that a text spells, as a whole number in units of 10^-places; none where it spells none of at most `precision`
+/// digits.
 #[inline(always)]
 pub fn read_decimal(precision: u8, places: u32, text: &[u8]) -> Option<i128>
     requires { precision ≤ 38 }

@@ -49,7 +49,8 @@ static PAIRS: [u8; 512] = *b"\
     e0e1e2e3e4e5e6e7e8e9eaebecedeeef\
     f0f1f2f3f4f5f6f7f8f9fafbfcfdfeff";
 
-/// The number that exactly as many digits as this many bits have write, most significant first.
+/// The number that hexadecimal digits write, most significant first, where there are as many as this many bits have; else
+/// none.
 #[inline(always)]
 pub fn read_bits(bits: u8, text: &[u8]) -> Option<u64>
     requires { bits ≤ 64 }
@@ -61,7 +62,7 @@ pub fn read_bits(bits: u8, text: &[u8]) -> Option<u64>
     read_digits(text)
 }
 
-/// The eight bytes that 16 digits write.
+/// The eight bytes that 16 hexadecimal digits write; none for any other text.
 #[inline(always)]
 pub fn read_eight_bytes(text: &[u8]) -> Option<[u8; 8]>
     requires { length text.now ≡ 16 }
@@ -70,7 +71,7 @@ pub fn read_eight_bytes(text: &[u8]) -> Option<[u8; 8]>
     Some(read_digits(text)?.to_be_bytes())
 }
 
-/// The sixteen bytes that 32 digits write.
+/// The sixteen bytes that 32 hexadecimal digits write; none for any other text.
 #[inline(always)]
 pub fn read_sixteen(text: &[u8]) -> Option<[u8; 16]>
     requires { length text.now ≡ 32 }
@@ -112,7 +113,8 @@ fn digit(byte: u8) -> u8
     DIGITS[usize::from(byte)]
 }
 
-/// The digits of a number of this many bits, in lower case.
+/// The hexadecimal digits of a number of this many bits, in lower case, made in the room. `NoMemory` comes only where memory
+/// runs out.
 #[inline(always)]
 pub fn bits_text<'a>(bits: u8, number: u64, room: &'a mut Vec<u8>) -> Result<&'a [u8], NoMemory>
     requires { bits ≤ 64 }
@@ -150,7 +152,8 @@ fn glyph(value: u64) -> u8
     }
 }
 
-/// The bytes that pairs of digits write.
+/// The bytes that pairs of hexadecimal digits write, made in the room; none for any other text. `NoMemory` comes only where
+/// memory runs out.
 pub fn read_bytes<'a>(text: &[u8], room: &'a mut Vec<u8>) -> Result<Option<&'a [u8]>, NoMemory>
     ensures { IfOk result (λ bytes. option_map (λ b. b.now) bytes ≡ hex_bytes text.now) }
 {
@@ -187,7 +190,7 @@ fn put_eight(room: &mut [u8], at: usize, eight: &[u8; 8])
     room[at..at + 8].copy_from_slice(eight);
 }
 
-/// The pairs of digits of bytes, in lower case.
+/// The pairs of hexadecimal digits of bytes, in lower case, made in the room. `NoMemory` comes only where memory runs out.
 #[inline(always)]
 pub fn bytes_text<'a>(bytes: &[u8], room: &'a mut Vec<u8>) -> Result<&'a [u8], NoMemory>
     ensures { IfOk result (λ text. text.now ≡ hex_text bytes.now) }

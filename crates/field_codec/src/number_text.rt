@@ -11,7 +11,7 @@ use unit_pass::NoMemory;
 /// What the text of a number of 64 bits takes at most: a minus, 20 digits, a point and 18 digits.
 const WIDTH: usize = 40;
 
-/// The text of a whole number.
+/// The text of a whole number in decimal, made in the room. `NoMemory` comes only where memory runs out.
 #[inline(always)]
 pub fn whole_text<'a>(number: i128, room: &'a mut Vec<u8>) -> Result<&'a [u8], NoMemory>
     ensures { IfOk result (λ text. text.now ≡ signed_decimal number) }
@@ -61,7 +61,8 @@ fn write_whole(minus: bool, number: u64, text: &mut [u8], end: usize) -> usize
     start - 1
 }
 
-/// The text of a decimal, by its number in units of 10^-places.
+/// The text of a decimal, which is given as a whole number in units of 10^-places, made in the room. `NoMemory` comes only
+/// where memory runs out.
 #[inline(always)]
 pub fn decimal_text<'a>(
     places: u32,

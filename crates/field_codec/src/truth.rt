@@ -27,7 +27,7 @@ fn rare_truth(text: &[u8]) -> Option<bool>
     }
 }
 
-/// The text of a truth value.
+/// The text of a truth value: `true` or `false`.
 pub fn truth_text(truth: bool) -> &'static [u8]
     ensures { result.now ≡ (if truth then codes "true" else codes "false") }
 {

@@ -5,7 +5,7 @@ ghost use Rattle.data_types.specs.Value.{Whole};
 
 use crate::number::{magnitude, split_sign};
 
-/// The whole number that a text spells, where this many bits hold it.
+/// The whole number that a text spells, where this many bits hold it, with a sign or without; else none.
 #[inline(always)]
 pub fn read_whole(bits: u8, signed: bool, text: &[u8]) -> Option<i128>
     requires { IsFlatForm (Wholes bits signed) }

@@ -1,4 +1,4 @@
-//! What a foreign producer keeps beside a tree.
+//! The trait of owners: what a foreign producer keeps beside a tree, and how it is given back.
 ghost use Rattle.std.specs.Prelude.{◌≡◌, ◌+◌, ◌≤◌, ℕ};
 ghost use Rattle.unit_pass.specs.declared.pass.TheConstants.{SUPPLY};
 

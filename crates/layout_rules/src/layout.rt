@@ -45,7 +45,8 @@ pub fn layout_of(kind: &DataType) -> Layout
     }
 }
 
-/// How many buffers an array with this many must have.
+/// How many buffers an array of this layout must have, where it has this many: the number is the layout's, and views need at
+/// least 3 ("Arrow Columnar Format", "Buffer Listing for Each Layout").
 pub fn buffer_count(layout: Layout, found: usize) -> usize
     ensures { result ≡ buffer_count layout found }
 {

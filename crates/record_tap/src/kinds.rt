@@ -1,4 +1,4 @@
-//! The kinds of a schema once more.
+//! Copies of the kinds of a schema.
 ghost use Rattle.std.specs.Prelude.{◌≡◌, IfOk, map};
 ghost use Rattle.tree_model.specs.Tree.{trees};
 ghost use Rattle.data_types.specs.KindTrees.{AllNodesOk, NodesOk};
@@ -8,7 +8,7 @@ use data_types::{Typed, clone_kind, kinds_of_typed};
 use std::alloc::Global;
 use unit_pass::NoMemory;
 
-/// The same kinds once more.
+/// A copy of kinds.
 #[cycle(kinds)]
 pub(crate) fn kept_kinds(alloc: Global, typed: &Typed) -> Result<Typed, NoMemory>
     requires { NodesOk (typed_of typed.now) }

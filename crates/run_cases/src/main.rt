@@ -22,7 +22,7 @@ use std::io::{Error, ErrorKind};
 use std::thread::Threads;
 use told::{answers_of, row_answers_of};
 
-/// Writes a line that is not understood once more, and ends the program.
+/// Writes a line that it can't read as it is, and ends the program.
 fn refuse(rt: &impl Print, line: &str) -> io::Result<()> {
     println!(rt; "?? {line}")?;
     Err(Error::from(ErrorKind::InvalidData))

@@ -1,4 +1,4 @@
-//! Why a schema is none of a run-end encoded array.
+//! Why a schema isn't that of a run-end encoded array.
 ghost use Rattle.std.specs.Prelude.{◌≡◌};
 ghost use Rattle.run_ends.specs.declared.schema_fault.RunsSchemaFault.TheVariants as faults;
 
@@ -7,7 +7,7 @@ use schema_check::SchemaFault;
 use schema_meta::MetaFault;
 use std::alloc::{AllocError, AllocFailed};
 
-/// Why a schema is none of a run-end encoded array, tried from the first to the last. An out-of-memory is never inside
+/// Why a schema isn't that of a run-end encoded array, tried from the first to the last. An out-of-memory is never inside
 /// another fault.
 #[derive(Clone, Copy, Debug, PartialEq, Eq)]
 pub enum RunsSchemaFault {

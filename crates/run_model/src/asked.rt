@@ -51,7 +51,8 @@ pub struct CommandLine {
     pub task: Result<Task, RunFault>,
 }
 
-/// Reads the words and the texts among them.
+/// Reads the words after the program's name, and the texts of the stages and of the schema among them. `NoMemory` is a fault
+/// of its own.
 pub fn read_command_line(alloc: Global, words: &[String]) -> CommandLine
     ensures asks { (result.task ≡ Err RunFault.NoMemory) ⊎ Asks (texts_of words.now) (asked_of result.task) }
     ensures only { (result.task ≡ Err RunFault.NoMemory)

@@ -1,4 +1,4 @@
-//! Why a run wrote no text, or not all of it.
+//! The fault of a run: why it wrote no text, or not all of it.
 use crate::WordsFault;
 use csv_model::HeaderFault;
 use stage_plan::{PlanFault, PlanRule, StageFault, TypesRule};

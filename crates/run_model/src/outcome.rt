@@ -1,4 +1,4 @@
-//! What a run came to.
+//! The outcome of a run: its fault, its exit status and its audit.
 ghost use Rattle.std.specs.Prelude.{◌≡◌, Some};
 ghost use Rattle.run_model.specs.Answer.{status_of};
 ghost use Rattle.run_model.specs.Outcomes.{fault_in};
@@ -6,7 +6,7 @@ ghost use Rattle.run_model.specs.Outcomes.{fault_in};
 use crate::fault::RunFault;
 use unit_pass::Audit;
 
-/// What a run came to.
+/// What a run came to: its fault, its exit status and its audit.
 #[derive(Clone, Copy, PartialEq, Eq, Debug)]
 pub struct Outcome {
     /// A function of the fault: 0 without one; 2 for the words, 3 for the stages and the schema text, 4 for the header and the
@@ -17,7 +17,7 @@ pub struct Outcome {
     pub audit: Audit,
 }
 
-/// What a run came to that was carried out or failed so, with this audit.
+/// The outcome of a run that wrote its text or failed with this fault, with this audit.
 pub fn outcome_of(carried: Result<(), RunFault>, audit: Audit) -> Outcome
     ensures status { result.status ≡ status_of result.fault }
     ensures fault { result.fault ≡ fault_in carried }

@@ -1,4 +1,4 @@
-//! What the steps of stages are: each is made of a step of the plan, whatever its kind is.
+//! The trait of a type that has steps of all kinds: each is made of a step of the plan.
 ghost use Rattle.std.specs.Prelude.{◌≡◌, ◌≤◌, IsTrue, List, Option, Some, map};
 ghost use Rattle.data_types.specs.ColumnView.{column_of};
 ghost use Rattle.data_types.specs.Table.{Column, Row};

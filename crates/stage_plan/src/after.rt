@@ -116,7 +116,7 @@ fn add(column: ColumnType, after: &mut Vec<ColumnType>) -> Result<(), NoMemory>
     Ok(())
 }
 
-/// Adds the same columns once more.
+/// Appends copies of columns.
 fn add_columns(
     alloc: Global,
     columns: &[ColumnType],

@@ -16,7 +16,7 @@ use std::alloc::Global;
 use std::collections::HashSet;
 use unit_pass::{Name, NoMemory};
 
-/// The type of the column of a name.
+/// An entry of a schema text: the type of the column of a name.
 #[derive(Debug, Drop)]
 pub struct TypeEntry {
     /// The name, which may be empty.

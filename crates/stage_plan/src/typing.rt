@@ -19,7 +19,7 @@ use stage_model::{Picks, PlanFault, PlanRule, StageText, Step, Test};
 use std::alloc::Global;
 use unit_pass::{Name, NoMemory};
 
-/// What stages are over columns.
+/// What stages are over columns, by numbers from 0.
 #[derive(Debug, Drop)]
 pub struct Plan {
     /// The columns that are read, and those after each stage.

@@ -24,7 +24,7 @@ pub fn stages_keep_columns()
         → column_structs stage.columns ≤ 1 + column_structs columns }
 {}
 
-/// A law: its picks are different columns.
+/// A law: a stage that no rule refuses picks different columns.
 pub fn picks_are_distinct()
     ensures { (columns : List Column) (stage : Stage) → IsStageOver columns stage → DistinctPicks stage.step }
 {}

@@ -25,7 +25,7 @@ use unit_pass::{NoMemory, Pass, ROOM, SUPPLY};
 /// Who adds a stage writes its rows (`fits`, `columns`, `ahead`), its counts (`blocks`, `nodes`), what its chunks have besides
 /// (`gives`; `rows_only` where that is nothing), what `push` makes of a chunk, and the law of `lawful_facts`. A step that holds
 /// nothing of chunks has `always` for `rests` and `any_tables` for `takes`, gives nothing in `finish` and does nothing in `forget`.
-/// The stream comes for nothing: its schema, the order of calls, an out-of-memory that stays, refusals, what is shown and counted
+/// The stream needs no work: its schema, the order of calls, an out-of-memory that stays, refusals, what is shown and counted
 /// below ([`Stage`](crate::Stage)).
 ///
 /// After a chunk that it gave, a step holds nothing of chunks (`rests`). One that keeps something of them between two chunks that it

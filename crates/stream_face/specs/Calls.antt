@@ -49,7 +49,7 @@ pub record SchemaAnswer (columns : List Column) (code : ℤ) (out : SchemaTree) 
   pub nodes : code ≡ pos 0 → after.nodes ≡ risen before.nodes (Nodes (SchemaOf columns))
   pub wants : code ≢ pos 0 → said ≡ Some wanting
 
--- it gives the next table, or comes to its end, or to its bad record, or wants memory
+-- it gives the next table, or comes to its end, or to its bad record, or runs out of memory
 pub record Answers (old new : Stream) (code : ℤ) (out : ArrayTree) : Type 0 where
   pub chunk : IsLive out → (rows : List Row) × (old.ahead ≡ rows ∷ new.ahead) × IsChunkOf old.columns rows out
   pub finish : code ≡ pos 0 → out ≡ Released → (old.ahead ≡ []) × (new.ahead ≡ []) × (old.ending ≡ None)

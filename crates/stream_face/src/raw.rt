@@ -1,4 +1,4 @@
-//! A stream with its schema, each of whose chunks is checked and shown.
+//! The checked stream: a stream with its schema, each of whose chunks is checked and shown to a tap.
 ghost use Rattle.std.specs.Prelude.{◌≡◌, ◌≢◌, ◌≤◌, ◌+◌, ◌↔◌, IsTrue, List, ℕ, ℤ, None, Some, Option, true, false, pos, IfOk, IfErr, IsSomeAnd, MatchResult, OnOk};
 ghost use Rattle.std.specs.Prelude.{not, [], ◌∷◌};
 ghost use Rattle.std.specs.Thread.{IsSync};

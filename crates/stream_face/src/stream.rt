@@ -1,4 +1,4 @@
-//! The trait that every stream keeps.
+//! The trait of streams of chunks.
 ghost use Rattle.std.specs.Prelude.{◌≡◌, ◌≢◌, ◌≤◌, ◌+◌, ◌↔◌, IsTrue, false, not, pos};
 ghost use Rattle.std.specs.Thread.{IsSync};
 ghost use Rattle.tree_model.specs.Tree.{Released};

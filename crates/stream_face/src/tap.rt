@@ -1,4 +1,4 @@
-//! What is shown the chunks of a run.
+//! The trait of taps, which are shown the chunks of a run.
 ghost use Rattle.std.specs.Prelude.{◌≡◌, List, Option, [], ◌∷◌, IsOk, OnErr, OnOk};
 ghost use Rattle.schema_check.specs.Schemas.{TypedOf};
 ghost use Rattle.data_types.specs.TypedView.{typed_of};

@@ -65,7 +65,8 @@ fn run_command<S: Source, K: Sink>(
     }
 }
 
-/// Reads the source, makes the text of the command and writes it, where there is a command.
+/// Reads the source to its end, makes the text of the command and writes it to the sink, where there is a command; or answers
+/// the first fault.
 pub fn run_over_source<S: Source, K: Sink>(
     alloc: Global,
     command: Option<Command>,

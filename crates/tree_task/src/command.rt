@@ -1,4 +1,4 @@
-//! Commands.
+//! The commands of the program for trees, and the words that spell them.
 ghost use Rattle.std.specs.Prelude.{◌≡◌, string_bytes};
 ghost use Rattle.std.specs.Str.{bytes_eq};
 ghost use Rattle.tree_task.specs.Answer.{command_named, command_of, command_of_column, texts_of};

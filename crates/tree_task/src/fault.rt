@@ -1,4 +1,4 @@
-//! Why a run wrote no text, or not all of it.
+//! The fault of a run: why it wrote no text, or not all of it.
 ghost use Rattle.std.specs.Prelude.{◌≡◌};
 ghost use Rattle.tree_task.specs.Refusals.{fault_of_union_schema, rule_told};
 ghost use Rattle.union_cols.specs.UnionAnswers.{rule_of};

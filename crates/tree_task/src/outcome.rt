@@ -1,11 +1,11 @@
-//! What a run came to.
+//! The outcome of a run: its fault, its exit status and its audit.
 ghost use Rattle.std.specs.Prelude.{◌≡◌, Some};
 ghost use Rattle.tree_task.specs.Faults.{fault_in, status_of};
 
 use crate::fault::TreeRunFault;
 use unit_pass::Audit;
 
-/// What a run came to.
+/// What a run came to: its fault, its exit status and its audit.
 #[derive(Clone, Copy, PartialEq, Eq, Debug)]
 pub struct TreeOutcome {
     /// A function of the fault: 0 without one; 2 for the words, 5 for an input that is too long, 6 and 7 for reading and writing,
@@ -16,7 +16,7 @@ pub struct TreeOutcome {
     pub audit: Audit,
 }
 
-/// What a run came to that was carried out or failed so, with this audit.
+/// The outcome of a run that wrote its text or failed with this fault, with this audit.
 pub fn outcome_of(carried: Result<(), TreeRunFault>, audit: Audit) -> TreeOutcome
     ensures status { result.status ≡ status_of result.fault }
     ensures fault { result.fault ≡ fault_in carried }

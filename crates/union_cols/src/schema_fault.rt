@@ -1,4 +1,4 @@
-//! Why a schema is no union's.
+//! Why a schema isn't that of a union.
 ghost use Rattle.std.specs.Prelude.{◌≡◌};
 ghost use Rattle.union_cols.specs.declared.schema_fault.UnionSchemaFault.TheVariants as faults;
 
@@ -7,7 +7,7 @@ use schema_check::SchemaFault;
 use schema_meta::MetaFault;
 use std::alloc::{AllocError, AllocFailed};
 
-/// Why a schema is no union's, tried from the first to the last. An out-of-memory is never inside another fault.
+/// Why a schema isn't that of a union, tried from the first to the last. An out-of-memory is never inside another fault.
 #[derive(Clone, Copy, Debug, PartialEq, Eq)]
 pub enum UnionSchemaFault {
     /// The schema is released.

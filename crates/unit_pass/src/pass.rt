@@ -158,7 +158,7 @@ impl Pass {
         }
     }
 
-    /// Takes in the units and the counts of another pass.
+    /// Takes in the units and the counts of another pass, which is spent.
     pub fn join(&mut self, other: Pass)
         requires { self.old.units + other.units ≤ SUPPLY }
         ensures units { self.new.units ≡ self.old.units + other.units }

@@ -46,7 +46,7 @@ fn append(bytes: &mut Vec<u8>, piece: &[u8]) -> Result<(), NoMemory>
 }
 
 impl BoundedText {
-    /// No bytes. Takes no memory.
+    /// A text without bytes. Takes no memory.
     pub fn new(alloc: Global) -> BoundedText
         ensures { result ≡ [] }
     {
@@ -56,7 +56,7 @@ impl BoundedText {
         }
     }
 
-    /// Refuses this many bytes more, where they would be too many, before any of them is made.
+    /// `NoMemory` where the text would be too long with this many bytes more, before any of them is made.
     pub fn has_room(&self, count: u64) -> Result<(), NoMemory>
         ensures { OnOk result (length self.now + count ≤ text_limit) }
     {
@@ -103,7 +103,7 @@ impl BoundedText {
         append(&mut self.bytes, text)
     }
 
-    /// The bytes.
+    /// The bytes of the text.
     pub fn into_bytes(self) -> Vec<u8>
         ensures bytes { result.items ≡ self }
         ensures within { vec_len result ≤ text_limit }
