@@ -1,8 +1,8 @@
 #!/bin/sh
-# tree.sh BYTES [KIND]: writes a made tree as a text of about so many bytes to standard output, which is lawful.
+# tree.sh BYTES [KIND]: writes a made tree as a text of about this many bytes to standard output, which is lawful.
 #   text:  a struct of one column of 6 bytes of text a row
-#   nodes: a struct of so many columns of whole numbers, each of one row
-#   pairs: a column without rows whose metadata has so many empty pairs, of 24 bytes of text each
+#   nodes: a struct of this many columns of whole numbers, each of one row
+#   pairs: a column without rows whose metadata has this many empty pairs, of 24 bytes of text each
 #   lists: lists of three indices of a byte each into a dictionary of 200 texts of 7 bytes
 #   union: a dense union of whole numbers, texts of 6 bytes and wide whole numbers, in turn
 #   numbers: a column of whole numbers, each another one than that before it
@@ -15,7 +15,7 @@ exec awk -v size="$bytes" -v kind="$kind" '
 function le(n, k,   i, s) { s = ""; for (i = 0; i < k; i++) { s = s sprintf("%02x", n % 256); n = int(n / 256) } return s }
 function token(b) { return b > 32 && b < 127 && b != 37 ? sprintf("%c", b) : sprintf("%%%02X", b) }
 function escaped(n, k,   i, s) { s = ""; for (i = 0; i < k; i++) { s = s token(n % 256); n = int(n / 256) } return s }
-# A column without nulls: so many numbers of k bytes, each so often, from the first on, a step apart, modulo a number.
+# A column without nulls: this many numbers of k bytes, each this often, from the first on, a step apart, modulo a number.
 function wholes(n, k, times, first, step, modulus,   i, j, v) {
   printf "A " n * times " 0 0 2 0 0\nB ~\nB ="
   for (i = 0; i < n; i++) { v = le((first + step * i) % modulus, k); for (j = 0; j < times; j++) printf "%s", v }

@@ -92,7 +92,7 @@ pub takes-number : (n : ℕ) (values : List Value) (builder : Builder) → lengt
     → Holds builder long values → Takes builder (whole n)
 takes-number n values builder = takes long values (whole n) builder
 
--- ---- what is told
+-- ---- the text of the refusal
 
 pub told : codes "record 4: 1 fields" ≡ row_fault_text own_record
 unfolding digits

@@ -1,7 +1,7 @@
 //! Distinct texts, numbered in the order in which they first appear.
 //!
-//! A [`Distinct`] is given texts, lends them and keeps each once. It answers the number of each text, from 0, and whether
-//! the text is new. No text is copied. `NoMemory` comes only where memory runs out.
+//! A [`Distinct`] borrows the texts that it is given, and keeps each once. It answers the number of each, from 0, and
+//! whether it is new. No text is copied. `NoMemory` comes only where memory runs out.
 //!
 //! What the contracts say (`specs/Distinct.antt`): the numbers are those of the order of first appearance, whatever the
 //! texts are. Ordinary texts are found by their hash in a constant number of steps. Of texts with one hash, those beyond

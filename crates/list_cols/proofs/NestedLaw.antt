@@ -37,7 +37,7 @@ all-each P f a (suc n) at (suc k) d lt =
     all-each P f (suc a) n (λ i small. let place : a + suc i ≡ suc a + i = omega arith in
     subst (λ j. P (f j)) place (at (suc i) (omega (arith, small)))) k d (omega (arith, lt))
 
--- ---- columns that are told by their numbers
+-- ---- columns by their numbers
 
 lawful-each : (types : ℕ → KindTree) (columns : ℕ → ArrayTree) (a n : ℕ)
     → ((i : ℕ) → i < n → IsLive (types (a + i)) × LayoutOk (types (a + i)) (columns (a + i))) → AreLawful (each types a n) (each columns a n)

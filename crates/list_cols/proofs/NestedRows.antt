@@ -15,7 +15,7 @@ use Rattle.list_cols.specs.ListTrees.{joined, list_lengths}
 use Rattle.list_cols.specs.Nested.{rows_with}
 use Rattle.list_cols.specs.NestedGroups.{grouped_lists}
 
--- ---- rows that are told by their numbers
+-- ---- rows by their numbers
 
 key-if : (b : Bool) (k a : ℕ) (r : Row) (rs : List Row) (value : ℕ → Value) (is : List ℕ) → get_or r k Null ≡ value a → column_values k rs ≡ map value is
     → column_values k (if b then r ∷ rs else rs) ≡ map value (if b then a ∷ is else is)

@@ -39,7 +39,7 @@ widths-behind (x ∷ xs) ys w width few e more zero d lt = few 0 d (omega arith)
 widths-behind (x ∷ xs) ys w width few e more (suc k) d lt =
     widths-behind xs ys w width (λ i c l. few (suc i) c (omega (arith, l))) e more k d (omega (arith, lt))
 
--- ---- of rows that are told by their numbers: all have this many values, and a list in the column
+-- ---- of rows by their numbers: all have this many values, and a list in the column
 
 module _ (row : ℕ → Row) (lists : ℕ → Value) (column width : ℕ) (inside : column < width) (wide : (i : ℕ) → length (row i) ≡ width)
     (is_list : (i : ℕ) → get_or (row i) column Null ≡ lists i) where

@@ -13,9 +13,8 @@
 //! audit's where the words ask for it. No line takes memory, and a failed write there changes nothing else.
 //!
 //! `specs/Traffic.antt` says what a run shows and counts. The law [`one_answer`] says that all words and bytes have exactly
-//! one answer. [`run_task`] does what the words ask for, by steps of any type; [`AnyStep`] is a step of one of the eight
-//! kinds; [`drive`] is the chain of stages over a stream by these steps; [`run_to_exit`] answers the exit status of a
-//! process.
+//! one answer. [`run_task`] does what the words ask for, by steps of any type; [`AnyStep`] is a step of any kind; [`drive`]
+//! is the chain of stages over a stream by these steps; [`run_to_exit`] answers the exit status of a process.
 //!
 //! Left to others: what the words ask for, the faults, the outcome and the lines (`run_model`), what CSV means
 //! (`csv_model`), what stages mean (`stage_model`) and how they are spelled (`stage_plan`), the source (`csv_source`), the

@@ -1,7 +1,7 @@
 //! The request of a run, its outcome and its lines: what the words of the command ask for, which fault ended the run, and
 //! the lines of the fault and of the audit.
 //!
-//! - [`read_words`] reads the words of the command ([`Words`]), or answers the first fault of theirs.
+//! - [`read_words`] reads the words of the command ([`Words`]), or answers why they are refused ([`WordsFault`]).
 //! - [`read_command_line`] reads the words, and the texts of the stages and of the schema among them. It answers what is
 //!   asked for (a [`Task`]: a table by stages, or the check of a tree) or the first fault, and whether the audit is wanted.
 //! - [`RunFault`] is why a run wrote no text, or not all of it. The faults of the parts become faults of the run by `From`.

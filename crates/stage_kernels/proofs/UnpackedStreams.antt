@@ -24,7 +24,7 @@ use Rattle.stages.proofs.CodedColumns.{coded_columns, coded_kind}
 use Rattle.stages.proofs.Spliced.{at-behind, at-front, at-middle, each-holds, length-spliced, spliced}
 use Rattle.stage_kernels.specs.Unpacks.{UnpackFits}
 
--- ---- a fit, told
+-- ---- a fit
 
 same-fields : (kind : Kind) (fields : Members) → kind ≡ Columns fields → struct_members kind ≡ fields
 same-fields kind fields is = ap struct_members is

@@ -137,12 +137,12 @@ pub live_unless : {M : Type 0} (t : Tree M) → (t ≡ Released → ⊥) → IsL
 live_unless Released h = absurd (h refl)
 live_unless (Live members children dictionary) h = tt
 
--- where a call answers 0, no refusal is told
+-- where a call answers 0, there is no refusal
 pub tells_nothing : (code : ℤ) (said : Option Refusal) → Tells code said → code ≡ pos 0 → said ≡ None
 tells_nothing code None tells zero = refl
 tells_nothing code (Some refusal) tells zero = absurd (tells.1 zero)
 
--- where a refusal is told, a call doesn't answer 0
+-- where there is a refusal, a call doesn't answer 0
 pub tells_refusal : (code : ℤ) (said : Option Refusal) (refusal : Refusal) → Tells code said → said ≡ Some refusal → code ≢ pos 0
 tells_refusal code None refusal tells e = absurd (cc)
 tells_refusal code (Some told) refusal tells e = tells.1

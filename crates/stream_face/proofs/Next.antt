@@ -77,7 +77,7 @@ never_live t released live = absurd (subst IsLive released live)
 
 -- ---- where the inner stream refuses
 
--- a refusal is told, with its code
+-- a refusal is answered, with its code
 pub tells-kept : (kept : Option StreamFault) (said : Option Refusal) (code r : ℤ) → HasCode kept code → r ≡ code → code ≢ pos 0
     → Tells r (refusal_or kept said said)
 tells-kept None said code r of same_code nonzero = absurd of

@@ -104,7 +104,7 @@ module _ (rows : List Row) (fault : Option ListFault) where
 
 -- ---- the chunk that is made
 
--- its lines, told of its rows
+-- its lines, by its rows
 pub made-lines : ((typed : KindTree) (array : ArrayTree) → IsLive typed → ChunkOk typed array → ChunkHolds typed array) → (typed : KindTree) (array : ArrayTree)
     → TypedOk typed → ChunkOk typed array → lines_text (values_of typed array) ≡ lines_text (map row_value (rows_of typed array))
 made-lines tables typed array ok chunk =

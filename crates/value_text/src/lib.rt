@@ -11,8 +11,9 @@
 //!
 //! The definitions are in `specs/ValueTexts.antt` of `data_types` (the text of a value) and `specs/Lengths.antt` (its
 //! length). The calls go down one level of the checked kinds at a time. They take no memory but that of the text and of the
-//! lengths, and answer `NoMemory` only where it runs out or a text is too long. Left to others: whether an array is lawful
-//! (`layout_check`), and what an item of it is (`arr_import`).
+//! lengths, and answer `NoMemory` only where it runs out, where a text is too long, or where there are more than
+//! [`MOST_MEASURED`] items to measure. Left to others: whether an array is lawful (`layout_check`), and what an item of it
+//! is (`arr_import`).
 #![tactic(auto)]
 
 mod bounded;
