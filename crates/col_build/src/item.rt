@@ -4,7 +4,9 @@ use std::fmt;
 /// An item of a column: a null, a truth value, a whole number, the bits of a float, or bytes.
 #[derive(Clone, Copy, Debug, PartialEq, Eq)]
 pub enum Item<'a> {
+    /// A null.
     Null,
+    /// A truth value.
     Truth(bool),
     /// Of integers, dates, times, timestamps, durations, months, and decimals by their unscaled number.
     Whole(i128),
@@ -24,6 +26,7 @@ pub enum PushFault {
     OutOfRange,
     /// The bytes of a text aren't UTF-8.
     NotText,
+    /// Memory ran out.
     NoMemory,
 }
 

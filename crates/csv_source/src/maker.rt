@@ -13,7 +13,9 @@ use unit_pass::NoMemory;
 /// A piece of a text: the rows of its next records, or the record at which the rows end.
 #[derive(Drop)]
 pub enum Piece {
+    /// The rows of the next batch.
     Rows(BatchRows<SharedText>),
+    /// The record that spells no row, behind which there is no piece.
     Bad(RowFault),
 }
 

@@ -19,7 +19,9 @@ pub struct RefusedRecord {
 /// Why a call for a chunk refused.
 #[derive(Drop)]
 pub enum Refused {
+    /// A record spells no row.
     Row(RefusedRecord),
+    /// Memory ran out.
     NoMemory,
 }
 

@@ -1,4 +1,4 @@
--- How the values of each type are stored (Arrow Columnar Format, "Physical memory layout"): the one table of it.
+-- How the values of each type are stored ("Arrow Columnar Format", "Physical memory layout"): the one table of it.
 use Rattle.std.specs.Prelude.{ℕ, true, false}
 use Rattle.data_types.specs.declared.kind.DataType.{DataType}
 use Rattle.data_types.specs.declared.kind.DataType.TheVariants as kinds

@@ -1,4 +1,4 @@
--- Values of the columnar format (Arrow Columnar Format, "Physical memory layout").
+-- Values of the columnar format ("Arrow Columnar Format", "Physical memory layout").
 use Rattle.std.specs.Prelude.{ℕ, ℤ, Bool, true, false, List, [], ◌∷◌, length, map}
 use Rattle.std.specs.List.{concat}
 

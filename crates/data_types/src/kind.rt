@@ -10,13 +10,14 @@ pub enum Tick {
     Nano,
 }
 
-/// A type of the columnar format (Arrow Columnar Format, "Physical memory layout"; The Arrow C Data Interface, "Data
-/// type description: format strings"). A `wide` binary, text or list has offsets of 64 bits, and a `wide` decimal has
-/// 256 bits. A type's numbers are in their ranges where `KindOk` holds of it, which `fmt_string::read_format` and
-/// `clone_kind` promise.
+/// A type of the columnar format ("Arrow Columnar Format", "Physical memory layout"; "The Arrow C Data Interface", "Data type
+/// description -- format strings"). A `wide` binary, text or list has offsets of 64 bits, and a `wide` decimal has 256 bits.
+/// A type's numbers are in their ranges where `KindOk` holds of it, which `fmt_string::read_format` and `clone_kind` promise.
 #[derive(Debug, Drop)]
 pub enum DataType {
+    /// Nulls alone.
     Null,
+    /// Truth values.
     Bool,
     /// Of 8, 16, 32 or 64 bits.
     Int {
@@ -27,9 +28,11 @@ pub enum DataType {
     Float {
         bits: u8,
     },
+    /// Bytes between offsets.
     Binary {
         wide: bool,
     },
+    /// UTF-8 between offsets.
     Utf8 {
         wide: bool,
     },
@@ -57,12 +60,17 @@ pub enum DataType {
         tick: Tick,
         zone: Name,
     },
+    /// A length of time, 8 bytes.
     Duration {
         tick: Tick,
     },
+    /// Months, 4 bytes.
     IntervalMonths,
+    /// Days and milliseconds, 8 bytes.
     IntervalDayTime,
+    /// Months, days and nanoseconds, 16 bytes.
     IntervalMonthDayNano,
+    /// Lists between offsets.
     List {
         wide: bool,
     },
@@ -70,6 +78,7 @@ pub enum DataType {
     FixedList {
         size: u32,
     },
+    /// A value of each child.
     Struct,
     /// A list of structs of a key and a value.
     Map,
@@ -95,6 +104,8 @@ pub enum ColKind {
 #[derive(Debug, Drop)]
 #[cycle(column)]
 pub struct ColumnType {
+    /// The name, as bytes.
     pub name: Name,
+    /// What the column holds.
     pub kind: ColKind,
 }

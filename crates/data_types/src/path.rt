@@ -9,7 +9,9 @@ ghost use Rattle.data_types.specs.Ways.{Steps, path_of, steps_of};
 /// steps lead there; what follows them means nothing, and two paths are equal where their steps are.
 #[derive(Clone, Copy, Debug)]
 pub struct Path {
+    /// The number of steps, at most 64.
     pub depth: u8,
+    /// The steps, and behind `depth` of them any numbers.
     pub steps: [u32; 64],
 }
 

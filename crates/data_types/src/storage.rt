@@ -5,7 +5,7 @@ ghost use Rattle.data_types.specs.declared.storage.Storage.TheVariants.{Wholes};
 
 use crate::{DataType, Tick};
 
-/// How the values of a type are stored (Arrow Columnar Format, "Physical memory layout"). What depends on the layout of a
+/// How the values of a type are stored ("Arrow Columnar Format", "Physical memory layout"). What depends on the layout of a
 /// type alone asks for this, and not for the type.
 #[derive(Clone, Copy, Debug, PartialEq, Eq)]
 pub enum Storage {

@@ -140,7 +140,7 @@ fn spelling(alloc: Global, kind: &DataType) -> Result<Vec<u8>, NoMemory>
     Ok(text)
 }
 
-/// The one canonical spelling of a type (The Arrow C Data Interface, "Data type description -- format strings"), which
+/// The one canonical spelling of a type ("The Arrow C Data Interface", "Data type description -- format strings"), which
 /// `read_format` reads as that type again. A decimal's width of 128 bits is left out.
 pub fn write_format(alloc: Global, kind: &DataType) -> Result<Vec<u8>, NoMemory>
     requires { KindOk kind.now }

@@ -52,8 +52,11 @@ pub enum LayoutRule {
 /// The place of a fault, and its two numbers.
 #[derive(Clone, Copy, Debug, PartialEq, Eq)]
 pub struct Numbers {
+    /// The place that the rule names, and 0 where it names none.
     pub place: u64,
+    /// The first number that the rule names.
     pub left: i128,
+    /// The second one.
     pub right: i128,
 }
 
@@ -61,9 +64,14 @@ pub struct Numbers {
 /// numbers.
 #[derive(Clone, Copy, Debug, PartialEq, Eq)]
 pub struct LayoutFault {
+    /// The way from the root to the node.
     pub path: Path,
+    /// The rule that fails there.
     pub rule: LayoutRule,
+    /// The place that the rule names, and 0 where it names none.
     pub place: u64,
+    /// The first number that the rule names.
     pub left: i128,
+    /// The second one.
     pub right: i128,
 }

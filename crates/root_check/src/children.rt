@@ -16,7 +16,9 @@ use raw_array::RawArray;
 /// A child's number, counted from 0, and its first fault. The way to the node at fault begins at the child.
 #[derive(Clone, Copy, Debug, PartialEq, Eq)]
 pub struct FaultyChild {
+    /// The child's number, counted from 0.
     pub child: u64,
+    /// Its first fault.
     pub fault: LayoutFault,
 }
 

@@ -33,7 +33,9 @@ pub enum OwnRule {
 /// The first rule that fails, with its numbers.
 #[derive(Clone, Copy, Debug, PartialEq, Eq)]
 pub struct OwnFault {
+    /// The rule that fails.
     pub rule: OwnRule,
+    /// The numbers that the rule names.
     pub numbers: Numbers,
 }
 

@@ -5,6 +5,8 @@ use data_types::Typed;
 /// second, whose items are the runs' values. Ends are whole numbers with a sign, of 16, 32 or 64 bits, without a dictionary.
 #[derive(Debug, Drop)]
 pub struct RunTyped {
+    /// The kinds of the first child, the ends.
     pub ends: Typed,
+    /// The kinds of the second child, the values.
     pub values: Typed,
 }

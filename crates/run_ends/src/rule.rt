@@ -38,9 +38,13 @@ pub enum RunsRule {
 /// The first rule that fails, with its place and its numbers.
 #[derive(Clone, Copy, Debug, PartialEq, Eq)]
 pub struct RunsFault {
+    /// The rule that fails.
     pub rule: RunsRule,
+    /// The place that the rule names, and 0 where it names none.
     pub place: u64,
+    /// The first number that the rule names.
     pub left: i128,
+    /// The second one.
     pub right: i128,
 }
 

@@ -36,7 +36,9 @@ const CHAIN_STAGES: [&str; 6] = [
 /// What is asked for: a table by stages, or a tree to check.
 #[derive(Drop)]
 pub enum Task {
+    /// A table by stages.
     Table(Request),
+    /// The check of a tree that is given as a text.
     Tree,
 }
 

@@ -12,6 +12,7 @@ pub struct Outcome {
     /// A function of the fault: 0 without one; 2 for the words, 3 for the stages and the schema text, 4 for the header and the
     /// records, 5 for an input that is too long, 6 and 7 for reading and writing, 8 for the tree, 9 where memory runs out.
     pub status: u8,
+    /// The fault, and none where the whole text was written.
     pub fault: Option<RunFault>,
     /// The blocks and nodes that were made, and that none is left.
     pub audit: Audit,

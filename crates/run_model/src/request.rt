@@ -12,11 +12,17 @@ use unit_pass::Name;
 /// of a chunk, the mark for null, and how many batches a round reads in a thread ahead of the stages, where one is to.
 #[derive(Drop)]
 pub struct Request {
+    /// The entries of the schema text.
     pub entries: Vec<TypeEntry>,
+    /// The stages, at most 16.
     pub stages: Vec<StageText>,
+    /// The most rows of a batch, 1 to 1,000,000.
     pub batch: u32,
+    /// How many workers share the rows of a chunk.
     pub workers: Workers,
+    /// The text of a null.
     pub mark: Name,
+    /// How many batches a round reads ahead, 1 to 64; none where no thread reads ahead.
     pub ahead: Option<u32>,
     pub ghost few_stages: { vec_len stages ≤ most_stages },
     pub ghost some_rows: { 1 ≤ batch },

@@ -88,6 +88,7 @@ pub enum WordsFault {
 pub enum WordsError {
     /// The words have this fault. `audit` tells whether `--audit` was given, but for [`WordsFault::Refused`], where it is false.
     Words { fault: WordsFault, audit: bool },
+    /// Memory ran out.
     NoMemory,
 }
 

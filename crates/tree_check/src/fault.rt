@@ -24,6 +24,7 @@ pub enum TreeFault {
 /// Why no report is given.
 #[derive(Clone, Copy, Debug, PartialEq, Eq)]
 pub enum CheckFault {
+    /// The first fault of the text, of the schema or of the array.
     Tree(TreeFault),
     /// Memory ran out; the trees may be in order or not.
     NoMemory,

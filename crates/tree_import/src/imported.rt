@@ -26,7 +26,9 @@ use std::marker::Model;
 /// Why two structures are not taken.
 #[derive(Clone, Copy, Debug, PartialEq, Eq)]
 pub enum ImportFault {
+    /// The first fault of the schema, or out of memory in its check.
     Schema(SchemaFault),
+    /// The first fault of the array, against the schema's kinds.
     Layout(LayoutFault),
 }
 

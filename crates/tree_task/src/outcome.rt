@@ -11,6 +11,7 @@ pub struct TreeOutcome {
     /// A function of the fault: 0 without one; 2 for the words, 5 for an input that is too long, 6 and 7 for reading and writing,
     /// 8 for the text, the schema, the array and columns that a command can't take, 9 where memory runs out.
     pub status: u8,
+    /// The fault, and none where the whole text was written.
     pub fault: Option<TreeRunFault>,
     /// The blocks and nodes that were made, and that none is left.
     pub audit: Audit,

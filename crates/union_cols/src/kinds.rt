@@ -5,7 +5,10 @@ use data_types::Typed;
 /// children are as long as the union; a dense one has an offset into its child for each item.
 #[derive(Debug, Drop)]
 pub struct UnionTyped {
+    /// Whether there are offsets.
     pub dense: bool,
+    /// The type id of each child.
     pub ids: Vec<u8>,
+    /// The kinds of each child.
     pub kids: Vec<Typed>,
 }
