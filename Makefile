@@ -1,7 +1,7 @@
 # Proves the crates of crates.txt side by side and builds the programs among them.
 #
-#   make             the programs and what they stand on, as many crates at a time as there are processors (or -jN)
-#   make NAME        one crate or program, and what it stands on
+#   make             the programs and what they depend on, as many crates at a time as there are processors (or -jN)
+#   make NAME        one crate or program, and what it depends on
 #   make edits-NAME  the must-fail edits of a crate, those in bench/edits/NAME too: the prover must refuse each
 #   make try         a first look at arrowpipe, without any proof: make try WORDS='select=name' < FILE; another: PROGRAM=arrowtree
 #   make dist        out/rekuyomi.tar.gz: the programs, their manuals, README and the SHA-256 sums of these
@@ -45,7 +45,7 @@ $(if $(KIT),,$(error the Rattle kit's rt isn't on the path))
 README_KIT := $(shell sed -n 's/^Kit: `\([^`]*\)`.*/\1/p' README.md)
 OTHER_KIT := $(if $(filter $(lastword $(KIT_LINE)),$(README_KIT)),, by $(KIT_LINE), where README has $(README_KIT))
 
-# What each crate stands on: as crates.txt has it; of that our own crates; and all of ours below it, with itself.
+# What each crate depends on: as crates.txt has it; of that our own crates; and all of ours below it, with itself.
 comma := ,
 LINES := $(shell sed -n 's/^\([a-z0-9_]*\)[^:\#]*: */\1:/p' crates.txt | tr ' ' ,)
 CRATES := $(foreach it,$(LINES),$(firstword $(subst :, ,$(it))))
@@ -59,8 +59,8 @@ BELOW_$(1) := $$(sort $(1) $$(foreach it,$$(OURS_$(1)),$$(or $$(BELOW_$$(it)),$$
 endef
 $(foreach it,$(LINES),$(eval $(call read_line,$(firstword $(subst :, ,$(it))),$(word 2,$(subst :, ,$(it))))))
 
-# The sum of what a crate is made of: the kit, what it stands on, and its files. A stamp with the sum in its name stands
-# where the library is proved, or the program built, of just that.
+# The sum of what a crate is made of: the kit, what it depends on, and its files. A stamp with the sum in its name is
+# there where the library is proved, or the program built, of just that.
 sum = { echo '$(KIT_LINE)' $(DEPS_$(1)) $(foreach it,$(OURS_$(1)),$(SUM_$(it))); cd crates/$(1) && \
   sha256sum {src,specs,proofs}/**/*.* < /dev/null; } | sha256sum | cut -c1-16
 $(foreach it,$(CRATES),$(eval SUM_$(it) := $(shell $(call sum,$(it)))))

@@ -29,7 +29,7 @@ static void *(*real_realloc)(void *, size_t);
 static void (*real_free)(void *);
 static int (*real_create)(pthread_t *, const pthread_attr_t *, void *(*)(void *), void *);
 
-// What stands before each allocation that is counted. Memory of the C library's own has none.
+// What is before each allocation that is counted. Memory of the C library's own has none.
 struct head {
   unsigned long mark;
   size_t size;

@@ -14,7 +14,7 @@ use Rattle.arr_export.specs.ArrayTrees.{made_if}
 use Rattle.arr_export.proofs.BitBytes.{bits-of, length-bit_bytes}
 
 -- ---- the validity of each item
--- the members of a column with these values, whatever stands behind the validity bitmap
+-- the members of a column with these values, whatever is behind the validity bitmap
 abbrev pub own : List Value → List (Option Buffer) → ArrayMembers
 own values rest = record {
   length = pos (length values);

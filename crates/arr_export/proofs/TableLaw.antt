@@ -76,7 +76,7 @@ no-nulls rows (suc n) = omega (arith, no-nulls rows n)
 null-count : (n : ℕ) → n ≡ 0 → fault_if (not (int_eq (pos 0) (negsuc 0)) && not (int_eq (pos 0) (pos n))) 0 (pos 0) (pos n) ≡ None
 null-count n e = ap (λ (m : ℕ). fault_if (not (int_eq (pos 0) (negsuc 0)) && not (int_eq (pos 0) (pos m))) 0 (pos 0) (pos m)) e
 
--- ---- the node of a table, and what stands below it
+-- ---- the node of a table, and what is below it
 
 module _ (types : List KindTree) (columns : List ArrayTree) (rows : ℕ) (are : AreLawful types columns) (long : All (λ column. rows ≤ tree_items column) columns)
     (few : rows ≤ 2 ^ 40) where

@@ -10,7 +10,7 @@ use Rattle.arr_import.specs.declared.access.Access.TheVariants.{Truths, Int32, I
 use Rattle.arr_import.specs.Accesses.{access_of, access_of_bits, IsNumber}
 use Rattle.arr_import.specs.StoredItems.{AreBetween}
 
--- what an access says of the storage, and whether a dictionary stands behind it
+-- what an access says of the storage, and whether it has a dictionary
 abbrev pub Says : Access → Storage → Bool → Type 0
 Says Truths s is_index = s ≡ storages.Truths
 Says Int32 s is_index = (s ≡ storages.Wholes 32 true) × (is_index ≡ false)

@@ -1,4 +1,4 @@
--- What a column keeps of its items, where no dictionary stands behind them.
+-- What a column keeps of its items, where they have no dictionary.
 use Rattle.std.proofs.Common.{◌≡◌, ℕ, ◌+◌, ◌<◌, ◌^◌, List, Option, None, Some, refl, ap, ◌∙◌, sym, subst, arith}
 use Rattle.std.specs.Prelude.{if◌then◌else◌}
 use Rattle.data_types.specs.declared.storage.Storage.{Storage}
@@ -74,7 +74,7 @@ module _ (plain : Plain) (col : Col) (keeps : Keeps plain col) (i : ℕ) where
             (subst (λ s. IsThere s col.stored.now col.text.now (first (members_of col.array.now) + (col.start + i))) (sym keeps.storage) there)));
       }
 
-  -- an item is what stands at its place
+  -- an item is what is at its place
   pub item-at : IsPlainStorage col.storage
       → item_at (window_of col) i
       ≡ (if is_valid (members_of col.array.now) (col.start + i)

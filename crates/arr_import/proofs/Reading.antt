@@ -185,7 +185,7 @@ each-child [] children a n h l = absurd (omega (arith, h))
 each-child (kid ∷ kids) [] a n h l = absurd (omega (arith, l))
 each-child (kid ∷ kids) (child ∷ rest) a n h l = refl
 
--- ---- a dictionary stands behind whole numbers
+-- ---- whole numbers may have a dictionary
 
 abbrev pub is_int : DataType → Bool
 is_int (kinds.Int bits signed) = true
@@ -481,7 +481,7 @@ own-behind : (kind : DataType) → IsOwn (storage_of kind) → is_int kind ≡ t
 own-behind (kinds.Int bits signed) own h = own
 own-behind kind own h = true≢false (sym h)
 
--- no dictionary stands behind what isn't stored as whole numbers
+-- what isn't stored as whole numbers has no dictionary
 pub no-dictionary : (t : Typed) → typed_of t ≡ Live (kind_of t) (trees (kids_of t)) (maybe_tree (dict_in (out-Typed t).dict)) → (storage : Storage)
     → storage ≡ storage_of (kind_of t)
     → IsOwn storage → ∥ NodesOk (typed_of t) ∥₁ → dict_in (out-Typed t).dict ≡ None

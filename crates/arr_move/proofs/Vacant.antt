@@ -31,7 +31,7 @@ pub vacant_at : {M : Type 0} (t : Tree M) (m : M) (d : MaybeTree M) (n k : ℕ) 
 vacant_at t m d n k e =
     ap (λ u. child_at u k) e ∙ ap (λ cs. get_or cs k Released) (tree_list-trees (replicate n Released)) ∙ get_or-released n k
 
--- a child put where it stands
+-- a child put where it is
 pub with_own_child : {M : Type 0} (t : Tree M) (i : ℕ) → with_child t i (child_at t i) ≡ t
 with_own_child Released i = refl
 with_own_child (Live m ts d) i = ap (λ cs. Live m (trees cs) d) (set-get_or (tree_list ts) i Released) ∙ ap (λ us. Live m us d) (trees-tree_list ts)

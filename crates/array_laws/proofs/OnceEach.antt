@@ -9,7 +9,7 @@ use Rattle.data_types.specs.Value.{Value, byte_total, bytes_of}
 use Rattle.layout_rules.specs.Values.{each}
 use Rattle.array_laws.specs.Items.{AreApart}
 
--- ---- numbers that stand once each, and what each weighs
+-- ---- numbers that are there once each, and what each weighs
 
 -- what the numbers below one weigh
 below : (ℕ → ℕ) → ℕ → ℕ

@@ -27,7 +27,7 @@ total-push values value =
     ap (λ (items : List (List ℕ)). length (concat items)) (map-append bytes_of values (value ∷ []))
     ∙ ap length (concat-push (map bytes_of values) (bytes_of value)) ∙ length-append (concat (map bytes_of values)) (bytes_of value)
 
--- what stands between offsets is in memory
+-- what is between offsets is in memory
 pub total-bounded : (wide : Bool) (form : Option Form) (values : List Value) (offsets bytes : List ℕ)
     → HasBytes (shape_if wide form) values offsets bytes → length bytes < 2 ^ 63
     → are_bounded form (byte_total values) ≡ true

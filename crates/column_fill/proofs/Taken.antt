@@ -96,7 +96,7 @@ pub next-of : (f : ℕ → Value) (kept : List ℕ) (k : ℕ) → k < length kep
 next-of f kept k small =
     ap (map f) (split_at kept k 0 small) ∙ map-append f (take k kept) (get_or kept k 0 ∷ drop (suc k) kept)
 
--- ---- an item that stands so often
+-- ---- an item that is there as often
 
 repeat-split : (v : Value) (times j : ℕ) → j < times → replicate times v ≡ replicate j v ++ v ∷ replicate (times - suc j) v
 repeat-split v times j small =

@@ -11,7 +11,7 @@ use Rattle.csv_write.specs.Ways.{form_by}
 use Rattle.csv_write.specs.declared.chunk_text.ChunkColumn.{ChunkColumn}
 use Rattle.csv_write.specs.declared.way.Way.{Way}
 
--- what stands beside an item
+-- what is beside an item
 pub record IsBeside {A B : Type 0} (R : A → B → Type 0) (ys : List B) (j : ℕ) (x : A) : Type 0 where
   pub item : B
   pub holds : R x item

@@ -72,7 +72,7 @@ column-of : (dict : Bool) (type : DataType) (vs : List Value) (n : ℕ) → n �
 column-of false type vs n is = record { live = tt; not_deep = omega arith; long = omega (arith, is) }
 column-of true type vs n is = record { live = tt; not_deep = omega arith; long = omega (arith, is, length-indices vs) }
 
--- the new column may stand in the chunk's table
+-- the new column may be in the chunk's table
 pub column-fits : (dict : Bool) (type : DataType) (typed : KindTree) (chunk column : ArrayTree) (place : ℕ)
     → column ≡ recoded_tree (text_kind dict type) (column_values place (rows_of typed chunk)) → IsColumn (natural (members_of chunk).length) column
 column-fits dict type typed chunk column place is =

@@ -65,7 +65,7 @@ unit-long k n few = omega (arith, ap (λ (ds : List ℕ). length ds) (unit_digit
 
 -- ---- texts
 
--- a byte before what stands at the end of a text
+-- a byte before what is at the end of a text
 pub behind_byte : (text rest : List ℕ) (at byte : ℕ) → 1 ≤ at → at ≤ length text → drop at text ≡ rest → drop (at - 1) (set text (at - 1) byte) ≡ byte ∷ rest
 behind_byte text rest at byte some within is =
     let next : at - 1 + 1 ≡ at = omega (arith, some) in

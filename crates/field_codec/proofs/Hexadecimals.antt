@@ -265,7 +265,7 @@ none_before (suc k) (high ∷ low ∷ more) rest len none = elim (cases_Bool (is
 
 -- ---- bytes by eights
 
--- the bytes of this many eights stand in the room
+-- the bytes of this many eights are in the room
 pub record Eights (text : List ℕ) (place size : ℕ) (room : List ℕ) : Type 0 where
   pub len : length room ≡ size
   pub read : hex_bytes (take (16 * place) text) ≡ Some (take (8 * place) room)
@@ -310,7 +310,7 @@ eights_end_other text place within none =
     ap hex_bytes (sym (take-append-drop (16 * place) text))
     ∙ none_behind (8 * place) (take (16 * place) text) (drop (16 * place) text) (even_front place text within) none
 
--- what is put into the rest of a room stands behind what is there
+-- what is put into the rest of a room is behind what is there
 pub put_behind : (at : ℕ) (room out : List ℕ) → at ≤ length room → put_mid at (length room - at) room out ≡ take at room ++ out
 put_behind at room out within =
     ap (λ (rest : List ℕ). take at room ++ (out ++ rest)) (drop_all (length room - at) (drop at room) (omega (arith, length-drop at room)))

@@ -1,4 +1,4 @@
--- The digits in front of a point, moved one place ahead with the bytes before them, so that the point stands behind them.
+-- The digits in front of a point, moved one place ahead with the bytes before them, so that the point is behind them.
 use Rattle.std.proofs.Common.{◌≡◌, ℕ, ◌+◌, ◌-◌, ◌/◌, ◌^◌, ◌<◌, ◌≤◌, List, ◌∷◌, ◌++◌, length, take, drop, set, get_or, refl, sym, ap}
 use Rattle.std.proofs.Common.{◌∙◌, append_assoc, arith, length-append, length-drop}
 use Rattle.std.specs.Fmt.{decimal}
@@ -8,7 +8,7 @@ use Rattle.data_types.specs.FieldText.{last_digits, point_text}
 use Rattle.field_codec.proofs.DigitText.{behind_byte, wide}
 use Rattle.field_codec.proofs.PointText.{length-last_digits, point_is, split_digits}
 
--- `before` bytes are left as they are, then sixteen, `none` of which stand before the digits
+-- `before` bytes are left as they are, then sixteen, `none` of which are before the digits
 module _ (text bytes whole fraction : List ℕ) (before none : ℕ) (sixteen : none + length whole ≡ 16) (within : before + 17 ≤ length text)
     (is : drop (before + 1 + none) text ≡ whole ++ fraction) (copied : bytes ≡ take 16 (drop (before + 1) text)) where
   left : length (take before text) ≡ before

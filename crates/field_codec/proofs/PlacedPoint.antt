@@ -1,4 +1,4 @@
--- A decimal whose point stands before exactly as many digits as its column has: the digits in front of it and behind it.
+-- A decimal whose point is before exactly as many digits as its column has: the digits in front of it and behind it.
 use Rattle.std.proofs.Common.{◌≡◌, ℕ, suc, ◌+◌, ◌-◌, ◌*◌, ◌%◌, ◌^◌, ◌<◌, ◌≤◌, true, false, List, [], ◌∷◌, ◌++◌, length, take, drop, get_or, replicate}
 use Rattle.std.proofs.Common.{Option, Some, None, refl, sym, ap, ◌∙◌, arith, inl, inr, length-take, length-drop}
 use Rattle.std.specs.Prelude.{IfSome, IfNone, ◌==◌, ◌&&◌, nat_le, nat_lt, if◌then◌else◌}

@@ -66,7 +66,7 @@ split-number texts text i small = elim (cases_eq i (length texts)) [
   | inr other ↦ inl (omega (arith, small, length-append texts (text ∷ []), other))
 ]
 
--- what the tree tells stands among more texts
+-- what the tree tells is among more texts
 beside-more : (d : Distinct) (texts : List (List ℕ)) (text : List ℕ) (key : Bor (List ℕ)) (n : ℕ) → Numbers d texts → found d.beside key ≡ Some n
     → (n < length (texts ++ text ∷ [])) × (bytes_eq (get_or (texts ++ text ∷ []) n []) key.now ≡ true)
 beside-more d texts text key n holds is =

@@ -1,4 +1,4 @@
--- Lists that stand one behind the other, between their ends.
+-- Lists that are one behind the other, between their ends.
 use Rattle.std.proofs.Common.{◌≡◌, ◌∙◌, ℕ, zero, suc, ◌+◌, ◌-◌, ◌*◌, ◌^◌, ◌<◌, ◌≤◌, pos, false, true, List, [], ◌∷◌, ◌++◌, All, length, get_or, refl, ap, arith}
 use Rattle.std.proofs.Common.{length-append, append_assoc}
 use Rattle.std.proofs.lemmas.Bool.{le-ltb, lt-ltb}

@@ -1,4 +1,4 @@
--- Lists over fields, beside a place that stands released.
+-- Lists over fields, beside a place that is released.
 use Rattle.std.proofs.Common.{◌≡◌, ◌∙◌, ◌≤◌, ◌<◌, ◌+◌, ℕ, zero, suc, List, [], ◌∷◌, ◌++◌, Bool, true, false, length, get_or, refl, ap, sym, arith}
 use Rattle.std.specs.Prelude.{if◌then◌else◌, ◌==◌}
 use Rattle.tree_model.specs.Tree.{Depth, Released, child_at, children_of, depth_of_all, trees}

@@ -22,7 +22,7 @@ key-if : (b : Bool) (k a : ℕ) (r : Row) (rs : List Row) (value : ℕ → Value
 key-if true k a r rs value is here more = λ t. here t ∷ more t
 key-if false k a r rs value is here more = more
 
--- the values of a key's rows stand where the key stands
+-- the values of a key's rows are where the key is
 pub key-values : (row : ℕ → Row) (column k : ℕ) (key : Value) (value : ℕ → Value) → ((i : ℕ) → get_or (row i) k Null ≡ value i) → (a n : ℕ)
     → column_values k (rows_with column key (each row a n)) ≡ map value (places (same key) a (column_values column (each row a n)))
 key-values row column k key value is a zero = refl

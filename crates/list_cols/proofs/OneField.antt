@@ -1,4 +1,4 @@
--- One new field among places that stand released.
+-- One new field among places that are released.
 use Rattle.std.proofs.Common.{◌≡◌, ◌∙◌, ◌≤◌, ◌+◌, ℕ, zero, suc, List, [], ◌∷◌, ◌++◌, length, replicate, set, refl, ap, arith}
 use Rattle.tree_model.specs.Tree.{Depth, Released, Live, IsLive, children_of, depth_of_all, trees, with_child}
 use Rattle.arr_move.proofs.Vacant.{cost_of_released, depth_of_released}

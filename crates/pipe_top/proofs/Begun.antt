@@ -1,4 +1,4 @@
--- What follows of a table from what stands between its header and its rows.
+-- What follows of a table from what is between its header and its rows.
 use Rattle.std.proofs.Common.{◌≡◌, ◌∙◌, ◌⊎◌, ℕ, List, [], None, Some, Ok, IsTrue, ap, refl, subst, sym}
 use Rattle.csv_model.specs.Reading.{Record}
 use Rattle.csv_model.specs.Text.{table_text}

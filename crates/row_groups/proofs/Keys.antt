@@ -102,7 +102,7 @@ pub shift-least : (null : Option ℕ) (t : ℕ) → t ≤ shifted null t
 shift-least None t = omega arith
 shift-least (Some a) t = elim (side a t) [ under small is ↦ omega (arith, is) | over large is ↦ omega (arith, is) ]
 
--- where the null stands no text does
+-- where the null is, no text is
 shift-misses : (a t : ℕ) → shifted (Some a) t ≢ a
 shift-misses a t = elim (side a t) [ under small is ↦ λ e. omega (arith, small, is, e) | over large is ↦ λ e. omega (arith, large, is, e) ]
 

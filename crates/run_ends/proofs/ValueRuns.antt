@@ -1,4 +1,4 @@
--- The runs of values: they rise, stand apart, and show the values again; where the run of an item ends.
+-- The runs of values: they rise, are apart, and show the values again; where the run of an item ends.
 use Rattle.std.proofs.Common.{◌≡◌, ℕ, zero, suc, ◌+◌, ◌<◌, ◌≤◌, Bool, true, false, not, List, [], ◌∷◌, length, get_or, drop, ◌-◌, Option, None, refl, ap, sym, ◌∙◌, subst, arith}
 use Rattle.std.specs.Prelude.{if◌then◌else◌, nat_lt}
 use Rattle.std.specs.Bool.{Decides}
@@ -132,7 +132,7 @@ shows at (v ∷ []) (suc i) h = absurd (omega (arith, h))
 shows at (v ∷ n ∷ r) i h =
     one-more at v n r (runs_from (suc at) (n ∷ r)) (is_same v n) refl (rising (suc at) (n ∷ r)) (some (suc at) n r) (shows (suc at) (n ∷ r)) i h
 
--- ---- they stand apart
+-- ---- they are apart
 
 abbrev first_value : List Run → Value
 first_value [] = Null

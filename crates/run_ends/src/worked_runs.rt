@@ -20,7 +20,7 @@ pub fn small_runs()
     ensures far { run_values long_runs (over_two (pos 1) (pos (2 ^ 40 - 1)) far_end one_text) ≡ Bytes (codes "a") ∷ [] }
     ensures far_is_lawful { runs_fault long_runs (over_two (pos 1) (pos (2 ^ 40 - 1)) far_end one_text) ≡ None }
     ensures none_is_lawful { runs_fault short_runs (over_two (pos 0) (pos 0) no_ends no_texts) ≡ None }
-    // Ends that stand still, an end that is 0, and one that is null.
+    // Ends that do not rise, an end that is 0, and one that is null.
     ensures still { runs_fault short_runs (over_two (pos 3) (pos 1) (two_ends 2 2) two_texts) ≡ found EndsFall 1 (pos 2) (pos 2) }
     ensures at_zero { runs_fault short_runs (over_two (pos 3) (pos 1) (two_ends 0 4) two_texts) ≡ found EndsFall 0 (pos 0) (pos 0) }
     ensures null { runs_fault short_runs (over_two (pos 2) (pos 0) null_second two_texts) ≡ found EndsNull 1 (pos 0) (pos 0) }

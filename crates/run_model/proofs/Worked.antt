@@ -273,7 +273,7 @@ repeated_ahead_is : words_of (codes "--ahead" ∷ codes "1" ∷ codes "--ahead" 
 unfolding taken_of clap_on_literals
 repeated_ahead_is = refl
 
--- it stands beside rows that are made and beside a tree to check
+-- it is beside rows that are made and beside a tree to check
 selftest_ahead_is : words_of (codes "--selftest" ∷ codes "5" ∷ codes "--ahead" ∷ codes "2" ∷ []) ≡ Ok (record plain { selftest = Some 5; ahead = Some 2 })
 unfolding taken_of clap_on_literals
 selftest_ahead_is = refl
@@ -287,7 +287,7 @@ stage_is : words_of (codes "select=a" ∷ []) ≡ Ok (record plain { stages = co
 unfolding taken_of clap_on_literals
 stage_is = refl
 
--- stages stand before, between and behind options
+-- stages are before, between and behind options
 among_is : words_of (codes "a" ∷ codes "--audit" ∷ codes "b" ∷ codes "--batch" ∷ codes "7" ∷ codes "a" ∷ [])
     ≡ Ok (record plain { batch = 7; audit = true; stages = codes "a" ∷ codes "b" ∷ codes "a" ∷ [] })
 unfolding taken_of clap_on_literals

@@ -139,7 +139,7 @@ module _ (root : RootLaw) (parts : PartsLaw) (items : ItemsLaw) where
       let node = root (type_of_kind (Dict kind)) array tt ok in
       one-dictionary kind array ok node.live node.dict
 
--- ---- where the index of an item stands
+-- ---- where the index of an item is
 
 -- the buffers have an index at a place, which is that of an item
 pub record IsPlace (array : ArrayTree) (validity : Option (List ℕ)) (stored : List ℕ) (place j : ℕ) : Type 0 where
@@ -173,7 +173,7 @@ place-of root items kind array ok j place validity stored small is valid same =
       is = (λ n. index_in (valid n) (same n) (is n)) ∙ own-index array j node.live;
     }
 
--- where the index of the next of some items stands
+-- where the index of the next of some items is
 pub next-place : RootLaw → ItemsLaw → (kind : DataType) (array : ArrayTree) (start : ℕ) (kept : List ℕ) → CanMove (Dict kind) array start kept
     → (k number from : ℕ) (validity : Option (List ℕ)) (stored : List ℕ) → k < length kept → number ≡ get_or kept k 0 → from ≡ first (members_of array)
     → validity ≡ buffer (members_of array) 0 → stored ≡ bytes (members_of array) 1

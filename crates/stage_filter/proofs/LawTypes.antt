@@ -1,4 +1,4 @@
--- The laws of the crates below that the proofs stand on.
+-- The laws of the crates below that the proofs cite.
 use Rattle.std.proofs.Common.{◌≡◌, ◌≤◌, ◌^◌, ℕ, List, length, map, All, None, Some}
 use Rattle.data_types.specs.Value.{Value}
 use Rattle.data_types.specs.declared.kind.DataType.{DataType}

@@ -52,7 +52,7 @@ children-cost (Live m ts d) live = let same = ap cost_of_all (trees-tree_list ts
 -- ---- what a chunk and a struct in it offer
 module _ (laws : StructLaws) where
   module _ (types : List KindTree) (t : ArrayTree) (live : AreLive types) (ok : LayoutOk (table_type types) t) where
-    -- its columns may stand in a table
+    -- its columns may be in a table
     child-column : Depth t ≤ 128 → (k : ℕ) → k < length (children_of t) → IsColumn (items (members_of t)) (child_at t k)
     child-column deep k small =
         let count = laws.count types t ok in
@@ -91,7 +91,7 @@ module _ (laws : StructLaws) where
             (subst (λ z. LayoutOk (table_type inner) (Window (child_at t place) z (pos (items (members_of t))))) off cut));
       }
 
-  -- ---- the columns that stand in a table
+  -- ---- the columns that are in a table
   -- the columns of a chunk with a struct's columns in its place
   module _ (place : ℕ) (t : ArrayTree) (has : HasStruct place t)
       (ok : ChunkOk (type_of_columns (unpacked_columns place has.fields has.columns)) (Unpacked t place)) where

@@ -34,7 +34,7 @@ pub tail_all : (l : List ℕ) → take (length l - 1) (drop 1 l) ≡ drop 1 l
 tail_all [] = refl
 tail_all (x ∷ xs) = take_all (length (x ∷ xs) - 1) xs (omega arith)
 
--- what stands behind is shorter
+-- what is behind is shorter
 pub shorter : (byte : ℕ) (text front behind : List ℕ) → CutsAt byte text front behind → length behind < length text
 shorter byte text front behind cut = omega (arith, ap (λ (l : List ℕ). length l) cut.split, length-append front (byte ∷ behind))
 

@@ -13,7 +13,7 @@ use Rattle.stage_plan.proofs.Cuts.{tail_all}
 some-same : {X : Type 0} (x y : X) → ◌≡◌ {A = Option X} (Some x) (Some y) → x ≡ y
 some-same x y e = cc
 
--- ---- the first cut, and what stands behind it
+-- ---- the first cut, and what follows it
 -- a slice up to a place, and one from behind it on
 pub cut-parts : (text : List ℕ) (place : ℕ) (front back : List ℕ) → front ≡ take place text → back ≡ drop place text
     → cut_behind text place ≡ record { front = front; behind = take (length back - 1) (drop 1 back) }
@@ -36,7 +36,7 @@ cut-here byte text cut e =
       | inr gone ↦ let never : ◌≡◌ {A = Option Cut} None (Some cut) = rw gone at e in absurd cc
     ]
 
--- the parts are what stands before the cut, and those behind it
+-- the parts are what is before the cut, and those behind it
 pub parts-more : (byte : ℕ) (text : List ℕ) (cut : Cut) → cut_at byte text ≡ Some cut
     → slice_split (λ b. b == byte) text ≡ cut.front ∷ slice_split (λ b. b == byte) cut.behind
 parts-more byte text cut e =
@@ -44,7 +44,7 @@ parts-more byte text cut e =
     subst (λ (c : Cut). slice_split (λ b. b == byte) text ≡ c.front ∷ slice_split (λ b. b == byte) c.behind) (sym here.is)
     (slice_split_first (λ b. b == byte) text 0 here.within)
 
--- what stands behind a cut is shorter
+-- what is behind a cut is shorter
 pub cut-shorter : (byte : ℕ) (text : List ℕ) (cut : Cut) → cut_at byte text ≡ Some cut → length cut.behind < length text
 cut-shorter byte text cut e =
     let here = cut-here byte text cut e in

@@ -56,7 +56,7 @@ left_all bytes from to level count ts read =
     let same : length (left bytes from) ≡ length lines + length (left bytes to) = ap length read.between.spelled ∙ length-append lines (left bytes to) in
     omega (arith, same, cost_all_le_lines released_array array_node_lines holds array_some (trees ts))
 
--- the line that tells of a node alone, and what may stand behind it
+-- the line that tells of a node alone, and what may follow it
 line_between : (bytes : List ℕ) (from mid : Cursor) (line : List ℕ) (own : ArrayNumbers) (c d : ℕ) → left bytes from ≡ line ∷ left bytes mid
     → IsCursor bytes mid → ArrayLineIs line own c d
     → Between bytes from mid (array_line own c d ∷ [])

@@ -15,7 +15,7 @@ split_none p (x ∷ xs) none = elim (cases_Bool (p x)) [
       rw (other, split_none p xs (omega (arith, none, more))) refl
 ]
 
--- where a byte stands, if it does
+-- where a byte is, if it does
 pub record CutAt (p : ℕ → Bool) (text : List ℕ) (at : ℕ) : Type 0 where
   pub inside : at < length text
   pub parts : slice_split p text ≡ take at text ∷ slice_split p (drop (at + 1) text)

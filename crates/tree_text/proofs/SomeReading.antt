@@ -1,4 +1,4 @@
--- A text has a reading: where each line may stand, and none is missing, its lines are those of two trees.
+-- A text has a reading: where each line may be, and none is missing, its lines are those of two trees.
 use Rattle.std.proofs.Common.{◌≡◌, ℕ, zero, suc, ◌+◌, ◌≤◌, List, [], ◌∷◌, ◌++◌, length, map, replicate, Option, Some, None, Result, Ok, Err}
 use Rattle.std.proofs.Common.{refl, sym, ap, ◌∙◌, arith, subst, append_assoc, inl, inr}
 use Rattle.std.specs.Prelude.{codes}
@@ -245,7 +245,7 @@ at_buffer line parts places rest (Some told) is announced more =
     buffer_told line places rest told (buffer_read line told is)
     (subst (λ (ps : List Place). Spelled (ps ++ places) rest) (sym (other_parts (λ (bytes : Option (List ℕ)). []) told parts announced)) more)
 
--- a line that may stand
+-- a line that may be there
 at_place : (place : Place) (line : List ℕ) (parts places : List Place) (rest : List (List ℕ)) → next place line ≡ Some parts → Spelled (parts ++ places) rest
     → Spelled (place ∷ places) (line ∷ rest)
 at_place AtFirst line parts places rest is more = elim (cases_Bool (bytes_eq line (codes "tree 1"))) [

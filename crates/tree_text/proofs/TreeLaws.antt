@@ -1,4 +1,4 @@
--- The lines of trees: how many there are, how they stand one after another, and how deep the trees are.
+-- The lines of trees: how many there are, how they follow one another, and how deep the trees are.
 use Rattle.std.proofs.Common.{◌≡◌, ℕ, ◌+◌, ◌≤◌, List, [], ◌∷◌, ◌++◌, length, replicate, refl, sym, ap, ◌∙◌, arith}
 use Rattle.std.proofs.Common.{append_assoc, length-append}
 use Rattle.std.proofs.lemmas.List.{replicate-append-replicate}
@@ -80,7 +80,7 @@ pub AllFit-back : {M : Type 0} (NodeFits : M → ℕ → Type 0) (level : ℕ) (
 AllFit-back NodeFits level [] ys all = all
 AllFit-back NodeFits level (x ∷ xs) ys all = AllFit-back NodeFits level xs ys all.1
 
--- ---- lines that may stand
+-- ---- lines that may be there
 
 module _ {M : Type 0} (gone : List ℕ) (own_lines : M → ℕ → ℕ → List (List ℕ)) (NodeFits : M → ℕ → Type 0) (at : ℕ → Place)
     (gone_stands : (level : ℕ) (places : List Place) (rest : List (List ℕ)) (n : ℕ) → level ≤ deepest_level

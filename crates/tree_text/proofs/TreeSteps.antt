@@ -40,7 +40,7 @@ joined bytes from mid to first second a b = record {
   cursor = b.cursor;
 }
 
--- what stops behind lines that may stand
+-- what stops behind lines that may be there
 pub stops_later : (bytes : List ℕ) (from mid : Cursor) (read : List (List ℕ)) (before after : List Place) (f : TextFault) → IsCursor bytes from
     → Between bytes from mid read
     → ((behind : List Place) (rest : List (List ℕ)) (n : ℕ) → first_fault (before ++ behind) (read ++ rest) n

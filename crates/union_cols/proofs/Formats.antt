@@ -90,7 +90,7 @@ joined_push (x ∷ y ∷ ids) id =
     ∙ ap (λ (t : List ℕ). decimal x ++ (44 ∷ t)) (joined_push (y ∷ ids) id)
     ∙ sym (text_more x (y ∷ ids) (decimal id))
 
--- ---- what stands behind some ids and their commas: no new id, or one and what is behind it
+-- ---- what is behind some ids and their commas: no new id, or one and what is behind it
 
 pub data End : Type 0 where
   Missing : List ℕ → End

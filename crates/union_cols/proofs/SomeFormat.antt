@@ -67,7 +67,7 @@ number (c ∷ cs) = elim (cases_Bool (is_ascii_digit c)) [
 abbrev SomeIds : List ℕ → Type 0
 SomeIds list = ((ids : List ℕ) × AreIds ids × (list ≡ joined (map decimal ids))) ⊎ ((place : ℕ) × IdsFault list place)
 
--- what stands behind some ids and their commas, which is no longer than this
+-- what is behind some ids and their commas, which is no longer than this
 abbrev SomeFrom : ℕ → Type 0
 SomeFrom n =
     (list ids left : List ℕ) → length left ≤ n → AreIds ids → 0 < length list → list ≡ ids_before ids ++ left → SomeIds list

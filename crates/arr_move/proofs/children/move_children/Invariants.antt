@@ -4,7 +4,7 @@ use Rattle.raw_array.specs.Members.{Cost, cost_of_all}
 use Rattle.arr_move.proofs.MovedChildren.{cut_to}
 use Rattle.arr_move.proofs.children.move_children.Given as goal
 
--- the children before this place stand in the list, and those from it on as they were
+-- the children before this place are in the list, and those from it on as they were
 abbrev pub invariant-loop-place : goal.invariant-loop-place
 invariant-loop-place l = record {
   columns : l.columns.items ≡ l.initial.columns.items ++ map (cut_to l.fn.off l.fn.len) (take (l.place - l.from) (drop l.from (children_of l.initial.moved)));

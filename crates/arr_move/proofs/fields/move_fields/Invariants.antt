@@ -5,7 +5,7 @@ use Rattle.arr_move.specs.TreeActs.{with_children}
 use Rattle.arr_move.proofs.Filled.{filled}
 use Rattle.arr_move.proofs.fields.move_fields.Given as goal
 
--- the first places are filled, and the children that are still to come stand as they were
+-- the first places are filled, and the children that are still to come are as they were
 abbrev pub invariant-loop-place : goal.invariant-loop-place
 invariant-loop-place l =
     (l.top ≡ with_children l.initial.top (filled (map (child_at l.initial.moved) (take l.place l.picks)) (children_of l.initial.top)))

@@ -2,7 +2,7 @@ use Rattle.std.proofs.Common.{◌≡◌, ◌≤◌, replicate, vec_len, vec_capa
 use Rattle.tree_model.specs.Tree.{Released}
 use Rattle.arr_move.proofs.fields.vacant_places.Given as goal
 
--- as many children stand there as places were counted
+-- as many children are there as places were counted
 abbrev pub invariant-loop-place : goal.invariant-loop-place
 invariant-loop-place l =
     (l.children.items ≡ replicate l._place Released) × (vec_len l.children ≡ l._place) × (l.places ≤ vec_capacity l.children)

@@ -5,7 +5,7 @@ use Rattle.arr_move.specs.TreeActs.{with_children}
 use Rattle.arr_move.specs.Fields.{fields_over}
 use Rattle.arr_move.proofs.replaced.fill_places.Given as goal
 
--- the first places are filled, and the fields that are still to come stand as they were
+-- the first places are filled, and the fields that are still to come are as they were
 abbrev pub invariant-loop-place : goal.invariant-loop-place
 invariant-loop-place l = record {
   front : l.top ≡ with_children l.initial.top (fields_over (children_of l.initial.top) (take l.place (children_of l.initial.moved)));

@@ -7,7 +7,7 @@ use Rattle.csv_read.specs.Chunks.{AreColumnsOf, all_blocks}
 use Rattle.csv_read.proofs.EmptiedBuilders.{EmptiedSoFar}
 use Rattle.csv_read.proofs.chunk.column_arrays.Given as goal
 
--- the columns so far are taken out of their builders and stand in arrays, and there is room for the others
+-- the columns so far are taken out of their builders and are in arrays, and there is room for the others
 abbrev pub invariant-loop-j : goal.invariant-loop-j
 invariant-loop-j l = record {
   emptied : EmptiedSoFar l.j l.initial.builders l.builders;

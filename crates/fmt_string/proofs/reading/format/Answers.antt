@@ -8,7 +8,7 @@ use Rattle.fmt_string.specs.FormatString.{FormatIs}
 use Rattle.fmt_string.proofs.Compose.{found_is, word_within, format_is, fault_is, unknown_is}
 use Rattle.fmt_string.proofs.reading.format.Goals as goal
 
--- what stands past the end of the table
+-- what is past the end of the table
 nothing : CodeKeyword
 nothing = record { word = record { ref_ptr = (0, 0); now = [] }; behind = code.Unsupported }
 

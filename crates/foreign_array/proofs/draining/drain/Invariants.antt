@@ -4,7 +4,7 @@ use Rattle.foreign_array.specs.Kept.{AreKept, tree_in, units_of_all}
 use Rattle.foreign_array.proofs.Coming.{Coming}
 use Rattle.foreign_array.proofs.draining.drain.Given as goal
 
--- the chunks that are left stand last first; what came of those before them
+-- the chunks that are left are last first; what came of those before them
 abbrev pub invariant-loop-chunk : goal.invariant-loop-chunk
 invariant-loop-chunk g l = record {
   coming : Coming (typed_of l.fn.typed) (map tree_in l.fn.chunks.items) (map tree_in (reverse l.chunks.items)) l.number l.shown

@@ -2,7 +2,7 @@ use Rattle.std.proofs.Common.{◌≡◌, ◌+◌, ◌++◌, replicate, vec_len, 
 use Rattle.tree_model.specs.Tree.{Released}
 use Rattle.list_cols.proofs.fields.push_vacant.Given as goal
 
--- as many fields stand behind those before them as places were counted
+-- as many fields are behind those before them as places were counted
 abbrev pub invariant-loop-place : goal.invariant-loop-place
 invariant-loop-place l = record {
   fields : l.fields.items ≡ l.initial.fields.items ++ replicate l._place Released;

@@ -26,7 +26,7 @@ last-of : (s b : Stream) (stages left : List Stage) (last : List Column) → b �
 last-of s b stages left last made same is =
     is ∙ ap (last_columns s.columns) (sym same) ∙ ap (λ (m : Stream). last_columns m.columns left) (sym made)
 
--- it stands over no other checked stream
+-- it is over no other checked stream
 none-below : (s b : Stream) → b ≡ s → ((link : ℕ) → s.joints link ≡ []) → (link : ℕ) → b.joints link ≡ []
 none-below s b made none link = ap (λ (m : Stream). m.joints link) made ∙ none link
 

@@ -5,7 +5,7 @@ use Rattle.raw_array.specs.Members.{Cost, cost_of_all}
 use Rattle.stage_kernels.specs.Packs.{LeftOf, column_in}
 use Rattle.stage_kernels.proofs.packed.move_columns.Given as goal
 
--- the first of the picked columns stand in the list, and the others where they were
+-- the first of the picked columns are in the list, and the others where they were
 abbrev pub invariant-loop-place : goal.invariant-loop-place
 invariant-loop-place l = record {
   columns : l.columns.items ≡ map (column_in l.initial.moved) (take l.place l.picks);

@@ -8,7 +8,7 @@ use Rattle.col_build.specs.Items.{value_of}
 use Rattle.col_build.specs.Times.{AddsTimes}
 use Rattle.text_cases.proofs.times.push_each.Given as goal
 
--- the item stands behind what the column held as often as it was pushed, and was taken each time
+-- the item is behind what the column held as often as it was pushed, and was taken each time
 abbrev pub invariant-loop-time : goal.invariant-loop-time
 invariant-loop-time l =
     AddsTimes (value_of l.item) l._time l.initial.pushed l.pushed

@@ -2,7 +2,7 @@ use Rattle.std.proofs.Common.{◌≡◌, ◌<◌, ◌++◌, length}
 use Rattle.union_cols.specs.UnionFormats.{AreIds, ids_before}
 use Rattle.union_cols.proofs.format.read_ids.Given as goal
 
--- the ids so far stand before what is left
+-- the ids so far are before what is left
 abbrev pub invariant-loop-id : goal.invariant-loop-id
 invariant-loop-id l = record { ids : AreIds l.ids.items; some : 0 < length l.list; split : l.list ≡ ids_before l.ids.items ++ l.left }
 

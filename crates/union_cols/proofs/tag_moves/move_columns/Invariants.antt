@@ -6,7 +6,7 @@ use Rattle.arr_move.proofs.Filled.{filled}
 use Rattle.union_cols.specs.Tags.{numbers}
 use Rattle.union_cols.proofs.tag_moves.move_columns.Given as goal
 
--- the first places are filled, and the children that are still to come stand as they were
+-- the first places are filled, and the children that are still to come are as they were
 abbrev pub invariant-loop-place : goal.invariant-loop-place
 invariant-loop-place l = record {
   front : l.top

@@ -31,7 +31,7 @@ use Rattle.raw_place.proofs.row.Row.take_last.Statement.{statement}
 use Rattle.raw_place.proofs.row.Row.take_last.Code as code
 
 -- ---- the last value, and the call that takes it
--- a list that has a value is what stands before the last one, and that one
+-- a list that has a value is what precedes the last one, and that one
 last_split : {X : Type 0} (xs : List X) (k : ℕ) (x : X) → length xs ≡ suc k → xs ≡ take k xs ++ get_or xs k x ∷ []
 last_split xs k x long = sym (take_all xs) ∙ ap (λ (n : ℕ). take n xs) long ∙ take_snoc xs k x (omega arith)
 

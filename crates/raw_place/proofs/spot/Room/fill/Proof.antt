@@ -1,4 +1,4 @@
--- The room is read as a block and a handle; once the value stands in the block, both make a spot.
+-- The room is read as a block and a handle; once the value is in the block, both make a spot.
 use Rattle.raw_place.proofs.Steps.{refl, [], ◌∷◌, ◌++◌, tables, no, bounded, owns, block_ptr, plain, types_at, nothing, alive, Stays, walk_of, says}
 use Rattle.raw_place.proofs.Steps.{stay_dropped, ends_at, Goes-dropped, full_share, part_at, inst_fn, a_type, dcons, dnil, WpFn, alloc_all, env, free_all, get}
 use Rattle.raw_place.proofs.Steps.{get_in, look_at, pass_all, sets, through, ‵, raw, ◌⊛◌, prop, at_ret, ◌$◌, ◌∵◌, !, qed, done, move, keep, use2, split, join}
