@@ -5,7 +5,9 @@
 //! - [`export_column`] makes a finished column of `col_build` an array, with a dictionary or without, and [`export_table`]
 //!   makes a struct of such columns. Neither copies a byte. Where memory runs out the columns come back; [`let_go_column`]
 //!   lets one go.
-//! - [`built_array`] makes an array of its parts, and releases them where memory runs out.
+//!
+//! The caller owns the trees, and releases them. Their units come from the pass, which counts their nodes. Lengths and
+//! offsets count items.
 //!
 //! The laws say what the arrays mean to `layout_check`: a column is lawful and has the values that it was made of
 //! ([`encoded_columns_are_lawful`]), also through a dictionary ([`indexed_columns_are_lawful`]); a table of lawful columns

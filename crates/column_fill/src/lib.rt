@@ -1,10 +1,12 @@
 //! Columns that are filled with items of a chunk, and the arrays made of them.
 //!
-//! What this crate owns: [`push_item`] adds an item of a column to a builder of its type, where it stands, and
-//! [`push_item_times`] adds it many times; a text isn't tested again. [`gathered`] fills a builder with the items of given
-//! numbers, in their order, and [`gathered_runs`] with items of runs ([`Run`]), each as often as its run says.
-//! [`built_column`] makes the array of a builder's column, over a dictionary where it holds the indices; where memory runs out,
-//! all is released.
+//! - [`push_item`] adds an item of a column to a builder of its type, and [`push_item_times`] adds it many times. A text
+//!   isn't tested again.
+//! - [`gathered`] fills a builder with the items of given numbers, in their order, and [`gathered_runs`] with items of runs
+//!   ([`Run`]), each as often as its run says.
+//! - [`built_column`] makes the array of a builder's column, over a dictionary where the column has indices. Where memory
+//!   runs out, all is released.
+//! - [`is_flat_column`] says of which columns a new one can be made.
 //!
 //! What the contracts say: the item that a builder has then is the one that was read (`specs/Takes.antt` says which items
 //! are taken, `specs/Gathered.antt` of which a column can be made). The array that is read stays as it is. The new array is
