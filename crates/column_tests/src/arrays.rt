@@ -1,5 +1,5 @@
 //! Columns, dictionaries and a table as arrays, against the layouts that the standard shows.
-ghost use Rattle.std.specs.Prelude.{◌≡◌, ◌≤ℤ◌, ◌++◌, pos, List, [], ◌∷◌, Some};
+ghost use Rattle.std.specs.Prelude.{◌≡◌, ◌≤ℤ◌, pos, List, [], ◌∷◌, Some};
 ghost use Rattle.layout_rules.specs.Layout.{natural};
 ghost use Rattle.data_types.specs.Value.{Value};
 ghost use Rattle.data_types.specs.declared.kind.DataType.{DataType};
@@ -7,12 +7,13 @@ ghost use Rattle.col_build.specs.Finished.{IsMade};
 ghost use Rattle.arr_export.specs.ArrayTrees.{HasValues, IsColumn};
 
 use arr_export::{export_column, export_table};
-use buf_block::{BufView, make};
+use buf_block::BufView;
 use col_build::FinishedColumn;
 use raw_array::RawArray;
 use std::alloc::Global;
 use std::process::Abort;
 use std::test::Fail;
+use test_parts::view;
 use unit_pass::{Pass, SUPPLY, open_desk};
 
 // ---- columns of buffers that are made by hand
@@ -21,28 +22,7 @@ use unit_pass::{Pass, SUPPLY, open_desk};
 fn block(rt: &impl Abort, alloc: Global, bytes: &[u8], pass: &mut Pass) -> Option<BufView>
     ensures { IsMade result (Some bytes.now) }
 {
-    assert!(rt; pass.units() >= 1);
-    let Ok(bytes) = Vec::from_slice(alloc, bytes) else {
-        panic!(rt; "there is memory");
-    };
-    let len = bytes.len();
-    match make(alloc, bytes, pass) {
-        Ok(hold) => Some(BufView {
-            hold,
-            start: 0,
-            len,
-        }),
-        Err(_refused) => panic!(rt; "there is memory"),
-    }
-}
-
-fn listed<T>(rt: &impl Abort, items: &mut Vec<T>, item: T)
-    ensures { items.new.items ≡ items.old.items ++ item ∷ [] }
-{
-    match items.push(item) {
-        Ok(()) => {}
-        Err(_failed) => panic!(rt; "there is memory"),
-    }
+    Some(view(alloc, bytes, pass).expect(rt, "there is memory"))
 }
 
 fn two(
@@ -54,8 +34,8 @@ fn two(
     ensures { result.items ≡ first ∷ second ∷ [] }
 {
     let mut views = Vec::new(alloc);
-    listed(rt, &mut views, first);
-    listed(rt, &mut views, second);
+    views.push(first).expect(rt, "there is memory");
+    views.push(second).expect(rt, "there is memory");
     views
 }
 
@@ -69,7 +49,7 @@ fn three(
     ensures { result.items ≡ first ∷ second ∷ third ∷ [] }
 {
     let mut views = two(rt, alloc, first, second);
-    listed(rt, &mut views, third);
+    views.push(third).expect(rt, "there is memory");
     views
 }
 
@@ -362,8 +342,8 @@ fn table(rt: &impl Abort, alloc: Global, rows: i64, pass: &mut Pass) -> RawArray
     let second = texts(rt, alloc, pass);
     column(rt, &second, rows);
     let mut columns = Vec::new(alloc);
-    listed(rt, &mut columns, first);
-    listed(rt, &mut columns, second);
+    columns.push(first).expect(rt, "there is memory");
+    columns.push(second).expect(rt, "there is memory");
     assert!(rt; pass.units() >= 1);
     match export_table(alloc, columns, rows, pass) {
         Ok(tree) => tree,

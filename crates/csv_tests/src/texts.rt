@@ -3,7 +3,7 @@
 ghost use Rattle.std.specs.Prelude.{◌≡◌, ◌≤◌, All, map};
 ghost use Rattle.data_types.specs.ColumnView.{column_of};
 ghost use Rattle.raw_schema.specs.Members.{Nodes};
-ghost use Rattle.tree_model.specs.Tree.{Depth, trees, maybe_tree, depth_of_all, depth_of_maybe};
+ghost use Rattle.tree_model.specs.Tree.{Depth};
 ghost use Rattle.unit_pass.specs.declared.pass.TheConstants.{CHUNK};
 ghost use Rattle.data_types.specs.KindTrees.{TypedOk};
 ghost use Rattle.data_types.specs.TypedView.{typed_of};
@@ -12,105 +12,38 @@ ghost use Rattle.data_types.specs.ColumnKinds.{type_of_columns};
 ghost use Rattle.schema_check.specs.ColumnSchema.{KindsOk, SchemaOf};
 ghost use Rattle.field_codec.specs.TextColumns.{HaveTexts};
 
-use crate::sources::same;
+use crate::sources::{closed, same};
 use arr_export::{column_schemas_are_lawful, export_schema};
 use arr_import::Col;
-use buf_block::{BufView, make};
 use csv_write::CsvText;
 use data_types::{ColKind, ColumnType, DataType, Typed};
 use layout_check::check_array;
-use raw_array::{ArrayParts, RawArray, ReleaseKind};
+use raw_array::RawArray;
 use raw_schema::RawSchema;
 use schema_check::check_schema;
 use std::alloc::Global;
 use std::process::Abort;
-use unit_pass::{CHUNK, Desk, Name, Pass, SUPPLY, open_desk};
+use test_parts::{Items, array};
+use unit_pass::{CHUNK, Name, Pass, SUPPLY, open_desk};
 
 // ---- arrays
 
-fn listed<T>(rt: &impl Abort, items: &mut Vec<T>, item: T) {
-    match items.push(item) {
-        Ok(()) => {}
-        Err(_failed) => panic!(rt; "no memory"),
-    }
-}
-
-#[tactic(auto, using(tree_model::proofs::Measures::measures))]
-fn few_levels(rt: &impl Abort, children: &[RawArray])
-    ensures { depth_of_all (trees children.now) ≤ 9 }
-{
-    for child in children {
-        assert!(rt; child.depth() <= 9);
-    }
-}
-
-fn few_levels_behind(rt: &impl Abort, dictionary: &Option<RawArray>)
-    ensures { depth_of_maybe (maybe_tree dictionary.now) ≤ 9 }
-{
-    if let Some(tree) = dictionary {
-        assert!(rt; tree.depth() <= 9);
-    }
-}
-
-/// A view of all bytes of a new block.
-fn view(rt: &impl Abort, alloc: Global, bytes: &[u8], pass: &mut Pass) -> BufView {
-    assert!(rt; pass.units() >= 1);
-    let Ok(bytes) = Vec::from_slice(alloc, bytes) else {
-        panic!(rt; "no memory");
-    };
-    let len = bytes.len();
-    match make(alloc, bytes, pass) {
-        Ok(hold) => BufView {
-            hold,
-            start: 0,
-            len,
-        },
-        Err(_refused) => panic!(rt; "no memory"),
-    }
-}
-
-fn built(rt: &impl Abort, alloc: Global, parts: ArrayParts, pass: &mut Pass) -> RawArray {
-    few_levels(rt, &parts.children);
-    few_levels_behind(rt, &parts.dictionary);
-    assert!(rt; pass.units() >= 1);
-    assert!(rt; parts.children.len() < 9);
-    assert!(rt; parts.buffers.len() < 9);
-    match RawArray::build(alloc, parts, pass) {
-        Ok(tree) => tree,
-        Err(_refused) => panic!(rt; "no memory"),
-    }
-}
-
-/// An array's length and offset.
-type Span = (i64, i64);
-
-fn array(
+/// An array of this length and offset.
+fn array_at(
     rt: &impl Abort,
     alloc: Global,
-    span: Span,
+    (length, offset): (i64, i64),
     bytes: &[Option<&[u8]>],
     children: Vec<RawArray>,
     dictionary: Option<RawArray>,
     pass: &mut Pass,
 ) -> RawArray {
-    let mut buffers = Vec::new(alloc);
-    for buffer in bytes {
-        let buffer = match buffer {
-            Some(bytes) => Some(view(rt, alloc, bytes, pass)),
-            None => None,
-        };
-        listed(rt, &mut buffers, buffer);
-    }
-    let parts = ArrayParts {
-        length: span.0,
+    let items = Items {
+        length,
         null_count: -1,
-        offset: span.1,
-        buffers,
-        children,
-        dictionary,
-        kind: ReleaseKind::Exported,
+        offset,
     };
-    built(rt, alloc, parts, pass)
+    array(alloc, items, bytes, children, dictionary, pass).expect(rt, "no memory")
 }
 
 fn ended(rt: &impl Abort, array: RawArray, pass: &mut Pass) {
@@ -128,21 +61,13 @@ fn all_ended(rt: &impl Abort, mut arrays: Vec<RawArray>, pass: &mut Pass) {
     arrays.destroy_empty();
 }
 
-/// Closes the desk, to whose pass all units are back.
-fn closed(rt: &impl Abort, desk: Desk, pass: Pass) {
-    assert!(rt; pass.units() == SUPPLY);
-    desk.close(pass);
-}
-
 // ---- columns
 
 fn column(rt: &impl Abort, alloc: Global, name: &[u8], kind: ColKind) -> ColumnType
     ensures { result.kind ≡ kind }
 {
-    match Name::from_slice(alloc, name) {
-        Ok(name) => ColumnType { name, kind },
-        Err(_no_memory) => panic!(rt; "no memory"),
-    }
+    let name = Name::from_slice(alloc, name).expect(rt, "no memory");
+    ColumnType { name, kind }
 }
 
 fn schema_ended(rt: &impl Abort, schema: RawSchema, pass: &mut Pass) {
@@ -233,7 +158,7 @@ fn shows(
 /// A chunk of two columns: an empty text, one that is quoted, and a null; and a null index, and the entries 1 and 0, of which the
 /// first is null.
 fn two_columns(rt: &impl Abort, alloc: Global, pass: &mut Pass) -> RawArray {
-    let texts = array(
+    let texts = array_at(
         rt,
         alloc,
         (3, 0),
@@ -246,7 +171,7 @@ fn two_columns(rt: &impl Abort, alloc: Global, pass: &mut Pass) -> RawArray {
         None,
         pass,
     );
-    let entries = array(
+    let entries = array_at(
         rt,
         alloc,
         (2, 0),
@@ -259,7 +184,7 @@ fn two_columns(rt: &impl Abort, alloc: Global, pass: &mut Pass) -> RawArray {
         None,
         pass,
     );
-    let indices = array(
+    let indices = array_at(
         rt,
         alloc,
         (3, 1),
@@ -269,9 +194,9 @@ fn two_columns(rt: &impl Abort, alloc: Global, pass: &mut Pass) -> RawArray {
         pass,
     );
     let mut columns = Vec::new(alloc);
-    listed(rt, &mut columns, texts);
-    listed(rt, &mut columns, indices);
-    array(rt, alloc, (3, 0), &[None], columns, None, pass)
+    columns.push(texts).expect(rt, "no memory");
+    columns.push(indices).expect(rt, "no memory");
+    array_at(rt, alloc, (3, 0), &[None], columns, None, pass)
 }
 
 #[test]
@@ -285,9 +210,10 @@ fn empty_texts_and_null_entries_are_written_as_the_mark_has_it(rt: HostRuntime) 
     ];
     let (desk, mut pass) = open_desk();
     let mut chunks = Vec::new(alloc);
-    listed(&rt, &mut chunks, two_columns(&rt, alloc, &mut pass));
+    let chunk = two_columns(&rt, alloc, &mut pass);
+    chunks.push(chunk).expect(&rt, "no memory");
     let want = b"u,\"t,\"\n,\n\"a\"\"b,\",hi\n,\n";
     let marked = b"u,\"t,\"\n,NULL\n\"a\"\"b,\",hi\nNULL,NULL\n";
     shows(&rt, alloc, &columns, chunks, want, marked, &mut pass);
-    closed(&rt, desk, pass);
+    closed(&rt, 0, desk, pass);
 }

@@ -5,33 +5,8 @@ use std::alloc::Global;
 use std::process::Abort;
 use std::sync::atomic::{AtomicU64, Ordering};
 use std::test::Fail;
-use std::thread;
 use std::thread::Threads;
-
-/// Worker 1 raises its flag, and worker 0 looks for it, this many times at most, and notes whether it saw it. Workers that run
-/// one after another never show it, since worker 0 has then gone on before worker 1 comes.
-#[derive(Drop)]
-struct Meet {
-    came: AtomicU64,
-    seen: AtomicU64,
-}
-
-impl Gate for Meet {
-    fn pass(&self, worker: u32) {
-        if worker == 1 {
-            self.came.store(1, Ordering::SeqCst);
-        }
-        if worker == 0 {
-            for _ in 0..1_000_000 {
-                if self.came.load(Ordering::SeqCst) == 1 {
-                    self.seen.store(1, Ordering::SeqCst);
-                    break;
-                }
-                thread::yield_now();
-            }
-        }
-    }
-}
+use test_parts::Meet;
 
 /// Counts how often each of the workers 0 to 3 passes, and then how often any other does.
 #[derive(Drop)]
@@ -139,13 +114,9 @@ static ROWS: [(&str, &[u8], (u64, u64)); 2] = [
 fn two_of_four_workers_are_seen_side_by_side(rt: HostRuntime) -> Result<(), Fail> {
     let bytes = numbers(rt.alloc(), 65536)?;
     for row in &ROWS {
-        let meet = Meet {
-            came: AtomicU64::new(0),
-            seen: AtomicU64::new(0),
-        };
+        let meet = Meet::new();
         expect_by(&rt, rt.alloc(), 4, row, &bytes, &meet)?;
-        let seen = meet.seen.load(Ordering::SeqCst);
-        assert_eq!(rt; seen, 1, "the workers of {row:?}");
+        assert!(rt; meet.was_seen(), "the workers of {row:?}");
     }
     Ok(())
 }

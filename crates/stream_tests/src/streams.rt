@@ -1,92 +1,41 @@
 //! Tests of checked streams, over streams that may be unlawful and give small trees.
 ghost use Rattle.std.specs.Prelude.{◌≡◌, ◌<◌, ◌≤◌, IsTrue, is_some};
-ghost use Rattle.tree_model.specs.Tree.{trees, depth_of_all};
 ghost use Rattle.stream_face.specs.Meaning.{meaning};
 ghost use Rattle.stream_tests.specs.Strangers.{held_in};
 
 use crate::stranger::{End, Stranger};
-use buf_block::{BufView, make};
 use data_types::{RowFault, Typed};
 use edge_io::OpenGate;
 use fmt_string::{FormatFault, FormatRule};
 use layout_check::count_rows;
 use layout_rules::{LayoutFault, LayoutRule};
-use raw_array::{Acted, ArrayParts, RawArray, ReleaseKind};
-use raw_schema::{RawSchema, SchemaParts};
+use raw_array::{Acted, RawArray};
+use raw_schema::RawSchema;
 use schema_check::{SchemaFault, SchemaRule};
 use std::alloc::Global;
 use std::process::Abort;
 use std::thread::Threads;
 use stream_face::{ArrayStream, NoTap, RawStream, StartFault, StreamFault, Tap};
+use test_parts::{Items, array, node};
 use unit_pass::{Desk, NoMemory, Pass, ROOM, SUPPLY, open_desk};
 
 // ---- small trees
 
-pub(crate) fn listed<T>(rt: &impl Abort, items: &mut Vec<T>, item: T) {
-    match items.push(item) {
-        Ok(()) => {}
-        Err(_failed) => panic!(rt; "no memory"),
-    }
-}
-
-/// A view of all bytes of a new block.
-fn view(rt: &impl Abort, alloc: Global, bytes: &[u8], pass: &mut Pass) -> BufView {
-    assert!(rt; pass.units() >= 1);
-    let Ok(bytes) = Vec::from_slice(alloc, bytes) else {
-        panic!(rt; "no memory");
-    };
-    let len = bytes.len();
-    match make(alloc, bytes, pass) {
-        Ok(hold) => BufView {
-            hold,
-            start: 0,
-            len,
-        },
-        Err(_refused) => panic!(rt; "no memory"),
-    }
-}
-
-#[tactic(auto, using(tree_model::proofs::Measures::measures))]
-fn few_levels(rt: &impl Abort, children: &[RawArray])
-    ensures { depth_of_all (trees children.now) ≤ 9 }
-{
-    for child in children {
-        assert!(rt; child.depth() <= 9);
-    }
-}
-
 /// An array of this many items and nulls.
-pub(crate) fn array(
+pub(crate) fn array_of(
     rt: &impl Abort,
     alloc: Global,
-    items: (i64, i64),
+    (length, null_count): (i64, i64),
     bytes: &[Option<&[u8]>],
     children: Vec<RawArray>,
     pass: &mut Pass,
 ) -> RawArray {
-    let mut buffers = Vec::new(alloc);
-    for buffer in bytes {
-        let buffer = match buffer {
-            Some(bytes) => Some(view(rt, alloc, bytes, pass)),
-            None => None,
-        };
-        listed(rt, &mut buffers, buffer);
-    }
-    few_levels(rt, &children);
-    assert!(rt; pass.units() >= 1 && children.len() < 9 && buffers.len() < 9);
-    let parts = ArrayParts {
-        length: items.0,
-        null_count: items.1,
+    let items = Items {
+        length,
+        null_count,
         offset: 0,
-        buffers,
-        children,
-        dictionary: None,
-        kind: ReleaseKind::Exported,
     };
-    match RawArray::build(alloc, parts, pass) {
-        Ok(tree) => tree,
-        Err(_refused) => panic!(rt; "no memory"),
-    }
+    array(alloc, items, bytes, children, None, pass).expect(rt, "no memory")
 }
 
 /// A structure for a table of one column of texts.
@@ -119,7 +68,7 @@ fn texts(rt: &impl Abort, alloc: Global, given: Given, pass: &mut Pass) -> RawAr
         &RISING
     };
     let nulls = if given == Given::WrongNulls { 1 } else { 0 };
-    array(
+    array_of(
         rt,
         alloc,
         (2, nulls),
@@ -131,7 +80,7 @@ fn texts(rt: &impl Abort, alloc: Global, given: Given, pass: &mut Pass) -> RawAr
 
 fn table(rt: &impl Abort, alloc: Global, given: Given, pass: &mut Pass) -> RawArray {
     if given == Given::Numbers {
-        return array(
+        return array_of(
             rt,
             alloc,
             (2, 0),
@@ -145,50 +94,28 @@ fn table(rt: &impl Abort, alloc: Global, given: Given, pass: &mut Pass) -> RawAr
         Given::Gone => RawArray::released(),
         _ => texts(rt, alloc, given, pass),
     };
-    listed(rt, &mut columns, column);
+    columns.push(column).expect(rt, "no memory");
     if given == Given::Other {
-        listed(rt, &mut columns, texts(rt, alloc, Given::Good, pass));
+        columns
+            .push(texts(rt, alloc, Given::Good, pass))
+            .expect(rt, "no memory");
     }
     if given == Given::NullRow {
-        return array(rt, alloc, (2, 1), &[Some(&[1u8])], columns, pass);
+        return array_of(rt, alloc, (2, 1), &[Some(&[1u8])], columns, pass);
     }
-    array(rt, alloc, (2, 0), &[None], columns, pass)
+    array_of(rt, alloc, (2, 0), &[None], columns, pass)
 }
 
-#[tactic(auto, using(tree_model::proofs::Measures::measures))]
-pub(crate) fn few_schema_levels(rt: &impl Abort, children: &[RawSchema])
-    ensures { depth_of_all (trees children.now) ≤ 9 }
-{
-    for child in children {
-        assert!(rt; child.depth() <= 9);
-    }
-}
-
-/// A schema of this format.
-fn field(
+/// A schema of this format and name.
+pub(crate) fn field(
     rt: &impl Abort,
     alloc: Global,
     format: &[u8],
+    name: Option<&[u8]>,
     children: Vec<RawSchema>,
     pass: &mut Pass,
 ) -> RawSchema {
-    let Ok(format) = Vec::from_slice(alloc, format) else {
-        panic!(rt; "no memory");
-    };
-    few_schema_levels(rt, &children);
-    assert!(rt; pass.units() >= 1 && children.len() < 9);
-    let parts = SchemaParts {
-        format,
-        name: None,
-        metadata: None,
-        flags: 2,
-        children,
-        dictionary: None,
-    };
-    match RawSchema::build(alloc, parts, pass) {
-        Ok(tree) => tree,
-        Err(_refused) => panic!(rt; "no memory"),
-    }
+    node(alloc, format, name, children, None, pass).expect(rt, "no memory")
 }
 
 /// The schema of a table of a column of texts, or of a node of another format, or a released one.
@@ -198,10 +125,10 @@ fn schema(rt: &impl Abort, alloc: Global, format: Option<&[u8]>, pass: &mut Pass
     };
     let mut columns = Vec::new(alloc);
     if format == b"+s".as_slice() {
-        let column = field(rt, alloc, b"u", Vec::new(alloc), pass);
-        listed(rt, &mut columns, column);
+        let column = field(rt, alloc, b"u", None, Vec::new(alloc), pass);
+        columns.push(column).expect(rt, "no memory");
     }
-    field(rt, alloc, format, columns, pass)
+    field(rt, alloc, format, None, columns, pass)
 }
 
 // ---- streams
@@ -222,7 +149,9 @@ fn stranger(
     let schema = schema(rt, alloc, format, pass);
     let mut arrays = Vec::new(alloc);
     for given in givens.iter().rev() {
-        listed(rt, &mut arrays, table(rt, alloc, *given, pass));
+        arrays
+            .push(table(rt, alloc, *given, pass))
+            .expect(rt, "no memory");
     }
     let bank = pass.split(0);
     Stranger::new(rt, schema, arrays, bank, shy, end)

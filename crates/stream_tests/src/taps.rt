@@ -1,9 +1,9 @@
 //! A table is shown twice, and what was kept is compared value by value.
-use crate::streams::{array, few_schema_levels, listed};
+use crate::streams::{array_of, field};
 use data_types::DataType;
 use layout_check::check_chunk;
 use raw_array::RawArray;
-use raw_schema::{RawSchema, SchemaParts};
+use raw_schema::RawSchema;
 use record_tap::{OwnedValue, RecordTap, SeenChunk};
 use schema_check::check_schema;
 use std::alloc::Global;
@@ -11,61 +11,23 @@ use std::process::Abort;
 use stream_face::Tap;
 use unit_pass::{Name, Pass, SUPPLY, open_desk};
 
-// ---- small trees
-
-fn copied(rt: &impl Abort, alloc: Global, bytes: &[u8]) -> Vec<u8> {
-    match Vec::from_slice(alloc, bytes) {
-        Ok(bytes) => bytes,
-        Err(_failed) => panic!(rt; "no memory"),
-    }
-}
-
-/// A schema of this format and name.
-fn field(
-    rt: &impl Abort,
-    alloc: Global,
-    format: &[u8],
-    name: Option<&[u8]>,
-    children: Vec<RawSchema>,
-    pass: &mut Pass,
-) -> RawSchema {
-    let name = match name {
-        Some(name) => Some(copied(rt, alloc, name)),
-        None => None,
-    };
-    few_schema_levels(rt, &children);
-    assert!(rt; pass.units() >= 1 && children.len() < 9);
-    let parts = SchemaParts {
-        format: copied(rt, alloc, format),
-        name,
-        metadata: None,
-        flags: 2,
-        children,
-        dictionary: None,
-    };
-    match RawSchema::build(alloc, parts, pass) {
-        Ok(tree) => tree,
-        Err(_refused) => panic!(rt; "no memory"),
-    }
-}
-
 // ---- the table
 
 /// A column of whole numbers, and one of structs of a text and a list of truth values.
 fn table_schema(rt: &impl Abort, alloc: Global, pass: &mut Pass) -> RawSchema {
     let mut items = Vec::new(alloc);
     let item = field(rt, alloc, b"b", Some(b"item"), Vec::new(alloc), pass);
-    listed(rt, &mut items, item);
+    items.push(item).expect(rt, "no memory");
     let mut fields = Vec::new(alloc);
     let text = field(rt, alloc, b"u", Some(b"x"), Vec::new(alloc), pass);
-    listed(rt, &mut fields, text);
+    fields.push(text).expect(rt, "no memory");
     let list = field(rt, alloc, b"+l", Some(b"y"), items, pass);
-    listed(rt, &mut fields, list);
+    fields.push(list).expect(rt, "no memory");
     let mut columns = Vec::new(alloc);
     let numbers = field(rt, alloc, b"c", Some(b"n"), Vec::new(alloc), pass);
-    listed(rt, &mut columns, numbers);
+    columns.push(numbers).expect(rt, "no memory");
     let structs = field(rt, alloc, b"+s", Some(b"s"), fields, pass);
-    listed(rt, &mut columns, structs);
+    columns.push(structs).expect(rt, "no memory");
     field(rt, alloc, b"+s", None, columns, pass)
 }
 
@@ -76,7 +38,7 @@ const LISTS: [u8; 16] = [0, 0, 0, 0, 1, 0, 0, 0, 1, 0, 0, 0, 3, 0, 0, 0];
 /// Three rows; the second number is null.
 fn table(rt: &impl Abort, alloc: Global, pass: &mut Pass) -> RawArray {
     let mut items = Vec::new(alloc);
-    let truths = array(
+    let truths = array_of(
         rt,
         alloc,
         (3, 0),
@@ -84,20 +46,20 @@ fn table(rt: &impl Abort, alloc: Global, pass: &mut Pass) -> RawArray {
         Vec::new(alloc),
         pass,
     );
-    listed(rt, &mut items, truths);
+    items.push(truths).expect(rt, "no memory");
     let mut fields = Vec::new(alloc);
     let buffers: [Option<&[u8]>; 3] = [None, Some(&ENDS), Some(b"hi!")];
-    let texts = array(rt, alloc, (3, 0), &buffers, Vec::new(alloc), pass);
-    listed(rt, &mut fields, texts);
-    let lists = array(rt, alloc, (3, 0), &[None, Some(&LISTS)], items, pass);
-    listed(rt, &mut fields, lists);
+    let texts = array_of(rt, alloc, (3, 0), &buffers, Vec::new(alloc), pass);
+    fields.push(texts).expect(rt, "no memory");
+    let lists = array_of(rt, alloc, (3, 0), &[None, Some(&LISTS)], items, pass);
+    fields.push(lists).expect(rt, "no memory");
     let mut columns = Vec::new(alloc);
     let buffers: [Option<&[u8]>; 2] = [Some(&[5]), Some(&[7, 0, 255])];
-    let numbers = array(rt, alloc, (3, 1), &buffers, Vec::new(alloc), pass);
-    listed(rt, &mut columns, numbers);
-    let structs = array(rt, alloc, (3, 0), &[None], fields, pass);
-    listed(rt, &mut columns, structs);
-    array(rt, alloc, (3, 0), &[None], columns, pass)
+    let numbers = array_of(rt, alloc, (3, 1), &buffers, Vec::new(alloc), pass);
+    columns.push(numbers).expect(rt, "no memory");
+    let structs = array_of(rt, alloc, (3, 0), &[None], fields, pass);
+    columns.push(structs).expect(rt, "no memory");
+    array_of(rt, alloc, (3, 0), &[None], columns, pass)
 }
 
 // ---- what is wanted

@@ -3,18 +3,17 @@ ghost use Rattle.std.specs.Prelude.{◌≡◌};
 ghost use Rattle.data_types.specs.KindTrees.{TypedOk};
 ghost use Rattle.data_types.specs.TypedView.{typed_of};
 
-use buf_block::{BufView, make};
+use crate::streams::array_of;
 use data_types::{DataType, Typed};
 use edge_io::{Gate, OpenGate};
 use fan_out::{Job, Workers, fan_out};
 use layout_check::{check_chunk, chunk_passes};
-use raw_array::{ArrayParts, RawArray, ReleaseKind};
+use raw_array::RawArray;
 use std::alloc::Global;
 use std::process::Abort;
-use std::sync::atomic::{AtomicU64, Ordering};
 use std::test::Fail;
-use std::thread;
 use std::thread::Threads;
+use test_parts::Meet;
 use unit_pass::{Desk, NoMemory, Pass, SUPPLY, open_desk};
 
 /// Answers its window, but that memory runs out for the one that ends at a row.
@@ -44,31 +43,6 @@ impl Job for Window {
     }
 }
 
-/// Worker 1 raises its flag, and worker 0 looks for it, this many times at most, and notes whether it saw it. Workers that run
-/// one after another never show it, since worker 0 has then gone on before worker 1 comes.
-#[derive(Drop)]
-struct Meet {
-    came: AtomicU64,
-    seen: AtomicU64,
-}
-
-impl Gate for Meet {
-    fn pass(&self, worker: u32) {
-        if worker == 1 {
-            self.came.store(1, Ordering::SeqCst);
-        }
-        if worker == 0 {
-            for _ in 0..1_000_000 {
-                if self.came.load(Ordering::SeqCst) == 1 {
-                    self.seen.store(1, Ordering::SeqCst);
-                    break;
-                }
-                thread::yield_now();
-            }
-        }
-    }
-}
-
 /// The kinds of a table without columns.
 fn no_columns(alloc: Global) -> Typed
     ensures { TypedOk (typed_of result) }
@@ -80,42 +54,9 @@ fn no_columns(alloc: Global) -> Typed
     }
 }
 
-/// A view of a new block of one byte.
-fn view(rt: &impl Abort, alloc: Global, pass: &mut Pass) -> BufView {
-    assert!(rt; pass.units() >= 1);
-    let Ok(bytes) = Vec::from_slice(alloc, &[3u8]) else {
-        panic!(rt; "no memory");
-    };
-    match make(alloc, bytes, pass) {
-        Ok(hold) => BufView {
-            hold,
-            start: 0,
-            len: 1,
-        },
-        Err(_refused) => panic!(rt; "no memory"),
-    }
-}
-
 /// A table of two rows and no column, over a block of its own.
 fn two_rows(rt: &impl Abort, alloc: Global, pass: &mut Pass) -> RawArray {
-    let Ok(mut buffers) = Vec::with_capacity(alloc, 1) else {
-        panic!(rt; "no memory");
-    };
-    buffers.push_reserved(Some(view(rt, alloc, pass)));
-    let parts = ArrayParts {
-        length: 2,
-        null_count: 0,
-        offset: 0,
-        buffers,
-        children: Vec::new(alloc),
-        dictionary: None,
-        kind: ReleaseKind::Exported,
-    };
-    assert!(rt; pass.units() >= 1);
-    match RawArray::build(alloc, parts, pass) {
-        Ok(tree) => tree,
-        Err(_refused) => panic!(rt; "no memory"),
-    }
+    array_of(rt, alloc, (2, 0), &[Some(&[3])], Vec::new(alloc), pass)
 }
 
 /// What workers answered of a chunk: the answers in order, or none where memory ran out, and the least amount that is left.
@@ -190,10 +131,7 @@ fn windows_on_two_rows<R: Threads + Abort + Sync>(
 
 #[test]
 fn workers_run_side_by_side(rt: HostRuntime) -> Result<(), Fail> {
-    let gate = Meet {
-        came: AtomicU64::new(0),
-        seen: AtomicU64::new(0),
-    };
+    let gate = Meet::new();
     let told = windows_on_two_rows(&rt, rt.alloc(), 4, &Window { short_at: -1 }, &gate);
     let windows = vec![in rt.alloc(); (0, 0), (0, 1), (1, 1), (1, 2)]?;
     assert_eq!(rt;
@@ -203,7 +141,7 @@ fn workers_run_side_by_side(rt: HostRuntime) -> Result<(), Fail> {
             least: 4294967293
         }
     );
-    assert_eq!(rt; gate.seen.load(Ordering::SeqCst), 1);
+    assert!(rt; gate.was_seen());
     Ok(())
 }
 

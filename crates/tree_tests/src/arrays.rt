@@ -1,89 +1,38 @@
 //! Arrays of several levels: shared, windowed, taken apart and released, with the units that come back counted.
-ghost use Rattle.std.specs.Prelude.{◌≡◌, ◌+◌, ◌<◌, ◌≤◌, ◌∷◌, ◌++◌, [], length};
-ghost use Rattle.tree_model.specs.Tree.{IsLive, trees, maybe_tree, depth_of_all, depth_of_maybe, children_of};
+ghost use Rattle.std.specs.Prelude.{◌≡◌, ◌+◌, ◌<◌, ◌≤◌, length};
+ghost use Rattle.tree_model.specs.Tree.{IsLive, trees, children_of};
 ghost use Rattle.raw_array.specs.Members.{Cost, cost_of_all, members_of};
 
-use buf_block::{BufView, make};
 use raw_array::{Acted, ArrayParts, Gone, PartlyMoved, RawArray, ReleaseKind, release_all};
 use std::alloc::Global;
 use std::process::Abort;
+use test_parts::{Items, array, built};
 use unit_pass::{Audit, Desk, Pass, SUPPLY, open_desk};
 
-#[tactic(auto, using(tree_model::proofs::Measures::measures))]
-fn few_levels(rt: &impl Abort, children: &[RawArray])
-    ensures { depth_of_all (trees children.now) ≤ 9 }
-{
-    for child in children {
-        assert!(rt; child.depth() <= 9);
-    }
-}
-
-fn few_levels_behind(rt: &impl Abort, dictionary: &Option<RawArray>)
-    ensures { depth_of_maybe (maybe_tree dictionary.now) ≤ 9 }
-{
-    if let Some(tree) = dictionary {
-        assert!(rt; tree.depth() <= 9);
-    }
-}
-
-fn listed<T>(rt: &impl Abort, items: &mut Vec<T>, item: T)
-    ensures { items.new.items ≡ items.old.items ++ item ∷ [] }
-{
-    match items.push(item) {
-        Ok(()) => {}
-        Err(_failed) => panic!(rt; "no memory"),
-    }
-}
-
-/// A view of all bytes of a new block.
-fn view(rt: &impl Abort, alloc: Global, bytes: &[u8], pass: &mut Pass) -> BufView {
-    assert!(rt; pass.units() >= 1);
-    let Ok(bytes) = Vec::from_slice(alloc, bytes) else {
-        panic!(rt; "no memory");
-    };
-    let len = bytes.len();
-    match make(alloc, bytes, pass) {
-        Ok(hold) => BufView {
-            hold,
-            start: 0,
-            len,
-        },
-        Err(_refused) => panic!(rt; "no memory"),
-    }
-}
-
-/// Members, and what a node owns.
-fn built(rt: &impl Abort, alloc: Global, parts: ArrayParts, pass: &mut Pass) -> RawArray
+/// A column of whole numbers of 32 bits, this many of them null, without a validity buffer.
+fn numbers(rt: &impl Abort, alloc: Global, bytes: &[u8], nulls: i64, pass: &mut Pass) -> RawArray
     ensures { IsLive result }
 {
-    few_levels(rt, &parts.children);
-    few_levels_behind(rt, &parts.dictionary);
-    assert!(rt; pass.units() >= 1);
-    assert!(rt; parts.children.len() < 9);
-    assert!(rt; parts.buffers.len() < 9);
-    match RawArray::build(alloc, parts, pass) {
-        Ok(tree) => tree,
-        Err(_refused) => panic!(rt; "no memory"),
-    }
+    let items = Items {
+        length: bytes.len() as i64 / 4,
+        null_count: nulls,
+        offset: 0,
+    };
+    let made = array(
+        alloc,
+        items,
+        &[None, Some(bytes)],
+        Vec::new(alloc),
+        None,
+        pass,
+    );
+    made.expect(rt, "no memory")
 }
 
-/// A column of whole numbers of 32 bits, one of them null or none, without a validity buffer.
 fn column(rt: &impl Abort, alloc: Global, bytes: &[u8], pass: &mut Pass) -> RawArray
     ensures { IsLive result }
 {
-    let mut buffers = Vec::new(alloc);
-    listed(rt, &mut buffers, None);
-    listed(rt, &mut buffers, Some(view(rt, alloc, bytes, pass)));
-    let parts = ArrayParts {
-        length: bytes.len() as i64 / 4,
-        null_count: 0,
-        offset: 0,
-        buffers,
-        children: Vec::new(alloc),
-        dictionary: None,
-        kind: ReleaseKind::Exported,
-    };
-    built(rt, alloc, parts, pass)
+    numbers(rt, alloc, bytes, 0, pass)
 }
 
 /// A structure over children, without a validity buffer.
@@ -97,7 +46,7 @@ fn top_over(
     ensures { IsLive result }
 {
     let mut buffers = Vec::new(alloc);
-    listed(rt, &mut buffers, None);
+    buffers.push(None).expect(rt, "no memory");
     let parts = ArrayParts {
         length: 1,
         null_count: 1,
@@ -107,7 +56,7 @@ fn top_over(
         dictionary,
         kind: ReleaseKind::Assembled,
     };
-    built(rt, alloc, parts, pass)
+    built(alloc, parts, pass).expect(rt, "no memory")
 }
 
 /// The units that the release of a tree gives back.
@@ -184,8 +133,8 @@ fn two(rt: &impl Abort, alloc: Global, first: RawArray, second: RawArray) -> Vec
     ensures { cost_of_all (trees result.items) ≡ Cost first + Cost second }
 {
     let mut children = Vec::new(alloc);
-    listed(rt, &mut children, first);
-    listed(rt, &mut children, second);
+    children.push(first).expect(rt, "no memory");
+    children.push(second).expect(rt, "no memory");
     children
 }
 
@@ -196,7 +145,8 @@ fn two_columns(rt: &impl Abort, alloc: Global, pass: &mut Pass) -> Vec<RawArray>
     two(rt, alloc, first, second)
 }
 
-fn closed(rt: &impl Abort, desk: Desk, pass: Pass) -> Audit {
+/// Closes the desk, to whose pass all units are back.
+pub(crate) fn closed(rt: &impl Abort, desk: Desk, pass: Pass) -> Audit {
     assert_eq!(rt; pass.units(), SUPPLY);
     desk.close(pass)
 }
@@ -205,7 +155,7 @@ fn closed(rt: &impl Abort, desk: Desk, pass: Pass) -> Audit {
 fn three_columns(rt: &impl Abort, alloc: Global, pass: &mut Pass) -> RawArray {
     let mut children = two_columns(rt, alloc, pass);
     let third = column(rt, alloc, &[3, 0, 0, 0], pass);
-    listed(rt, &mut children, third);
+    children.push(third).expect(rt, "no memory");
     top_over(rt, alloc, children, None, pass)
 }
 
@@ -396,29 +346,6 @@ fn stands(rt: &impl Abort, tree: &RawArray, offset: i64, length: i64, null_count
     assert!(rt; tree.null_count() == null_count);
 }
 
-/// Four items of 32 bits, this many of them null.
-fn four_items(
-    rt: &impl Abort,
-    alloc: Global,
-    bytes: &[u8],
-    nulls: i64,
-    pass: &mut Pass,
-) -> RawArray {
-    let mut buffers = Vec::new(alloc);
-    listed(rt, &mut buffers, None);
-    listed(rt, &mut buffers, Some(view(rt, alloc, bytes, pass)));
-    let parts = ArrayParts {
-        length: 4,
-        null_count: nulls,
-        offset: 0,
-        buffers,
-        children: Vec::new(alloc),
-        dictionary: None,
-        kind: ReleaseKind::Exported,
-    };
-    built(rt, alloc, parts, pass)
-}
-
 /// Windows of four items, this many of them null, one in another. What the narrow ones know of nulls comes last.
 fn windowed(rt: &impl Abort, tree: &mut RawArray, nulls: i64, unknown: i64) {
     stands(rt, tree, 0, 4, nulls);
@@ -436,7 +363,7 @@ fn a_window_of_a_window_adds_the_offsets(rt: HostRuntime) {
     let (desk, mut pass) = open_desk();
     let bytes = [1, 0, 0, 0, 2, 0, 0, 0, 3, 0, 0, 0, 4, 0, 0, 0];
     for (null_count, unknown) in [(0, 0), (1, -1)] {
-        let mut tree = four_items(&rt, alloc, &bytes, null_count, &mut pass);
+        let mut tree = numbers(&rt, alloc, &bytes, null_count, &mut pass);
         windowed(&rt, &mut tree, null_count, unknown);
         assert!(&rt; has_bytes(&rt, &tree, &bytes));
         assert_eq!(&rt; given_back(&rt, tree, &mut pass), 2);

@@ -1,39 +1,17 @@
 //! Schemas of several levels whose parts are shared, taken and released, with the units that come back counted.
-ghost use Rattle.std.specs.Prelude.{◌≡◌, ◌+◌, ◌<◌, ◌≤◌, ◌∷◌, ◌++◌, [], length};
-ghost use Rattle.tree_model.specs.Tree.{IsLive, trees, maybe_tree, depth_of_all, depth_of_maybe, children_of};
+ghost use Rattle.std.specs.Prelude.{◌≡◌, ◌+◌, ◌<◌, ◌≤◌, length};
+ghost use Rattle.tree_model.specs.Tree.{IsLive, trees, children_of};
 ghost use Rattle.raw_schema.specs.Members.{Nodes, nodes_of_all};
 
-use raw_schema::{Acted, Gone, PartlyMovedSchema, RawSchema, SchemaParts, release_all};
+use crate::arrays::closed;
+use raw_schema::{Acted, Gone, PartlyMovedSchema, RawSchema, release_all};
 use std::alloc::Global;
 use std::process::Abort;
-use unit_pass::{Audit, Desk, Pass, SUPPLY, open_desk};
+use test_parts::node;
+use unit_pass::{Pass, SUPPLY, open_desk};
 
-#[tactic(auto, using(tree_model::proofs::Measures::measures))]
-fn few_levels(rt: &impl Abort, children: &[RawSchema])
-    ensures { depth_of_all (trees children.now) ≤ 9 }
-{
-    for child in children {
-        assert!(rt; child.depth() <= 9);
-    }
-}
-
-fn few_levels_behind(rt: &impl Abort, dictionary: &Option<RawSchema>)
-    ensures { depth_of_maybe (maybe_tree dictionary.now) ≤ 9 }
-{
-    if let Some(tree) = dictionary {
-        assert!(rt; tree.depth() <= 9);
-    }
-}
-
-fn text(rt: &impl Abort, alloc: Global, bytes: &[u8]) -> Vec<u8> {
-    match Vec::from_slice(alloc, bytes) {
-        Ok(text) => text,
-        Err(_failed) => panic!(rt; "no memory"),
-    }
-}
-
-/// A node with a format and a name, flags 2 and no metadata.
-fn node(
+/// A node with a format and a name.
+fn named(
     rt: &impl Abort,
     alloc: Global,
     texts: (&[u8], &[u8]),
@@ -43,31 +21,8 @@ fn node(
 ) -> RawSchema
     ensures { IsLive result }
 {
-    few_levels(rt, &children);
-    few_levels_behind(rt, &dictionary);
-    assert!(rt; pass.units() >= 1);
-    assert!(rt; children.len() < 9);
-    let parts = SchemaParts {
-        format: text(rt, alloc, texts.0),
-        name: Some(text(rt, alloc, texts.1)),
-        metadata: None,
-        flags: 2,
-        children,
-        dictionary,
-    };
-    match RawSchema::build(alloc, parts, pass) {
-        Ok(tree) => tree,
-        Err(_refused) => panic!(rt; "no memory"),
-    }
-}
-
-fn listed(rt: &impl Abort, children: &mut Vec<RawSchema>, child: RawSchema)
-    ensures { children.new.items ≡ children.old.items ++ child ∷ [] }
-{
-    match children.push(child) {
-        Ok(()) => {}
-        Err(_failed) => panic!(rt; "no memory"),
-    }
+    let (format, name) = texts;
+    node(alloc, format, Some(name), children, dictionary, pass).expect(rt, "no memory")
 }
 
 /// The units that the release of a tree gives back.
@@ -85,12 +40,7 @@ fn given_back(rt: &impl Abort, tree: RawSchema, pass: &mut Pass) -> u64 {
 fn leaf(rt: &impl Abort, alloc: Global, name: &[u8], pass: &mut Pass) -> RawSchema
     ensures { IsLive result }
 {
-    node(rt, alloc, (b"i", name), Vec::new(alloc), None, pass)
-}
-
-fn closed(rt: &impl Abort, desk: Desk, pass: Pass) -> Audit {
-    assert_eq!(rt; pass.units(), SUPPLY);
-    desk.close(pass)
+    named(rt, alloc, (b"i", name), Vec::new(alloc), None, pass)
 }
 
 fn is_named(rt: &impl Abort, tree: &RawSchema, name: &[u8]) -> bool {
@@ -106,9 +56,11 @@ fn moved_top(rt: &impl Abort, alloc: Global, pass: &mut Pass) -> RawSchema
     ensures { IsLive result }
 {
     let mut children = Vec::new(alloc);
-    listed(rt, &mut children, leaf(rt, alloc, b"a", pass));
+    children
+        .push(leaf(rt, alloc, b"a", pass))
+        .expect(rt, "no memory");
     let dictionary = Some(leaf(rt, alloc, b"", pass));
-    let mut top = node(rt, alloc, (b"+s", b"top"), children, dictionary, pass);
+    let mut top = named(rt, alloc, (b"+s", b"top"), children, dictionary, pass);
     assert_eq!(rt; (top.cost(), top.depth()), (3, 2));
     let moved = top.move_out();
     top.discard();
@@ -226,8 +178,8 @@ fn two(rt: &impl Abort, alloc: Global, first: RawSchema, second: RawSchema) -> V
     ensures { nodes_of_all (trees result.items) ≡ Nodes first + Nodes second }
 {
     let mut children = Vec::new(alloc);
-    listed(rt, &mut children, first);
-    listed(rt, &mut children, second);
+    children.push(first).expect(rt, "no memory");
+    children.push(second).expect(rt, "no memory");
     children
 }
 
@@ -247,9 +199,9 @@ fn two_fields(
 /// A structure over two fields and a released one, before a dictionary.
 fn three_places(rt: &impl Abort, alloc: Global, pass: &mut Pass) -> RawSchema {
     let mut children = two_fields(rt, alloc, b"a", b"b", pass);
-    listed(rt, &mut children, RawSchema::released());
+    children.push(RawSchema::released()).expect(rt, "no memory");
     let dictionary = Some(leaf(rt, alloc, b"", pass));
-    let top = node(rt, alloc, (b"+s", b""), children, dictionary, pass);
+    let top = named(rt, alloc, (b"+s", b""), children, dictionary, pass);
     assert_eq!(rt; (top.n_children(), top.cost()), (3, 4));
     top
 }
@@ -283,13 +235,13 @@ fn a_second_take_finds_the_part_gone(rt: HostRuntime) {
 /// Two fields under two structures, beside another field and before a dictionary.
 fn three_levels(rt: &impl Abort, alloc: Global, pass: &mut Pass) -> RawSchema {
     let children = two_fields(rt, alloc, b"low", b"lowest", pass);
-    let inner = node(rt, alloc, (b"+s", b"inner"), children, None, pass);
+    let inner = named(rt, alloc, (b"+s", b"inner"), children, None, pass);
     let children = two(rt, alloc, inner, RawSchema::released());
-    let outer = node(rt, alloc, (b"+s", b"outer"), children, None, pass);
+    let outer = named(rt, alloc, (b"+s", b"outer"), children, None, pass);
     let side = leaf(rt, alloc, b"side", pass);
     let dictionary = Some(leaf(rt, alloc, b"", pass));
     let children = two(rt, alloc, outer, side);
-    node(rt, alloc, (b"+s", b"top"), children, dictionary, pass)
+    named(rt, alloc, (b"+s", b"top"), children, dictionary, pass)
 }
 
 /// The first child and the dictionary. What is left gives 2 units back.
@@ -324,7 +276,7 @@ fn put_before(
     pass: &mut Pass,
 ) -> RawSchema {
     let children = two(rt, alloc, RawSchema::released(), second);
-    let mut top = node(rt, alloc, (b"+s", b""), children, None, pass);
+    let mut top = named(rt, alloc, (b"+s", b""), children, None, pass);
     assert_eq!(rt; top.cost(), 2);
     assert!(rt; top.n_children() >= 1);
     assert!(rt; top.child(0).is_released());

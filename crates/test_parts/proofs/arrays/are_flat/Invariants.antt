@@ -1,6 +1,6 @@
 use Rattle.std.proofs.Common.{◌≤◌, take}
 use Rattle.tree_model.specs.Tree.{trees, depth_of_all}
-use Rattle.tree_tests.proofs.arrays.few_levels.Given as goal
+use Rattle.test_parts.proofs.arrays.are_flat.Given as goal
 
 abbrev pub invariant-loop-child : goal.invariant-loop-child
-invariant-loop-child t l = depth_of_all (trees (take l.child-index l.children)) ≤ 9
+invariant-loop-child l = depth_of_all (trees (take l.child-index l.children)) ≤ 9
