@@ -3,6 +3,7 @@ use crate::spelling::spelled_lines;
 use md5::{Digest, Md5};
 use std::alloc::{AllocError, Global};
 use std::io;
+use unit_pass::Audit;
 
 /// Of a text with more lines the first ones are written, and the digest of the whole.
 const MOST_LINES: usize = 40;
@@ -51,6 +52,29 @@ impl Answers {
             self.push(alloc, sign, line.as_str())?;
         }
         Ok(())
+    }
+
+    /// Adds the `=` line of a run that ended so, and what was made where it has no fault. Behind a row there is no more than the
+    /// end, and nothing where it is the status 0 alone.
+    pub fn push_end(
+        &mut self,
+        alloc: Global,
+        end: String,
+        made: Option<Audit>,
+        is_row: bool,
+    ) -> Result<(), AllocError> {
+        let mut end = end;
+        match made {
+            Some(made) if !is_row => {
+                let made = format!(in alloc; ", {} blocks, {} nodes", made.blocks, made.nodes)?;
+                end.push_str(made.as_str())?;
+            }
+            _ => {}
+        }
+        if is_row && end.as_str() == "0" {
+            return Ok(());
+        }
+        self.push(alloc, "=", end.as_str())
     }
 
     /// Writes them line by line.

@@ -1,4 +1,8 @@
 //! How the source and the sinks of a case behave.
+use edge_io::{Got, MemSink, MemSource, Source};
+use std::alloc::{AllocError, Global};
+use std::io;
+use std::io::{Error, ErrorKind};
 
 /// How many bytes a call moves at most, for how many there is room, and which call fails. Calls are numbered from 1, so call 0 is none.
 #[derive(Clone, Copy)]
@@ -43,5 +47,30 @@ impl End {
             }
         }
         true
+    }
+
+    /// The calls that fail.
+    fn failing(self, alloc: Global) -> Result<Vec<u64>, AllocError> {
+        Vec::from_slice(alloc, &[self.fails as u64])
+    }
+
+    /// A source of this input that behaves so.
+    pub fn source(self, alloc: Global, input: Vec<u8>) -> Result<MemSource, AllocError> {
+        let fails = self.failing(alloc)?;
+        Ok(MemSource::new(input, self.step.max(1), fails))
+    }
+
+    /// A sink that behaves so.
+    pub fn sink(self, alloc: Global) -> io::Result<MemSink> {
+        match MemSink::new(alloc, self.room, self.step.max(1), self.failing(alloc)?) {
+            Ok(sink) => Ok(sink),
+            Err(_) => Err(Error::from(ErrorKind::OutOfMemory)),
+        }
+    }
+
+    /// Whether a source that is to fail at its first call was never called.
+    pub fn is_unread(self, source: &mut MemSource) -> bool {
+        let mut room = [0; 1];
+        self.fails == 1 && matches!(source.read(&mut room), Got::Failed)
     }
 }

@@ -1,15 +1,13 @@
 //! The run that a case asks for.
-use crate::plan::Plan;
-use case_text::End;
+use case_text::Plan;
 use data_types::Typed;
-use edge_io::{Got, MemSink, MemSource, OpenGate, Source};
+use edge_io::{MemSink, OpenGate};
 use pipe_top::{Outcome, run};
 use raw_array::RawArray;
 use raw_schema::RawSchema;
 use record_tap::RecordTap;
-use std::alloc::{AllocError, Global};
+use std::alloc::Global;
 use std::io;
-use std::io::{Error, ErrorKind};
 use std::thread::Threads;
 use stream_face::Tap;
 use unit_pass::NoMemory;
@@ -63,24 +61,6 @@ pub(crate) struct Ran {
     pub(crate) is_unread: bool,
 }
 
-/// The calls that fail.
-fn fails(alloc: Global, end: End) -> Result<Vec<u64>, AllocError> {
-    Vec::from_slice(alloc, &[end.fails as u64])
-}
-
-fn sink(alloc: Global, end: End) -> io::Result<MemSink> {
-    match MemSink::new(alloc, end.room, end.step.max(1), fails(alloc, end)?) {
-        Ok(sink) => Ok(sink),
-        Err(_) => Err(Error::from(ErrorKind::OutOfMemory)),
-    }
-}
-
-/// Whether a source that is to fail at its first call was never called.
-fn is_unread(source: &mut MemSource, read: End) -> bool {
-    let mut room = [0; 1];
-    read.fails == 1 && matches!(source.read(&mut room), Got::Failed)
-}
-
 /// Runs what a case asks for.
 pub(crate) fn run_plan<R: Threads + Sync>(rt: &R, alloc: Global, plan: Plan) -> io::Result<Ran> {
     let Plan {
@@ -91,8 +71,8 @@ pub(crate) fn run_plan<R: Threads + Sync>(rt: &R, alloc: Global, plan: Plan) -> 
         lines,
         is_tapped,
     } = plan;
-    let mut source = MemSource::new(input, read.step.max(1), fails(alloc, read)?);
-    let (mut text, mut told) = (sink(alloc, write)?, sink(alloc, lines)?);
+    let mut source = read.source(alloc, input)?;
+    let (mut text, mut told) = (write.sink(alloc)?, lines.sink(alloc)?);
     let mut tap = AskedTap::new(alloc, is_tapped);
     let outcome = run(
         rt,
@@ -109,6 +89,6 @@ pub(crate) fn run_plan<R: Threads + Sync>(rt: &R, alloc: Global, plan: Plan) -> 
         text,
         told,
         tap,
-        is_unread: is_unread(&mut source, read),
+        is_unread: read.is_unread(&mut source),
     })
 }

@@ -1,15 +1,17 @@
-//! What a case asks for: the words, the input, and how the source, the sinks and the tap behave.
-use case_text::{Case, End, push_input};
+//! What a case of a run asks for: the words, the input, and how the source, the sinks and the tap behave.
+use crate::{Case, End, push_input};
 use std::alloc::{AllocError, Global};
 
+/// What a run is called with.
 #[derive(Drop)]
-pub(crate) struct Plan {
-    pub(crate) words: Vec<String>,
-    pub(crate) input: Vec<u8>,
-    pub(crate) read: End,
-    pub(crate) write: End,
-    pub(crate) lines: End,
-    pub(crate) is_tapped: bool,
+pub struct Plan {
+    pub words: Vec<String>,
+    pub input: Vec<u8>,
+    pub read: End,
+    pub write: End,
+    pub lines: End,
+    /// Whether a tap is to keep what it is shown. A run without a tap refuses that.
+    pub is_tapped: bool,
 }
 
 impl Plan {
@@ -31,7 +33,7 @@ impl Plan {
     }
 
     /// What the lines of a case ask for. None where one is of no form that there is.
-    pub(crate) fn of(alloc: Global, case: &Case) -> Result<Option<Plan>, AllocError> {
+    pub fn of(alloc: Global, case: &Case) -> Result<Option<Plan>, AllocError> {
         let Some(words) = case.texts(alloc)? else {
             return Ok(None);
         };
