@@ -1,5 +1,5 @@
 //! Three chunks of a producer, shown one after another; the offsets of one may fall.
-ghost use Rattle.std.specs.Prelude.{◌≡◌, ◌≢◌, ◌+◌, [], ◌∷◌, ◌++◌, None};
+ghost use Rattle.std.specs.Prelude.{◌≡◌, ◌≢◌, ◌+◌, [], ◌∷◌, None};
 ghost use Rattle.foreign_array.specs.Kept.{units_in};
 
 use crate::owned::{Kept, owner, trees};
@@ -40,15 +40,6 @@ static LAWFUL: &str =
 static FALLING: &str =
     "tree 1\nS =+s ~ 0 1 0 ~\nS =u =t 2 0 0 ~\nA 2 0 0 1 1 0\nB ~\nA 2 0 0 3 0 0\nB ~\nB =000000000300000002000000\nB =616263\n";
 
-fn listed<T>(rt: &impl Abort, items: &mut Vec<T>, item: T)
-    ensures { items.new.items ≡ items.old.items ++ item ∷ [] }
-{
-    match items.push(item) {
-        Ok(()) => {}
-        Err(_failed) => panic!(rt; "memory"),
-    }
-}
-
 fn three(
     rt: &impl Abort,
     alloc: Global,
@@ -59,9 +50,9 @@ fn three(
     ensures { result.items ≡ first ∷ second ∷ third ∷ [] }
 {
     let mut chunks = Vec::new(alloc);
-    listed(rt, &mut chunks, first);
-    listed(rt, &mut chunks, second);
-    listed(rt, &mut chunks, third);
+    chunks.push(first).expect(rt, "memory");
+    chunks.push(second).expect(rt, "memory");
+    chunks.push(third).expect(rt, "memory");
     chunks
 }
 
