@@ -22,10 +22,9 @@ mod transcript;
 mod trees;
 mod ways;
 
-use case_text::{Case, Line, line_of, push_input};
+use case_text::{Answers, Case, push_input, run_transcript};
 use std::alloc::{AllocError, Global};
 use std::io;
-use std::io::{Error, ErrorKind};
 use subject::run_subject;
 use transcript::Transcript;
 
@@ -40,58 +39,23 @@ fn input_of(alloc: Global, case: &Case) -> Result<Option<Vec<u8>>, AllocError> {
     Ok(Some(input))
 }
 
-/// A line that isn't understood is written again behind `??`, and ends the program.
-fn not_understood(rt: &impl Print, line: &str) -> io::Result<()> {
-    println!(rt; "?? {line}")?;
-    Err(Error::from(ErrorKind::InvalidData))
-}
-
-/// Runs a case, and says what came of it.
-fn run(rt: &impl Print, alloc: Global, case: &Case) -> io::Result<Transcript> {
-    let mut told = Transcript::new(alloc);
+/// Runs a case, where it is understood, and says what came of it.
+fn run(alloc: Global, case: &Case) -> io::Result<Option<Answers>> {
     match (case.words(alloc)?, input_of(alloc, case)?) {
         (Some(words), Some(input)) => {
+            let mut told = Transcript::new(alloc);
             run_subject(alloc, words.as_slice(), input.as_slice(), &mut told)?;
+            Ok(Some(told.answers))
         }
-        _ => not_understood(rt, case.words.as_str())?,
-    }
-    Ok(told)
-}
-
-/// Runs a case that has no rows, and tells what came of it.
-fn finish(rt: &impl Print, alloc: Global, case: Option<Case>) -> io::Result<()> {
-    match case {
-        Some(case) if !case.has_rows => run(rt, alloc, &case)?.answers.write(rt),
-        _ => Ok(()),
+        _ => Ok(None),
     }
 }
 
 fn main(rt: HostRuntime) -> io::Result<()> {
     let alloc = rt.alloc();
-    let mut case: Option<Case> = None;
-    for line in rt.lines(alloc) {
-        let line = line?;
-        let text = line.as_str();
-        match (line_of(text), &mut case) {
-            (Line::Answer, _) => continue,
-            (Line::Row(row), Some(case)) => {
-                case.has_rows = true;
-                let told = run(&rt, alloc, &case.filled(alloc, row)?)?;
-                told.answers.write_row(&rt, row)?;
-                continue;
-            }
-            (Line::Part(_), Some(case)) => case.push(alloc, text)?,
-            (Line::Case(words), _) => {
-                finish(&rt, alloc, case)?;
-                case = Some(Case::new(alloc, words)?);
-            }
-            (Line::Note, _) => {
-                finish(&rt, alloc, case)?;
-                case = None;
-            }
-            _ => not_understood(&rt, text)?,
-        }
-        println!(rt; "{text}")?;
-    }
-    finish(&rt, alloc, case)
+    run_transcript(
+        &rt,
+        alloc,
+        &|case: &Case, _is_row: bool| { run(alloc, case) },
+    )
 }
