@@ -14,13 +14,6 @@ use std::alloc::Global;
 use std::process::Abort;
 use unit_pass::open_desk;
 
-fn listed(rt: &impl Abort, items: &mut Vec<(i64, i64)>, item: (i64, i64)) {
-    match items.push(item) {
-        Ok(()) => {}
-        Err(_failed) => panic!(rt; "memory"),
-    }
-}
-
 /// The number of an item's run, and the first byte of its value, or 0 for a null.
 fn item(col: &RunCol, i: u64) -> (i64, i64)
     requires { i < items (members_of (array_in col.now)) }
@@ -38,7 +31,7 @@ fn item(col: &RunCol, i: u64) -> (i64, i64)
 fn each(rt: &impl Abort, alloc: Global, col: &RunCol) -> Vec<(i64, i64)> {
     let mut found = Vec::new(alloc);
     for i in 0..col.len() as u64 {
-        listed(rt, &mut found, item(col, i));
+        found.push(item(col, i)).expect(rt, "memory");
     }
     found
 }
@@ -62,7 +55,7 @@ fn walked(rt: &impl Abort, alloc: Global, col: &RunCol) -> Vec<(i64, i64)> {
     let mut i = 0;
     while i < count {
         let (run, behind) = run(col, i);
-        listed(rt, &mut found, (run, behind as i64));
+        found.push((run, behind as i64)).expect(rt, "memory");
         i = behind;
     }
     found
@@ -154,7 +147,7 @@ fn stops_of(rt: &impl Abort, alloc: Global, runs: &ColumnRuns) -> Vec<(i64, i64)
     let mut i = 0;
     while i < count {
         let stop = stop(runs, i);
-        listed(rt, &mut found, (i as i64, stop as i64));
+        found.push((i as i64, stop as i64)).expect(rt, "memory");
         i = stop;
     }
     found

@@ -58,34 +58,18 @@ fn end_text(alloc: Global, ran: &Ran) -> Result<String, AllocError> {
     Ok(text)
 }
 
-/// The text and the lines of diagnostics.
-fn texts_of(alloc: Global, ran: &Ran) -> Result<Answers, AllocError> {
+/// What came of a run: the text, the diagnostics, the status, and, without a fault, what was made. Behind a row there is neither
+/// the last nor the line of diagnostics of a fault nor a status 0.
+pub(crate) fn answers_of(alloc: Global, ran: &Ran, is_row: bool) -> Result<Answers, AllocError> {
     let mut answers = Answers::new(alloc);
     answers.push_text(alloc, ">", ran.text.taken())?;
-    answers.push_text(alloc, "!", ran.told.taken())?;
-    Ok(answers)
-}
-
-/// What came of a run: the text, the diagnostics, the status, and, without a fault, what was made.
-pub(crate) fn answers_of(alloc: Global, ran: &Ran) -> Result<Answers, AllocError> {
-    let mut answers = texts_of(alloc, ran)?;
-    let mut end = end_text(alloc, ran)?;
-    if ran.outcome.fault.is_none() {
-        let audit = ran.outcome.audit;
-        let made = format!(in alloc; ", {} blocks, {} nodes", audit.blocks, audit.nodes)?;
-        end.push_str(made.as_str())?;
+    if !is_row {
+        answers.push_text(alloc, "!", ran.told.taken())?;
     }
-    answers.push(alloc, "=", end.as_str())?;
-    Ok(answers)
-}
-
-/// What came of the run of a row: the same, but for the line of diagnostics of a fault, what was made and a status 0.
-pub(crate) fn row_answers_of(alloc: Global, ran: &Ran) -> Result<Answers, AllocError> {
-    let mut answers = Answers::new(alloc);
-    answers.push_text(alloc, ">", ran.text.taken())?;
-    let end = end_text(alloc, ran)?;
-    if end.as_str() != "0" {
-        answers.push(alloc, "=", end.as_str())?;
-    }
+    let made = match ran.outcome.fault {
+        None => Some(ran.outcome.audit),
+        Some(_) => None,
+    };
+    answers.push_end(alloc, end_text(alloc, ran)?, made, is_row)?;
     Ok(answers)
 }
