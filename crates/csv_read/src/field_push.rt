@@ -200,29 +200,61 @@ fn push_found(found: Option<&[u8]>, builder: &mut Builder) -> PushOutcome
     }
 }
 
-/// Adds the bytes that a field spells: eight or sixteen of them by a copy of a constant size.
+/// Adds the bytes that a field of sixteen digits spells, by a copy of a constant size.
 #[inline(never)]
+fn push_eight(text: &[u8], builder: &mut Builder) -> PushOutcome
+    requires takes { TakesSome builder.old (read_form HexBytes text.now) }
+    requires digits { length text.now ≡ 16 }
+    ensures added { result ≡ Added → AddsSome (read_form HexBytes text.now) builder.old builder.new }
+    ensures none { result ≡ Refused → read_form HexBytes text.now ≡ None }
+{
+    match read_eight_bytes(text) {
+        Some(eight) => outcome(builder.add_bytes(&eight)),
+        None => PushOutcome::Refused,
+    }
+}
+
+/// Adds the bytes that a field of thirty-two digits spells, by a copy of a constant size.
+#[inline(never)]
+fn push_sixteen(text: &[u8], builder: &mut Builder) -> PushOutcome
+    requires takes { TakesSome builder.old (read_form HexBytes text.now) }
+    requires digits { length text.now ≡ 32 }
+    ensures added { result ≡ Added → AddsSome (read_form HexBytes text.now) builder.old builder.new }
+    ensures none { result ≡ Refused → read_form HexBytes text.now ≡ None }
+{
+    match read_sixteen(text) {
+        Some(sixteen) => outcome(builder.add_bytes(&sixteen)),
+        None => PushOutcome::Refused,
+    }
+}
+
+/// Adds the bytes that a field of any length spells.
+#[inline(never)]
+fn push_any_bytes(text: &[u8], room: &mut Vec<u8>, builder: &mut Builder) -> PushOutcome
+    requires takes { TakesSome builder.old (read_form HexBytes text.now) }
+    ensures added { result ≡ Added → AddsSome (read_form HexBytes text.now) builder.old builder.new }
+    ensures none { result ≡ Refused → read_form HexBytes text.now ≡ None }
+{
+    match read_bytes(text, room) {
+        Ok(found) => push_found(found, builder),
+        Err(NoMemory) => PushOutcome::NoMemory,
+    }
+}
+
+/// Adds the bytes that a field spells. The common lengths are apart, so that each copy has a size of its own.
+#[inline(always)]
 fn push_bytes(text: &[u8], room: &mut Vec<u8>, builder: &mut Builder) -> PushOutcome
     requires takes { TakesSome builder.old (read_form HexBytes text.now) }
     ensures added { result ≡ Added → AddsSome (read_form HexBytes text.now) builder.old builder.new }
     ensures none { result ≡ Refused → read_form HexBytes text.now ≡ None }
 {
     if text.len() == 16 {
-        return match read_eight_bytes(text) {
-            Some(eight) => outcome(builder.add_bytes(&eight)),
-            None => PushOutcome::Refused,
-        };
+        return push_eight(text, builder);
     }
     if text.len() == 32 {
-        return match read_sixteen(text) {
-            Some(sixteen) => outcome(builder.add_bytes(&sixteen)),
-            None => PushOutcome::Refused,
-        };
+        return push_sixteen(text, builder);
     }
-    match read_bytes(text, room) {
-        Ok(found) => push_found(found, builder),
-        Err(NoMemory) => PushOutcome::NoMemory,
-    }
+    push_any_bytes(text, room, builder)
 }
 
 /// Adds this many bytes that a field spells.
