@@ -1,6 +1,5 @@
 //! What a block shows of the machine of holders, as laws: the functions have no body, and their contracts are the laws.
 ghost use Rattle.buf_block.specs.BlockView.{MadeWhole, ShowsOk, ShowsOne, SplitIsTheTables, SplitIsStep, LetGoIsStep, ExchangeIsStep, ReadIsStep};
-ghost use Rattle.buf_block.specs.TableLog.{TableMade, StepsOneBlock, MakesInPlace, RunsEachBlock};
 ghost use Rattle.buf_block.specs.BlockLog.{RunsTheMachine, KeepsTheInvariant, DeedTakenAtMostOnce, DeedTakenWhereEmptied};
 ghost use Rattle.buf_block.specs.BlockLog.{EmptiedAtTheEnd, NoReadBehindTheDeed, DeedTakenOrDue, HoldersCanLetGo};
 
@@ -35,14 +34,4 @@ pub fn any_interleaving_keeps_a_block()
     ensures read { NoReadBehindTheDeed }
     ensures taken_or_due { DeedTakenOrDue }
     ensures can_let_go { HoldersCanLetGo }
-{}
-
-/// The blocks whose counts lie in one table are apart. Each is made as one with a table of its own is, a step of one of its
-/// seats is that step of the block and leaves each other block as it was, and so each block goes through its own steps
-/// alone, of which [`any_interleaving_keeps_a_block`] speaks, however the steps of all blocks interleave.
-pub fn blocks_of_a_table_are_apart()
-    ensures made { TableMade }
-    ensures one_block { StepsOneBlock }
-    ensures first_holder { MakesInPlace }
-    ensures each_block { RunsEachBlock }
 {}
