@@ -2,6 +2,7 @@
 ghost use Rattle.buf_block.specs.BlockView.{MadeWhole, ShowsOk, ShowsOne, SplitIsTheTables, SplitIsStep, LetGoIsStep, ExchangeIsStep, ReadIsStep};
 ghost use Rattle.buf_block.specs.BlockLog.{RunsTheMachine, KeepsTheInvariant, DeedTakenAtMostOnce, DeedTakenWhereEmptied};
 ghost use Rattle.buf_block.specs.BlockLog.{EmptiedAtTheEnd, NoReadBehindTheDeed, DeedTakenOrDue, HoldersCanLetGo};
+ghost use Rattle.buf_block.specs.DeskLog.{ClosesWhole, CanEnd, TakesAsTheMachine, LetsGoAsTheMachine};
 
 /// A block that was just made shows the state of one holder with the whole amount and the deed at home. Between any two
 /// steps, whatever the threads do, a block shows at most one state, and the invariant of the machine holds there.
@@ -34,4 +35,14 @@ pub fn any_interleaving_keeps_a_block()
     ensures read { NoReadBehindTheDeed }
     ensures taken_or_due { DeedTakenOrDue }
     ensures can_let_go { HoldersCanLetGo }
+{}
+
+/// From the desk as it is opened, whatever calls are made with its passes and however they interleave: where one pass has
+/// all units again, as [`close`](unit_pass::Desk::close) asks, no node is live, no hold has any amount of a block, and each
+/// block that was made was freed, once. What the calls do to a block is what the machine of holders does.
+pub fn a_desk_that_closes_has_freed_its_blocks()
+    ensures whole { ClosesWhole }
+    ensures can_end { CanEnd }
+    ensures take { TakesAsTheMachine }
+    ensures let_go { LetsGoAsTheMachine }
 {}
