@@ -8,7 +8,7 @@ use Rattle.std.proofs.lemmas.List.{map-set, set-append_left}
 use mathlib.Core.Option.{some, some-injective, some-ne-none}
 use native.Mathlib.Decide.{ℕ_discrete}
 use lib.ListN.{get_elem?}
-use Rattle.atomic_table.specs.Table.{State, Splits, stepped, carried_after}
+use Rattle.atomic_table.specs.Table.{State, stepped, carried_after}
 use Rattle.holder_core.specs.HolderMachine.{Holders, amount_of, is_due, after_split}
 use Rattle.holder_core.specs.declared.Deed.{Deed}
 use Rattle.holder_core.specs.declared.Deed.TheVariants.{Home, Due, Gone}
@@ -16,11 +16,9 @@ use Rattle.holder_core.specs.declared.Reply.TheVariants.{NewHolder, Kept, Last, 
 use Rattle.holder_core.specs.declared.Reply.TheVariants as reply
 use Rattle.buf_block.specs.declared.rule.HolderView.{HolderView}
 use Rattle.buf_block.specs.Block.{holding, done, amounts_of, total, SlotState, slot_at, slot_with_deed, slot_without_deed, IsBlock, Back}
-use Rattle.buf_block.specs.BlockTable.{seat_view, with_holder_view, IsTable}
 use Rattle.buf_block.specs.BlockView.{Hands, empty_hands, hands_with, WasLast, Shows, HoldsAt, first_state, split_at, less_by, ShowsOk, ShowsOne, MadeWhole}
 use Rattle.buf_block.specs.BlockView.{SplitIsTheTables, SplitIsStep, LetGoIsStep, ExchangeIsStep, ReadIsStep}
 use Rattle.buf_block.proofs.Keeps.{begins, splits, total-set, amount_within, same_test}
-use Rattle.buf_block.proofs.Apart.{splits_one, split_here}
 
 -- ---- amounts
 
@@ -189,11 +187,7 @@ module _ (s : State SlotState HolderView) (hands : Hands) (h : Holders) (seat am
 
 -- ---- each step is the machine's
 pub split_is_the_tables : SplitIsTheTables
-split_is_the_tables seat v amount is more = (
-  subst (λ (n : ℕ). Splits IsTable seat v (with_holder_view v (holding (n - 1))) (seat_view v.place (holding 1) false)) (ap (λ (g : HolderView). g.amount) is)
-      (splits_one seat v amount is more),
-  λ s at. split_here s seat v amount at,
-)
+split_is_the_tables seat amount more = (splits seat amount more, splits seat amount more)
 
 pub split_is_step : SplitIsStep
 split_is_step s hands h seat amount k more =

@@ -12,8 +12,6 @@ use Rattle.holder_core.specs.declared.Event.TheVariants.{Split, LetGo, TakeDeed,
 use Rattle.holder_core.specs.declared.Reply.TheVariants.{NewHolder, Kept, Last, Bytes}
 use Rattle.holder_core.specs.declared.Reply.TheVariants as reply
 use Rattle.buf_block.specs.declared.rule.HolderView.{HolderView}
-use Rattle.buf_block.specs.declared.rule.SeatView.{SeatView}
-use Rattle.buf_block.specs.BlockTable.{seat_view, with_holder_view, block_at, rank, IsTable}
 use Rattle.buf_block.specs.Block.{holding, amounts_of, SlotState, slot_at, slot_with_deed, slot_without_deed, IsBlock, GivesBack}
 
 -- the slots in the hands of each seat, by its number, with the values that they hold
@@ -67,13 +65,10 @@ MadeWhole = IsBlock first_state × Shows first_state empty_hands (record { amoun
 abbrev pub split_at : State SlotState HolderView → ℕ → ℕ → State SlotState HolderView
 split_at s seat amount = record { words = s.words; homes = s.homes; views = slice_set s.views seat (holding (amount - 1)) ++ holding 1 ∷ [] }
 
--- such a split keeps the rule of the table, and is this to the block
+-- such a split keeps the block's rule
 abbrev pub SplitIsTheTables : Type 0
-SplitIsTheTables = (seat : ℕ) (v : SeatView) (amount : ℕ) → v.holder_view ≡ holding amount → 2 ≤ amount
-    → Splits IsTable seat v (with_holder_view v (holding (amount - 1))) (seat_view v.place (holding 1) false)
-    × ((s : State SlotState SeatView) → get_elem? s.views seat ≡ some v
-    → block_at v.place (record { words = s.words; homes = s.homes; views = slice_set s.views seat (with_holder_view v (holding (amount - 1))) ++ seat_view v.place (holding 1) false ∷ [] })
-    ≡ split_at (block_at v.place s) (rank v.place s.views seat) amount)
+SplitIsTheTables = (seat amount : ℕ) → 2 ≤ amount → Splits IsBlock seat (holding amount) (holding (amount - 1)) (holding 1)
+    × ((s : State SlotState HolderView) → IsBlock s → get_elem? s.views seat ≡ some (holding amount) → IsBlock (split_at s seat amount))
 
 abbrev pub SplitIsStep : Type 0
 SplitIsStep = (s : State SlotState HolderView) (hands : Hands) (h : Holders) (seat amount : ℕ) → HoldsAt s hands h seat amount → 2 ≤ amount

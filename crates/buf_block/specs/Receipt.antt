@@ -4,10 +4,10 @@ use Rattle.buf_block.specs.declared.hold.LetGo.{LetGo}
 use Rattle.buf_block.specs.declared.hold.LetGo.TheVariants.{Freed}
 use Rattle.buf_block.specs.declared.rule.HolderView.{HolderView}
 use Rattle.buf_block.specs.Block.{SlotState, slot_without_deed}
-use Rattle.buf_block.specs.BlockTable.{BlockId}
+use Rattle.buf_block.specs.Held.{BlockId}
 
--- the amount that was given back and the answer, as the receipt has them; of the seat that made the steps what it knows, and the slots of
--- the block in its hands with the values that they hold; and which block it is of, and which of the seats of that block's table
+-- the amount that was given back and the answer, as the receipt has them; of the seat that made the steps what it knows, and the slots in
+-- its hands with the values that they hold; and which block it is of, and which of that block's seats
 pub record Receipt : Type 0 where
   pub gave : ℕ
   pub answer : LetGo

@@ -1,8 +1,8 @@
 //! What a block shows of the machine of holders, as laws: the functions have no body, and their contracts are the laws.
 ghost use Rattle.buf_block.specs.BlockView.{MadeWhole, ShowsOk, ShowsOne, SplitIsTheTables, SplitIsStep, LetGoIsStep, ExchangeIsStep, ReadIsStep};
-ghost use Rattle.buf_block.specs.TableLog.{TableMade, StepsOneBlock, MakesInPlace, RunsEachBlock};
 ghost use Rattle.buf_block.specs.BlockLog.{RunsTheMachine, KeepsTheInvariant, DeedTakenAtMostOnce, DeedTakenWhereEmptied};
 ghost use Rattle.buf_block.specs.BlockLog.{EmptiedAtTheEnd, NoReadBehindTheDeed, DeedTakenOrDue, HoldersCanLetGo};
+ghost use Rattle.buf_block.specs.DeskLog.{ClosesWhole, CanEnd, TakesAsTheMachine, LetsGoAsTheMachine};
 
 /// A block that was just made shows the state of one holder with the whole amount and the deed at home. Between any two
 /// steps, whatever the threads do, a block shows at most one state, and the invariant of the machine holds there.
@@ -37,12 +37,12 @@ pub fn any_interleaving_keeps_a_block()
     ensures can_let_go { HoldersCanLetGo }
 {}
 
-/// The blocks whose counts lie in one table are apart. Each is made as one with a table of its own is, a step of one of its
-/// seats is that step of the block and leaves each other block as it was, and so each block goes through its own steps
-/// alone, of which [`any_interleaving_keeps_a_block`] speaks, however the steps of all blocks interleave.
-pub fn blocks_of_a_table_are_apart()
-    ensures made { TableMade }
-    ensures one_block { StepsOneBlock }
-    ensures first_holder { MakesInPlace }
-    ensures each_block { RunsEachBlock }
+/// From the desk as it is opened, whatever calls are made with its passes and however they interleave: where one pass has
+/// all units again, as [`close`](unit_pass::Desk::close) asks, no node is live, no hold has any amount of a block, and each
+/// block that was made was freed, once. What the calls do to a block is what the machine of holders does.
+pub fn a_desk_that_closes_has_freed_its_blocks()
+    ensures whole { ClosesWhole }
+    ensures can_end { CanEnd }
+    ensures take { TakesAsTheMachine }
+    ensures let_go { LetsGoAsTheMachine }
 {}

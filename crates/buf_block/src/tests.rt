@@ -2,7 +2,7 @@
 ghost use Rattle.std.specs.Prelude.{◌≡◌, ◌+◌, ◌<◌, ◌≤◌, length, IsSome, None, MatchOption};
 ghost use Rattle.unit_pass.specs.declared.pass.TheConstants.{SUPPLY};
 
-use crate::{AMOUNT, BufView, Counts, Hold, Left, LetGo, make, make_counted, make_text};
+use crate::{AMOUNT, BufView, Hold, Left, LetGo, make, make_text};
 use std::alloc::Global;
 use std::test::Fail;
 use std::thread;
@@ -227,44 +227,5 @@ fn whole_of_a_marked_block_is_text(rt: HostRuntime) -> Result<(), Fail> {
     assert_eq!(rt; audit.blocks, 2);
     assert_eq!(rt; marked, Some([true, true, false]));
     assert_eq!(rt; unmarked, Some([false; 3]));
-    Ok(())
-}
-
-/// Makes two blocks with these counts, lets go of the first, reads the second and lets go of that.
-fn let_both_go(
-    alloc: Global,
-    counts: &mut Counts,
-    one: &[u8],
-    other: &[u8],
-    pass: &mut Pass,
-) -> Option<(LetGo, bool, LetGo)>
-    requires units { pass.old.units ≡ SUPPLY }
-    ensures units { pass.new.units ≡ SUPPLY }
-{
-    let one = Vec::from_slice(alloc, one).ok()?;
-    let other = Vec::from_slice(alloc, other).ok()?;
-    let first = make_counted(alloc, counts, one, false, pass).ok()?;
-    let Ok(second) = make_counted(alloc, counts, other, false, pass) else {
-        let _left = first.let_go(pass);
-        return None;
-    };
-    let first = first.let_go(pass);
-    let read_on = second.bytes() == [4u8, 5].as_slice();
-    let second = second.let_go(pass);
-    Some((first.answer(), read_on, second.answer()))
-}
-
-#[test]
-fn blocks_of_one_table_are_freed_one_by_one(rt: HostRuntime) -> Result<(), Fail> {
-    let (desk, mut pass) = open_desk();
-    // Of two counts a table, so that the third and the fourth block have a table of their own.
-    let mut counts = Counts::of(2);
-    let told = [
-        let_both_go(rt.alloc(), &mut counts, &[1, 2, 3], &[4, 5], &mut pass),
-        let_both_go(rt.alloc(), &mut counts, &[], &[4, 5], &mut pass),
-    ];
-    let audit = desk.close(pass);
-    assert_eq!(rt; audit.blocks, 4);
-    assert_eq!(rt; told, [Some((LetGo::Freed, true, LetGo::Freed)); 2]);
     Ok(())
 }

@@ -10,7 +10,7 @@ ghost use Rattle.col_build.specs.Finished.{AreMade};
 use crate::shape::Shape;
 use crate::store::begin_offsets;
 use crate::{Builder, FinishedColumn};
-use buf_block::{BufView, Counts, make_counted};
+use buf_block::{BufView, make, make_text};
 use std::alloc::Global;
 use std::mem::replace;
 use unit_pass::{NoMemory, Pass, SUPPLY};
@@ -22,23 +22,14 @@ pub struct SpareBuffers {
     // The room for the first of three buffers, and for the one before the bytes.
     pub(crate) first: Vec<u8>,
     pub(crate) next: Vec<u8>,
-    pub(crate) counts: Counts,
 }
 
 impl SpareBuffers {
     /// No room yet. Takes no memory.
     pub fn new(alloc: Global) -> SpareBuffers {
-        SpareBuffers::of(alloc, 3)
-    }
-
-    /// The same, whose blocks have this many counts in one table.
-    pub fn of(alloc: Global, size: usize) -> SpareBuffers
-        requires some { 1 ≤ size }
-    {
         SpareBuffers {
             first: Vec::new(alloc),
             next: Vec::new(alloc),
-            counts: Counts::of(size),
         }
     }
 }
@@ -71,7 +62,6 @@ fn add_block(
     alloc: Global,
     bytes: &mut Vec<u8>,
     text: bool,
-    counts: &mut Counts,
     pass: &mut Pass,
 ) -> bool
     requires room { vec_len buffers.old < vec_capacity buffers.old }
@@ -89,7 +79,13 @@ fn add_block(
         buffers.push_reserved(None);
         return true;
     }
-    match make_counted(alloc, counts, replace(bytes, Vec::new(alloc)), text, pass) {
+    let moved = replace(bytes, Vec::new(alloc));
+    let made = if text {
+        make_text(alloc, moved, pass)
+    } else {
+        make(alloc, moved, pass)
+    };
+    match made {
         Ok(hold) => {
             buffers.push_reserved(Some(BufView::whole(hold)));
             true
@@ -108,7 +104,6 @@ fn add_kept_block(
     alloc: Global,
     bytes: &mut Vec<u8>,
     spare: &mut Vec<u8>,
-    counts: &mut Counts,
     pass: &mut Pass,
 ) -> bool
     requires room { vec_len buffers.old < vec_capacity buffers.old }
@@ -130,7 +125,7 @@ fn add_kept_block(
     if spare.reserve(bytes.len()).is_err() {
         return false;
     }
-    add_block(buffers, alloc, bytes, false, counts, pass)
+    add_block(buffers, alloc, bytes, false, pass)
 }
 
 /// Takes the bytes of the last buffer out again, and the buffer away.
@@ -179,17 +174,10 @@ fn lay_two(
     ensures blocks { result ≡ true → pass.new.blocks ≡ risen pass.old.blocks (count_if kept.old.items + count_if bytes.old.items) }
     ensures nodes { pass.new.nodes ≡ pass.old.nodes }
 {
-    if !add_kept_block(
-        buffers,
-        alloc,
-        kept,
-        &mut spares.next,
-        &mut spares.counts,
-        pass,
-    ) {
+    if !add_kept_block(buffers, alloc, kept, &mut spares.next, pass) {
         return false;
     }
-    if add_block(buffers, alloc, bytes, text, &mut spares.counts, pass) {
+    if add_block(buffers, alloc, bytes, text, pass) {
         return true;
     }
     take_back(buffers, alloc, kept, &mut spares.next, pass);
@@ -226,7 +214,6 @@ fn lay_three(
         alloc,
         &mut builder.validity,
         &mut spares.first,
-        &mut spares.counts,
         pass,
     ) {
         return false;

@@ -92,7 +92,7 @@ impl<R: Threads + Drop> CsvAhead<R> {
             ahead: Some(ahead),
             columns: own,
             whole,
-            spares: SpareBuffers::of(alloc, 64),
+            spares: SpareBuffers::new(alloc),
             refused: None,
             word: LastAnswer::Nothing,
         })

@@ -80,7 +80,7 @@ impl<B: Read + Drop> CsvSource<B> {
             batches,
             whole,
             batch,
-            spares: SpareBuffers::of(alloc, 64),
+            spares: SpareBuffers::new(alloc),
             refused: None,
             word: LastAnswer::Nothing,
             released: false,
