@@ -11,15 +11,15 @@ use native.Mathlib.Decide.{ℕ_discrete}
 use Rattle.unit_pass.specs.declared.NoMemory.{NoMemory}
 use Rattle.data_types.specs.Table.{Row}
 use Rattle.tree_model.specs.Tree.{Released}
-use Rattle.raw_array.specs.Members.{Cost}
+use Rattle.raw_array.specs.Members.{ArrayTree, Cost}
 use Rattle.data_types.specs.KindTrees.{KindTree}
 use Rattle.layout_rules.specs.Values.{rows_of}
 use Rattle.fan_out.specs.declared.piece.Piece.{Piece}
-use Rattle.fan_out.specs.Pieces.{GivesPiece, GivesPieces}
+use Rattle.fan_out.specs.Pieces.{GivesPiece, GivesPieces, ReadsPieces}
 use Rattle.fan_out.specs.Workers.{IsReady, IsUnspent, IsDone, IsReleased, SameTrees, Collected}
 use Rattle.fan_out.proofs.Ready.{an_item}
 
-not_last : (w n : ℕ) → w < n - 1 → (w + 1 == n) ≡ false
+pub not_last : (w n : ℕ) → w < n - 1 → (w + 1 == n) ≡ false
 not_last w n h = ne_eqb (w + 1) n (λ e. omega arith)
 
 is_last : (n : ℕ) → 1 ≤ n → (n - 1 + 1 == n) ≡ true
@@ -76,8 +76,8 @@ module _ {O : Type 0} where
   answered : (P : O → Type 0) (a : Option (Result O NoMemory)) (out : O) → IfSome a (λ r. IfOk r P) → a ≡ Some (Ok out) → P out
   answered P a out p e = subst (λ (x : Option (Result O NoMemory)). IfSome x (λ (r : Result O NoMemory). IfOk r P)) e p
 
-  module _ (gives : List Row → ℤ → ℤ → O → Type 0) (typed : KindTree) (ps qs : List (Piece O))
-      (done : (w : ℕ) (d : Piece O) → w < length ps → IsDone gives typed (length ps) w (get_or ps w d) (get_or qs w d)) where
+  module _ (gives : List Row → ℤ → ℤ → O → Type 0) (reads : ArrayTree → ℤ → ℤ → O → Type 0) (typed : KindTree) (ps qs : List (Piece O))
+      (done : (w : ℕ) (d : Piece O) → w < length ps → IsDone gives reads typed (length ps) w (get_or ps w d) (get_or qs w d)) where
     -- where all have answered, the answers are those on the pieces of the rows
     pub gathered : (rows : List Row) (cost : ℕ) → All (λ p. IsReady typed rows cost p) ps
         → (n : ℕ) → n ≡ length ps → (outs : List O) → Collected n qs outs → GivesPieces (gives rows) (length rows) (length ps) outs
@@ -91,6 +91,16 @@ module _ {O : Type 0} where
             let P : O → Type 0 = GivesPiece (gives rs) (length rs) (length ps) w in
             let told = answered P (get_or qs w d).answer (get_or outs w e) r.answer (c.1 w d e (omega (arith, is))) in
             subst (λ (rs : List Row). GivesPiece (gives rs) (length rs) (length ps) w (get_or outs w e)) (ready w d h).chunk.rows told
+
+    -- and each was read from its piece's tree
+    pub read_all : (rows : List Row) (cost : ℕ) → All (λ p. IsReady typed rows cost p) ps
+        → (n : ℕ) → n ≡ length ps → (outs : List O) → Collected n qs outs → (d : Piece O)
+        → ReadsPieces reads (λ w. (get_or ps w d).tree) (length rows) (length ps) outs
+    read_all rows cost ready n is outs c d w e h =
+        let tree : ArrayTree = (get_or ps w d).tree in
+        let P : O → Type 0 = GivesPiece (reads tree) (length (rows_of typed tree)) (length ps) w in
+        let told = answered P (get_or qs w d).answer (get_or outs w e) (done w d h).read (c.1 w d e (omega (arith, is))) in
+        subst (λ (rs : List Row). GivesPiece (reads tree) (length rs) (length ps) w (get_or outs w e)) (ready w d h).chunk.rows told
 
     module _ (rs : List (Piece O)) (cost : ℕ) (len : length qs ≡ length ps) (kept : SameTrees qs rs) (unspent : All (λ p. IsUnspent cost p) ps) where
       -- all but the last have released their shares

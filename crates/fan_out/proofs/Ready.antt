@@ -1,5 +1,9 @@
 -- Pieces that no worker has begun yet.
-use Rattle.std.proofs.Common.{◌≡◌, ℕ, List, [], ◌∷◌, ◌++◌, All, ◌<◌, ◌≤◌, arith, length, subst, sym, ◌∙◌}
+use Rattle.std.proofs.Common.{◌≡◌, ◌≢◌, ℕ, List, [], ◌∷◌, ◌++◌, All, ◌+◌, ◌<◌, ◌≤◌, ap, arith, get_or, length, subst, sym, ◌∙◌}
+use Rattle.std.proofs.lemmas.List.{get_or_append_left}
+use Rattle.std.proofs.Math.Seq.{get_or-append_seam}
+use mathlib.Core.Logic.{dite}
+use native.Mathlib.Decide.{ℕ_discrete}
 use Rattle.std.proofs.lemmas.List.Elements.{All-push}
 use Rattle.unit_pass.specs.declared.pass.TheConstants.{SUPPLY}
 use Rattle.data_types.specs.Table.{Row}
@@ -27,6 +31,18 @@ module _ {O : Type 0} where
       subst (All (λ (p : Piece O). IsReady typed rows cost p)) (sym is)
       (All-push (λ (p : Piece O). IsReady typed rows cost p) ps p others
       (record { chunk = subst (IsChunk typed rows cost) (sym tree) chunk; units = pass.0; blocks = pass.1; nodes = pass.2 }))
+
+  -- and has the tree that a piece of its number is to have, as the others have
+  pub tree_push : (tree : ℕ → ArrayTree) (ps qs : List (Piece O)) (p : Piece O) (n : ℕ) → qs ≡ ps ++ p ∷ [] → n ≡ length ps
+      → ((w : ℕ) (d : Piece O) → w < n → (get_or ps w d).tree ≡ tree w) → p.tree ≡ tree n
+      → (w : ℕ) (d : Piece O) → w < n + 1 → (get_or qs w d).tree ≡ tree w
+  tree_push tree ps qs p n is len others own w d h =
+      ap (λ (l : List (Piece O)). (get_or l w d).tree) is
+      ∙ dite (ℕ_discrete w n)
+      (λ (same : w ≡ n). ap (λ (k : ℕ). (get_or (ps ++ p ∷ []) k d).tree) (same ∙ len) ∙ ap (λ (q : Piece O). q.tree) (get_or-append_seam ps p [] d)
+      ∙ own ∙ ap tree (sym same))
+      (λ (ne : w ≢ n). let less : w < n = omega arith in
+      ap (λ (q : Piece O). q.tree) (get_or_append_left ps (p ∷ []) d w (omega (arith, less, len))) ∙ others w d less)
 
   -- pieces that are ready can be worked on
   pub can_run : (typed : KindTree) (rows : List Row) (cost : ℕ) (fits : List Row → Type 0) (ps : List (Piece O))

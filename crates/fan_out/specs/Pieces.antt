@@ -1,7 +1,7 @@
 -- The answers of a job on the pieces of a chunk.
-use Rattle.std.specs.Prelude.{◌<◌, slice_index_or, ◌≡◌, ℕ, ℤ, pos, ◌+◌, ◌/◌, min, max, List, length}
+use Rattle.std.specs.Prelude.{◌<◌, slice_index_or, ◌≡◌, ℕ, ℤ, pos, ◌+◌, ◌/◌, ◌==◌, if◌then◌else◌, min, max, List, length}
 use Rattle.data_types.specs.Table.{Row}
-use Rattle.raw_array.specs.Members.{ArrayTree, Cost}
+use Rattle.raw_array.specs.Members.{ArrayTree, Cost, LoweredBy, ShareOf}
 use Rattle.data_types.specs.KindTrees.{KindTree}
 use Rattle.layout_rules.specs.Values.{rows_of}
 use Rattle.layout_rules.specs.Walk.{ChunkOk}
@@ -18,6 +18,15 @@ GivesFirst {O} gives rows workers n outs = (length outs ≡ n) × ((w : ℕ) (e 
 -- the answers of a job on the pieces, one for each worker, in order
 abbrev pub GivesPieces : {O : Type 0} → (ℤ → ℤ → O → Type 0) → ℕ → ℕ → List O → Type 0
 GivesPieces gives rows workers outs = GivesFirst gives rows workers workers outs
+
+-- the tree that worker w of this many reads of a chunk: the last one the chunk itself, which the shares left, and each other a
+-- share of its own, made behind those of the workers before it
+abbrev pub lent : ArrayTree → ℕ → ℕ → ArrayTree
+lent chunk workers w = if w + 1 == workers then LoweredBy w chunk else ShareOf (LoweredBy w chunk)
+
+-- answers, each of which was read from the tree of its worker, on its piece of this many rows
+abbrev pub ReadsPieces : {O : Type 0} → (ArrayTree → ℤ → ℤ → O → Type 0) → (ℕ → ArrayTree) → ℕ → ℕ → List O → Type 0
+ReadsPieces {O} reads tree rows workers outs = (w : ℕ) (e : O) → w < workers → GivesPiece (reads (tree w)) rows workers w (slice_index_or outs w e)
 
 -- a chunk of these rows, whose release gives back this many units
 pub record IsChunk (typed : KindTree) (table : List Row) (units : ℕ) (t : ArrayTree) : Type 0 where

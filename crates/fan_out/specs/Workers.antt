@@ -4,7 +4,7 @@ use Rattle.std.specs.Prelude.{Some, Ok, IfOk, IfSome, IsSome}
 use Rattle.unit_pass.specs.declared.pass.TheConstants.{SUPPLY}
 use Rattle.data_types.specs.Table.{Row}
 use Rattle.tree_model.specs.Tree.{Released}
-use Rattle.raw_array.specs.Members.{Cost}
+use Rattle.raw_array.specs.Members.{ArrayTree, Cost}
 use Rattle.data_types.specs.KindTrees.{KindTree}
 use Rattle.layout_rules.specs.Values.{rows_of}
 use Rattle.layout_rules.specs.Walk.{ChunkOk}
@@ -31,13 +31,15 @@ module _ {O : Type 0} where
   IsUnspent cost p = (Cost p.tree ≡ cost) × ((p.pass.units ≡ 0) × ((p.pass.blocks ≡ 0) × (p.pass.nodes ≡ 0)))
 
   -- what worker w made of its piece: the last one's tree is the chunk itself, and any other was a share
-  pub record IsDone (gives : List Row → ℤ → ℤ → O → Type 0) (typed : KindTree) (workers w : ℕ) (p q : Piece O) : Type 0 where
+  pub record IsDone (gives : List Row → ℤ → ℤ → O → Type 0) (reads : ArrayTree → ℤ → ℤ → O → Type 0) (typed : KindTree) (workers w : ℕ) (p q : Piece O)
+      : Type 0 where
     pub tree : q.tree ≡ (if w + 1 == workers then p.tree else Released)
     pub units : q.pass.units ≡ (if w + 1 == workers then 0 else Cost p.tree)
     pub blocks : q.pass.blocks ≡ p.pass.blocks
     pub nodes : q.pass.nodes ≡ p.pass.nodes
     pub some : IsSome q.answer
     pub answer : IfSome q.answer (λ r. IfOk r (GivesPiece (gives (rows_of typed p.tree)) (length (rows_of typed p.tree)) workers w))
+    pub read : IfSome q.answer (λ r. IfOk r (GivesPiece (reads p.tree) (length (rows_of typed p.tree)) workers w))
 
   -- the tree and the pass of each piece are what they were
   abbrev pub SameTrees : List (Piece O) → List (Piece O) → Type 0

@@ -5,7 +5,7 @@ ghost use Rattle.data_types.specs.KindTrees.{TypedOk};
 ghost use Rattle.data_types.specs.TypedView.{typed_of};
 ghost use Rattle.layout_rules.specs.Values.{rows_of};
 ghost use Rattle.layout_rules.specs.Walk.{ChunkOk};
-ghost use Rattle.fan_out.specs.Pieces.{GivesPieces};
+ghost use Rattle.fan_out.specs.Pieces.{GivesPieces, ReadsPieces, lent};
 
 use crate::job::Job;
 use crate::piece::answer;
@@ -25,7 +25,7 @@ use unit_pass::{NoMemory, Pass};
 ///
 /// Where the least amount of the chunk's holds is W or more, W - 1 shares of the chunk are made before a worker starts.
 /// Each worker but the last reads one of them and releases it, in a thread of its own where one can be had, and the last
-/// worker reads the chunk itself in the caller's thread. On success each amount is W - 1 lower then. Where the least
+/// worker reads the chunk itself in the caller's thread (`read`). On success each amount is W - 1 lower then. Where the least
 /// amount is less, and for one worker, the caller does all pieces on the chunk in turn, with no share and no thread, and
 /// the chunk is as before. Each worker passes the gate before its job.
 ///
@@ -48,6 +48,10 @@ where
     requires fits { J.fits job.now (typed_of typed.now) (rows_of (typed_of typed.now) chunk.old) }
     requires units { workers.count * Cost chunk.old ≤ pass.old.units }
     ensures answers { IfOk result (λ outs. GivesPieces (J.gives job.now (typed_of typed.now) (rows_of (typed_of typed.now) chunk.old))
+        (length (rows_of (typed_of typed.now) chunk.old)) workers.count outs.items) }
+    ensures read { workers.count ≤ LeastAmount chunk.old → IfOk result (λ outs. ReadsPieces (J.reads job.now) (lent chunk.old workers.count)
+        (length (rows_of (typed_of typed.now) chunk.old)) workers.count outs.items) }
+    ensures read_in_turn { LeastAmount chunk.old < workers.count → IfOk result (λ outs. ReadsPieces (J.reads job.now) (λ _. chunk.old)
         (length (rows_of (typed_of typed.now) chunk.old)) workers.count outs.items) }
     ensures like { Like chunk.old chunk.new }
     ensures lowered { OnOk result (workers.count ≤ LeastAmount chunk.old → chunk.new ≡ LoweredBy (workers.count - 1) chunk.old) }
@@ -86,8 +90,9 @@ where
     requires types { TypedOk (typed_of typed.now) }
     requires chunk { ChunkOk (typed_of typed.now) chunk.now }
     requires fits { J.fits job.now (typed_of typed.now) (rows_of (typed_of typed.now) chunk.now) }
-    ensures { IfOk result (λ v. GivesPieces (J.gives job.now (typed_of typed.now) (rows_of (typed_of typed.now) chunk.now))
+    ensures answers { IfOk result (λ v. GivesPieces (J.gives job.now (typed_of typed.now) (rows_of (typed_of typed.now) chunk.now))
         (length (rows_of (typed_of typed.now) chunk.now)) workers.count v.items) }
+    ensures read { IfOk result (λ v. ReadsPieces (J.reads job.now) (λ _. chunk.now) (length (rows_of (typed_of typed.now) chunk.now)) workers.count v.items) }
 {
     let mut outs = Vec::new(alloc);
     let count = workers.count as usize;
@@ -122,6 +127,8 @@ where
     requires units { workers.count * cost ≤ pass.old.units }
     ensures answers { IfOk result (λ v. GivesPieces (J.gives job.now (typed_of typed.now) (rows_of (typed_of typed.now) chunk.old))
         (length (rows_of (typed_of typed.now) chunk.old)) workers.count v.items) }
+    ensures read { IfOk result (λ v. ReadsPieces (J.reads job.now) (lent chunk.old workers.count) (length (rows_of (typed_of typed.now) chunk.old))
+        workers.count v.items) }
     ensures like { Like chunk.old chunk.new }
     ensures lowered { OnOk result (chunk.new ≡ LoweredBy (workers.count - 1) chunk.old) }
     ensures units { pass.new.units ≡ pass.old.units }

@@ -1,6 +1,7 @@
 //! The trait of jobs, which are done on a window of a chunk's rows.
 ghost use Rattle.std.specs.Prelude.{◌≤ℤ◌, ℤ, pos, List, length, IfOk};
 ghost use Rattle.data_types.specs.Table.{Row};
+ghost use Rattle.raw_array.specs.Members.{ArrayTree};
 ghost use Rattle.data_types.specs.KindTrees.{KindTree, TypedOk};
 ghost use Rattle.data_types.specs.TypedView.{typed_of};
 ghost use Rattle.layout_rules.specs.Values.{rows_of};
@@ -21,6 +22,9 @@ pub trait Job {
     /// The answers that the job may give, by the chunk's types, its rows, and the window's two ends, counted from 0.
     ghost gives: { Self → KindTree → List Row → ℤ → ℤ → Self.Out → Type 0 };
 
+    /// What an answer has to do with the very tree that it was read from, beside what its rows say. Of most jobs that is nothing.
+    ghost reads: { Self → ArrayTree → ℤ → ℤ → Self.Out → Type 0 };
+
     /// The chunks that the job can read, by their types and rows.
     ghost fits: { Self → KindTree → List Row → Type 0 };
 
@@ -36,5 +40,6 @@ pub trait Job {
         requires chunk { ChunkOk (typed_of typed.now) chunk.now }
         requires fits { fits self.now (typed_of typed.now) (rows_of (typed_of typed.now) chunk.now) }
         requires window { (pos 0 ≤ℤ from) × (from ≤ℤ to) × (to ≤ℤ pos (length (rows_of (typed_of typed.now) chunk.now))) }
-        ensures answer { IfOk result (gives self.now (typed_of typed.now) (rows_of (typed_of typed.now) chunk.now) from to) };
+        ensures answer { IfOk result (gives self.now (typed_of typed.now) (rows_of (typed_of typed.now) chunk.now) from to) }
+        ensures read { IfOk result (reads self.now chunk.now from to) };
 }

@@ -56,8 +56,9 @@ pub(crate) fn answer<J: Job>(
     requires types { TypedOk (typed_of typed.now) }
     requires chunk { ChunkOk (typed_of typed.now) chunk.now }
     requires fits { J.fits job.now (typed_of typed.now) (rows_of (typed_of typed.now) chunk.now) }
-    ensures { IfOk result (GivesPiece (J.gives job.now (typed_of typed.now) (rows_of (typed_of typed.now) chunk.now))
+    ensures given { IfOk result (GivesPiece (J.gives job.now (typed_of typed.now) (rows_of (typed_of typed.now) chunk.now))
         (length (rows_of (typed_of typed.now) chunk.now)) workers worker) }
+    ensures read { IfOk result (GivesPiece (J.reads job.now chunk.now) (length (rows_of (typed_of typed.now) chunk.now)) workers worker) }
 {
     gate.pass(worker as u32);
     let rows = count_rows(typed, chunk);
@@ -81,7 +82,7 @@ where
     requires worker { (worker < workers) × (workers ≤ most_workers) }
     requires types { TypedOk (typed_of typed.now) }
     requires piece { CanRun (J.fits job.now (typed_of typed.now)) (typed_of typed.now) piece.old }
-    ensures { IsDone (J.gives job.now (typed_of typed.now)) (typed_of typed.now) workers worker piece.old piece.new }
+    ensures { IsDone (J.gives job.now (typed_of typed.now)) (J.reads job.now) (typed_of typed.now) workers worker piece.old piece.new }
 {
     piece.answer = Some(answer(job, typed, gate, workers, worker, &piece.tree));
     if worker + 1 < workers {

@@ -1,6 +1,6 @@
 //! The pieces of a chunk: a share for each worker but the last and the chunk itself for the last, made before a worker
 //! starts, and taken apart once all have ended.
-ghost use Rattle.std.specs.Prelude.{◌≡◌, ℕ, ◌+◌, ◌-◌, ◌*◌, ◌≤◌, length, slice_index_or, IfOk, OnOk, OnErr, All, vec_len};
+ghost use Rattle.std.specs.Prelude.{◌≡◌, ℕ, ◌+◌, ◌-◌, ◌*◌, ◌<◌, ◌≤◌, length, slice_index_or, IfOk, OnOk, OnErr, All, vec_len};
 ghost use Rattle.std.specs.List.{AllWithin};
 ghost use Rattle.unit_pass.specs.declared.pass.TheConstants.{SUPPLY};
 ghost use Rattle.tree_model.specs.Tree.{Released};
@@ -8,6 +8,7 @@ ghost use Rattle.raw_array.specs.Members.{Cost, LeastAmount, Like, LoweredBy};
 ghost use Rattle.data_types.specs.TypedView.{typed_of};
 ghost use Rattle.layout_rules.specs.Values.{rows_of};
 ghost use Rattle.layout_rules.specs.Walk.{ChunkOk};
+ghost use Rattle.fan_out.specs.Pieces.{lent};
 ghost use Rattle.fan_out.specs.Workers.{Collected, IsReady, IsReleased, IsUnspent, SameTrees};
 ghost use Rattle.fan_out.specs.declared.piece.Piece.{Piece};
 
@@ -47,6 +48,7 @@ pub(crate) fn make_pieces<O: Drop>(
     requires units { workers.count * cost ≤ pass.old.units }
     ensures len { IfOk result (λ v. vec_len v ≡ workers.count) }
     ensures ready { IfOk result (λ v. All (λ p. IsReady (typed_of typed.now) (rows_of (typed_of typed.now) chunk.old) cost p) v.items) }
+    ensures trees { IfOk result (λ v. (w : ℕ) (d : _) → w < workers.count → (slice_index_or v.items w d).tree ≡ lent chunk.old workers.count w) }
     ensures last { IfOk result (λ v. (d : _) → (slice_index_or v.items (workers.count - 1) d).tree ≡ LoweredBy (workers.count - 1) chunk.old) }
     ensures lent { OnOk result (chunk.new ≡ Released) }
     ensures drawn { OnOk result (pass.new.units + (workers.count - 1) * cost ≡ pass.old.units) }

@@ -5,7 +5,7 @@ ghost use Rattle.unit_pass.specs.declared.pass.TheConstants.{SUPPLY};
 ghost use Rattle.data_types.specs.KindTrees.{TypedOk};
 ghost use Rattle.data_types.specs.TypedView.{typed_of};
 ghost use Rattle.fan_out.specs.Counts.{most_workers};
-ghost use Rattle.fan_out.specs.Pieces.{GivesPieces};
+ghost use Rattle.fan_out.specs.Pieces.{GivesPieces, ReadsPieces};
 ghost use Rattle.fan_out.specs.Workers.{CanRun, IsDone, IsReady, IsReleased, IsUnspent};
 ghost use Rattle.fan_out.specs.declared.piece.Piece.{Piece};
 
@@ -34,7 +34,7 @@ where
     requires workers { (1 ≤ length pieces.old) × (length pieces.old ≤ most_workers) }
     requires types { TypedOk (typed_of typed.now) }
     requires pieces { All (λ p. CanRun (J.fits job.now (typed_of typed.now)) (typed_of typed.now) p) pieces.old }
-    ensures { (w : ℕ) (d : _) → w < length pieces.old → IsDone (J.gives job.now (typed_of typed.now)) (typed_of typed.now) (length pieces.old) w
+    ensures { (w : ℕ) (d : _) → w < length pieces.old → IsDone (J.gives job.now (typed_of typed.now)) (J.reads job.now) (typed_of typed.now) (length pieces.old) w
         (slice_index_or pieces.old w d) (slice_index_or pieces.new w d) }
 {
     let workers = pieces.len();
@@ -45,7 +45,7 @@ where
         &|worker: usize, piece: &mut Piece<J::Out>|
             requires { (worker < workers) × (workers ≤ most_workers) × TypedOk (typed_of typed.now)
                 × CanRun (J.fits job.now (typed_of typed.now)) (typed_of typed.now) piece.now }
-            ensures { IsDone (J.gives job.entry.now (typed_of typed.entry.now)) (typed_of typed.entry.now) workers worker piece.entry.now piece.exit.now }
+            ensures { IsDone (J.gives job.entry.now (typed_of typed.entry.now)) (J.reads job.entry.now) (typed_of typed.entry.now) workers worker piece.entry.now piece.exit.now }
         { work(job, typed, gate, workers, worker, piece) },
     );
 }
@@ -74,6 +74,8 @@ where
         × ((slice_index_or pieces.new (length pieces.old - 1) d).pass.nodes ≡ 0) }
     ensures answers { (rows : _) → All (λ p. IsReady (typed_of typed.now) rows cost p) pieces.old
         → IfOk result (λ v. GivesPieces (J.gives job.now (typed_of typed.now) rows) (length rows) (length pieces.old) v.items) }
+    ensures read { (rows : _) → All (λ p. IsReady (typed_of typed.now) rows cost p) pieces.old → (d : Piece _)
+        → IfOk result (λ v. ReadsPieces (J.reads job.now) (λ w. (slice_index_or pieces.old w d).tree) (length rows) (length pieces.old) v.items) }
 {
     run_all(rt, typed, job, gate, pieces);
     collect(alloc, pieces)
@@ -103,6 +105,8 @@ where
     ensures nodes { pass.new.nodes ≡ pass.old.nodes }
     ensures answers { (rows : _) → All (λ p. IsReady (typed_of typed.now) rows cost p) pieces.items
         → IfOk result.1 (λ v. GivesPieces (J.gives job.now (typed_of typed.now) rows) (length rows) (vec_len pieces) v.items) }
+    ensures read { (rows : _) → All (λ p. IsReady (typed_of typed.now) rows cost p) pieces.items → (d : Piece _)
+        → IfOk result.1 (λ v. ReadsPieces (J.reads job.now) (λ w. (slice_index_or pieces.items w d).tree) (length rows) (vec_len pieces) v.items) }
 {
     let answers = run_and_collect(rt, alloc, typed, job, gate, cost, pieces.as_mut_slice());
     let tree = end_pieces(pieces, cost, pass);

@@ -1,7 +1,7 @@
 //! Shares of a chunk, which are chunks of the same rows.
 ghost use Rattle.std.specs.Prelude.{◌≡◌, ◌+◌, ◌≤◌, if◌then◌else◌, is_ok, IfOk, OnOk};
 ghost use Rattle.tree_model.specs.Tree.{IsLive};
-ghost use Rattle.raw_array.specs.Members.{Cost, LeastAmount, Like, Lowered};
+ghost use Rattle.raw_array.specs.Members.{Cost, LeastAmount, Like, Lowered, ShareOf};
 ghost use Rattle.data_types.specs.TypedView.{typed_of};
 ghost use Rattle.layout_rules.specs.Values.{rows_of};
 ghost use Rattle.layout_rules.specs.Walk.{ChunkOk};
@@ -25,6 +25,7 @@ pub(crate) fn shared_chunk(
     requires amounts { 2 ≤ LeastAmount chunk.old }
     requires units { Cost chunk.old ≤ pass.old.units }
     ensures share { IfOk result (λ share. IsChunk (typed_of typed.now) (rows_of (typed_of typed.now) chunk.old) (Cost chunk.old) share) }
+    ensures tree { IfOk result (λ share. share ≡ ShareOf chunk.old) }
     ensures lowered { OnOk result (chunk.new ≡ Lowered chunk.old) }
     ensures like { Like chunk.old chunk.new }
     ensures kept { IsChunk (typed_of typed.now) (rows_of (typed_of typed.now) chunk.old) (Cost chunk.old) chunk.new }

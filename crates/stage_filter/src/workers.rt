@@ -36,6 +36,8 @@ impl<'a> Job for FindJob<'a> {
     ghost gives = { λ job _ rows from to kept. kept.items
         ≡ row_numbers job.asked.column job.asked.test job.asked.constant.now rows (natural from) (natural to - natural from) };
 
+    ghost reads = { λ _ _ _ _ _. Unit {0} };
+
     ghost fits = { λ job typed rows. HaveColumn job.asked.column typed rows };
 
     fn run(

@@ -27,6 +27,8 @@ impl Job for Window {
 
     ghost gives = { λ _ _ _ from to out. (out.0 ≡ from) × (out.1 ≡ to) };
 
+    ghost reads = { λ _ _ _ _ _. Unit {0} };
+
     ghost fits = { λ _ _ _. Unit {0} };
 
     fn run(

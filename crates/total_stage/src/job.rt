@@ -26,6 +26,8 @@ impl<'a> Job for SumJob<'a> {
 
     ghost gives = { λ job _ rows from to sums. AreSums sums.items job.picks.now (rows_between (natural from) (natural to) rows) };
 
+    ghost reads = { λ _ _ _ _ _. Unit {0} };
+
     ghost fits = { λ job typed rows. CanSum job.picks.now typed rows };
 
     fn run(

@@ -1,5 +1,6 @@
 use Rattle.std.proofs.lemmas.Grind.{common_steps}
-use Rattle.std.proofs.Common.{arith, ◌≡◌, ℕ, ◌+◌, ◌-◌, ◌<◌, ◌≤◌, ◌*◌, length, get_or, ap, sym, ◌∙◌, subst}
+use Rattle.std.proofs.Common.{arith, ◌≡◌, ℕ, ◌+◌, ◌-◌, ◌<◌, ◌≤◌, ◌*◌, length, vec_len, get_or, ap, sym, ◌∙◌, subst}
+use Rattle.std.proofs.lemmas.Result.{IfOk-weaker}
 use Rattle.std.proofs.Math.Nat.{mul-le-mul_right}
 use Rattle.std.specs.Prelude.{IfOk}
 use Rattle.unit_pass.specs.declared.pass.TheConstants.{SUPPLY}
@@ -7,7 +8,8 @@ use Rattle.data_types.specs.TypedView.{typed_of}
 use Rattle.layout_rules.specs.Values.{rows_of}
 use Rattle.raw_array.specs.Members.{Like, LoweredBy}
 use Rattle.fan_out.specs.Counts.{most_workers}
-use Rattle.fan_out.specs.Pieces.{GivesPieces}
+use Rattle.fan_out.specs.Pieces.{GivesPiece, GivesPieces, ReadsPieces, lent}
+use Rattle.fan_out.specs.declared.piece.Piece.{Piece}
 use Rattle.fan_out.proofs.Lists.{always_on_ok}
 use Rattle.fan_out.proofs.Ready.{an_item, can_run, unspent}
 use Rattle.fan_out.proofs.fan.in_threads.Goals as goal
@@ -48,9 +50,17 @@ pub returns : goal.returns
 returns g c =
     let typed = typed_of c.args.typed.now in
     let rows = rows_of typed c.args.chunk.now in
+    let reads = g.J.Job.reads c.args.job.now in
+    let d = an_item c.in-Ok.pieces.items (subst (λ (n : ℕ). 0 < n) (sym c.in-Ok.ensures.len ∙ c.in-Ok.pieces.ok.0) c.args.workers.some) in
     record {
       answers = subst (λ (n : ℕ). IfOk c.run_pieces-tree.result.1 (λ v. GivesPieces (g.J.Job.gives c.args.job.now typed rows) (length rows) n v.items))
           c.in-Ok.ensures.len (c.run_pieces-tree.ensures.answers rows c.in-Ok.ensures.ready);
+      read = subst (λ (n : ℕ). IfOk c.run_pieces-tree.result.1
+          (λ v. ReadsPieces reads (lent c.args.chunk.now c.args.workers.count) (length rows) n v.items)) c.in-Ok.ensures.len
+          (IfOk-weaker c.run_pieces-tree.result.1 _ _
+          (λ v read w e h. subst (λ t. GivesPiece (reads t) (length rows) (vec_len c.in-Ok.pieces) w (get_or v.items w e))
+          (c.in-Ok.ensures.trees w d (subst (λ (n : ℕ). w < n) c.in-Ok.ensures.len h)) (read w e h))
+          (c.run_pieces-tree.ensures.read rows c.in-Ok.ensures.ready d));
       like = subst (Like c.args.chunk.now) (sym (back g c)) (c.like_trees_are_ordered.ensures.lowered_by (c.args.workers.count - 1) c.args.chunk.now);
       lowered = always_on_ok c.run_pieces-tree.result.1 _ (back g c);
       units = c.run_pieces-tree.ensures.units ∙ ap (λ (n : ℕ). c.make_pieces.new.pass.units + (n - 1) * c.args.cost) c.in-Ok.ensures.len
@@ -72,6 +82,7 @@ pub returns-in-Err : goal.returns-in-Err
 returns-in-Err g c =
     record {
       answers = grind (arith, common_steps);
+      read = grind (arith, common_steps);
       like = grind (arith, common_steps);
       lowered = grind (arith, common_steps);
       units = grind (arith, common_steps);

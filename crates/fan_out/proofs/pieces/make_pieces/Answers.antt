@@ -1,10 +1,13 @@
-use Rattle.std.proofs.Common.{◌≡◌, ℕ, ◌+◌, ◌-◌, ◌*◌, ◌<◌, ◌≤◌, arith, vec_len, ap, sym, subst, refl, ◌∙◌}
+use Rattle.std.proofs.Common.{◌≡◌, ℕ, ◌+◌, ◌-◌, ◌*◌, ◌<◌, ◌≤◌, ◌==◌, Bool, arith, vec_len, ap, sym, subst, refl, ◌∙◌}
+use Rattle.std.proofs.lemmas.Bool.{eq-eqb}
+use Rattle.std.specs.Prelude.{if◌then◌else◌}
 use Rattle.std.proofs.Math.Nat.{mul-le-mul_right}
-use Rattle.raw_array.specs.Members.{LeastAmount, Lowered, LoweredBy}
+use Rattle.raw_array.specs.Members.{LeastAmount, Lowered, LoweredBy, ShareOf}
 use Rattle.data_types.specs.TypedView.{typed_of}
 use Rattle.layout_rules.specs.Values.{rows_of}
+use Rattle.fan_out.proofs.Collecting.{not_last}
 use Rattle.fan_out.proofs.Lists.{last_is, one_more}
-use Rattle.fan_out.proofs.Ready.{chunk_again, none_ready, ready_push, unspent}
+use Rattle.fan_out.proofs.Ready.{chunk_again, none_ready, ready_push, tree_push, unspent}
 use Rattle.fan_out.proofs.pieces.make_pieces.Goals as goal
 
 -- how many shares there are, in a turn and after all
@@ -49,6 +52,7 @@ loop-worker-init g c =
       refl,
       none_ready _ _ _ _ c.in-Ok.ensures.items,
       subst (λ (n : ℕ). n < c.args.workers.count) (sym empty) c.args.workers.some,
+      λ w d h. absurd (omega (arith, h, empty)),
     )
 
 pub shared_chunk-requires-clause-amounts : goal.shared_chunk-requires-clause-amounts
@@ -133,6 +137,9 @@ loop-worker-preserved g c =
           (chunk_again typed rows c.args.cost c.loop-worker.chunk c.in-Ok-shared_chunk.share i.3 c.in-Ok-shared_chunk.ensures.share)
           c.ready.ensures.pass i.8,
       subst (λ (n : ℕ). n < c.args.workers.count) (sym (len ∙ i.0)) c.loop-worker-test.true,
+      λ w d h. tree_push (λ (k : ℕ). ShareOf (LoweredBy k c.args.chunk.now)) c.loop-worker.pieces.items c.push_reserved.new.self.items c.ready.result made
+          c.push_reserved.ensures.items c.loop-worker.pieces.ok.0 i.10
+          (c.ready.ensures.tree ∙ c.in-Ok-shared_chunk.ensures.tree ∙ ap ShareOf i.2) w d (subst (λ (n : ℕ). w < n) len h),
     )
 
 pub returns-clause-ready : goal.returns-clause-ready
@@ -170,3 +177,18 @@ returns-clause-blocks g c = c.ready-2.ensures.kept.1 ∙ c.loop-worker.invariant
 
 pub returns-clause-nodes : goal.returns-clause-nodes
 returns-clause-nodes g c = c.ready-2.ensures.kept.2 ∙ c.loop-worker.invariant.7
+
+pub returns-clause-trees : goal.returns-clause-trees
+returns-clause-trees g c w d h =
+    let i = c.loop-worker.invariant in
+    let made = all_made _ _ _ i.0 c.loop-worker-test.false i.9 in
+    let shares = tree_push (λ (k : ℕ). if k + 1 == c.args.workers.count then LoweredBy k c.args.chunk.now else ShareOf (LoweredBy k c.args.chunk.now))
+    c.loop-worker.pieces.items c.push_reserved-2.new.self.items c.ready-2.result (vec_len c.loop-worker.pieces)
+    c.push_reserved-2.ensures.items c.loop-worker.pieces.ok.0 in
+    shares
+    (λ k d less. i.10 k d less ∙ sym (ap (λ (b : Bool). if b then LoweredBy k c.args.chunk.now else ShareOf (LoweredBy k c.args.chunk.now))
+    (not_last k c.args.workers.count (omega (arith, less, made)))))
+    (c.ready-2.ensures.tree ∙ c.move_out.ensures.moved ∙ i.2
+    ∙ sym (ap (λ (b : Bool). if b then LoweredBy (vec_len c.loop-worker.pieces) c.args.chunk.now else ShareOf (LoweredBy (vec_len c.loop-worker.pieces) c.args.chunk.now))
+    (eq-eqb (vec_len c.loop-worker.pieces + 1) c.args.workers.count (omega (arith, made, c.args.workers.some)))))
+    w d (omega (arith, h, made, c.args.workers.some))

@@ -1,9 +1,10 @@
-use Rattle.std.proofs.Common.{◌≡◌, ◌+◌, ◌*◌, ◌<◌, ◌≤◌, All, vec_len, vec_capacity}
-use Rattle.raw_array.specs.Members.{Like, LoweredBy}
+use Rattle.std.proofs.Common.{◌≡◌, ℕ, ◌+◌, ◌*◌, ◌<◌, ◌≤◌, All, get_or, vec_len, vec_capacity}
+use Rattle.raw_array.specs.Members.{Like, LoweredBy, ShareOf}
 use Rattle.data_types.specs.TypedView.{typed_of}
 use Rattle.layout_rules.specs.Values.{rows_of}
 use Rattle.fan_out.specs.Pieces.{IsChunk}
 use Rattle.fan_out.specs.Workers.{IsReady}
+use Rattle.fan_out.specs.declared.piece.Piece.{Piece}
 use Rattle.fan_out.proofs.pieces.make_pieces.Given as goal
 
 abbrev pub invariant-loop-worker : goal.invariant-loop-worker
@@ -20,3 +21,4 @@ invariant-loop-worker g l =
     × (l.pass.nodes ≡ l.initial.pass.nodes)
     × All (λ p. IsReady typed rows l.initial.cost p) l.pieces.items
     × (vec_len l.pieces < l.count)
+    × ((w : ℕ) (d : Piece _) → w < vec_len l.pieces → (get_or l.pieces.items w d).tree ≡ ShareOf (LoweredBy w l.initial.chunk))

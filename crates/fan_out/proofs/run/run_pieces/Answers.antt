@@ -3,7 +3,7 @@ use Rattle.std.specs.List.{AllWithin}
 use Rattle.std.specs.Prelude.{IfOk}
 use Rattle.data_types.specs.TypedView.{typed_of}
 use Rattle.fan_out.specs.Counts.{most_workers}
-use Rattle.fan_out.specs.Pieces.{GivesPieces}
+use Rattle.fan_out.specs.Pieces.{GivesPieces, ReadsPieces}
 use Rattle.fan_out.specs.Workers.{CanRun, IsReady, IsReleased, IsUnspent}
 use Rattle.fan_out.specs.declared.piece.Piece.{Piece}
 use Rattle.fan_out.proofs.Lists.{in_whole}
@@ -70,3 +70,13 @@ returns-clause-answers g c rows ready =
     let given = subst (λ (ps : List (Piece _)). All (λ p. IsReady typed rows c.args.cost p) ps → Given (length ps))
     c.as_mut_slice.ensures.value (c.run_and_collect-answers.ensures.answers rows) ready in
     subst Given (sym c.args.pieces.ok.0) given
+
+pub returns-clause-read : goal.returns-clause-read
+returns-clause-read g c rows ready d =
+    let typed = typed_of c.args.typed.now in
+    let reads = g.J.Job.reads c.args.job.now in
+    let Read : List (Piece _) → ℕ → Type 0
+    = λ ps n. IfOk c.run_and_collect-answers.result (λ v. ReadsPieces reads (λ w. (get_or ps w d).tree) (length rows) n v.items) in
+    let read = subst (λ (ps : List (Piece _)). All (λ p. IsReady typed rows c.args.cost p) ps → Read ps (length ps))
+    c.as_mut_slice.ensures.value (λ all. c.run_and_collect-answers.ensures.read rows all d) ready in
+    subst (Read c.args.pieces.items) (sym c.args.pieces.ok.0) read
