@@ -1,6 +1,6 @@
 //! The items of a maker, made in a thread ahead of the caller who takes them.
 ghost use Rattle.std.specs.Prelude.{◌≡◌, ◌≤◌, true, IfOk};
-ghost use Rattle.ahead_ring.specs.Coming.{Gives};
+ghost use Rattle.ahead_ring.specs.Coming.{Gives, RanOut};
 ghost use Rattle.ahead_ring.specs.declared.maker.Given.TheVariants.{NoMemory as Refused};
 
 use crate::maker::{Given, Maker};
@@ -35,7 +35,7 @@ where
     ghost use Rattle.std.specs.Prelude.{◌≡◌, ◌≢◌, ◌≤◌, ◌++◌, drop, length, None, IfSome};
     ghost use mathlib.Core.List.{IsPrefix};
     ghost use Rattle.rtrb.specs.Ring.{sent, received, known_items};
-    ghost use Rattle.ahead_ring.specs.Coming.{Coming, GotOf, IsBeside, is_refused};
+    ghost use Rattle.ahead_ring.specs.Coming.{Coming, GotOf, IsBeside, RanOut, is_refused};
     ghost use Rattle.ahead_ring.specs.declared.round.Ending.TheVariants.{Full};
 
     ghost Value = { Coming M.Item };
@@ -50,7 +50,7 @@ where
         × (M.coming s.whole.value ≡ sent f.child.promise.producer.value ++ M.coming f.child.promise.maker.value))
         × IfSome s.rounds.idle (λ i. IsBeside s.most i.producer s.consumer × (M.coming s.whole.value ≡ sent i.producer ++ M.coming i.maker))
         × (s.rounds.ending ≡ Full → s.rounds.flight ≡ None → s.rounds.idle ≢ None)
-        × GotOf s.rounds.ending (M.coming s.whole.value) (received s.consumer ++ known_items s.consumer)
+        × GotOf (RanOut M.spent) s.rounds.ending (M.coming s.whole.value) (received s.consumer ++ known_items s.consumer)
         × IsPrefix (received s.consumer ++ known_items s.consumer) (M.coming s.whole.value) };
 }
 
@@ -83,12 +83,12 @@ where
     }
 
     /// The first of the items that are to come, which leaves them, or `Done` exactly where none is. `NoMemory` comes where the maker
-    /// ran out of memory, behind all items that it made before, and stays.
+    /// itself answered so, behind all items that it made before, and stays; no item is lost by it.
     ///
     /// It takes an item that is known to be in the ring. Where none is, it waits for the end of the round that runs, and starts the
     /// next one, unless the maker has answered `Done` or `NoMemory`. Where no thread can be started it runs the round itself.
     pub fn next(&mut self) -> Given<M::Item>
-        ensures gives { Gives result self.old self.new }
+        ensures gives { Gives (RanOut M.spent) result self.old self.new }
         ensures again { self.old.refused ≡ true → result ≡ Refused }
     {
         advance(

@@ -1,7 +1,7 @@
 //! A round that runs beside its caller.
 ghost use Rattle.std.specs.Prelude.{◌≡◌, ◌≤◌, IfOk, IfErr};
 ghost use Rattle.rtrb.specs.Ring.{sent, known_free, SameProducer};
-ghost use Rattle.ahead_ring.specs.Coming.{IsRound};
+ghost use Rattle.ahead_ring.specs.Coming.{IsRound, RanOut};
 
 use crate::maker::Maker;
 use crate::round::{Back, round};
@@ -19,17 +19,16 @@ pub(crate) struct RoundPromise<M: Maker + Drop> {
 }
 
 impl<M: Maker + Drop> Promise<Back<M>> for RoundPromise<M> {
-    ghost kept_by = { λ p b. IsRound p.most b.ending (M.coming p.maker.value) (sent p.producer.value) (M.coming b.maker) (sent b.producer)
+    ghost kept_by = { λ p b. IsRound (RanOut M.spent) p.most b.ending (M.coming p.maker.value) (sent p.producer.value) (M.coming b.maker) (sent b.producer)
         × SameProducer p.producer.value b.producer };
 }
 
-/// A round that runs in a thread of its own. It is to be joined: dropped, its thread runs on.
-#[derive(Drop)]
+/// A round that runs in a thread of its own. It must be spent by [`land`](Flight::land), which joins it.
 pub(crate) struct Flight<M: Maker + Send + Drop + 'static>
 where
     M::Item: Send + 'static,
 {
-    pub(crate) child: PromisedHandle<Back<M>, RoundPromise<M>>,
+    child: PromisedHandle<Back<M>, RoundPromise<M>>,
 }
 
 impl<M: Maker + Send + Drop + 'static> Flight<M>
@@ -47,7 +46,7 @@ where
         ensures maker { IfOk result (λ f. M.coming f.child.promise.maker.value ≡ M.coming maker) }
         ensures producer { IfOk result (λ f. f.child.promise.producer.value ≡ producer) }
         ensures most { IfOk result (λ f. f.child.promise.most ≡ most) }
-        ensures pushed { IfErr result (λ b. IsRound most b.ending (M.coming maker) (sent producer) (M.coming b.maker) (sent b.producer)) }
+        ensures pushed { IfErr result (λ b. IsRound (RanOut M.spent) most b.ending (M.coming maker) (sent producer) (M.coming b.maker) (sent b.producer)) }
         ensures ring { IfErr result (λ b. SameProducer producer b.producer) }
     {
         let promise = RoundPromise {
@@ -57,7 +56,7 @@ where
         };
         let work = move || -> Back<M>
             requires { most ≤ known_free producer }
-            ensures { IsRound most result.ending (M.coming maker) (sent producer) (M.coming result.maker) (sent result.producer)
+            ensures { IsRound (RanOut M.spent) most result.ending (M.coming maker) (sent producer) (M.coming result.maker) (sent result.producer)
                 × SameProducer producer result.producer }
         { round(maker, producer, most) };
         match thread::spawn_with(rt, promise, work) {
@@ -68,7 +67,7 @@ where
 
     /// Waits for the end of the round, and takes what it gives back.
     pub(crate) fn land<R: Threads>(self, rt: &R) -> Back<M>
-        ensures pushed { IsRound self.child.promise.most result.ending (M.coming self.child.promise.maker.value) (sent self.child.promise.producer.value)
+        ensures pushed { IsRound (RanOut M.spent) self.child.promise.most result.ending (M.coming self.child.promise.maker.value) (sent self.child.promise.producer.value)
             (M.coming result.maker) (sent result.producer) }
         ensures ring { SameProducer self.child.promise.producer.value result.producer }
     {

@@ -21,8 +21,12 @@ pub trait Maker {
     /// The items that are still to come.
     ghost coming: { Self → List Self.Item };
 
+    /// What a maker says of itself once memory ran out. Only a call that answers so has this to say, so a clause that names it
+    /// says that a maker did.
+    ghost spent: { Self → Type 0 };
+
     /// Gives the first of the items that are to come, which leaves them, or `Done` exactly where none is. `NoMemory` comes only
     /// where memory runs out, and says nothing of what is to come then: no item of a call behind it counts.
     fn make(&mut self) -> Given<Self::Item>
-        ensures { Makes result (coming self.old) (coming self.new) };
+        ensures { Makes (spent self.new) result (coming self.old) (coming self.new) };
 }

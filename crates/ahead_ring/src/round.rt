@@ -1,7 +1,7 @@
 //! A round: a maker makes at most a number of items and pushes them into the ring.
 ghost use Rattle.std.specs.Prelude.{◌≤◌};
 ghost use Rattle.rtrb.specs.Ring.{sent, known_free, SameProducer};
-ghost use Rattle.ahead_ring.specs.Coming.{IsRound};
+ghost use Rattle.ahead_ring.specs.Coming.{IsRound, RanOut};
 
 use crate::maker::{Given, Maker};
 use rtrb::Producer;
@@ -29,7 +29,7 @@ pub(crate) fn round<M: Maker + Drop>(
     most: usize,
 ) -> Back<M>
     requires places { most ≤ known_free producer }
-    ensures pushed { IsRound most result.ending (M.coming maker) (sent producer) (M.coming result.maker) (sent result.producer) }
+    ensures pushed { IsRound (RanOut M.spent) most result.ending (M.coming maker) (sent producer) (M.coming result.maker) (sent result.producer) }
     ensures ring { SameProducer producer result.producer }
 {
     let mut ending = Ending::Full;

@@ -2,13 +2,14 @@
 ghost use Rattle.std.specs.Prelude.{◌≡◌, ◌≢◌, ◌≤◌, ◌*◌, ◌++◌, [], length, None, Some, IfSome};
 ghost use mathlib.Core.List.{IsPrefix};
 ghost use Rattle.rtrb.specs.Ring.{sent, received, known_free, known_items, producer_capacity, IsPair};
-ghost use Rattle.ahead_ring.specs.Coming.{GotOf, IsBeside, IsRound, SentOf};
+ghost use Rattle.ahead_ring.specs.Coming.{GotOf, IsBeside, IsRound, RanOut, SentOf};
 ghost use Rattle.ahead_ring.specs.declared.round.Ending.TheVariants.{Full};
 
 use crate::flight::Flight;
 use crate::maker::Maker;
 use crate::round::{Back, Ending, round};
 use rtrb::{Consumer, Producer};
+use std::mem;
 use std::snapshot::Snapshot;
 use std::thread::Threads;
 
@@ -20,7 +21,6 @@ pub(crate) struct Idle<M: Maker + Drop> {
 }
 
 /// The rounds of a maker: the one that runs, or the maker where none runs and more are to come.
-#[derive(Drop)]
 pub(crate) struct Rounds<M: Maker + Send + Drop + 'static>
 where
     M::Item: Send + 'static,
@@ -43,7 +43,7 @@ where
     requires most { flight.child.promise.most ≡ most }
     requires beside { IsBeside most flight.child.promise.producer.value consumer.old }
     requires empty { known_items consumer.old ≡ [] }
-    ensures pushed { IsRound most result.ending (M.coming flight.child.promise.maker.value) (sent flight.child.promise.producer.value)
+    ensures pushed { IsRound (RanOut M.spent) most result.ending (M.coming flight.child.promise.maker.value) (sent flight.child.promise.producer.value)
         (M.coming result.maker) (sent result.producer) }
     ensures beside { IsBeside most result.producer consumer.new }
     ensures received { received consumer.new ≡ received consumer.old }
@@ -64,7 +64,7 @@ fn own_round<M: Maker + Drop>(
 ) -> Back<M>
     requires beside { IsBeside most idle.producer consumer.old }
     requires empty { known_items consumer.old ≡ [] }
-    ensures pushed { IsRound most result.ending (M.coming idle.maker) (sent idle.producer) (M.coming result.maker) (sent result.producer) }
+    ensures pushed { IsRound (RanOut M.spent) most result.ending (M.coming idle.maker) (sent idle.producer) (M.coming result.maker) (sent result.producer) }
     ensures beside { IsBeside most result.producer consumer.new }
     ensures received { received consumer.new ≡ received consumer.old }
     ensures full { result.ending ≡ Full → length (known_items consumer.new) ≡ most }
@@ -92,13 +92,13 @@ where
     M::Item: Send + 'static,
     requires pair { IsPair own.producer consumer.old }
     requires capacity { producer_capacity own.producer ≡ 2 * most }
-    requires sent { SentOf own.ending (M.coming whole.now.value) (sent own.producer) (M.coming own.maker) }
+    requires sent { SentOf (RanOut M.spent) own.ending (M.coming whole.now.value) (sent own.producer) (M.coming own.maker) }
     ensures known { received consumer.old ++ known_items consumer.new ≡ sent own.producer }
     ensures received { received consumer.new ≡ received consumer.old }
     ensures flight { result.flight ≡ None }
     ensures idle { IfSome result.idle (λ i. IsBeside most i.producer consumer.new × (M.coming whole.now.value ≡ sent i.producer ++ M.coming i.maker)) }
     ensures more { result.ending ≡ Full → result.idle ≢ None }
-    ensures got { GotOf result.ending (M.coming whole.now.value) (received consumer.new ++ known_items consumer.new) }
+    ensures got { GotOf (RanOut M.spent) result.ending (M.coming whole.now.value) (received consumer.new ++ known_items consumer.new) }
     ensures prefix { IsPrefix (received consumer.new ++ known_items consumer.new) (M.coming whole.now.value) }
 {
     let _whole = whole;
@@ -133,7 +133,7 @@ fn start_next<R: Threads, M: Maker + Send + Drop + 'static>(
 where
     M::Item: Send + 'static,
     requires some { 1 ≤ most }
-    requires sent { SentOf back.ending (M.coming whole.now.value) (sent back.producer) (M.coming back.maker) }
+    requires sent { SentOf (RanOut M.spent) back.ending (M.coming whole.now.value) (sent back.producer) (M.coming back.maker) }
     requires beside { IsBeside most back.producer consumer.old }
     requires full { back.ending ≡ Full → length (known_items consumer.old) ≡ most }
     requires places { most ≤ known_free back.producer }
@@ -142,7 +142,7 @@ where
         × (M.coming whole.now.value ≡ sent f.child.promise.producer.value ++ M.coming f.child.promise.maker.value)) }
     ensures idle { IfSome result.idle (λ i. IsBeside most i.producer consumer.new × (M.coming whole.now.value ≡ sent i.producer ++ M.coming i.maker)) }
     ensures more { result.ending ≡ Full → result.flight ≡ None → result.idle ≢ None }
-    ensures got { GotOf result.ending (M.coming whole.now.value) (received consumer.new ++ known_items consumer.new) }
+    ensures got { GotOf (RanOut M.spent) result.ending (M.coming whole.now.value) (received consumer.new ++ known_items consumer.new) }
     ensures prefix { IsPrefix (received consumer.new ++ known_items consumer.new) (M.coming whole.now.value) }
     ensures known { result.ending ≡ Full → 1 ≤ length (known_items consumer.new) }
 {
@@ -171,6 +171,24 @@ where
     }
 }
 
+/// Puts the next rounds in the place of old ones of which none runs.
+fn go_over<M: Maker + Send + Drop + 'static>(rounds: &mut Rounds<M>, next: Rounds<M>)
+where
+    M::Item: Send + 'static,
+    requires { rounds.old.flight ≡ None }
+    ensures { rounds.new ≡ next }
+{
+    let Rounds {
+        flight,
+        idle: _,
+        ending: _,
+    } = mem::replace(rounds, next);
+    match flight {
+        Some(_) => unreachable!(),
+        None => {}
+    }
+}
+
 /// Goes on where no item is known and more may come: the round that runs is joined, or where none runs one is run here, and the
 /// one behind it is started.
 pub(crate) fn advance<R: Threads, M: Maker + Send + Drop + 'static>(
@@ -187,14 +205,14 @@ where
         × (M.coming whole.now.value ≡ sent f.child.promise.producer.value ++ M.coming f.child.promise.maker.value)) }
     requires idle { IfSome rounds.old.idle (λ i. IsBeside most i.producer consumer.old × (M.coming whole.now.value ≡ sent i.producer ++ M.coming i.maker)) }
     requires more { rounds.old.ending ≡ Full → rounds.old.flight ≡ None → rounds.old.idle ≢ None }
-    requires got { GotOf rounds.old.ending (M.coming whole.now.value) (received consumer.old ++ known_items consumer.old) }
+    requires got { GotOf (RanOut M.spent) rounds.old.ending (M.coming whole.now.value) (received consumer.old ++ known_items consumer.old) }
     requires prefix { IsPrefix (received consumer.old ++ known_items consumer.old) (M.coming whole.now.value) }
     ensures received { received consumer.new ≡ received consumer.old }
     ensures flight { IfSome rounds.new.flight (λ f. IsBeside most f.child.promise.producer.value consumer.new × (f.child.promise.most ≡ most)
         × (M.coming whole.now.value ≡ sent f.child.promise.producer.value ++ M.coming f.child.promise.maker.value)) }
     ensures idle { IfSome rounds.new.idle (λ i. IsBeside most i.producer consumer.new × (M.coming whole.now.value ≡ sent i.producer ++ M.coming i.maker)) }
     ensures more { rounds.new.ending ≡ Full → rounds.new.flight ≡ None → rounds.new.idle ≢ None }
-    ensures got { GotOf rounds.new.ending (M.coming whole.now.value) (received consumer.new ++ known_items consumer.new) }
+    ensures got { GotOf (RanOut M.spent) rounds.new.ending (M.coming whole.now.value) (received consumer.new ++ known_items consumer.new) }
     ensures prefix { IsPrefix (received consumer.new ++ known_items consumer.new) (M.coming whole.now.value) }
     ensures known { rounds.new.ending ≡ Full → 1 ≤ length (known_items consumer.new) }
     ensures over { rounds.old.ending ≢ Full → (rounds.new.ending ≡ rounds.old.ending) × (known_items consumer.new ≡ known_items consumer.old) }
@@ -208,11 +226,13 @@ where
     }
     if let Some(flight) = rounds.flight.take() {
         let back = join_round(rt, flight, consumer, most);
-        *rounds = start_next(rt, back, whole, consumer, most);
+        let next = start_next(rt, back, whole, consumer, most);
+        go_over(rounds, next);
         return;
     }
     if let Some(idle) = rounds.idle.take() {
         let back = own_round(idle, consumer, most);
-        *rounds = start_next(rt, back, whole, consumer, most);
+        let next = start_next(rt, back, whole, consumer, most);
+        go_over(rounds, next);
     }
 }

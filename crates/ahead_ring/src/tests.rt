@@ -43,6 +43,8 @@ impl Maker for Numbers {
 
     ghost coming = { λ m. reverse m.left.items };
 
+    ghost spent = { λ _. Unit {0} };
+
     fn make(&mut self) -> Given<u64> {
         if self.left.len() == 2 {
             self.signals.mark.store(1, Ordering::SeqCst);
@@ -138,11 +140,13 @@ struct Sevens {
 }
 
 impl Maker for Sevens {
-    ghost use Rattle.std.specs.Prelude.{◌+◌, replicate};
+    ghost use Rattle.std.specs.Prelude.{◌≡◌, ◌+◌, replicate};
 
     type Item = u64;
 
     ghost coming = { λ m. replicate (m.left + 1) 7 };
+
+    ghost spent = { λ m. m.left ≡ 0 };
 
     fn make(&mut self) -> Given<u64> {
         if self.left == 0 {

@@ -77,6 +77,8 @@ impl Maker for CsvMaker {
 
     ghost coming = { maker_pieces };
 
+    ghost spent = { λ _. Unit {0} };
+
     fn make(&mut self) -> Given<Piece> {
         batches_are_read_in_turn();
         match self.batches.next_batch(self.alloc, u64::from(self.batch)) {

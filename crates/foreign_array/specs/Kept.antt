@@ -31,6 +31,11 @@ owed owes (Some kept) = owes kept.1
 abbrev pub units_in : {O : Type 0} → (O → ℕ) → Kept O → ℕ
 units_in owes kept = Cost (tree_in kept) + owed owes kept
 
+-- The owner was released behind its tree: its release began with the units that the tree gave back. Nothing was called where nothing was.
+abbrev pub OwnerReleased : {O : Type 0} → (O → ℕ → ℕ → Type 0) → Kept O → ℕ → ℕ → Type 0
+OwnerReleased releases None before after = Unit {0}
+OwnerReleased releases (Some kept) before after = releases kept.1 (before + Cost kept.0) after
+
 abbrev pub units_of_all : {O : Type 0} → (O → ℕ) → List (Kept O) → ℕ
 units_of_all owes [] = 0
 units_of_all owes (kept ∷ more) = units_in owes kept + units_of_all owes more

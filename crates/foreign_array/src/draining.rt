@@ -51,6 +51,11 @@ impl From<NoMemory> for DrainFault {
 }
 
 impl fmt::Display for DrainFault {
+    ghost use Rattle.std.specs.Prelude.{Some};
+    ghost use Rattle.foreign_array.specs.FaultTexts.{drain_fault_text};
+
+    ghost output = { λ fault. Some (drain_fault_text fault) };
+
     fn fmt<W: fmt::Write>(&self, f: &mut fmt::Formatter<W>) -> fmt::Result {
         match self {
             DrainFault::Layout { chunk, fault } => write!(f, "chunk {chunk}: {fault}"),

@@ -2,8 +2,9 @@
 ghost use Rattle.std.specs.Prelude.{◌≡◌, ◌≢◌, ◌↔◌, ◌+◌, ◌≤◌, IsTrue, Option, None, Some};
 ghost use Rattle.tree_model.specs.Tree.{IsLive, Released};
 ghost use Rattle.unit_pass.specs.declared.pass.TheConstants.{SUPPLY};
-ghost use Rattle.foreign_array.specs.Kept.{Kept, tree_in, owed, units_in};
+ghost use Rattle.foreign_array.specs.Kept.{Kept, OwnerReleased, tree_in, owed, units_in};
 
+use crate::keep::Keep;
 use crate::owner::Owner;
 use crate::pair::Pair;
 use raw_array::{Acted, RawArray};
@@ -81,14 +82,14 @@ impl<O: Owner> Foreign<O> {
     }
 
     /// Parts the tree from its owner, so that children can be moved out of the tree while the owner waits ("Moving child arrays").
-    pub fn part(self) -> (RawArray, O)
+    pub fn part(self) -> (RawArray, Keep<O>)
         requires { self ≢ None }
         ensures parts { self ≡ Some (result.0, result.1) }
         ensures live { IsLive result.0 }
     {
         let Foreign { pair } = self;
         match pair {
-            Some(Pair { array, owner }) => (array, owner),
+            Some(Pair { array, owner }) => (array, Keep::new(owner)),
             None => unreachable!(),
         }
     }
@@ -98,6 +99,7 @@ impl<O: Owner> Foreign<O> {
         requires { pass.old.units + units_in O.owes self.old ≤ SUPPLY }
         ensures acted { result ≡ Acted.Acted ↔ (self.old ≢ None) }
         ensures released { self.new ≡ None }
+        ensures owner { OwnerReleased O.releases self.old pass.old.units pass.new.units }
         ensures units { pass.new.units ≡ pass.old.units + units_in O.owes self.old }
         ensures blocks { pass.new.blocks ≡ pass.old.blocks }
         ensures nodes { pass.new.nodes ≡ pass.old.nodes }

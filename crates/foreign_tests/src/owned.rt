@@ -22,6 +22,8 @@ pub(crate) struct Kept {
 impl Owner for Kept {
     ghost owes = { λ _. 1 };
 
+    ghost releases = { λ _ before after. after ≡ before + 1 };
+
     fn owes(&self) -> u64 {
         1
     }
@@ -33,10 +35,13 @@ impl Owner for Kept {
 }
 
 /// A producer that keeps nothing.
+#[derive(Drop)]
 struct Nothing;
 
 impl Owner for Nothing {
     ghost owes = { λ _. 0 };
+
+    ghost releases = { λ _ before after. after ≡ before };
 
     fn owes(&self) -> u64 {
         0
@@ -131,4 +136,31 @@ fn an_owner_may_owe_nothing(rt: HostRuntime) {
     foreign.discard();
     let audit = desk.close(pass);
     assert_eq!(rt; (owes, audit.blocks, audit.nodes, audit.left), (0, 0, 2, 0));
+}
+
+// The owner of a parted tree waits, also one that owes nothing and could be dropped.
+#[test]
+fn a_parted_owner_is_released_by_itself(rt: HostRuntime) {
+    let alloc = rt.alloc();
+    let (desk, mut pass) = open_desk();
+    let (schema, array) = trees(
+        &rt,
+        alloc,
+        "tree 1\nS =n ~ 0 0 0 ~\nA 1 0 0 0 0 0\n",
+        &mut pass,
+    );
+    schema.end(&mut pass);
+    let (array, idle) = Foreign::new(array, Nothing).part();
+    assert!(rt; pass.units() >= 1);
+    let owner = owner(&rt, alloc, &mut pass);
+    let (array, keep) = Foreign::new(array, owner).part();
+    array.end(&mut pass);
+    let owes = (idle.owes(), keep.owes());
+    idle.call(&mut pass);
+    keep.call(&mut pass);
+    let audit = desk.close(pass);
+    assert_eq!(rt;
+        (owes, audit.blocks, audit.nodes, audit.left),
+        ((0, 1), 1, 2, 0)
+    );
 }

@@ -34,6 +34,8 @@ struct Producer {
 impl Owner for Producer {
     ghost owes = { λ _. 1 };
 
+    ghost releases = { λ _ before after. after ≡ before + 1 };
+
     fn owes(&self) -> u64 {
         1
     }
