@@ -13,3 +13,4 @@ pub mod ManyTimes
 pub mod FinishFacts
 pub mod Views
 pub mod TextBytes
+pub mod Ends

@@ -339,27 +339,9 @@ impl Builder {
         fill_ahead(&mut self.offsets, self.count * 4 + 4, 4)
     }
 
-    /// Stores bytes and their narrow offset in its place, where no item is null yet.
-    #[inline(always)]
-    fn put_valid(&mut self, bytes: &[u8]) -> Result<(), NoMemory>
-        requires holds { HoldsFew self.old }
-        requires narrow { IsNarrow self.old.shape }
-        requires place { self.old.count * 4 + 8 ≤ vec_len self.old.offsets }
-        requires valid { self.old.nulls ≡ 0 }
-        ensures added { OnOk result ((value : Value) → is_null value ≡ false → bytes_of value ≡ bytes.now → Takes self.old value
-            → Adds value self.old self.new) }
-        ensures kept { OnErr result (Keeps self.old self.new) }
-    {
-        append_bytes(&mut self.bytes, bytes)?;
-        let end = self.bytes.len() as u64;
-        put_number(&mut self.offsets, self.count * 4 + 4, 4, end);
-        self.count += 1;
-        Ok(())
-    }
-
     /// Stores bytes and their narrow offset in its place, or a null without bytes.
     #[inline(always)]
-    fn put_among_nulls(&mut self, bytes: &[u8], null: bool) -> Result<(), NoMemory>
+    fn put_between(&mut self, bytes: &[u8], null: bool) -> Result<(), NoMemory>
         requires holds { HoldsFew self.old }
         requires narrow { IsNarrow self.old.shape }
         requires place { self.old.count * 4 + 8 ≤ vec_len self.old.offsets }
@@ -380,22 +362,6 @@ impl Builder {
         self.count += 1;
         self.nulls += usize::from(null);
         Ok(())
-    }
-
-    /// Stores bytes and their narrow offset in its place, or a null without bytes. What holds no null takes no step for its bits.
-    #[inline(always)]
-    fn put_between(&mut self, bytes: &[u8], null: bool) -> Result<(), NoMemory>
-        requires holds { HoldsFew self.old }
-        requires narrow { IsNarrow self.old.shape }
-        requires place { self.old.count * 4 + 8 ≤ vec_len self.old.offsets }
-        ensures added { OnOk result ((value : Value) → is_null value ≡ null → bytes_of value ≡ bytes.now → Takes self.old value
-            → Adds value self.old self.new) }
-        ensures kept { OnErr result (Keeps self.old self.new) }
-    {
-        if self.nulls == 0 && !null {
-            return self.put_valid(bytes);
-        }
-        self.put_among_nulls(bytes, null)
     }
 
     /// Adds bytes that the column takes, so that a text isn't tested again.

@@ -139,14 +139,72 @@ fn append(bytes: &mut Vec<u8>, more: &[u8]) -> Result<(), NoMemory>
     }
 }
 
-/// Appends bytes, and eight of them by a copy of a constant size.
+/// Stores bytes in their place, at least N and at most twice as many: by two copies of a constant size, which overlap.
+#[inline(always)]
+fn put_ends<const N: usize>(bytes: &mut Vec<u8>, at: usize, more: &[u8])
+    requires least { N ≤ length more.now }
+    requires most { length more.now ≤ N + N }
+    requires place { at + length more.now ≤ vec_len bytes.old }
+    ensures put { take (at + length more.now) bytes.new.items ≡ take at bytes.old.items ++ more.now }
+    ensures len { vec_len bytes.new ≡ vec_len bytes.old }
+{
+    let rest = more.len() - N;
+    let mut first = [0; N];
+    first.copy_from_slice(&more[..N]);
+    let mut last = [0; N];
+    last.copy_from_slice(&more[rest..]);
+    put_at(bytes, at, &first);
+    put_at(bytes, at + rest, &last);
+}
+
+/// Stores at most sixteen bytes in their place.
+#[inline(always)]
+fn put_few(bytes: &mut Vec<u8>, at: usize, more: &[u8])
+    requires few { length more.now ≤ 16 }
+    requires place { at + length more.now ≤ vec_len bytes.old }
+    ensures put { take (at + length more.now) bytes.new.items ≡ take at bytes.old.items ++ more.now }
+    ensures len { vec_len bytes.new ≡ vec_len bytes.old }
+{
+    match more.len() {
+        0 => {}
+        1 => put_ends::<1>(bytes, at, more),
+        2..4 => put_ends::<2>(bytes, at, more),
+        4..8 => put_ends::<4>(bytes, at, more),
+        _ => put_ends::<8>(bytes, at, more),
+    }
+}
+
+/// Appends at most sixteen bytes.
+#[inline(always)]
+fn append_few(bytes: &mut Vec<u8>, more: &[u8]) -> Result<(), NoMemory>
+    requires { length more.now ≤ 16 }
+    ensures added { OnOk result (bytes.new.items ≡ bytes.old.items ++ more.now) }
+    ensures kept { OnErr result (bytes.new.items ≡ bytes.old.items) }
+{
+    let start = bytes.len();
+    append(bytes, &[0; 16])?;
+    put_few(bytes, start, more);
+    bytes.truncate(start + more.len());
+    Ok(())
+}
+
+/// Appends bytes of any number.
+#[inline(never)]
+fn append_many(bytes: &mut Vec<u8>, more: &[u8]) -> Result<(), NoMemory>
+    ensures added { OnOk result (bytes.new.items ≡ bytes.old.items ++ more.now) }
+    ensures kept { OnErr result (bytes.new.items ≡ bytes.old.items) }
+{
+    append(bytes, more)
+}
+
+/// Appends bytes, and few of them without a call where there is room.
 #[inline(always)]
 pub(crate) fn append_bytes(bytes: &mut Vec<u8>, more: &[u8]) -> Result<(), NoMemory>
     ensures added { OnOk result (bytes.new.items ≡ bytes.old.items ++ more.now) }
     ensures kept { OnErr result (bytes.new.items ≡ bytes.old.items) }
 {
-    if more.len() == 8 {
-        return append(bytes, &more[..8]);
+    if more.len() <= 16 && bytes.capacity() - bytes.len() >= 16 {
+        return append_few(bytes, more);
     }
-    append(bytes, more)
+    append_many(bytes, more)
 }
