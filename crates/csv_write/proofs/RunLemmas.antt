@@ -1,5 +1,5 @@
 -- A run, call by call.
-use Rattle.std.proofs.Common.{◌≡◌, ◌+◌, ◌++◌, ℕ, ℤ, pos, List, [], Option, Some, None, Result, Ok, Err, OnOk, refl, sym, ◌∙◌, ap, subst}
+use Rattle.std.proofs.Common.{◌≡◌, ◌≢◌, ◌+◌, ◌++◌, ℕ, ℤ, pos, List, [], Option, Some, None, Result, Ok, Err, OnOk, refl, sym, ◌∙◌, ap, subst}
 use Rattle.std.proofs.Common.{arith, IsTrue, map, negsuc, of_z, w32, true, false}
 use Rattle.std.proofs.lemmas.Int.{ints}
 use Rattle.std.proofs.lemmas.List.{append-nil, append_assoc, map-append}
@@ -20,10 +20,14 @@ use Rattle.arr_import.specs.Window.{Window, whole}
 use Rattle.csv_write.specs.CsvTexts.{HasText, rows_in}
 use Rattle.csv_write.specs.declared.csv_text.CsvText.{CsvText}
 use Rattle.stream_face.specs.Calls.{Answers, Counts, IsCode, Repeats, Shows}
+use Rattle.stream_face.specs.Codes.{enomem}
 use Rattle.stream_face.specs.Shown.{Seen, grown, of_link}
-use Rattle.stream_face.specs.Streams.{IsFresh, Keeps, Stream}
+use Rattle.stream_face.specs.Streams.{IsFresh, Keeps, Stream, Traffic}
 use Rattle.stream_face.specs.Texts.{Refusal}
-use Rattle.stream_face.proofs.Joints.{grown-append, live_unless, of_link-append}
+use Rattle.stream_face.proofs.Joints.{grown-append, had_memory, live_unless, of_link-append}
+use Rattle.csv_write.specs.Faults.{OnRow}
+use Rattle.csv_write.specs.declared.fault.DriveFault.{DriveFault}
+use Rattle.csv_write.specs.declared.fault.DriveFault.TheVariants as drives
 use Rattle.csv_write.specs.Runs.{Counted, Ran, ShowsAll, ShowsSome}
 
 pub grown-nil : (seen : Option (List Seen)) → seen ≡ grown seen []
@@ -46,6 +50,7 @@ is-live out held = live_unless out (λ gone. let e : false ≡ true = held gone 
 pub Ran-start : (s : Stream) (seen : Option (List Seen)) (t : Tally) → Ran s s seen seen t t
 Ran-start s seen t = record {
   keeps = record { columns = refl; ending = refl; lawful = refl; held = refl; live = refl; schema = refl };
+  works = λ e. e;
   shown = [];
   told = grown-nil seen;
   leaves = λ link. refl;
@@ -57,9 +62,9 @@ Ran-start s seen t = record {
 
 -- one more call that answered 0
 pub Ran-next : (s m n : Stream) (before middle after : Option (List Seen)) (a b d e : Tally) (code : ℤ) (out : ArrayTree) → Ran s m before middle a b
-    → code ≡ pos 0 → Keeps m n → Shows m.joints n.joints code out middle after → Counts m.due n.due b d out → e.blocks ≡ d.blocks → e.nodes ≡ d.nodes
+    → code ≡ pos 0 → Keeps m n → n.failure ≡ None → Shows m.joints n.joints code out middle after → Counts m.due n.due b d out → e.blocks ≡ d.blocks → e.nodes ≡ d.nodes
     → Ran s n before after a e
-Ran-next s m n before middle after a b d e code out ran zero keeps shows counts same_blocks same_nodes = record {
+Ran-next s m n before middle after a b d e code out ran zero keeps works shows counts same_blocks same_nodes = record {
   keeps = record {
     columns = keeps.columns ∙ ran.keeps.columns;
     ending = keeps.ending ∙ ran.keeps.ending;
@@ -68,10 +73,11 @@ Ran-next s m n before middle after a b d e code out ran zero keeps shows counts 
     live = keeps.live ∙ ran.keeps.live;
     schema = keeps.schema ∙ ran.keeps.schema;
   };
+  works = λ _. works;
   shown = ran.shown ++ shows.shown;
   told = shows.told ∙ ap (λ seen. grown seen shows.shown) ran.told ∙ grown-append before ran.shown shows.shown;
   leaves = λ link.
-      rw of_link-append (ran.leaves link ∙ ap (λ xs. of_link link ran.shown ++ xs) (shows.leaves zero link)
+      rw of_link-append (ran.leaves link ∙ ap (λ xs. of_link link ran.shown ++ xs) (shows.leaves (had_memory code zero) link)
       ∙ sym (append_assoc (of_link link ran.shown) (of_link link shows.shown) (n.joints link)));
   made = record { blocks = ran.made.blocks + counts.made.blocks; nodes = ran.made.nodes + counts.made.nodes };
   counted = record {
@@ -120,15 +126,22 @@ pub Ran-refused : (s m n : Stream) (before middle after : Option (List Seen)) (a
 Ran-refused s m n before middle after a b d e code out lawful ran shows repeats =
     refused_by m.failure s m n before middle after a b d e code out refl (subst IsTrue (sym ran.keeps.lawful) lawful) ran shows repeats
 
--- the last call of a run
+-- a stream that had not refused before a run is fresh behind it
+pub Ran-fresh : (s m : Stream) (before middle : Option (List Seen)) (a b : Tally) → Ran s m before middle a b → IsFresh s → IsFresh m
+Ran-fresh s m before middle a b ran fresh = record {
+  lawful = subst IsTrue (sym ran.keeps.lawful) fresh.lawful;
+  no_failure = ran.works fresh.no_failure;
+}
+
+-- the last call of a run, which gave nothing: the end, or a record at fault
 pub Ran-ends : (s m n : Stream) (before middle after : Option (List Seen)) (a b : Tally) (code : ℤ) (out : ArrayTree) → Ran s m before middle a b
-    → code ≡ pos 0 → out ≡ Released → Shows m.joints n.joints code out middle after → ShowsAll s.joints before after
-Ran-ends s m n before middle after a b code out ran zero ended shows = record {
+    → code ≢ enomem → out ≡ Released → Shows m.joints n.joints code out middle after → ShowsAll s.joints before after
+Ran-ends s m n before middle after a b code out ran had ended shows = record {
   shown = ran.shown ++ shows.shown;
   told = shows.told ∙ ap (λ seen. grown seen shows.shown) ran.told ∙ grown-append before ran.shown shows.shown;
   all = λ link.
-      rw of_link-append (sym (ran.leaves link ∙ ap (λ xs. of_link link ran.shown ++ xs) (shows.leaves zero link
-      ∙ ap (λ xs. of_link link shows.shown ++ xs) (shows.ends zero ended link) ∙ append-nil (of_link link shows.shown))));
+      rw of_link-append (sym (ran.leaves link ∙ ap (λ xs. of_link link ran.shown ++ xs) (shows.leaves had link
+      ∙ ap (λ xs. of_link link shows.shown ++ xs) (shows.ends had ended link) ∙ append-nil (of_link link shows.shown))));
 }
 
 ended-at : (a b d m n x y : ℕ) → b ≡ risen a m → d ≡ risen b n → x ≡ m + y → y ≡ n + 0 → d ≡ risen a x
@@ -145,6 +158,21 @@ Ran-counted s m n before middle a b d out ran ended counts = record {
       ended-at a.nodes b.nodes d.nodes ran.made.nodes counts.made.nodes s.due.nodes m.due.nodes ran.counted.nodes counts.nodes ran.fewer_nodes
       (let z = counts.no_nodes ended in omega (arith, z, counts.fewer_nodes));
 }
+
+-- ---- a record is refused
+pub at-row : {A P : Type 0} (r : Result A DriveFault) → P → OnRow r P
+at-row (Ok made) p = tt
+at-row (Err (drives.Row fault)) p = p
+at-row (Err drives.NoMemory) p = tt
+
+pub on-row : {A P Q : Type 0} (r : Result A DriveFault) → (P → Q) → OnRow r P → OnRow r Q
+on-row (Ok made) f p = tt
+on-row (Err (drives.Row fault)) f p = f p
+on-row (Err drives.NoMemory) f p = tt
+
+-- what was counted is counted where no more was
+pub counted-still : (made : Traffic) (a b d : Tally) → d.blocks ≡ b.blocks → d.nodes ≡ b.nodes → Counted made a b → Counted made a d
+counted-still made a b d blocks nodes counted = record { blocks = blocks ∙ counted.blocks; nodes = nodes ∙ counted.nodes }
 
 -- ---- the text
 

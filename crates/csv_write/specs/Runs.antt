@@ -1,5 +1,5 @@
 -- A run over a stream to its end, call by call.
-use Rattle.std.specs.Prelude.{◌≡◌, ◌+◌, ◌++◌, ℕ, List, Option, IsTrue}
+use Rattle.std.specs.Prelude.{◌≡◌, ◌+◌, ◌++◌, ℕ, List, Option, None}
 use Rattle.unit_pass.specs.Tally.{Tally, risen}
 use Rattle.stream_face.specs.Calls.{Begins}
 use Rattle.stream_face.specs.Shown.{Seen, Shown, grown, of_link}
@@ -25,6 +25,7 @@ pub record Counted (made : Traffic) (before after : Tally) : Type 0 where
 -- how far a run has come, from one moment to a later one, while each call answered 0
 pub record Ran (old new : Stream) (seen shown_after : Option (List Seen)) (before after : Tally) : Type 0 where
   pub keeps : Keeps old new
+  pub works : old.failure ≡ None → new.failure ≡ None
   pub shown : List Seen
   pub told : shown_after ≡ grown seen shown
   pub leaves : (link : ℕ) → old.joints link ≡ of_link link shown ++ new.joints link

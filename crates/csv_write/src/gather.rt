@@ -12,11 +12,12 @@ ghost use Rattle.data_types.specs.TypedView.{typed_of};
 ghost use Rattle.layout_rules.specs.Values.{rows_of};
 ghost use Rattle.layout_rules.specs.Walk.{LayoutOk};
 ghost use Rattle.data_types.specs.ColumnKinds.{type_of_columns};
+ghost use Rattle.data_types.specs.declared.row_fault.RowFault.{RowFault as ARow};
 ghost use Rattle.unit_pass.specs.declared.pass.TheConstants.{ROOM, SUPPLY};
 ghost use Rattle.stream_face.specs.Meaning.{meaning};
-ghost use Rattle.stream_face.specs.Streams.{Keeps, Stream, kept};
+ghost use Rattle.stream_face.specs.Streams.{IsFresh, Keeps, Stream, kept};
 ghost use Rattle.csv_write.specs.Runs.{Counted, ShowsAll, ShowsSome};
-ghost use Rattle.csv_write.specs.Faults.{IfRow};
+ghost use Rattle.csv_write.specs.Faults.{IfRow, OnRow};
 
 use crate::CsvText;
 use crate::fault::DriveFault;
@@ -31,7 +32,8 @@ use unit_pass::{NoMemory, Pass, ROOM, SUPPLY};
 
 /// Why a stream that refused has no text.
 fn fault_of(row: Option<RowFault>) -> DriveFault
-    ensures { IfRow result (λ fault. row ≡ Some fault) }
+    ensures told { IfRow result (λ fault. row ≡ Some fault) }
+    ensures stays { (fault : ARow) → row ≡ Some fault → result ≡ DriveFault.Row fault }
 {
     match row {
         Some(row) => DriveFault::Row(row),
@@ -80,7 +82,10 @@ fn pull_all<U: ArrayStream, R: Threads + Sync, T: Tap>(
     ensures ends { OnOk result ((meaning U.state stream.old).ending ≡ None) }
     ensures row { IfErr result (λ e. IfRow e (λ fault. (meaning U.state stream.old).ending ≡ Some fault)) }
     ensures counts { OnOk result (Counted (meaning U.state stream.old).due pass.old pass.new) }
+    ensures refused_counts { IsFresh (meaning U.state stream.old) → OnRow result (Counted (meaning U.state stream.old).due pass.old pass.new) }
     ensures shows { OnOk result (ShowsAll (meaning U.state stream.old).joints (T.seen tap.old) (T.seen tap.new)) }
+    ensures refused_shows { IsFresh (meaning U.state stream.old)
+        → OnRow result (ShowsAll (meaning U.state stream.old).joints (T.seen tap.old) (T.seen tap.new)) }
     ensures shows_some { OnErr result (ShowsSome (meaning U.state stream.old).joints (T.seen tap.old) (T.seen tap.new)) }
 {
     let _supply = pass.units();
@@ -142,7 +147,11 @@ pub fn write_rows<U: ArrayStream, R: Threads + Sync, T: Tap>(
     ensures row { IfErr result (λ e. IfRow e (λ fault. (meaning U.state stream).ending ≡ Some fault)) }
     ensures units { pass.new.units ≡ pass.old.units + kept (meaning U.state stream) }
     ensures counts { OnOk result (Counted (meaning U.state stream).due pass.old pass.new) }
+    // All was counted and shown as well where a record is refused, if the stream had not refused before.
+    ensures refused_counts { IsFresh (meaning U.state stream) → OnRow result (Counted (meaning U.state stream).due pass.old pass.new) }
     ensures shows { OnOk result (ShowsAll (meaning U.state stream).joints (T.seen tap.old) (T.seen tap.new)) }
+    ensures refused_shows { IsFresh (meaning U.state stream)
+        → OnRow result (ShowsAll (meaning U.state stream).joints (T.seen tap.old) (T.seen tap.new)) }
     ensures shows_some { OnErr result (ShowsSome (meaning U.state stream).joints (T.seen tap.old) (T.seen tap.new)) }
 {
     let mut stream = stream;

@@ -1,14 +1,15 @@
 -- Calls of a stream one after another, each of which answered 0, as one.
-use Rattle.std.proofs.Common.{arith, ◌≡◌, ◌<◌, ◌+◌, ◌++◌, ◌^◌, ℕ, ℤ, pos, List, [], Option, Some, None, IsTrue, refl, sym, ◌∙◌, ap, subst}
+use Rattle.std.proofs.Common.{arith, ◌≡◌, ◌≢◌, ◌<◌, ◌+◌, ◌++◌, ◌^◌, ℕ, ℤ, pos, List, [], Option, Some, None, IsTrue, refl, sym, ◌∙◌, ap, subst}
 use Rattle.std.proofs.lemmas.List.{append-nil, append_assoc}
 use Rattle.tree_model.specs.Tree.{Released}
 use Rattle.raw_array.specs.Members.{ArrayTree}
 use Rattle.unit_pass.specs.Tally.{Tally, risen}
 use Rattle.stream_face.specs.Calls.{Counts, Repeats, Shows, Tells}
+use Rattle.stream_face.specs.Codes.{enomem}
 use Rattle.stream_face.specs.Shown.{Seen, grown, of_link}
 use Rattle.stream_face.specs.Streams.{IsFresh, Keeps, Stream, Traffic}
 use Rattle.stream_face.specs.Texts.{Refusal}
-use Rattle.stream_face.proofs.Joints.{grown-append, of_link-append, tells_nothing, tells_refusal, works_before}
+use Rattle.stream_face.proofs.Joints.{grown-append, had_memory, of_link-append, tells_nothing, tells_refusal, works_before}
 
 -- ---- runs and calls
 -- what was shown and counted from one moment of a lawful stream to a later one
@@ -38,7 +39,7 @@ pub record Called (old new : Stream) (code : ℤ) (out : ArrayTree) (seen later 
   pub tells : Tells code new.said
   pub failure : new.failure ≡ new.said
   pub repeats : Repeats old new code before after seen later
-  pub counts : IsFresh old → code ≡ pos 0 → Counts old.due new.due before after out
+  pub counts : IsFresh old → code ≢ enomem → Counts old.due new.due before after out
   pub shows : IsFresh old → Shows old.joints new.joints code out seen later
 
 pub kept-both : (s m n : Stream) → Keeps s m → Keeps m n → Keeps s n
@@ -88,9 +89,9 @@ Ran-start s seen t blocks nodes = record {
 
 -- what is shown by a run and by a call after it
 pub Ran-shows : (s m n : Stream) (code done : ℤ) (out given : ArrayTree) (before middle after : Option (List Seen)) (a b : Tally)
-    → Went s m before middle a b → Shows m.joints n.joints code out middle after → (done ≡ pos 0 → code ≡ pos 0) → (given ≡ Released → out ≡ Released)
+    → Went s m before middle a b → Shows m.joints n.joints code out middle after → (done ≢ enomem → code ≢ enomem) → (given ≡ Released → out ≡ Released)
     → Shows s.joints n.joints done given before after
-Ran-shows s m n code done out given before middle after a b went shows zero gone = record {
+Ran-shows s m n code done out given before middle after a b went shows had gone = record {
   shown = went.shown ++ shows.shown;
   told = shows.told ∙ ap (λ seen. grown seen shows.shown) went.told ∙ grown-append before went.shown shows.shown;
   begins = λ link.
@@ -99,9 +100,9 @@ Ran-shows s m n code done out given before middle after a b went shows zero gone
         rw of_link-append (went.leaves link ∙ ap (λ xs. of_link link went.shown ++ xs) rest.1
             ∙ sym (append_assoc (of_link link went.shown) (of_link link shows.shown) rest.0)),
       );
-  leaves = λ e link. rw of_link-append (went.leaves link ∙ ap (λ xs. of_link link went.shown ++ xs) (shows.leaves (zero e) link)
+  leaves = λ e link. rw of_link-append (went.leaves link ∙ ap (λ xs. of_link link went.shown ++ xs) (shows.leaves (had e) link)
       ∙ sym (append_assoc (of_link link went.shown) (of_link link shows.shown) (n.joints link)));
-  ends = λ e released. shows.ends (zero e) (gone released);
+  ends = λ e released. shows.ends (had e) (gone released);
 }
 
 -- what is counted by both
@@ -166,7 +167,8 @@ module _ (s m n : Stream) (code : ℤ) (out : ArrayTree) (before middle after : 
   Ran-next e lawful blocks nodes =
       let fresh = Ran-fresh lawful in
       let shows = call.shows fresh in
-      let counts = call.counts fresh zero in
+      let had = had_memory code zero in
+      let counts = call.counts fresh had in
       record {
         keeps = kept-both s m n ran.keeps call.keeps;
         works = λ _. call.failure ∙ tells_nothing code n.said call.tells zero;
@@ -179,7 +181,7 @@ module _ (s m n : Stream) (code : ℤ) (out : ArrayTree) (before middle after : 
             record {
               shown = went.shown ++ shows.shown;
               told = shows.told ∙ ap (λ seen. grown seen shows.shown) went.told ∙ grown-append before went.shown shows.shown;
-              leaves = λ link. rw of_link-append (went.leaves link ∙ ap (λ xs. of_link link went.shown ++ xs) (shows.leaves zero link)
+              leaves = λ link. rw of_link-append (went.leaves link ∙ ap (λ xs. of_link link went.shown ++ xs) (shows.leaves had link)
                   ∙ sym (append_assoc (of_link link went.shown) (of_link link shows.shown) (n.joints link)));
               made = record { blocks = went.made.blocks + counts.made.blocks; nodes = went.made.nodes + counts.made.nodes };
               blocks = risen-add a.blocks b.blocks e.blocks went.made.blocks counts.made.blocks went.blocks (blocks ∙ counts.blocks);

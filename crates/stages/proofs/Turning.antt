@@ -31,9 +31,6 @@ pub zero_code : (code : ℤ) → IsCode code → of_z w32 code ≡ 0 → code �
 zero_code (pos n) is zero = ap pos zero
 zero_code (negsuc n) is zero = absurd (omega (arith, ints, is.0))
 
-pub not-zero : enomem ≡ pos 0 → ⊥
-not-zero z = cc
-
 -- ---- what is still to come
 
 pub lawful-rest : (columns : List Column) (all : Tables) (rows : List Row) (more : Tables) → all ≡ rows ∷ more → LawfulTables columns all
@@ -68,8 +65,8 @@ shows-wanting s n out given seen later shows = record {
   shown = shows.shown;
   told = shows.told;
   begins = shows.begins;
-  leaves = λ e. absurd (not-zero e);
-  ends = λ e. absurd (not-zero e);
+  leaves = λ e. absurd (e refl);
+  ends = λ e. absurd (e refl);
 }
 
 -- ---- a run, and a call after it that answered 0
@@ -237,6 +234,25 @@ done-gives columns own_blocks own_nodes besides old new ending idle before after
 risen-more : (a b c m n : ℕ) → b ≡ risen a m → c ≡ risen b n → c ≡ risen a (m + n)
 risen-more a b c m n e f = omega (arith, e, f)
 
+-- the counts of the call below, where nothing was given and nothing is left
+pub none-counted : (bl nd bl1 nd1 : List Row → ℕ) (old new : Tables) (due left : Traffic) (first before after : Tally) (given : ArrayTree) → old ≡ [] → new ≡ []
+    → after.blocks ≡ before.blocks → after.nodes ≡ before.nodes → Counts due left first before given
+    → Counts (due_by bl nd old due) (due_by bl1 nd1 new left) first after given
+none-counted bl nd bl1 nd1 old new due left first before after given old_none new_none blocks nodes counts =
+    let none_old = ap (sum_by bl) old_none in
+    let none_new = ap (sum_by bl1) new_none in
+    let none_old_nodes = ap (sum_by nd) old_none in
+    let none_new_nodes = ap (sum_by nd1) new_none in
+    record {
+      made = counts.made;
+      blocks = blocks ∙ counts.blocks;
+      nodes = nodes ∙ counts.nodes;
+      fewer_blocks = omega (arith, counts.fewer_blocks, none_old, none_new);
+      fewer_nodes = omega (arith, counts.fewer_nodes, none_old_nodes, none_new_nodes);
+      no_blocks = λ e. omega (arith, counts.no_blocks e, none_new);
+      no_nodes = λ e. omega (arith, counts.no_nodes e, none_new_nodes);
+    }
+
 -- the counts of the call below with those of what is given
 module _ (columns : List Column) (bl nd bl1 nd1 : List Row → ℕ) (besides : List Row → ArrayTree → Type 0) (old new : Tables) (ending : Option RowFault)
     (idle : Bool) (first before after : Tally) (given : ArrayTree) (due left : Traffic) (counts : Counts due left first before given)
@@ -250,20 +266,7 @@ module _ (columns : List Column) (bl nd bl1 nd1 : List Row → ℕ) (besides : L
 
   counts-none : given ≡ Released → Counts (due_by bl nd old due) (due_by bl1 nd1 new left) first after given
   counts-none gone =
-      let none = done.nothing gone in
-      let none_old = ap (sum_by bl) none.0 in
-      let none_new = ap (sum_by bl1) none.1 in
-      let none_old_nodes = ap (sum_by nd) none.0 in
-      let none_new_nodes = ap (sum_by nd1) none.1 in
-      record {
-        made = counts.made;
-        blocks = none.3 ∙ counts.blocks;
-        nodes = none.4 ∙ counts.nodes;
-        fewer_blocks = omega (arith, counts.fewer_blocks, none_old, none_new);
-        fewer_nodes = omega (arith, counts.fewer_nodes, none_old_nodes, none_new_nodes);
-        no_blocks = λ e. omega (arith, counts.no_blocks e, none_new);
-        no_nodes = λ e. omega (arith, counts.no_nodes e, none_new_nodes);
-      }
+      let none = done.nothing gone in none-counted bl nd bl1 nd1 old new due left first before after given none.0 none.1 none.3 none.4 counts
 
   counts-some : IsLive given → Counts (due_by bl nd old due) (due_by bl1 nd1 new left) first after given
   counts-some live =

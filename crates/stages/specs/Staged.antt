@@ -25,6 +25,7 @@ staged columns ahead blocks nodes step no_memory last up = record up {
   due = due_by (blocks step) (nodes step) (ahead step up.ending up.ahead) up.due;
   schema = None;
   chunk = None;
+  gave = None;
   failure = if no_memory then Some wanting else up.failure;
   fault = if no_memory then None else up.fault;
   said = word_said last up.said;

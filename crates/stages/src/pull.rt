@@ -129,7 +129,7 @@ pub(crate) fn pull<S: ChunkStep, U: ArrayStream, R: Threads + Sync, T: Tap>(
         (stepped (S.columns step.new) (S.ahead step.new) (meaning U.state up.new)) code out.new) }
     ensures gives { IsFresh (meaning U.state up.old) → IfOk result (λ code. code ≡ pos 0 → IsLive out.new
         → S.gives step.old (get_or (S.ahead step.old (meaning U.state up.old).ending (meaning U.state up.old).ahead) 0 []) out.new) }
-    ensures counts { IsFresh (meaning U.state up.old) → IfOk result (λ code. code ≡ pos 0
+    ensures counts { IsFresh (meaning U.state up.old) → IfOk result (λ code. code ≢ enomem
         → Counts (due_by (S.blocks step.old) (S.nodes step.old)
         (S.ahead step.old (meaning U.state up.old).ending (meaning U.state up.old).ahead) (meaning U.state up.old).due)
         (due_by (S.blocks step.new) (S.nodes step.new)

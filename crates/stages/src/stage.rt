@@ -1,11 +1,12 @@
 //! A stage: the checked stream below it, and its step.
-ghost use Rattle.std.specs.Prelude.{◌≡◌, ◌≢◌, ◌+◌, ◌≤◌, IsTrue, List, [], get_or, pos, true};
+ghost use Rattle.std.specs.Prelude.{◌≡◌, ◌≢◌, ◌+◌, ◌≤◌, IsTrue, List, [], Some, false, get_or, pos, true};
 ghost use Rattle.std.specs.Thread.{IsSync};
 ghost use Rattle.data_types.specs.Table.{Row};
 ghost use Rattle.tree_model.specs.Tree.{IsLive, Released};
 ghost use Rattle.raw_array.specs.Members.{ArrayTree, Cost};
 ghost use Rattle.unit_pass.specs.declared.pass.TheConstants.{ROOM};
 ghost use Rattle.stream_face.specs.Calls.{Answers, Counts, IsCode, IsRowFault, IsTold, Repeats, Shows, Tells};
+ghost use Rattle.stream_face.specs.Codes.{enomem};
 ghost use Rattle.stream_face.specs.Meaning.{meaning};
 ghost use Rattle.stream_face.specs.Streams.{IsFresh, Keeps};
 
@@ -44,7 +45,6 @@ impl<U: ArrayStream, S: ChunkStep> Stage<U, S> {
     ghost use Rattle.stages.specs.Staged.{staged};
     ghost use Rattle.stages.specs.Stages.{stage_gives, stage_state};
     ghost use Rattle.stages.specs.declared.stage.LastAnswer.TheVariants as words;
-    ghost use Rattle.std.specs.Prelude.{false};
 
     /// A stage over a lawful stream, whose columns the step fits. Takes no memory.
     pub fn start(up: RawStream<U>, step: S) -> Stage<U, S>
@@ -104,6 +104,8 @@ impl<U: ArrayStream, S: ChunkStep> ArrayStream for Stage<U, S> {
         ensures tells { Tells result (stage_state U.state S.columns S.ahead S.blocks S.nodes self.new).said }
         ensures refuses { result ≢ pos 0 → out.new ≡ Released }
         ensures told { result ≡ pos 0 → IsTold (stage_state U.state S.columns S.ahead S.blocks S.nodes self.old).chunk out.new }
+        ensures gave { (stage_state U.state S.columns S.ahead S.blocks S.nodes self.old).lawful ≡ false → result ≡ pos 0
+            → (stage_state U.state S.columns S.ahead S.blocks S.nodes self.new).gave ≡ Some out.new }
         ensures units { pass.new.units + Cost out.new ≡ pass.old.units }
         ensures failure { (stage_state U.state S.columns S.ahead S.blocks S.nodes self.new).failure
             ≡ (stage_state U.state S.columns S.ahead S.blocks S.nodes self.new).said }
@@ -114,7 +116,7 @@ impl<U: ArrayStream, S: ChunkStep> ArrayStream for Stage<U, S> {
         ensures answers { IsFresh (stage_state U.state S.columns S.ahead S.blocks S.nodes self.old)
             → Answers (stage_state U.state S.columns S.ahead S.blocks S.nodes self.old)
             (stage_state U.state S.columns S.ahead S.blocks S.nodes self.new) result out.new }
-        ensures counts { IsFresh (stage_state U.state S.columns S.ahead S.blocks S.nodes self.old) → result ≡ pos 0
+        ensures counts { IsFresh (stage_state U.state S.columns S.ahead S.blocks S.nodes self.old) → result ≢ enomem
             → Counts (stage_state U.state S.columns S.ahead S.blocks S.nodes self.old).due
             (stage_state U.state S.columns S.ahead S.blocks S.nodes self.new).due pass.old pass.new out.new }
         ensures shows { IsFresh (stage_state U.state S.columns S.ahead S.blocks S.nodes self.old)

@@ -24,6 +24,10 @@ use Rattle.stream_face.specs.declared.fault.StreamFault.TheVariants as faults
 use Rattle.stream_face.specs.Failures.{why}
 use Rattle.stream_face.specs.Faults.{IsOwnFault, code_of}
 
+-- a call that answers 0 had memory
+pub had_memory : (code : ℤ) → code ≡ pos 0 → code ≢ enomem
+had_memory code zero e = let k : pos 0 ≡ enomem = sym zero ∙ e in cc
+
 -- ---- what is seen of a link
 pub nil : {A : Type 0} (xs : List A) → is_nil xs ≡ true → xs ≡ []
 nil [] e = refl
@@ -61,24 +65,47 @@ of_link-none old new link code out before after none shows =
 pub joints-none : (old new : Joints) (link : ℕ) (out : ArrayTree) (before after : Option (List Seen)) → old link ≡ [] → Shows old new (pos 0) out before after
     → new link ≡ []
 joints-none old new link out before after none shows =
-    let h = shows.leaves refl link in
+    let h = shows.leaves (had_memory (pos 0) refl) link in
     let e = of_link-none old new link (pos 0) out before after none shows in
     let k : [] ≡ new link = sym none ∙ h ∙ ap (λ xs. xs ++ new link) e in
     sym k
 
 -- ---- what a checked stream shows
--- a refusal of the checked stream shows no more than its inner stream did
-pub Shows-raw_refused : (s n : Stream) (link : ℕ) (code refusal : ℤ) (out left : ArrayTree) (before after : Option (List Seen)) → s.joints link ≡ []
-    → refusal ≢ pos 0 → Shows s.joints n.joints code out before after → Shows (raw_joints link s) (raw_joints link n) refusal left before after
-Shows-raw_refused s n link code refusal out left before after none refused shows = record {
+-- what a call of the inner stream shows begins what is still to be shown below the checked stream
+begins-raw : (s n : Stream) (link : ℕ) (code : ℤ) (out : ArrayTree) (before after : Option (List Seen)) → s.joints link ≡ []
+    → (shows : Shows s.joints n.joints code out before after) → (k : ℕ) → Begins (of_link k shows.shown) (raw_joints link s k)
+begins-raw s n link code out before after none shows k = elim (eqb_tells link k) [
+  | inl h ↦ rw (h.0, ← h.1, of_link-none s.joints n.joints link code out before after none shows) (shown_tables s.columns s.ahead, refl)
+  | inr h ↦ rw h.0 (shows.begins k)
+]
+
+-- where memory runs out, no more than its inner stream did
+pub Shows-raw_wants : (s n : Stream) (link : ℕ) (code refusal : ℤ) (out left : ArrayTree) (before after : Option (List Seen)) → s.joints link ≡ []
+    → refusal ≡ enomem → Shows s.joints n.joints code out before after → Shows (raw_joints link s) (raw_joints link n) refusal left before after
+Shows-raw_wants s n link code refusal out left before after none wants shows = record {
   shown = shows.shown;
   told = shows.told;
-  begins = λ k. elim (eqb_tells link k) [
-    | inl h ↦ rw (h.0, ← h.1, of_link-none s.joints n.joints link code out before after none shows) (shown_tables s.columns s.ahead, refl)
-    | inr h ↦ rw h.0 (shows.begins k)
+  begins = begins-raw s n link code out before after none shows;
+  leaves = λ e. absurd (e wants);
+  ends = λ e. absurd (e wants);
+}
+
+-- where the inner stream gives nothing, it has come to its end or to its record, unless memory ran out
+pub Shows-raw_ends : (s n : Stream) (link : ℕ) (code : ℤ) (out : ArrayTree) (before after : Option (List Seen)) → s.joints link ≡ []
+    → (code ≢ enomem → (s.ahead ≡ []) × (n.ahead ≡ [])) → out ≡ Released → Shows s.joints n.joints code out before after
+    → Shows (raw_joints link s) (raw_joints link n) code out before after
+Shows-raw_ends s n link code out before after none ended released shows = record {
+  shown = shows.shown;
+  told = shows.told;
+  begins = begins-raw s n link code out before after none shows;
+  leaves = λ had k. elim (eqb_tells link k) [
+    | inl h ↦ rw (h.0, ← h.1, of_link-none s.joints n.joints link code out before after none shows, (ended had).0, (ended had).1) refl
+    | inr h ↦ rw h.0 (shows.leaves had k)
   ];
-  leaves = λ e. absurd (refused e);
-  ends = λ e. absurd (refused e);
+  ends = λ had _ k. elim (eqb_tells link k) [
+    | inl h ↦ rw (h.0, (ended had).1) refl
+    | inr h ↦ rw h.0 (shows.ends had released k)
+  ];
 }
 
 abbrev seen_table : ℕ → List Column → List Row → Seen
@@ -91,7 +118,7 @@ pub leaves_chunk : (s n : Stream) (link : ℕ) (rows : List Row) (out : ArrayTre
 leaves_chunk s n link rows out before after none gave same shows k =
     rw of_link-append (elim (eqb_tells link k) [
       | inl h ↦ rw (h.0, ← h.1, of_link-none s.joints n.joints link (pos 0) out before after none shows, gave, same) refl
-      | inr h ↦ rw (h.0, append-nil) (shows.leaves refl k)
+      | inr h ↦ rw (h.0, append-nil) (shows.leaves (had_memory (pos 0) refl) k)
     ])
 
 -- a chunk of the checked stream is shown after what its inner stream showed
@@ -160,13 +187,19 @@ own_code kinds chunk (faults.Chunk layout) own = λ e. cc
 own_code kinds chunk (faults.Code code) own = absurd own
 own_code kinds chunk faults.NoMemory own = λ e. cc
 
+-- out of memory has its own code
+pub wants_code : (kept : Option StreamFault) (code r : ℤ) → IsSomeAnd kept (λ fault. code_of fault ≡ code)
+    → IsSomeAnd kept (λ fault. fault ≡ faults.NoMemory) → r ≡ code → r ≡ enomem
+wants_code None code r of is same_code = absurd of
+wants_code (Some fault) code r of is same_code = same_code ∙ sym of ∙ ap code_of is
+
 -- what a checked stream answers where its tap wants memory
 pub raw_wants : (s n : Stream) (link nodes : ℕ) (kept : Option StreamFault) (code r : ℤ) (out : ArrayTree) → IsSomeAnd kept (λ fault. fault ≡ faults.NoMemory)
     → n.said ≡ None → IsSomeAnd kept (λ fault. code_of fault ≡ code) → r ≡ code → out ≡ Released
     → Answers s (raw_state link nodes kept n) r out
 raw_wants s n link nodes None code r out is silent of same_code released = absurd is
 raw_wants s n link nodes (Some fault) code r out is silent of same_code released =
-    let twelve : r ≡ enomem = same_code ∙ sym of ∙ ap code_of is in
+    let twelve = wants_code (Some fault) code r of is same_code in
     record {
       chunk = λ live. absurd (subst IsLive released live);
       finish = λ e. absurd (let k : enomem ≡ pos 0 = sym twelve ∙ e in cc);

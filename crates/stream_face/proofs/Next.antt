@@ -1,24 +1,25 @@
 -- What each way of a call of a checked stream gives, from what the call of its inner stream gave.
-use Rattle.std.proofs.Common.{◌≡◌, ◌≢◌, ◌+◌, ◌<◌, ℕ, ℤ, pos, negsuc, List, [], Option, Some, None, IsSomeAnd, w32, to_z, of_z, FitsSigned, refl, sym}
+use Rattle.std.proofs.Common.{Bool, true, false, IsTrue, ◌≡◌, ◌≢◌, ◌+◌, ◌<◌, ℕ, ℤ, pos, negsuc, List, [], Option, Some, None, IsSomeAnd, w32, to_z, of_z, FitsSigned, refl, sym}
 use Rattle.std.proofs.Common.{◌∙◌, ap, subst, inl, inr, arith}
 use Rattle.std.specs.Int.Signed.{mag}
 use Rattle.std.proofs.Math.Facts.{to_z-of_z}
-use Rattle.std.proofs.lemmas.Bool.Decides.{eqb_tells}
 use Rattle.tree_model.specs.Tree.{Released, IsLive}
 use Rattle.raw_array.specs.Members.{ArrayTree}
 use Rattle.unit_pass.specs.Tally.{Tally}
 use Rattle.data_types.specs.KindTrees.{KindTree}
-use Rattle.stream_face.specs.Calls.{Answers, IsCode, IsRowFault, IsTold, Repeats, Shows, Tells}
+use Rattle.layout_rules.specs.declared.rule.LayoutFault.{LayoutFault}
+use Rattle.stream_face.specs.Calls.{Answers, IsCode, IsRowFault, IsTold, Repeats, Tells}
+use Rattle.stream_face.specs.Codes.{enomem}
 use Rattle.stream_face.specs.Failures.{why}
 use Rattle.stream_face.specs.Faults.{IsOwnFault, IsWhy, code_of}
-use Rattle.stream_face.specs.Raw.{raw_joints, raw_state, refusal_or, row_or}
-use Rattle.stream_face.specs.Shown.{Seen, shown_tables}
+use Rattle.stream_face.specs.Raw.{raw_state, refusal_or, row_or}
+use Rattle.stream_face.specs.Shown.{Seen}
 use Rattle.stream_face.specs.Streams.{IsFresh, Keeps, Stream}
 use Rattle.stream_face.specs.Texts.{Refusal, refused_row, wanting}
 use Rattle.stream_face.specs.declared.fault.Failure.{Failure}
 use Rattle.stream_face.specs.declared.fault.StreamFault.{StreamFault}
 use Rattle.stream_face.specs.declared.fault.StreamFault.TheVariants as faults
-use Rattle.stream_face.proofs.Joints.{inner_works, of_link-none, own_code, tells_refusal}
+use Rattle.stream_face.proofs.Joints.{inner_works, own_code, tells_refusal}
 
 -- ---- codes
 
@@ -132,6 +133,14 @@ module _ (link nodes : ℕ) (f : Option Failure) (kept : Option StreamFault) (s 
     codes = elim a.codes [ inl z ↦ inl (same_code ∙ z) | inr rest ↦ inr (elim rest [ inl z ↦ inl (same_code ∙ z) | inr z ↦ inr (same_code ∙ z) ]) ];
   }
 
+-- a lawful stream that refuses while there is memory has come to its record
+pub refused_ends : (s n : Stream) (code r : ℤ) (out : ArrayTree) → r ≡ code → code ≢ pos 0 → Answers s n code out → r ≢ enomem
+    → (s.ahead ≡ []) × (n.ahead ≡ [])
+refused_ends s n code r out same_code nonzero a had = elim a.codes [
+  | inl z ↦ absurd (nonzero z)
+  | inr rest ↦ elim rest [ inl z ↦ absurd (had (same_code ∙ z)) | inr z ↦ ((a.bad z).0, (a.bad z).1) ]
+]
+
 -- ---- where it answers 0
 
 -- a stream that answers 0 has not refused before
@@ -168,41 +177,35 @@ module _ (link nodes : ℕ) (f : Option Failure) (s n : Stream) (code : ℤ) (e 
     codes = inl refl;
   }
 
--- at the end of the inner stream
-pub Shows-raw_end : (s n : Stream) (link : ℕ) (out : ArrayTree) (before after : Option (List Seen)) → s.joints link ≡ [] → s.ahead ≡ [] → n.ahead ≡ []
-    → out ≡ Released → Shows s.joints n.joints (pos 0) out before after → Shows (raw_joints link s) (raw_joints link n) (pos 0) out before after
-Shows-raw_end s n link out before after none ends ended released shows =
-    let nothing = of_link-none s.joints n.joints link (pos 0) out before after none shows in
-    record {
-      shown = shows.shown;
-      told = shows.told;
-      begins = λ k. elim (eqb_tells link k) [
-        | inl h ↦ rw (h.0, ← h.1, nothing) (shown_tables s.columns s.ahead, refl)
-        | inr h ↦ rw h.0 (shows.begins k)
-      ];
-      leaves = λ _ k. elim (eqb_tells link k) [
-        | inl h ↦ rw (h.0, ← h.1, nothing, ends, ended) refl
-        | inr h ↦ rw h.0 (shows.leaves refl k)
-      ];
-      ends = λ _ _ k. elim (eqb_tells link k) [
-        | inl h ↦ rw (h.0, ended) refl
-        | inr h ↦ rw h.0 (shows.ends refl released k)
-      ];
-    }
-
 -- ---- where the chunk is refused
 
+-- what a stream that isn't lawful gave
+abbrev Gave : Stream → Stream → ArrayTree → Type 0
+Gave s n chunk = s.lawful ≡ false → n.gave ≡ Some chunk
+
+-- over a lawful one the check doesn't refuse
+abbrev Passes : Stream → StreamFault → Type 0
+Passes s fault = IsTrue s.lawful → fault ≡ faults.NoMemory
+
+not_lawful : (lawful : Bool) (layout : LayoutFault) → (IsTrue lawful → faults.Chunk layout ≡ faults.NoMemory) → lawful ≡ false
+not_lawful true layout passes = absurd (let e = passes refl in cc)
+not_lawful false layout passes = refl
+
 why-own_fault : (kinds : KindTree) (chunk : ArrayTree) (s n : Stream) (fault : StreamFault) (r : ℤ) → IsOwnFault kinds chunk fault → r ≡ code_of fault
-    → n.said ≡ None → IsTold s.chunk chunk → IsWhy r kinds s n (Some fault)
-why-own_fault kinds chunk s n (faults.Row row) r own e silent told = absurd own
-why-own_fault kinds chunk s n (faults.Chunk layout) r own e silent told = (e, silent, chunk, told, own)
-why-own_fault kinds chunk s n (faults.Code code) r own e silent told = absurd own
-why-own_fault kinds chunk s n faults.NoMemory r own e silent told = e
+    → n.said ≡ None → Gave s n chunk → Passes s fault → IsTold s.chunk chunk → IsWhy r kinds s n (Some fault)
+why-own_fault kinds chunk s n (faults.Row row) r own e silent gave passes told = absurd own
+why-own_fault kinds chunk s n (faults.Chunk layout) r own e silent gave passes told =
+    let other = not_lawful s.lawful layout passes in
+    (e, silent, other, chunk, gave other, told, own)
+why-own_fault kinds chunk s n (faults.Code code) r own e silent gave passes told = absurd own
+why-own_fault kinds chunk s n faults.NoMemory r own e silent gave passes told = e
 
 pub why-own : (kinds : KindTree) (chunk : ArrayTree) (s n : Stream) (kept : Option StreamFault) (r code : ℤ) → IsSomeAnd kept (IsOwnFault kinds chunk)
-    → HasCode kept code → r ≡ code → n.said ≡ None → IsTold s.chunk chunk → IsWhy r kinds s n kept
-why-own kinds chunk s n None r code own of same_code silent told = absurd own
-why-own kinds chunk s n (Some fault) r code own of same_code silent told = why-own_fault kinds chunk s n fault r own (same_code ∙ sym of) silent told
+    → HasCode kept code → r ≡ code → n.said ≡ None → Gave s n chunk → (IsTrue s.lawful → IsSomeAnd kept (λ fault. fault ≡ faults.NoMemory))
+    → IsTold s.chunk chunk → IsWhy r kinds s n kept
+why-own kinds chunk s n None r code own of same_code silent gave passes told = absurd own
+why-own kinds chunk s n (Some fault) r code own of same_code silent gave passes told =
+    why-own_fault kinds chunk s n fault r own (same_code ∙ sym of) silent gave passes told
 
 row-own_fault : (kinds : KindTree) (chunk : ArrayTree) (n : Stream) (fault : StreamFault) (r : ℤ) → IsOwnFault kinds chunk fault
     → IsRowFault r n.ending (row_or (Some fault) n.fault)

@@ -1,6 +1,6 @@
 -- What a producer's own stream proves of its calls: of a chunk that it gives, of its end, of a record at fault, of out of memory,
 -- and of a call that counts and shows nothing.
-use Rattle.std.proofs.Common.{◌≡◌, ◌<◌, ◌^◌, ◌∙◌, ◌⊎◌, ℕ, ℤ, pos, List, [], ◌∷◌, Option, None, Some, refl, sym, ap, subst, arith, inl, inr}
+use Rattle.std.proofs.Common.{◌≡◌, ◌≢◌, ◌<◌, ◌^◌, ◌∙◌, ◌⊎◌, ℕ, ℤ, pos, List, [], ◌∷◌, Option, None, Some, refl, sym, ap, subst, arith, inl, inr}
 use Rattle.std.proofs.Common.{append-nil}
 use Rattle.data_types.specs.Table.{Row}
 use Rattle.data_types.specs.declared.row_fault.RowFault.{RowFault}
@@ -85,7 +85,7 @@ grown-none (Some seen) = ap (λ (xs : List Seen). Some xs) (sym (append-nil seen
 
 -- nothing, which is all where no link shows more at the end
 pub shows-nothing : (joints : ℕ → List Shown) (code : ℤ) (out : ArrayTree) (before : Option (List Seen))
-    → (code ≡ pos 0 → out ≡ Released → (link : ℕ) → joints link ≡ []) → Shows joints joints code out before before
+    → (code ≢ enomem → out ≡ Released → (link : ℕ) → joints link ≡ []) → Shows joints joints code out before before
 shows-nothing joints code out before end = record {
   shown = [];
   told = grown-none before;

@@ -62,15 +62,16 @@ pub record Answers (old new : Stream) (code : ℤ) (out : ArrayTree) : Type 0 wh
 abbrev pub Begins : {A : Type 0} → List A → List A → Type 0
 Begins {A} xs ys = (more : List A) × (ys ≡ xs ++ more)
 
--- what a call shows: a prefix of each link's tables, which then leaves them
+-- what a call shows: a prefix of each link's tables, which then leaves them, unless memory ran out; and all that was left where nothing
+-- is given: at the end, and at a record that is refused
 pub record Shows (old new : ℕ → List Shown) (code : ℤ) (out : ArrayTree) (before after : Option (List Seen)) : Type 0 where
   pub shown : List Seen
   pub told : after ≡ grown before shown
   pub begins : (link : ℕ) → Begins (of_link link shown) (old link)
-  pub leaves : code ≡ pos 0 → (link : ℕ) → old link ≡ of_link link shown ++ new link
-  pub ends : code ≡ pos 0 → out ≡ Released → (link : ℕ) → new link ≡ []
+  pub leaves : code ≢ enomem → (link : ℕ) → old link ≡ of_link link shown ++ new link
+  pub ends : code ≢ enomem → out ≡ Released → (link : ℕ) → new link ≡ []
 
--- what a call that answers 0 counts: so much less is due, and nothing at the end
+-- what a call counts: so much less is due, and nothing where nothing is given: at the end, and at a record that is refused
 pub record Counts (old new : Traffic) (before after : Tally) (out : ArrayTree) : Type 0 where
   pub made : Traffic
   pub blocks : after.blocks ≡ risen before.blocks made.blocks

@@ -1,5 +1,5 @@
 -- Why a stream was not started, and why a call of a checked stream refused.
-use Rattle.std.specs.Prelude.{◌≡◌, ◌≢◌, ℕ, ℤ, pos, List, Option, Some, None, IsTrue}
+use Rattle.std.specs.Prelude.{◌≡◌, ◌≢◌, ℕ, ℤ, pos, List, Option, Some, None, IsTrue, false}
 use Rattle.raw_array.specs.Members.{ArrayTree}
 use Rattle.raw_schema.specs.Members.{SchemaTree}
 use Rattle.data_types.specs.KindTrees.{KindTree}
@@ -34,13 +34,14 @@ fault_text fault None = own_text fault
 fault_text fault (Some refusal) = refusal.text
 
 -- why a call answered a code, from what the inner stream meant before it and means after it: the inner stream refused for a
--- record, where memory ran out or with another code; or what it gave is no chunk, by this first fault; or the tap ran out of
--- memory
+-- record, where memory ran out or with another code; or what it gave is no chunk, by this first fault, and it isn't lawful; or
+-- the tap ran out of memory
 abbrev pub IsWhy : ℤ → KindTree → Stream → Stream → Option StreamFault → Type 0
 IsWhy code kinds before after None = code ≡ pos 0
 IsWhy code kinds before after (Some (Row fault)) = (code ≡ einval) × Tells code after.said × (after.fault ≡ Some fault)
 IsWhy code kinds before after (Some (Chunk fault)) =
-    (code ≡ einval) × (after.said ≡ None) × (chunk : ArrayTree) × IsTold before.chunk chunk × (first_chunk_fault kinds chunk ≡ Some (fault_of fault))
+    (code ≡ einval) × (after.said ≡ None) × (before.lawful ≡ false) × (chunk : ArrayTree) × (after.gave ≡ Some chunk) × IsTold before.chunk chunk
+    × (first_chunk_fault kinds chunk ≡ Some (fault_of fault))
 IsWhy code kinds before after (Some NoMemory) = code ≡ enomem
 IsWhy code kinds before after (Some (Code own)) = (code ≡ own) × Tells code after.said × (code ≢ enomem) × (code ≡ einval → after.fault ≡ None)
 

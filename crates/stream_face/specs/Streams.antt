@@ -29,6 +29,8 @@ pub record Stream : Type 0 where
   -- the schema that it gives, and the structure that its next call of `get_next` gives, where it states them
   pub schema : Option SchemaTree
   pub chunk : Option ArrayTree
+  -- what its last call of `get_next` that answered 0 gave, where it isn't lawful
+  pub gave : Option ArrayTree
   -- the call of `get_next` that refused, if one did
   pub failure : Option Refusal
   -- the record at fault, after the code of a bad ending

@@ -17,7 +17,7 @@ ghost use Rattle.unit_pass.specs.Tally.{risen};
 ghost use Rattle.unit_pass.specs.declared.pass.TheConstants.{CHUNK, ROOM, SUPPLY};
 ghost use Rattle.stream_face.specs.Calls.{Answers, Counts, IsCode, IsRowFault, IsTold, Repeats, Shows, Tells};
 ghost use Rattle.stream_face.specs.Checked.{is_live};
-ghost use Rattle.stream_face.specs.Codes.{einval};
+ghost use Rattle.stream_face.specs.Codes.{einval, enomem};
 ghost use Rattle.stream_face.specs.Failures.{why};
 ghost use Rattle.stream_face.specs.Faults.{IsOwnFault, IsStartFault, IsWhy, code_of, fault_text};
 ghost use Rattle.stream_face.specs.Lawful.{LawfulColumns, LawfulTables};
@@ -265,7 +265,7 @@ impl<S: ArrayStream> RawStream<S> {
         ensures row_fault { IsRowFault result (meaning S.state self.new).ending (meaning S.state self.new).fault }
         ensures repeats { Repeats (meaning S.state self.old) (meaning S.state self.new) result pass.old pass.new (T.seen tap.old) (T.seen tap.new) }
         ensures answers { IsFresh (meaning S.state self.old) → Answers (meaning S.state self.old) (meaning S.state self.new) result out.new }
-        ensures counts { IsFresh (meaning S.state self.old) → result ≡ pos 0
+        ensures counts { IsFresh (meaning S.state self.old) → result ≢ enomem
             → Counts (meaning S.state self.old).due (meaning S.state self.new).due pass.old pass.new out.new }
         ensures shows { IsFresh (meaning S.state self.old)
             → Shows (meaning S.state self.old).joints (meaning S.state self.new).joints result out.new (T.seen tap.old) (T.seen tap.new) }

@@ -1,11 +1,12 @@
 //! The trait of streams of chunks.
-ghost use Rattle.std.specs.Prelude.{◌≡◌, ◌≢◌, ◌≤◌, ◌+◌, ◌↔◌, IsTrue, false, not, pos};
+ghost use Rattle.std.specs.Prelude.{◌≡◌, ◌≢◌, ◌≤◌, ◌+◌, ◌↔◌, IsTrue, Some, false, not, pos};
 ghost use Rattle.std.specs.Thread.{IsSync};
 ghost use Rattle.tree_model.specs.Tree.{Released};
 ghost use Rattle.raw_array.specs.Members.{Cost};
 ghost use Rattle.raw_schema.specs.Members.{Nodes};
 ghost use Rattle.unit_pass.specs.declared.pass.TheConstants.{ROOM, SUPPLY};
 ghost use Rattle.stream_face.specs.Calls.{Answers, Counts, IsCode, IsRowFault, IsTold, Repeats, SchemaAnswer, Shows, Tells};
+ghost use Rattle.stream_face.specs.Codes.{enomem};
 ghost use Rattle.stream_face.specs.Lawful.{LawfulColumns, LawfulTables};
 ghost use Rattle.stream_face.specs.Streams.{IsFresh, Keeps, Stream, kept, telling};
 ghost use Rattle.stream_face.specs.Texts.{lent_text, text_in};
@@ -60,12 +61,13 @@ pub trait ArrayStream {
         ensures tells { Tells result (state self.new).said }
         ensures refuses { result ≢ pos 0 → out.new ≡ Released }
         ensures told { result ≡ pos 0 → IsTold (state self.old).chunk out.new }
+        ensures gave { (state self.old).lawful ≡ false → result ≡ pos 0 → (state self.new).gave ≡ Some out.new }
         ensures units { pass.new.units + Cost out.new ≡ pass.old.units }
         ensures failure { (state self.new).failure ≡ (state self.new).said }
         ensures row_fault { IsRowFault result (state self.new).ending (state self.new).fault }
         ensures repeats { Repeats (state self.old) (state self.new) result pass.old pass.new (T.seen tap.old) (T.seen tap.new) }
         ensures answers { IsFresh (state self.old) → Answers (state self.old) (state self.new) result out.new }
-        ensures counts { IsFresh (state self.old) → result ≡ pos 0 → Counts (state self.old).due (state self.new).due pass.old pass.new out.new }
+        ensures counts { IsFresh (state self.old) → result ≢ enomem → Counts (state self.old).due (state self.new).due pass.old pass.new out.new }
         ensures shows { IsFresh (state self.old) → Shows (state self.old).joints (state self.new).joints result out.new (T.seen tap.old) (T.seen tap.new) };
 
     /// The text of the error of the last get call, where its code wasn't 0 ("The ArrowArrayStream structure",

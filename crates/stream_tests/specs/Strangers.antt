@@ -28,9 +28,9 @@ abbrev pub row_if : Bool → Option RowFault → Option RowFault
 row_if false row = None
 row_if true row = row
 
--- it isn't lawful; with the code and the record at which it ends, whether it refused, and whether its last get call did
-abbrev pub stranger : Option Holdings → ℤ → Option RowFault → Bool → Bool → Stream
-stranger holdings code row failed told = record {
+-- it isn't lawful; with the code and the record at which it ends, whether it refused, whether its last get call did, and what it gave last
+abbrev pub stranger : Option Holdings → ℤ → Option RowFault → Bool → Bool → ArrayTree → Stream
+stranger holdings code row failed told gave = record {
   columns = [];
   ahead = [];
   ending = row;
@@ -41,6 +41,7 @@ stranger holdings code row failed told = record {
   live = is_some holdings;
   schema = None;
   chunk = None;
+  gave = Some gave;
   failure = refusal_if failed code;
   fault = row_if failed row;
   said = refusal_if told code;

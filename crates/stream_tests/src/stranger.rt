@@ -15,6 +15,7 @@ use raw_schema::RawSchema;
 use std::alloc::Global;
 use std::marker::Model;
 use std::process::Abort;
+use std::snapshot::Snapshot;
 use std::thread::Threads;
 use stream_face::{ArrayStream, EINVAL, Tap};
 use unit_pass::{Pass, ROOM, SUPPLY};
@@ -112,6 +113,8 @@ pub(crate) struct Stranger {
     row: Option<RowFault>,
     failed: bool,
     told: bool,
+    // The last structure that it gave, for clauses. It has no bytes.
+    gave: Snapshot<RawArray>,
     ghost refused: { code ≢ pos 0 },
     ghost from: { pos 0 ≤ℤ code },
     ghost to: { code ≤ℤ pos 4095 },
@@ -153,6 +156,9 @@ impl Stranger {
             }
             End::Row(row) => (false, EINVAL, Some(row)),
         };
+        let none = RawArray::released();
+        let gave = Snapshot::of(&none);
+        none.discard();
         Stranger {
             holdings: Some(Holdings {
                 schema,
@@ -165,6 +171,7 @@ impl Stranger {
             row,
             failed: false,
             told: false,
+            gave,
         }
     }
 }
@@ -172,7 +179,7 @@ impl Stranger {
 impl ArrayStream for Stranger {
     ghost use Rattle.stream_tests.specs.Strangers.{stranger};
 
-    ghost state = { λ s. stranger s.holdings s.code s.row s.failed s.told };
+    ghost state = { λ s. stranger s.holdings s.code s.row s.failed s.told s.gave.value };
 
     fn get_schema(&mut self, _alloc: Global, out: &mut RawSchema, pass: &mut Pass) -> i32 {
         self.told = self.shy;
@@ -204,6 +211,7 @@ impl ArrayStream for Stranger {
         };
         if given || self.ends {
             self.told = false;
+            self.gave = Snapshot::of(out);
             return 0;
         }
         self.failed = true;
@@ -242,6 +250,7 @@ impl ArrayStream for Stranger {
             row: _,
             failed: _,
             told: _,
+            gave: _,
         } = self;
         match holdings {
             None => {}

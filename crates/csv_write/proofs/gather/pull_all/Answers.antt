@@ -1,14 +1,15 @@
 use Rattle.std.proofs.lemmas.Grind.{common_steps}
-use Rattle.std.proofs.Common.{arith, ◌+◌, ◌++◌, IsTrue, length, refl, sym, ◌∙◌, ap, subst}
+use Rattle.std.proofs.Common.{arith, ◌≡◌, ◌≢◌, ◌+◌, ◌++◌, Err, IsTrue, length, of_z, w32, refl, sym, ◌∙◌, ap, subst}
 use Rattle.layout_rules.specs.Values.{rows_of}
 use Rattle.layout_rules.specs.Walk.{LayoutOk}
 use Rattle.data_types.specs.ColumnKinds.{type_of_columns}
 use Rattle.csv_model.specs.Text.{rows_text}
 use Rattle.csv_write.specs.CsvTexts.{HasText}
+use Rattle.stream_face.specs.Codes.{enomem}
 use Rattle.stream_face.specs.Meaning.{meaning}
 use Rattle.stream_face.specs.Streams.{IsFresh}
-use Rattle.stream_face.proofs.Joints.{fresh_at}
-use Rattle.csv_write.proofs.RunLemmas.{is-live, zero_code, Ran-start, Ran-next, Ran-refused, Ran-ends, Ran-counted, Wrote-next, Wrote-ends}
+use Rattle.stream_face.proofs.Joints.{fresh_at, had_memory, tells_nothing}
+use Rattle.csv_write.proofs.RunLemmas.{at-row, is-live, zero_code, Ran-fresh, Ran-start, Ran-next, Ran-refused, Ran-ends, Ran-counted, Wrote-next, Wrote-ends}
 use Rattle.csv_write.proofs.gather.pull_all.Goals as goal
 
 pub chunks-init : goal.chunks-init
@@ -28,6 +29,9 @@ returns-then-code-eq-EINVAL g c =
     let n = meaning g.U.ArrayStream.state c.next-code.new.self in
     let call = c.next-code.ensures in
     let out = c.next-code.new.out in
+    let gone = call.refuses (λ z. c.if-code-ne0.true (ap (of_z w32) z)) in
+    let had : c.next-code.result ≢ enomem = λ z. absurd (let k : 12 ≡ 22 = ap (of_z w32) (sym z) ∙ c.if-code-eq-EINVAL.true in omega (arith, k)) in
+    let still = Ran-fresh start m _ _ _ _ ran in
     record {
       shows_some = Ran-refused start m n _ _ _ _ _ _ _ c.next-code.result out c.requires.lawful ran call.shows call.repeats;
       keeps = grind (arith, common_steps);
@@ -36,7 +40,10 @@ returns-then-code-eq-EINVAL g c =
       ends = tt;
       row = grind (arith, common_steps);
       counts = tt;
+      refused_counts = λ fresh. at-row {A = Unit {0}} (Err c.fault_of.result)
+          (Ran-counted start m n _ _ c.args.pass.now c.chunks.pass c.next-code.new.pass out ran gone (call.counts (still fresh) had));
       shows = tt;
+      refused_shows = λ fresh. at-row {A = Unit {0}} (Err c.fault_of.result) (Ran-ends start m n _ _ _ _ _ c.next-code.result out ran had gone (call.shows (still fresh)));
     }
 
 pub returns-else-code-eq-EINVAL : goal.returns-else-code-eq-EINVAL
@@ -55,7 +62,9 @@ returns-else-code-eq-EINVAL g c =
       ends = tt;
       row = grind (arith, common_steps);
       counts = tt;
+      refused_counts = λ _. tt;
       shows = tt;
+      refused_shows = λ _. tt;
     }
 
 pub returns-in-Err : goal.returns-in-Err
@@ -74,7 +83,9 @@ returns-in-Err g c =
       ends = tt;
       row = grind (arith, common_steps);
       counts = tt;
+      refused_counts = λ _. tt;
       shows = tt;
+      refused_shows = λ _. tt;
     }
 
 -- ---- the end of the stream
@@ -94,8 +105,10 @@ returns-then-is_released g c =
       text = λ mark written has. Wrote-ends mark start.columns start m written c.chunks.text
           ((call.answers fresh).finish zero ended).0 (c.chunks.invariant.wrote mark written has);
       ends = sym ran.keeps.ending ∙ ((call.answers fresh).finish zero ended).2;
-      counts = Ran-counted start m n _ _ c.args.pass.now c.chunks.pass c.next-code.new.pass out ran ended (call.counts fresh zero);
-      shows = Ran-ends start m n _ _ _ _ _ c.next-code.result out ran zero ended (call.shows fresh);
+      counts = Ran-counted start m n _ _ c.args.pass.now c.chunks.pass c.next-code.new.pass out ran ended (call.counts fresh (had_memory c.next-code.result zero));
+      shows = Ran-ends start m n _ _ _ _ _ c.next-code.result out ran (had_memory c.next-code.result zero) ended (call.shows fresh);
+      refused_counts = λ _. tt;
+      refused_shows = λ _. tt;
       keeps = grind (arith, common_steps);
       units = grind (arith, common_steps);
       row = grind (arith, common_steps);
@@ -137,7 +150,8 @@ chunks-preserved g c =
     record {
       ran =
           Ran-next start m n _ _ _ c.args.pass.now c.chunks.pass c.next-code.new.pass c.release.new.pass c.next-code.result out ran zero call.keeps
-          (call.shows fresh) (call.counts fresh zero) c.release.ensures.blocks c.release.ensures.nodes;
+          (call.failure ∙ tells_nothing c.next-code.result n.said call.tells zero) (call.shows fresh)
+          (call.counts fresh (had_memory c.next-code.result zero)) c.release.ensures.blocks c.release.ensures.nodes;
       wrote = λ mark written has.
           Wrote-next mark start.columns start m n written c.next-code.result out c.chunks.text new ran.keeps.columns live (call.answers fresh)
           (c.chunks.invariant.wrote mark written has)

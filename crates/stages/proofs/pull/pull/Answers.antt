@@ -1,10 +1,12 @@
-use Rattle.std.proofs.Common.{rules, ◌≡◌, ◌∙◌, pos, IsTrue, w32, of_z, sym, ap, subst, refl}
+use Rattle.std.proofs.Common.{rules, ◌≡◌, ◌∙◌, pos, IsTrue, w32, of_z, to_z, sym, ap, subst, refl}
 use Rattle.tree_model.specs.Tree.{IsLive, Released}
 use Rattle.data_types.specs.KindTrees.{TypedOk}
 use Rattle.data_types.specs.TypedView.{typed_of}
 use Rattle.stream_face.specs.Calls.{IsCode, IsRowFault, Tells}
 use Rattle.stream_face.specs.Codes.{enomem}
 use Rattle.stream_face.specs.Meaning.{meaning}
+use Rattle.stream_face.specs.Streams.{IsFresh}
+use Rattle.stream_face.proofs.Joints.{had_memory}
 use Rattle.stream_face.proofs.Next as codes
 use Rattle.stages.proofs.Runs.{Called, Ran-counts, Ran-next, Ran-repeats, Ran-shows, Ran-start, Ran-still, Ran-works, kept-both}
 use Rattle.stages.proofs.Turning as turning
@@ -39,6 +41,11 @@ returns-then-code-ne0 g c =
     let refused : c.next-code.result ≡ pos 0 → ⊥ = λ z. c.if-code-ne0.true (ap (of_z w32) z) in
     let gone = call.refuses refused in
     let e = codes.same c.next-code.result c.next-code.type_inv in
+    let answers = λ (fresh : IsFresh start).
+    turning.refused-answers (g.S.ChunkStep.columns c.args.step.now) (g.S.ChunkStep.columns c.forget.new.self) (g.S.ChunkStep.ahead c.args.step.now)
+    (g.S.ChunkStep.ahead c.chunks.step) (g.S.ChunkStep.ahead c.forget.new.self) start m n c.next-code.result (to_z w32 (of_z w32 c.next-code.result))
+    c.next-code.new.out e refused (c.chunks.invariant.same fresh) c.forget.ensures.refused ran.keeps.ending call.keeps.ending
+    (call.answers (Ran-still start m _ _ _ _ ran fresh)) gone in
     record {
       rests = c.forget.ensures.rests;
       keeps = kept-both start m n ran.keeps call.keeps;
@@ -54,14 +61,17 @@ returns-then-code-ne0 g c =
       row_fault = subst (λ z. IsRowFault z n.ending n.fault) (sym e) call.row_fault;
       no_failure = tt;
       repeats = Ran-repeats start m n c.next-code.result _ _ _ _ c.args.pass.now c.chunks.pass c.next-code.new.pass e ran call.repeats;
-      answers = λ fresh. turning.refused-answers (g.S.ChunkStep.columns c.args.step.now) (g.S.ChunkStep.columns c.forget.new.self)
-          (g.S.ChunkStep.ahead c.args.step.now) (g.S.ChunkStep.ahead c.chunks.step) (g.S.ChunkStep.ahead c.forget.new.self) start m n c.next-code.result _
-          c.next-code.new.out e refused (c.chunks.invariant.same fresh) c.forget.ensures.refused ran.keeps.ending call.keeps.ending
-          (call.answers (Ran-still start m _ _ _ _ ran fresh)) gone;
+      answers = answers;
       gives = λ _ zero. absurd (refused (sym e ∙ zero));
-      counts = λ _ zero. absurd (refused (sym e ∙ zero));
+      counts = λ fresh had.
+          let ends = codes.refused_ends _ _ _ _ c.next-code.new.out refl (λ z. refused (sym e ∙ z)) (answers fresh) had in
+          turning.none-counted (g.S.ChunkStep.blocks c.args.step.now) (g.S.ChunkStep.nodes c.args.step.now) (g.S.ChunkStep.blocks c.forget.new.self)
+          (g.S.ChunkStep.nodes c.forget.new.self) _ _ start.due n.due c.args.pass.now c.next-code.new.pass c.next-code.new.pass c.next-code.new.out
+          ends.0 ends.1 refl refl
+          (Ran-counts start m n c.next-code.new.out c.next-code.new.out _ _ c.args.pass.now c.chunks.pass c.next-code.new.pass c.next-code.new.pass
+          (ran.went fresh) (call.counts (Ran-still start m _ _ _ _ ran fresh) (λ z. had (e ∙ z))) refl refl (λ left. left));
       shows = λ fresh. Ran-shows start m n c.next-code.result _ c.next-code.new.out c.next-code.new.out _ _ _ _ _ (ran.went fresh)
-          (call.shows (Ran-still start m _ _ _ _ ran fresh)) (λ zero. sym e ∙ zero) (λ left. left);
+          (call.shows (Ran-still start m _ _ _ _ ran fresh)) (λ had z. had (e ∙ z)) (λ left. left);
     }
 
 -- ---- a turn of the step
@@ -160,10 +170,10 @@ returns-in-Ok-true g c =
           (g.S.ChunkStep.ahead last n.ending n.ahead) start.ending (g.S.ChunkStep.rests last) c.args.pass.now c.next-code.new.pass c.turn.new.pass given
           start.due n.due
           (Ran-counts start m n out given _ _ _ _ c.next-code.new.pass c.next-code.new.pass (ran.went at)
-          (call.counts (Ran-still start m _ _ _ _ ran at) works) refl refl back)
+          (call.counts (Ran-still start m _ _ _ _ ran at) (had_memory c.next-code.result works)) refl refl back)
           done (λ rows. c.in-Ok-true.ensures.own_blocks rows ∙ inv.own_blocks rows) (λ rows. c.in-Ok-true.ensures.own_nodes rows ∙ inv.own_nodes rows);
       shows = λ at. Ran-shows start m n c.next-code.result (pos 0) out given _ _ _ _ _ (ran.went at) (call.shows (Ran-still start m _ _ _ _ ran at))
-          (λ _. works) back;
+          (λ _. had_memory c.next-code.result works) back;
     }
 
 -- ---- nothing is given for the chunk
@@ -263,5 +273,5 @@ returns-in-Err g c =
       counts = λ _. tt;
       shows = λ at. turning.shows-wanting start n out c.turn.new.out _ _
           (Ran-shows start m n c.next-code.result enomem out out _ _ _ _ _ (ran.went at) (call.shows (Ran-still start m _ _ _ _ ran at))
-          (λ _. works) (λ left. left));
+          (λ _. had_memory c.next-code.result works) (λ left. left));
     }

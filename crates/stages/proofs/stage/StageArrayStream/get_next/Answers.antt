@@ -1,4 +1,4 @@
-use Rattle.std.proofs.Common.{arith, ◌≡◌, ◌<◌, ◌∙◌, Option, None, Some, ℤ, pos, negsuc, w32, to_z, of_z, inl, inr, map, if◌then◌else◌, refl, sym, ap, subst}
+use Rattle.std.proofs.Common.{arith, ◌≡◌, ◌<◌, ◌∙◌, Option, None, Some, ℤ, pos, negsuc, w32, to_z, of_z, inl, inr, map, if◌then◌else◌, refl, sym, ap, subst, true≢false}
 use Rattle.std.specs.Int.Signed.{mag}
 use Rattle.std.proofs.lemmas.Int.{ints}
 use Rattle.data_types.specs.ColumnView.{column_of}
@@ -54,6 +54,7 @@ returns-then-self g c =
       tells = (refl, not-zero);
       refuses = λ _. c.requires.empty;
       told = λ _. tt;
+      gave = λ _ z. absurd (not-zero z);
       units = omega (arith, ap Cost c.requires.empty);
       failure = failed;
       row_fault = subst (λ t. IsRowFault enomem up.ending (if t then None else up.fault)) (sym c.if-self.true) tt;
@@ -63,7 +64,7 @@ returns-then-self g c =
         shows = λ refusal e. refl;
       };
       answers = λ fresh. absurd (wanted _ failed fresh.no_failure);
-      counts = λ _ z. absurd (not-zero z);
+      counts = λ fresh. absurd (wanted _ failed fresh.no_failure);
       gives = λ _ z. absurd (not-zero z);
       besides = λ _ _ h. h;
       shows = λ fresh. absurd (wanted _ failed fresh.no_failure);
@@ -107,6 +108,7 @@ returns-in-Err g c =
       tells = (refl, not-zero);
       refuses = λ _. call.released;
       told = λ _. tt;
+      gave = λ _ z. absurd (not-zero z);
       units = call.units;
       failure = refl;
       row_fault = tt;
@@ -118,7 +120,7 @@ returns-in-Err g c =
         wants = λ _. refl;
         codes = inr (inl refl);
       };
-      counts = λ _ z. absurd (not-zero z);
+      counts = λ _ had. absurd (had refl);
       gives = λ _ z. absurd (not-zero z);
       besides = call.besides;
       shows = λ fresh. call.shows (record { lawful = fresh.lawful; no_failure = sym works ∙ fresh.no_failure });
@@ -145,6 +147,7 @@ returns-in-Ok g c =
       tells = subst (λ z. Tells z n.said) (sym e) call.tells;
       refuses = λ h. call.refuses (λ z. h (e ∙ z));
       told = λ _. tt;
+      gave = λ other _. absurd (true≢false (sym (c.args.self.now.lawful c.requires.live) ∙ other));
       units = call.units;
       failure = ap (λ t. if t then Some wanting else n.failure) c.if-self.false ∙ call.failure;
       row_fault = subst (λ t. IsRowFault (to_z w32 (of_z w32 c.in-Ok.code)) n.ending (if t then None else n.fault)) (sym c.if-self.false)
@@ -167,7 +170,7 @@ returns-in-Ok g c =
             wants = λ z. answers.wants (sym e ∙ z);
             codes = elim answers.codes [ inl a ↦ inl (e ∙ a) | inr b ↦ elim b [ inl a ↦ inr (inl (e ∙ a)) | inr a ↦ inr (inr (e ∙ a)) ] ];
           };
-      counts = λ fresh zero. call.counts (record { lawful = fresh.lawful; no_failure = sym works ∙ fresh.no_failure }) (sym e ∙ zero);
+      counts = λ fresh had. call.counts (record { lawful = fresh.lawful; no_failure = sym works ∙ fresh.no_failure }) (λ z. had (e ∙ z));
       gives = λ fresh zero. call.gives (record { lawful = fresh.lawful; no_failure = sym works ∙ fresh.no_failure }) (sym e ∙ zero);
       besides = call.besides;
       shows = λ fresh.

@@ -11,10 +11,10 @@ use Rattle.stream_face.specs.Raw.{refusal_or}
 use Rattle.stream_face.specs.Meaning.{meaning, raw_kinds}
 use Rattle.stream_face.specs.Streams.{IsFresh, is_nil}
 use Rattle.stream_face.proofs.Joints.{nil, inner_works, not_failed, joints-none, kinds_are, live_unless, raw_wants, tells_nothing, tells_refusal}
-use Rattle.stream_face.proofs.Joints.{works_before, Shows-raw_refused, Shows-raw_live}
+use Rattle.stream_face.proofs.Joints.{works_before, had_memory, wants_code, Shows-raw_ends, Shows-raw_live, Shows-raw_wants}
 use Rattle.stream_face.proofs.Next.{same, is_zero, zero_code, own_is_code, own_is_refusal, keeps-raw, inner_fresh, no_fault, never_live, kept_some}
 use Rattle.stream_face.proofs.Next.{repeats-refused, answers-refused, row_ends, tells-kept}
-use Rattle.stream_face.proofs.Next.{repeats-never, never_refused, tells-working, why-working, faulted-working, answers-working, Shows-raw_end, why-own, row-own}
+use Rattle.stream_face.proofs.Next.{repeats-never, never_refused, tells-working, why-working, faulted-working, answers-working, refused_ends, why-own, row-own}
 use Rattle.stream_face.proofs.raw.RawStream.next.Goals as goal
 
 -- ---- the inner stream refuses
@@ -59,9 +59,11 @@ returns-then-code-ne0 g c =
       shows = λ fresh.
           let inner : IsFresh s = record { lawful = fresh.lawful; no_failure = inner_works (why raw.failure) s.failure s.said fresh.no_failure } in
           let none = nil (s.joints raw.link) (raw.own_link c.requires.live inner.lawful (not_failed raw.failure s.failure s.said fresh.no_failure)) in
-          Shows-raw_refused s (g.S.ArrayStream.state c.get_next-code.new.self) raw.link c.get_next-code.result
-          _ c.get_next-code.new.out _ _ _ none
-          (λ z. c.if-code-ne0.true (ap (of_z w32) (sym (same c.get_next-code.result c.get_next-code.type_inv) ∙ z))) (c.get_next-code.ensures.shows inner);
+          Shows-raw_ends s n raw.link _ c.get_next-code.new.out _ _ none
+          (refused_ends s n c.get_next-code.result _ c.get_next-code.new.out e nonzero (c.get_next-code.ensures.answers inner))
+          (c.get_next-code.ensures.refuses nonzero)
+          (subst (λ z. Shows s.joints n.joints z c.get_next-code.new.out (g.T.Tap.seen c.args.tap.now) (g.T.Tap.seen c.get_next-code.new.tap)) (sym e)
+          (c.get_next-code.ensures.shows inner));
       keeps = keeps-raw raw.link (Nodes raw.known.schema) (why raw.failure) (why c.refuse.new.failure) (g.S.ArrayStream.state raw.inner)
           (g.S.ArrayStream.state c.get_next-code.new.self) c.get_next-code.ensures.keeps;
       code = subst IsCode (sym (same c.get_next-code.result c.get_next-code.type_inv)) c.get_next-code.ensures.code;
@@ -82,7 +84,7 @@ returns-then-code-ne0 g c =
           (same c.get_next-code.result c.get_next-code.type_inv) c.refuse.ensures.code c.refuse.ensures.row c.get_next-code.new.out
           (c.get_next-code.ensures.refuses nonzero) nonzero
           (c.get_next-code.ensures.answers (inner_fresh raw.link (Nodes raw.known.schema) (why raw.failure) s fresh));
-      counts = λ _ z. absurd (c.if-code-ne0.true (ap (of_z w32) (sym e ∙ z)));
+      counts = λ fresh had. c.get_next-code.ensures.counts (inner_fresh raw.link (Nodes raw.known.schema) (why raw.failure) s fresh) (λ z. had (e ∙ z));
       link = grind (arith, common_steps);
       schema = grind (arith, common_steps);
       kinds = grind (arith, common_steps);
@@ -115,12 +117,14 @@ returns-then-is_released g c =
       repeats = repeats-never _ _ _ _ _ _ _ never;
       answers = λ fresh. answers-working raw.link (Nodes raw.known.schema) raw.failure s n c.get_next-code.result c.in_default.is zero c.get_next-code.new.out
           (c.get_next-code.ensures.answers (inner_fresh raw.link (Nodes raw.known.schema) (why raw.failure) s fresh));
-      counts = λ fresh _. c.get_next-code.ensures.counts (inner_fresh raw.link (Nodes raw.known.schema) (why raw.failure) s fresh) zero;
+      counts = λ fresh _. c.get_next-code.ensures.counts (inner_fresh raw.link (Nodes raw.known.schema) (why raw.failure) s fresh)
+          (had_memory c.get_next-code.result zero);
       shows = λ fresh.
           let inner = inner_fresh raw.link (Nodes raw.known.schema) (why raw.failure) s fresh in
           let last = (c.get_next-code.ensures.answers inner).finish zero released in
           let none = nil (s.joints raw.link) (raw.own_link c.requires.live inner.lawful c.in_default.is) in
-          Shows-raw_end s n raw.link c.get_next-code.new.out (g.T.Tap.seen c.args.tap.now) (g.T.Tap.seen c.get_next-code.new.tap) none last.0 last.1 released
+          Shows-raw_ends s n raw.link (pos 0) c.get_next-code.new.out (g.T.Tap.seen c.args.tap.now) (g.T.Tap.seen c.get_next-code.new.tap) none
+          (λ _. (last.0, last.1)) released
           (subst (λ z. Shows s.joints n.joints z c.get_next-code.new.out (g.T.Tap.seen c.args.tap.now) (g.T.Tap.seen c.get_next-code.new.tap)) zero
           (c.get_next-code.ensures.shows inner));
       link = grind (arith, common_steps);
@@ -187,7 +191,8 @@ returns-then-admits g c =
       repeats = repeats-never _ _ _ _ _ _ _ never;
       answers = λ fresh. answers-working raw.link (Nodes raw.known.schema) raw.failure s n c.get_next-code.result c.in_default.is zero c.get_next-code.new.out
           (c.get_next-code.ensures.answers (inner_fresh raw.link (Nodes raw.known.schema) (why raw.failure) s fresh));
-      counts = λ fresh _. c.get_next-code.ensures.counts (inner_fresh raw.link (Nodes raw.known.schema) (why raw.failure) s fresh) zero;
+      counts = λ fresh _. c.get_next-code.ensures.counts (inner_fresh raw.link (Nodes raw.known.schema) (why raw.failure) s fresh)
+          (had_memory c.get_next-code.result zero);
       link = grind (arith, common_steps);
       schema = grind (arith, common_steps);
       kinds = grind (arith, common_steps);
@@ -209,25 +214,26 @@ returns g c =
     let e = same c.refuse_chunk.result c.refuse_chunk.type_inv in
     let never = never_refused raw.failure s n c.get_next-code.result c.args.pass.now c.get_next-code.new.pass (g.T.Tap.seen c.args.tap.now)
     (g.T.Tap.seen c.get_next-code.new.tap) c.in_default.is c.get_next-code.ensures.repeats c.get_next-code.ensures.tells zero in
+    let passes = λ (inner : IsFresh s).
+    let chunk = (call.answers inner).chunk live in
+    let lawful = subst IsTrue (sym call.keeps.lawful) inner.lawful in
+    let typed : TypedOf (SchemaOf s.columns) (type_of_columns s.columns) =
+    subst (λ cs. TypedOf (SchemaOf cs) (type_of_columns cs)) call.keeps.columns (c.lawful_facts.ensures.columns lawful).typed in
+    let kinds = kinds_are raw.known.schema (raw_kinds raw) s.columns (raw.same c.requires.live inner.lawful) typed c.admits.ensures.only in
+    let ok : ChunkOk (raw_kinds raw) out = subst (λ k. ChunkOk k out) (sym kinds) chunk.2.ok in
+    c.refuse_chunk.ensures.lawful ok in
+    let inner_of = λ (fresh : IsFresh (meaning g.S.ArrayStream.state raw)). inner_fresh raw.link (Nodes raw.known.schema) (why raw.failure) s fresh in
+    let wants = λ (inner : IsFresh s). wants_code (why c.refuse_chunk.new.failure) _ _ c.refuse_chunk.ensures.code (passes inner) e in
     record {
-      answers = λ fresh.
-          let inner : IsFresh s = record { lawful = fresh.lawful; no_failure = inner_works (why raw.failure) s.failure s.said fresh.no_failure } in
-          let chunk = (call.answers inner).chunk live in
-          let lawful = subst IsTrue (sym call.keeps.lawful) fresh.lawful in
-          let typed : TypedOf (SchemaOf s.columns) (type_of_columns s.columns) =
-          subst (λ cs. TypedOf (SchemaOf cs) (type_of_columns cs)) call.keeps.columns (c.lawful_facts.ensures.columns lawful).typed in
-          let kinds = kinds_are raw.known.schema (raw_kinds raw) s.columns (raw.same c.requires.live fresh.lawful) typed c.admits.ensures.only in
-          let ok : ChunkOk (raw_kinds raw) out = subst (λ k. ChunkOk k out) (sym kinds) chunk.2.ok in
-          raw_wants (meaning g.S.ArrayStream.state raw) n raw.link (Nodes raw.known.schema) (why c.refuse_chunk.new.failure) c.refuse_chunk.result _
-          c.refuse_chunk.new.out (c.refuse_chunk.ensures.lawful ok) (tells_nothing c.get_next-code.result n.said call.tells zero) c.refuse_chunk.ensures.code
-          (same c.refuse_chunk.result c.refuse_chunk.type_inv) c.refuse_chunk.ensures.released;
+      answers = λ fresh. raw_wants (meaning g.S.ArrayStream.state raw) n raw.link (Nodes raw.known.schema) (why c.refuse_chunk.new.failure)
+          c.refuse_chunk.result _ c.refuse_chunk.new.out (passes (inner_of fresh)) (tells_nothing c.get_next-code.result n.said call.tells zero)
+          c.refuse_chunk.ensures.code e c.refuse_chunk.ensures.released;
       shows = λ fresh.
-          let inner : IsFresh s = record { lawful = fresh.lawful; no_failure = inner_works (why raw.failure) s.failure s.said fresh.no_failure } in
-          let none = nil (s.joints raw.link) (raw.own_link c.requires.live inner.lawful (not_failed raw.failure s.failure s.said fresh.no_failure)) in
+          let inner = inner_of fresh in
+          let none = nil (s.joints raw.link) (raw.own_link c.requires.live inner.lawful c.in_default.is) in
           subst (Shows (meaning g.S.ArrayStream.state raw).joints _ _ c.refuse_chunk.new.out (g.T.Tap.seen c.args.tap.now)) (sym
           (c.admits.ensures.unseen c.if-admits.false))
-          (Shows-raw_refused s n raw.link c.get_next-code.result _ c.get_next-code.new.out _ _ _ none
-          (λ z. refusal (sym (same c.refuse_chunk.result c.refuse_chunk.type_inv) ∙ z)) (c.get_next-code.ensures.shows inner));
+          (Shows-raw_wants s n raw.link c.get_next-code.result _ c.get_next-code.new.out _ _ _ none (wants inner) (call.shows inner));
       keeps = keeps-raw raw.link (Nodes raw.known.schema) (why raw.failure) (why c.refuse_chunk.new.failure) (g.S.ArrayStream.state raw.inner)
           (g.S.ArrayStream.state c.get_next-code.new.self) c.get_next-code.ensures.keeps;
       code = subst IsCode (sym (same c.refuse_chunk.result c.refuse_chunk.type_inv))
@@ -241,14 +247,19 @@ returns g c =
       checked = λ live. never_live c.refuse_chunk.new.out c.refuse_chunk.ensures.released live;
       shown = λ live. never_live c.refuse_chunk.new.out c.refuse_chunk.ensures.released live;
       why = λ _. why-own (raw_kinds raw) c.get_next-code.new.out s n (why c.refuse_chunk.new.failure) _ c.refuse_chunk.result c.refuse_chunk.ensures.why
-          c.refuse_chunk.ensures.code (same c.refuse_chunk.result c.refuse_chunk.type_inv)
-          (tells_nothing c.get_next-code.result n.said c.get_next-code.ensures.tells zero) (c.get_next-code.ensures.told zero);
+          c.refuse_chunk.ensures.code e (tells_nothing c.get_next-code.result n.said call.tells zero) (λ other. call.gave other zero)
+          (λ lawful. passes (record {
+            lawful = lawful;
+            no_failure = works_before s.failure c.get_next-code.result
+                (λ refusal q. tells_refusal c.get_next-code.result n.said refusal call.tells (call.repeats.same refusal q).1) zero;
+          }))
+          (call.told zero);
       stays = λ fault q. no_fault c.args.self.now.failure fault c.in_default.is q;
       failure = ap (λ x. refusal_or (why c.refuse_chunk.new.failure) x n.said) c.get_next-code.ensures.failure;
       row_fault = row-own (raw_kinds c.args.self.now) c.get_next-code.new.out (g.S.ArrayStream.state c.get_next-code.new.self) (why c.refuse_chunk.new.failure) _
           c.refuse_chunk.ensures.why;
       repeats = repeats-never _ _ _ _ _ _ _ never;
-      counts = λ _ z. absurd (refusal (sym e ∙ z));
+      counts = λ fresh had. absurd (had (wants (inner_of fresh)));
       link = grind (arith, common_steps);
       schema = grind (arith, common_steps);
       kinds = grind (arith, common_steps);
