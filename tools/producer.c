@@ -317,7 +317,7 @@ static int stream_next(struct ArrowArrayStream *stream, struct ArrowArray *out) 
   enum way way = counted->way;
   int number = counted->next++, before = released_schemas;
   if ((way == BREAKS || way == BREAKS_SILENTLY) && number == 2) return EIO;
-  if ((number == 3 && way != ENDLESS) || way == NO_CHUNK) {
+  if ((number >= 3 && way != ENDLESS) || way == NO_CHUNK) {
     out->release = NULL;
     return 0;
   }

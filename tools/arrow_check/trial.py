@@ -1,4 +1,4 @@
-"""Runs a function in a child process. What the function does there, a crash, a hang, an exit, is an outcome and no harm."""
+"""Runs a function in a child process, where a crash, a hang or an exit of it is an outcome and does no harm."""
 import ctypes
 import json
 import os
@@ -11,7 +11,7 @@ import time
 import traceback
 from typing import Any, Callable, List, NamedTuple, Optional
 
-Say = Callable[..., Any]  # say(value): hands a value of JSON over; say(value, waits=True): and gives the caller's answer to it
+Say = Callable[..., Any]  # say(value) hands a value of JSON over, say(value, waits=True) also gives the caller's answer
 PR_SET_PDEATHSIG, GLANCE = 1, 0.05  # a call of prctl; seconds between two looks at whether a child is there
 inside = False  # whether this is such a child, whose own children stay in its process group
 
@@ -37,7 +37,7 @@ class Outcome(NamedTuple):
 
 
 class Running:
-    """A child at work on `act(say)`; `heard` answers what it says. `seconds` are in all, or with `each` up to each word."""
+    """A child at work on `act(say)`; `heard` answers it. The `seconds` are those in all, or with `each` up to each word."""
 
     def __init__(self, act: Callable[[Say], None], seconds: float, heard: Optional[Callable[[Any], Any]] = None,
                  each: bool = False) -> None:
