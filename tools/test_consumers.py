@@ -9,6 +9,7 @@ import argparse
 import ctypes
 import errno
 import io
+import json
 import os
 import re
 import subprocess
@@ -32,8 +33,14 @@ ROOM = tempfile.TemporaryDirectory(prefix="arrow-consumers-")
 FOLDER = Path(ROOM.name)
 PROGRAMS: Tuple[str, str] = ("", "")  # arrowpipe and arrowtree
 COUNT = {"verdicts": 0}
-# Exports on which each rule shows, among others on which it doesn't.
-FEW = ("int32", "a window", "no rows, empty buffers", "a table", "a dictionary")
+# Exports on two of which each rule shows at least once, but for those of ON.
+FEW = ("int32", "a table")
+ON = {"bad_refusal": "a window", "bad_dictionary_released": "a dictionary", "bad_offset_of_nothing": "no rows, empty buffers"}
+# The lawful consumers that take all exports; the others take some that are harder.
+ALL = ("good_reader", "good_move", "good_children_backwards")
+HARD = ("a window of a table", "a dictionary", "views over buffers", "lists in lists", "a dense union", "run ends", "metadata",
+        "no columns, no rows")
+BROKEN_STREAMS = ("many chunks", "a failure in mid-stream")
 # Consumers of consumers.c that break one rule each, and of the others what their results are.
 ARRAYS = {
     "bad_released_twice": "ReleasedTwice", "bad_copy_released_too": "ReleasedTwice", "bad_schema_twice": "ReleasedTwice",
@@ -91,8 +98,9 @@ class Consumers(unittest.TestCase):
     def test_each_lawful_consumer_of_arrays_passes_with_all_exports(self) -> None:
         for name in (it for it in names(r"CONSUMER\(", "consumers.c") if it.startswith("good_")):
             with self.subTest(name):
-                found = results(words_for(name))
-                self.assertEqual(len(found.pop("lawful")) + len(found.pop("refused", ())), len(exports.ARRAYS))
+                only = () if name in ALL else HARD
+                found = results(words_for(name, *only))
+                self.assertEqual(len(found.pop("lawful")) + len(found.pop("refused", ())), len(only or exports.ARRAYS))
                 self.assertEqual(found, {})
         self.assertGreater(len(exports.ARRAYS), 40)
 
@@ -103,16 +111,16 @@ class Consumers(unittest.TestCase):
 
     def test_what_is_refused_may_be_left_where_it_was(self) -> None:
         self.assertEqual(results(words_for("good_untouched", *FEW)), {"refused": set(FEW)})
-        windows = {name for name, each in exports.ARRAYS.items() if each.offset}
-        self.assertEqual(results(words_for("good_refusal"))["refused"], windows)
+        found = results(words_for("good_refusal", *FEW, "a window"))
+        self.assertEqual(found, {"refused": {"a window"}, "lawful": set(FEW)})
 
     def test_each_spoilt_consumer_is_named_by_its_rule_alone(self) -> None:
         for name, rule in ARRAYS.items():
             with self.subTest(name):
-                self.is_broken(words_for(name, *FEW), rule)
+                self.is_broken(words_for(name, *FEW, *filter(None, [ON.get(name)])), rule)
         for name, rule in STREAMS.items():
             with self.subTest(name):
-                self.is_broken(words_for(name, stream=True), rule)
+                self.is_broken(words_for(name, *BROKEN_STREAMS, stream=True), rule)
 
     def test_a_consumer_that_releases_nothing_and_never_returns_is_hung(self) -> None:
         self.assertEqual(results(words_for("bad_hang", "int32")._replace(seconds=0.5)), {"hung": {"int32"}})
@@ -141,10 +149,46 @@ class Consumers(unittest.TestCase):
         verdict, = verdicts(words_for("bad_dictionary_released", "a dictionary"))
         self.assertEqual(verdict, {
             "part": "a dictionary", "result": "unlawful", "fault": "ReleasedChild: array /d", "rule": "ReleasedChild",
-            "sentence": "array /d is released by the consumer, though it still is its parent's, who releases it",
+            "sentence": "Array /d is released by the consumer, though it still is its parent's, who releases it "
+                        "(\"Release callback semantics\").",
             "section": "Release callback semantics", "rules": ["ReleasedChild"]})
         verdict, = verdicts(words_for("bad_crash", "int32"))
         self.assertEqual(verdict["fault"], "it is ended by SIGSEGV, at address 0x4")
+
+
+class Commands(unittest.TestCase):
+    """What the tool prints, and its status."""
+
+    def said(self, *words: str) -> Tuple[List[str], int]:
+        ran = subprocess.run([sys.executable, str(HERE / "arrow_tree.py"), *words], stdout=-1, stderr=subprocess.STDOUT,
+                             universal_newlines=True, cwd=FOLDER)
+        return ran.stdout.splitlines(), ran.returncode
+
+    def test_what_is_the_same_with_several_exports_is_told_once(self) -> None:
+        only = ("--only", "int32", "--only", "a table", "--only", "a dictionary")
+        self.assertEqual(self.said("--consumer", "./libconsumers.so:good_reader", *only), (["consumer: ok, 3 exports taken"], 0))
+        lines = ["int32 and 2 more exports: SourceNotReleased: array",
+                 "    Array was copied and the copy released, but what it was copied from isn't marked released "
+                 '("Moving an array").']
+        self.assertEqual(self.said("--consumer", "./libconsumers.so:bad_source", *only), (lines, 8))
+        printed, status = self.said("--consumer", "./libconsumers.so:bad_source", *only, "--json", "--junit", "verdicts.xml")
+        self.assertEqual([json.loads(line)["rule"] for line in printed], ["SourceNotReleased"] * 3)
+        self.assertEqual((FOLDER / "verdicts.xml").read_text().count("<failure "), 3)
+
+    def test_each_end_has_a_status(self) -> None:
+        for name, line, status in (("bad_abort", "it is ended by SIGABRT", 9), ("bad_exit", "it ends the process with status 0", 10),
+                                   ("bad_folder", "it changes the folder to /", 6), ("bad_hang", "it takes too long", 7),
+                                   ("good_untouched", "none of 1 exports is taken", 4)):
+            part = "consumer" if status == 4 else "int32"
+            words = ("--consumer", f"./libconsumers.so:{name}", "--only", "int32", "--seconds", "2")
+            self.assertEqual(self.said(*words), ([f"{part}: {line}"], status))
+
+    def test_wrong_words_have_a_status_of_their_own(self) -> None:
+        for words in (["./libconsumers.so:none"], ["./none.so:f"], ["nothing:f"], ["nothing"], ["os:none"],
+                      ["./libconsumers.so:good_reader", "--only", "none"], ["./libconsumers.so:good_reader", "--answers"],
+                      ["./libconsumers.so:good_reader", "./libproducer.so:export_int32"]):
+            lines, status = self.said("--consumer", *words)
+            self.assertEqual((status, any("Traceback" in line for line in lines)), (2, False), lines)
 
 
 class Answers(unittest.TestCase):
@@ -288,7 +332,7 @@ class Sanitized(unittest.TestCase):
                    f"    for it in verdicts(Words({str(library)!r} + ':' + name, stream=stream, only=only, seconds=60)):\n"
                    f"        print(name, it['fault'])\n")
         ran = subprocess.run([sys.executable, "-c", program], stdout=-1, stderr=-1, universal_newlines=True, env={
-            **os.environ, "LD_PRELOAD": runtime, "ASAN_OPTIONS": "leak_check_at_exit=0"})
+            **os.environ, "LD_PRELOAD": runtime, "ASAN_OPTIONS": "leak_check_at_exit=0", "PYTHONMALLOC": "malloc"})
         self.assertEqual(ran.stdout, "".join(f"{name} ok\n" for name, _ in lawful) + "bad_leak Leak: the consumer\n", ran.stderr)
 
 
@@ -316,7 +360,7 @@ def main() -> int:
         print(f"consumers: there is no program {words.program} with an arrowtree beside it")
         return 1
     compiled()
-    suite = unittest.defaultTestLoader.loadTestsFromNames(rest or ["Consumers", "Answers", "Header", "Sanitized"],
+    suite = unittest.defaultTestLoader.loadTestsFromNames(rest or ["Consumers", "Commands", "Answers", "Header", "Sanitized"],
                                                           sys.modules[__name__])
     result = unittest.TextTestRunner(verbosity=0, stream=io.StringIO()).run(suite)
     for test, trace in result.failures + result.errors:

@@ -3,8 +3,10 @@
     arrow_tree.py mymodule:table --check ./arrowpipe          an object of the PyCapsule Interface, or a function of one
     arrow_tree.py ./libmine.so:people --check ./arrowpipe     void people(struct ArrowSchema *, struct ArrowArray *)
     arrow_tree.py ./libmine.so:stream:rows --out trees        void rows(struct ArrowArrayStream *)
+    arrow_tree.py --consumer ./libmine.so:sum                 int sum(struct ArrowSchema *, struct ArrowArray *)
+    arrow_tree.py --consumer mymodule:read --stream           a callable of one object of the PyCapsule Interface
 
-Exit status, the greatest of all parts: 0 all is lawful, 10 a producer ended the process, 9 it crashed, 8 a part isn't lawful,
+Exit status, the greatest of all parts: 0 all is lawful, 10 it ended the process, 9 it crashed, 8 a part isn't lawful,
 7 it took too long, 6 it changed the folder, 4 a type is left out, 3 what can't be written as a text or a stream that failed,
 2 wrong words, 1 an exception of a module's. 130 and 143: interrupted, terminated.
 """
@@ -17,6 +19,7 @@ from pathlib import Path
 from typing import Any, List, Optional
 
 from .checker import Checker, Unusable
+from .consumer import try_consumer
 from .judge import Judge
 from .report import Report
 from .source import Source
@@ -37,6 +40,10 @@ def parsed(given: Optional[List[str]] = None) -> Any:
                                      formatter_class=argparse.RawDescriptionHelpFormatter)
     parser.add_argument("producers", nargs="*", metavar="PRODUCER",
                         help="MODULE:OBJECT, LIBRARY.so:FUNCTION or LIBRARY.so:stream:FUNCTION")
+    parser.add_argument("--consumer", action="append", default=[], metavar="CONSUMER",
+                        help="MODULE:CALLABLE or LIBRARY.so:FUNCTION, which is handed lawful exports")
+    parser.add_argument("--answers", action="store_true", help="the consumer answers with an export, which is compared")
+    parser.add_argument("--only", action="append", default=[], metavar="EXPORT", help="hand over the export of that name")
     parser.add_argument("--check", metavar="PROGRAM", help="the arrowpipe that checks each part")
     parser.add_argument("--arrowtree", metavar="PROGRAM", help="checks unions and run ends; that beside arrowpipe if none")
     parser.add_argument("--out", type=Path, metavar="FOLDER", help="keep texts there; with --check the refused ones")
@@ -51,9 +58,11 @@ def parsed(given: Optional[List[str]] = None) -> Any:
     parser.add_argument("--direct", action="store_true",
                         help="read memory plainly, in this process: for valgrind or AddressSanitizer")
     words = parser.parse_args(given)
-    if not words.producers or not all(":" in it for it in words.producers):
-        parser.error("a producer is wanted: MODULE:OBJECT or LIBRARY.so:FUNCTION")
-    if not (words.check or words.out or words.lifetimes):
+    if bool(words.producers) == bool(words.consumer) or not all(":" in it for it in words.producers + words.consumer):
+        parser.error("a producer is wanted: MODULE:OBJECT or LIBRARY.so:FUNCTION; or --consumer with such a one")
+    if words.answers and not words.check:
+        parser.error("--answers wants --check")
+    if not (words.check or words.out or words.lifetimes or words.consumer):
         parser.error("--check, --out or --lifetimes is wanted")
     if words.most <= 0 or not words.seconds > 0:
         parser.error("--most and --seconds are above 0")
@@ -81,7 +90,9 @@ def check(words: Any) -> int:
     if sys.stdout is None:
         raise OSError("standard output is closed")
     checker = ready(words)
-    report = Report(words.json, len(words.producers) > 1)
+    report = Report(words.json, len(words.producers + words.consumer) > 1)
+    for name in words.consumer:
+        try_consumer(words, name, checker, report)
     with tempfile.TemporaryDirectory(prefix="arrow-check-") as room:
         for name, prefix in zip(words.producers, file_names(words.producers)):
             Judge(words, checker, report, Path(room), Source(name, words.stream), prefix).run()

@@ -3,14 +3,16 @@ import gc
 import os
 import re
 import tempfile
-from typing import Any, Dict, Iterator, List, NamedTuple, Sequence
+from typing import Any, Dict, Iterator, List, NamedTuple, Optional, Sequence
 
 from . import answers, trial
+from .checker import Checker, Unusable
 from .exports import ARRAYS, STREAMS
 from .handed import Answer, consumer
 from .layout import shown
 from .lent import Lender
 from .record import LIBC, Record
+from .report import Report
 from .verdict import Rule
 
 RULES = {  # what is said of the thing that a rule is broken with, and the section of the standard
@@ -62,14 +64,19 @@ def lost() -> List[bytes]:
         os.dup2(kept, 2)
         said.seek(0)
         text = said.read()
-    return [each[0] for each in re.finditer(LEAK, text) if not re.search(rb"in _?Py|/python| (?:Objects|Modules|Python|Parser)/", each[1])]
+    return [each[0] for each in re.finditer(LEAK, text) if not re.search(rb"in _?Py|/(?:lib)?python| (?:Objects|Modules|Python|Parser)/", each[1])]
 
 
 def take(words: Words, given: Any, record: Record, say: trial.Say) -> None:
     """Hand an export over, in a child process. What is said is why it was refused, and what was answered."""
+    gc.freeze()  # what is here already needn't be searched at the end
     record.watch()
-    lender, before = Lender(record), len(lost())
-    answer = consumer(words.consumer)(lender, given, words.answers)
+    lender = Lender(record)
+    try:
+        called = consumer(words.consumer)
+    except (ImportError, AttributeError, OSError) as why:
+        return say({"unusable": f"{type(why).__name__}: {why}"})
+    answer = called(lender, given, words.answers)
     failed, is_answered = any(held.failed for held in lender.roots), answer.export is not None
     say({"refused": answer.refused, "failed": failed})
     if answer.export:
@@ -81,7 +88,7 @@ def take(words: Words, given: Any, record: Record, say: trial.Say) -> None:
             lender.note("LostError", held)
         lender.judge(held, bool(answer.refused))
     found = lost()
-    if len(found) > before:
+    if found:
         os.write(2, b"".join(found))
         record.note(rule="Leak", what="the consumer", detail=found[-1].decode().split("\n")[0])
 
@@ -114,9 +121,10 @@ def judged(words: Words, given: Any, outcome: trial.Outcome, record: Record) -> 
     first = found[0]
     if "rule" not in first:
         return first
-    rule, detail = RULES[first["rule"]], first.get("detail") and f" ({shown(first['detail'])})"
+    rule, detail = RULES[first["rule"]], first.get("detail") and f": {shown(first['detail'])}"
+    sentence = f"{first['what']} {rule.sentence}{detail or ''}"
     return {"result": "unlawful", "fault": f"{first['rule']}: {first['what']}", "rule": first["rule"],
-            "sentence": f"{first['what']} {rule.sentence}{detail or ''}", "section": rule.section,
+            "sentence": f"{sentence[:1].upper()}{sentence[1:]} (\"{rule.section}\").", "section": rule.section,
             "rules": sorted({each["rule"] for each in found if "rule" in each})}
 
 
@@ -124,8 +132,33 @@ def verdicts(words: Words) -> Iterator[Dict[str, Any]]:
     """What is to be said of each export that is handed to the consumer."""
     record = Record()
     table: Dict[str, Any] = STREAMS if words.stream else ARRAYS
-    for name, given in table.items():
-        if not words.only or name in words.only:
-            record.begin()
-            outcome = trial.run(lambda say: take(words, given, record, say), words.seconds)
-            yield {"part": name, **judged(words, given, outcome, record)}
+    for name in words.only or table:
+        if name not in table:
+            raise Unusable(f"there is no export of the name {shown(name)}")
+        record.begin()
+        outcome = trial.run(lambda say: take(words, table[name], record, say), words.seconds)
+        if outcome.said and "unusable" in outcome.said[0]:
+            raise Unusable(shown(outcome.said[0]["unusable"]))
+        yield {"part": name, **judged(words, table[name], outcome, record)}
+
+
+def try_consumer(given: Any, name: str, checker: Optional[Checker], report: Report) -> None:
+    """Has a consumer tried. Each export's verdict is kept; what is the same with several is told once, but as JSON."""
+    if given.answers and not (checker and checker.arrowtree):
+        raise Unusable("to compare answers an arrowtree is wanted: beside arrowpipe, or by --arrowtree")
+    words = Words(name, given.stream or ":stream:" in name, given.answers, given.seconds,
+                  checker.program if checker else "", checker.arrowtree if checker else "", given.only)
+    told: Dict[str, List[Dict[str, Any]]] = {}
+    for said in verdicts(words):
+        report.keep(name, said)
+        told.setdefault(said.get("rule", said["result"]), []).append(said)
+        if report.as_json:
+            report.show(name, said)
+    lawful, refused = (len(told.pop(each, ())) for each in ("lawful", "refused"))
+    for rule, each in told.items() if not report.as_json else ():
+        also = f" and {len(each) - 1} more exports" if len(each) > 1 else ""
+        report.show(name, {**each[0], "part": each[0]["part"] + also})
+    if not told:
+        fault = f"ok, {lawful} exports taken" + (f", {refused} refused" if refused else "")
+        report.add(name, {"part": "consumer", "result": "lawful" if lawful else "left out",
+                          "fault": fault if lawful else f"none of {refused} exports is taken"})

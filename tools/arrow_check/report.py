@@ -8,7 +8,7 @@ from .layout import shown
 from .verdict import STATUS
 
 PASSED = ("lawful", "written")
-SKIPPED = ("left out", "not tried")
+SKIPPED = ("left out", "not tried", "refused")
 
 
 def line(said: Dict[str, Any]) -> str:
@@ -25,8 +25,14 @@ class Report:
         self.said: List[Tuple[str, Dict[str, Any]]] = []
 
     def add(self, producer: str, said: Dict[str, Any]) -> None:
+        self.keep(producer, said)
+        self.show(producer, said)
+
+    def keep(self, producer: str, said: Dict[str, Any]) -> None:
         self.said.append((producer, said))
         self.status = max(self.status, STATUS[said["result"]])
+
+    def show(self, producer: str, said: Dict[str, Any]) -> None:
         if self.is_silent:
             return
         if said["result"] == "unusable":

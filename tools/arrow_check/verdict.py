@@ -5,7 +5,7 @@ from typing import Any, Dict, List, NamedTuple, Optional
 from .layout import Kind, NO_KIND, shown
 
 # Of several results the greatest status counts.
-STATUS = {"lawful": 0, "written": 0, "not tried": 0, "raised": 1, "unusable": 2, "not written": 3, "failed": 3,
+STATUS = {"lawful": 0, "written": 0, "not tried": 0, "refused": 0, "raised": 1, "unusable": 2, "not written": 3, "failed": 3,
           "left out": 4, "folder changed": 6, "hung": 7, "unlawful": 8, "crashed": 9, "exited": 10}
 FAULT = re.compile(r"tree (?P<path>/\S*): (schema: )?(?P<rule>\w+)( at (?P<place>\d+): (?P<left>.*), (?P<right>.*))?")
 
