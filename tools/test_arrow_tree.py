@@ -1,5 +1,5 @@
 #!/usr/bin/env python3
-"""Tests arrow_tree.py over the exports of producer.c and over spoilt memory. Prints how many tests ran, and fails where one does.
+"""Tests arrow_check over the exports of producer.c and over spoilt memory. Prints how many tests ran, and fails where one does.
 
     test_arrow_tree.py [--quiet] [--no-program] [PROGRAM]     PROGRAM: the arrowpipe whose verdicts are compared too
 
@@ -27,7 +27,7 @@ from typing import Any, Dict, List, NamedTuple, Optional, Tuple
 sys.dont_write_bytecode = True
 HERE = Path(__file__).resolve().parent
 sys.path.insert(0, str(HERE))
-from arrow_check import abi, cli  # noqa: E402
+from arrow_check import abi, assert_lawful, cli  # noqa: E402
 from arrow_check import layout as at  # noqa: E402
 from arrow_check.checker import KNOWN  # noqa: E402
 
@@ -624,6 +624,14 @@ class Verdicts(unittest.TestCase):
             with self.subTest(name):
                 printed, got = main_here(f"{FOLDER}/libproducer.so:{name}", *CHECKED)
                 self.assertEqual((printed.splitlines(), got), (lines, status))
+
+    def test_a_test_in_python_fails_with_the_line(self) -> None:
+        before = os.environ.get("ARROWPIPE")
+        os.environ["ARROWPIPE"] = str(PROGRAM)
+        assert_lawful(f"{FOLDER}/libproducer.so:export_many")
+        with self.assertRaisesRegex(AssertionError, "NullCount(?s:.*)The null count of column floats is 0"):
+            assert_lawful(f"{FOLDER}/libproducer.so:bad_null_count", str(PROGRAM))
+        os.environ.update({"ARROWPIPE": before} if before else {})
 
     def test_a_kept_text_is_refused_again(self) -> None:
         tool("./libproducer.so:stream_spoilt_chunk", "--stream", *CHECKED, "--out", "again")
