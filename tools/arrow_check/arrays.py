@@ -6,8 +6,8 @@ from typing import Any, Callable, Dict, List, Optional
 
 from . import heap
 from .abi import ArrowArray, GARBAGE, is_live, moved, release, room_at
-from .layout import Sums, changed
 from .source import Broken, Export, Inapplicable, NotTried, Source
+from .sums import Sums, changed
 from .verdict import column_of
 
 
@@ -16,9 +16,17 @@ class Bench:
 
     def __init__(self, source: Source, most: int, direct: bool, seen: Dict[str, Any]) -> None:
         self.source, self.sums, self.seen = source, Sums(most, direct), seen
+        self.made: List[Any] = []  # all that has been made, by what owns it
 
     def make(self) -> Export:
-        return self.source.make()
+        self.made.append(self.source.make())
+        return self.made[-1]  # type: ignore
+
+    def close(self) -> None:
+        """Releases what a trial that isn't gone through has left."""
+        for owner in reversed(self.made):
+            for each in owner.owned():
+                release(each)
 
     def schema(self, export: Export) -> Dict[str, int]:
         return self.sums.of_schema(ctypes.addressof(export.schema))
@@ -131,12 +139,17 @@ def outlives(bench: Bench, schema: Any, array: Any, all_of_them: bool) -> None:
 
 
 def try_child_moved(bench: Bench) -> None:
-    for all_of_them in (False, True):
-        export = bench.make()
-        if not has_array(export) or not export.array[4]:
-            raise Inapplicable("there is no child")
-        outlives(bench, export.schema, export.array, all_of_them)
-        release(export.schema)
+    export = bench.make()
+    if not has_array(export) or not export.array[4]:
+        raise Inapplicable("there is no child")
+    outlives(bench, export.schema, export.array, True)
+    release(export.schema)
+    try:
+        export = once_more(bench)
+    except NotTried:
+        return
+    outlives(bench, export.schema, export.array, False)
+    release(export.schema)
 
 
 def elsewhere(rule: str, owned: List[Any]) -> None:
@@ -169,6 +182,7 @@ def try_leak(bench: Bench) -> None:
     def act() -> None:
         for each in bench.make().owned():
             release(each)
+        bench.made.clear()
 
     bench.make().release()
     once_more(bench).release()

@@ -52,7 +52,7 @@ def parsed(given: Optional[List[str]] = None) -> Any:
     parser.add_argument("--json", action="store_true", help="print an object of JSON a verdict")
     parser.add_argument("--junit", type=Path, metavar="FILE", help="write the verdicts there, as JUnit's XML")
     parser.add_argument("--stream", action="store_true", help="the libraries' functions fill in an ArrowArrayStream")
-    parser.add_argument("--seconds", type=float, default=60.0, metavar="N", help="of a producer, up to its end (default 60)")
+    parser.add_argument("--seconds", type=float, default=60.0, metavar="N", help="up to a producer's end (default 60)")
     parser.add_argument("--most", type=int, default=1 << 28, metavar="BYTES",
                         help="read in all, and at most twice as many are written (default 2^28)")
     parser.add_argument("--direct", action="store_true",

@@ -5,7 +5,6 @@ import re
 from binascii import hexlify
 from collections import defaultdict
 from typing import Any, BinaryIO, Dict, Iterator, List, NamedTuple, Optional, Sequence, Tuple
-from zlib import crc32
 
 from .abi import ArrowArray, ArrowSchema
 
@@ -177,7 +176,7 @@ class Writer:
         """A node that is live; of any other the line is written."""
         where = f"{path or '/'}: {form.__name__}"
         if not address and path and not self.is_deep:
-            self.null(path, "the pointer to it")
+            self.null(path, "structure")
         node = None if self.is_deep else form(*self.numbers(address, len(form._fields), where))
         if not node or not node.release:
             return self.line("S !" if form is ArrowSchema else "A !")
@@ -261,48 +260,3 @@ class Writer:
             last = self.pieces(places[1] and places[1] + n * bits // 8, bits // 8, "the last offset")
             return int.from_bytes(b"".join(last), "little", signed=True)
         return ((n + (hold[0] == "+")) * bits + 7) // 8 if n else 0
-
-
-class Sums(Writer):
-    """Reads structures as a Writer does, and keeps in place of each node's text a sum, by which a change is seen."""
-
-    def taken(self, read: Any, address: int, path: str) -> Dict[str, int]:
-        self.begin(None, True)
-        self.left, self.room = self.most, 2 * self.most + PAGE
-        self.sums: Dict[str, int] = {}
-        self.path = path
-        try:
-            read(address, path)
-        except Refused as why:
-            self.sums[self.path] = crc32(str(why).encode())
-        self.lines = []
-        return self.sums
-
-    def of_schema(self, address: int) -> Dict[str, int]:
-        self.kinds.clear()
-        return self.taken(self.schema, address, "")
-
-    def of_array(self, address: int, path: str = "") -> Dict[str, int]:
-        return self.taken(self.array, address, path)
-
-    def node(self, form: Any, address: int, path: str) -> Any:
-        self.path = path
-        self.sums[path] = 0
-        return super().node(form, address, path)
-
-    def line(self, text: str, times: int = 1) -> None:
-        self.spend((len(text) + 1) * times)
-        self.sums[self.path] = crc32(text.encode() * times, self.sums.get(self.path, 0))
-
-    def flush(self) -> None:
-        pass
-
-    def content(self, place: int, size: int, what: str) -> None:
-        self.line("B" if place else "~")
-        for piece in self.pieces(place, size, what):
-            self.sums[self.path] = crc32(piece, self.sums[self.path])
-
-
-def changed(before: Dict[str, int], after: Dict[str, int]) -> Optional[str]:
-    """The first node that isn't as it was; a node that is gone is one of its parent's."""
-    return next((path for path in before if before[path] != after.get(path)), None)

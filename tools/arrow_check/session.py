@@ -18,6 +18,7 @@ from .verdict import column_of, sentence
 
 COMMANDS = {"a union": "union", "a run-end encoded array": "flat"}  # of arrowtree
 UNREADABLE = "{column} can't be read: a pointer or a count of it leads out of this process's memory, or to too much."
+HELD: List[Any] = []  # capsules stay up to the end, but where their end is tried
 OF_SCHEMAS = ("Moved", "TwoExports", "OtherThread")
 
 
@@ -133,6 +134,7 @@ class Layout:
     def run(self) -> None:
         self.say({"at": "while it was called"})
         export = self.source.make()
+        HELD.append(export)
         self.say({"at": "while what it gave was read"})
         ours = export.owned() if export.is_ours else []
         kind = "stream" if export.stream is not None else "array"
@@ -154,7 +156,13 @@ def perform(name: str, source: Source, limits: Limits, seen: Dict[str, Any], say
         if name == "layout":
             Layout(source, limits, say).run()
         else:
-            trials(seen)[name](Bench(source, limits.most, limits.direct, seen))
+            bench = Bench(source, limits.most, limits.direct, seen)
+            HELD.append(bench)
+            try:
+                trials(seen)[name](bench)
+            except NotTried:
+                bench.close()
+                raise
     except Broken as why:
         say({"broken": {"rule": why.rule, "what": why.what, "path": why.path}})
     except Inapplicable:

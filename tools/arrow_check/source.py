@@ -73,7 +73,8 @@ def opened(given: Any, method: str) -> Any:
     names = METHODS[method]
     capsules = given if isinstance(given, tuple) else (given,)
     if len(capsules) != len(names) or isinstance(given, tuple) != (len(names) > 1):
-        raise Broken("CapsuleCount", f"{method} gives {len(capsules)} of {len(names)} capsules")
+        what = f"a tuple of {len(given)}" if isinstance(given, tuple) else "one object"
+        raise Broken("CapsuleCount", f"{method} gives {what} in place of {('one capsule', 'a tuple of 2')[len(names) - 1]}")
     for capsule, name in zip(capsules, names):
         if type(capsule).__name__ != "PyCapsule":
             raise Broken("CapsuleType", f"{method} gives {shown(type(capsule).__name__)} in place of {name}")

@@ -18,6 +18,7 @@ class Reader:
         self.bench, self.stream, self.left = bench, export.stream, bench.sums.most
         self.chunks: List[Any] = []
         self.schema = room(ArrowSchema)
+        bench.made.append(self)
         self.code = call(self.stream, "get_schema", self.schema)
         if self.code:
             self.schema = room(ArrowSchema)
@@ -153,12 +154,17 @@ def try_two_exports(bench: Bench) -> None:
 
 
 def try_child_moved(bench: Bench) -> None:
-    for all_of_them in (False, True):
-        reader = Reader(bench, bench.make())
+    export = bench.make()
+    for all_of_them in (True, False):
+        reader = Reader(bench, export)
         if reader.next() is None or not reader.chunks[0][4]:
             raise Inapplicable("there is no child")
         outlives(bench, reader.schema, reader.chunks[0], all_of_them)
         reader.release()
+        try:
+            export = once_more(bench) if all_of_them else export
+        except NotTried:
+            return
 
 
 def try_other_thread(bench: Bench) -> None:
@@ -230,11 +236,13 @@ def try_leak(bench: Bench) -> None:
             release(reader.chunks.pop())
             reader.left -= bench.sums.most // MOST_CHUNKS
         reader.release()
+        bench.made.clear()
 
     def cut_short() -> None:
         reader = Reader(bench, bench.make())
         reader.next()
         reader.release()
+        bench.made.clear()
 
     read(bench)[0].release()
     again = Reader(bench, once_more(bench))

@@ -67,7 +67,7 @@ OF_ARRAY = {
     "IndexRange": "Item {place} of {column} is the index {left} into a dictionary of {right} entries.",
     "WindowTooLong": "The window of {column} ends at {left}, above 2^40.",
     "TopNulls": "{left} rows of the table are null by the root's own validity bitmap; a table's rows aren't null.",
-    "NullPointer": "{column}: {member} is null, and must lead somewhere.",
+    "NullPointer": "{column} has a null pointer in place of its {member}.",
     "Union": "{column} is no lawful union: arrowtree refuses its type ids, offsets, buffers or children.",
     "RunEnds": "{column} is no lawful run-end encoded array: arrowtree refuses its ends, values or children.",
 }
