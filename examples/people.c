@@ -1,9 +1,11 @@
-/* Three rows of two columns, handed over by the Arrow C Data Interface: what docs/CHECK.md has checked.
+/* Three rows of two columns, handed over by the Arrow C Data Interface: what docs/CHECK.md has checked. Each export has memory
+ * of its own, which its release frees, so exports, chunks and streams can be released in any order.
  *
  *     cc -g -shared -fPIC examples/people.c -o libpeople.so
  */
 #include <stdint.h>
-#include <stddef.h>
+#include <stdlib.h>
+#include <string.h>
 
 struct ArrowSchema {
   const char *format, *name, *metadata;
@@ -27,38 +29,59 @@ struct ArrowArrayStream {
   void *private_data;
 };
 
-/* All memory is static here, so a release has nothing to free: it releases the children and marks the structure. */
+/* A release calls those of the children that are still there (a consumer may have moved one out and marked it released), frees
+ * what belongs to the structure, and marks it. Texts that are constants of the program needn't be freed. */
 static void release_schema(struct ArrowSchema *schema) {
-  for (int64_t i = 0; i < schema->n_children; i++)
+  for (int64_t i = 0; i < schema->n_children; i++) {
     if (schema->children[i]->release) schema->children[i]->release(schema->children[i]);
+    free(schema->children[i]);
+  }
+  free(schema->children);
   schema->release = NULL;
 }
 static void release_array(struct ArrowArray *array) {
-  for (int64_t i = 0; i < array->n_children; i++)
+  for (int64_t i = 0; i < array->n_children; i++) {
     if (array->children[i]->release) array->children[i]->release(array->children[i]);
+    free(array->children[i]);
+  }
+  free(array->children);
+  for (int64_t i = 0; i < array->n_buffers; i++) free((void *)array->buffers[i]);
+  free(array->buffers);
   array->release = NULL;
 }
 
-static void people_type(struct ArrowSchema *schema) {
-  static struct ArrowSchema name, amount, *children[] = {&name, &amount};
-  name = (struct ArrowSchema){.format = "u", .name = "name", .release = release_schema};
-  amount = (struct ArrowSchema){.format = "d:10,2", .name = "amount", .flags = 2, .release = release_schema};
+/* Structures with room for their children and buffers. (A program would look whether malloc gives null.) */
+static void make_schema(struct ArrowSchema *schema, const char *format, const char *name, int64_t flags, int64_t n_children) {
   *schema = (struct ArrowSchema){
-      .format = "+s", .name = "", .n_children = 2, .children = children, .release = release_schema};
+      .format = format, .name = name, .flags = flags, .n_children = n_children, .release = release_schema};
+  schema->children = calloc(n_children + 1, sizeof(void *));
+  for (int64_t i = 0; i < n_children; i++) schema->children[i] = calloc(1, sizeof(struct ArrowSchema));
 }
+static void make_array(struct ArrowArray *array, int64_t nulls, int64_t n_buffers, int64_t n_children) {
+  *array = (struct ArrowArray){
+      .length = 3, .null_count = nulls, .n_buffers = n_buffers, .n_children = n_children, .release = release_array};
+  array->buffers = calloc(n_buffers, sizeof(void *));
+  array->children = calloc(n_children + 1, sizeof(void *));
+  for (int64_t i = 0; i < n_children; i++) array->children[i] = calloc(1, sizeof(struct ArrowArray));
+}
+static const void *copy(const void *bytes, size_t size) { return memcpy(malloc(size), bytes, size); }
 
+static void people_type(struct ArrowSchema *schema) {
+  make_schema(schema, "+s", "", 0, 2);
+  make_schema(schema->children[0], "u", "name", 0, 0);
+  make_schema(schema->children[1], "d:10,2", "amount", 2, 0);
+}
 static void people_array(struct ArrowArray *array, int64_t nulls) {
   static const int32_t offsets[] = {0, 3, 7, 12};
   static const uint8_t valid[] = {0x05}; /* the second amount is null */
   static const int64_t amounts[] = {1250, 0, 0, 0, -99, -1};
-  static const void *name_buffers[] = {NULL, offsets, "AdaEmmyGrace"}, *amount_buffers[] = {valid, amounts};
-  static const void *row_buffers[] = {NULL};
-  static struct ArrowArray name, amount, *children[] = {&name, &amount};
-  name = (struct ArrowArray){.length = 3, .n_buffers = 3, .buffers = name_buffers, .release = release_array};
-  amount = (struct ArrowArray){
-      .length = 3, .null_count = nulls, .n_buffers = 2, .buffers = amount_buffers, .release = release_array};
-  *array = (struct ArrowArray){.length = 3, .n_buffers = 1, .n_children = 2, .buffers = row_buffers,
-                               .children = children, .release = release_array};
+  make_array(array, 0, 1, 2);
+  make_array(array->children[0], 0, 3, 0);
+  array->children[0]->buffers[1] = copy(offsets, sizeof offsets);
+  array->children[0]->buffers[2] = copy("AdaEmmyGrace", 12);
+  make_array(array->children[1], nulls, 2, 0);
+  array->children[1]->buffers[0] = copy(valid, sizeof valid);
+  array->children[1]->buffers[1] = copy(amounts, sizeof amounts);
 }
 
 void people(struct ArrowSchema *schema, struct ArrowArray *array) {
@@ -72,25 +95,33 @@ void wrong_people(struct ArrowSchema *schema, struct ArrowArray *array) {
   people_array(array, 0);
 }
 
-/* The same as a stream of four chunks, of which the last is wrong. */
-static int64_t given;
+/* Its release forgets the children. */
+static void forgetful_release(struct ArrowArray *array) { array->release = NULL; }
+void leaking_people(struct ArrowSchema *schema, struct ArrowArray *array) {
+  people(schema, array);
+  array->release = forgetful_release;
+}
+
+/* The same as a stream of four chunks, of which the last is wrong. How many were given is the stream's own. */
 static int get_schema(struct ArrowArrayStream *stream, struct ArrowSchema *out) {
   (void)stream;
   people_type(out);
   return 0;
 }
 static int get_next(struct ArrowArrayStream *stream, struct ArrowArray *out) {
-  (void)stream;
+  int64_t *given = stream->private_data;
   out->release = NULL;
-  if (given < 4) people_array(out, given++ < 3);
+  if (*given < 4) people_array(out, (*given)++ < 3);
   return 0;
 }
 static const char *get_last_error(struct ArrowArrayStream *stream) {
   (void)stream;
   return NULL;
 }
-static void release_stream(struct ArrowArrayStream *stream) { stream->release = NULL; }
+static void release_stream(struct ArrowArrayStream *stream) {
+  free(stream->private_data);
+  stream->release = NULL;
+}
 void people_stream(struct ArrowArrayStream *stream) {
-  given = 0;
-  *stream = (struct ArrowArrayStream){get_schema, get_next, get_last_error, release_stream, NULL};
+  *stream = (struct ArrowArrayStream){get_schema, get_next, get_last_error, release_stream, calloc(1, sizeof(int64_t))};
 }

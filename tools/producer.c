@@ -1,16 +1,14 @@
-/* Producers of the Arrow C Data Interface, for the tests of arrow_tree.py.
+/* Producers of the Arrow C Data Interface, for the tests of arrow_check.
  *
  * export_int32 and export_float32_utf8 follow the two examples of the page "The Arrow C data interface" ("Exporting a
  * simple int32 array", "Exporting a struct<float32, utf8> array"). Each function behind them exports what its name says.
  *
  *     cc -std=c11 -Wall -Wextra -O1 -g -shared -fPIC producer.c -o libproducer.so
- *
- * Where the environment variable RELEASED names a file, the process writes there at its end how many nodes of schemas, nodes
- * of arrays and streams were released.
  */
 #define _GNU_SOURCE
 #include <assert.h>
 #include <errno.h>
+#include <fcntl.h>
 #include <signal.h>
 #include <stdint.h>
 #include <stdio.h>
@@ -43,14 +41,17 @@ struct ArrowArrayStream {
   void *private_data;
 };
 
-/* How often a release acted: a test asks that each structure's did, once. */
-int released_schemas, released_arrays, released_streams;
-
-__attribute__((destructor)) static void write_released(void) {
-  FILE *file = getenv("RELEASED") ? fopen(getenv("RELEASED"), "w") : NULL;
-  if (file == NULL) return;
-  fprintf(file, "%d %d %d", released_schemas, released_arrays, released_streams);
-  fclose(file);
+/* How often a release acted: a test asks that each structure's did, once. Where the environment variable RELEASED names a file,
+ * the counts are in it, for all processes. */
+static int here[3], *released = here;
+#define released_schemas released[0]
+#define released_arrays released[1]
+#define released_streams released[2]
+__attribute__((constructor)) static void open_released(void) {
+  int file = getenv("RELEASED") ? open(getenv("RELEASED"), O_RDWR) : -1;
+  if (file < 0) return;
+  released = mmap(NULL, sizeof here, PROT_READ | PROT_WRITE, MAP_SHARED, file, 0);
+  assert(released != MAP_FAILED && close(file) == 0);
 }
 
 /* ---- The page's first example: int32 ---- */
@@ -276,6 +277,27 @@ void export_decimal64(struct ArrowSchema *schema, struct ArrowArray *array) {
   array->buffers[1] = BUFFER(int64_t, 1, 2);
 }
 
+/* A table of a number, a union, runs, a list view and a text: each left-out column beside those that are checked. */
+static void add_column(struct ArrowSchema *schema, struct ArrowArray *array, int i, const char *name,
+                       void (*export)(struct ArrowSchema *, struct ArrowArray *)) {
+  export(schema->children[i], array->children[i]);
+  schema->children[i]->name = name;
+}
+static void export_three_ints(struct ArrowSchema *schema, struct ArrowArray *array) {
+  type_of(schema, "i", "", 0);
+  array_of(array, 3, 0, 2, 0);
+  array->buffers[1] = BUFFER(int32_t, 1, 2, 3);
+}
+void export_mixed(struct ArrowSchema *schema, struct ArrowArray *array) {
+  type_of(schema, "+s", "", 5);
+  array_of(array, 2, 0, 1, 5);
+  add_column(schema, array, 0, "number", export_three_ints);
+  add_column(schema, array, 1, "kind", export_union);
+  add_column(schema, array, 2, "runs", export_runs);
+  add_column(schema, array, 3, "tags", export_list_view);
+  add_column(schema, array, 4, "last", export_three_ints);
+}
+
 /* As many levels of structs of one child as asked for, without rows. */
 static void levels(struct ArrowSchema *schema, struct ArrowArray *array, int left) {
   type_of(schema, "+s", "deep", left > 1);
@@ -287,7 +309,7 @@ void bad_65_levels(struct ArrowSchema *schema, struct ArrowArray *array) { level
 
 /* ---- Streams, each of three chunks but for what its name says ---- */
 
-enum way { LAWFUL, BREAKS, BREAKS_SILENTLY, NO_SCHEMA, NO_CHUNK, ENDLESS, NULL_ROWS, NULL_ITEMS, SPOILT_CHUNK, SPOILT_TYPE,
+enum way { LAWFUL, BREAKS, BREAKS_SILENTLY, FORGES, NO_SCHEMA, NO_CHUNK, ENDLESS, NULL_ROWS, NULL_ITEMS, SPOILT_CHUNK, SPOILT_TYPE,
            OTHER_CHILDREN, INTERRUPTED, INTERRUPTED_AT_THE_END };
 struct counted { enum way way; int next; };
 
@@ -316,8 +338,8 @@ static int stream_next(struct ArrowArrayStream *stream, struct ArrowArray *out) 
   struct counted *counted = stream->private_data;
   enum way way = counted->way;
   int number = counted->next++, before = released_schemas;
-  if ((way == BREAKS || way == BREAKS_SILENTLY) && number == 2) return EIO;
-  if ((number == 3 && way != ENDLESS) || way == NO_CHUNK) {
+  if ((way == BREAKS || way == BREAKS_SILENTLY || way == FORGES) && number == 2) return EIO;
+  if ((number >= 3 && way != ENDLESS) || way == NO_CHUNK) {
     out->release = NULL;
     return 0;
   }
@@ -336,7 +358,8 @@ static int stream_next(struct ArrowArrayStream *stream, struct ArrowArray *out) 
   return 0;
 }
 static const char *stream_error(struct ArrowArrayStream *stream) {
-  return way_of(stream) == BREAKS_SILENTLY ? NULL : "the disk is gone";
+  const char *text = way_of(stream) == FORGES ? "no\nchunk 9: ok\33[2J" : "the disk is gone";
+  return way_of(stream) == BREAKS_SILENTLY ? NULL : text;
 }
 static void stream_release(struct ArrowArrayStream *stream) {
   if (way_of(stream) == INTERRUPTED_AT_THE_END) raise(SIGINT);
@@ -353,6 +376,7 @@ static void stream_of(struct ArrowArrayStream *stream, enum way way) {
 STREAM(stream_chunks, LAWFUL)
 STREAM(stream_breaks, BREAKS)
 STREAM(stream_breaks_silently, BREAKS_SILENTLY)
+STREAM(stream_forges, FORGES)
 STREAM(stream_no_schema, NO_SCHEMA)
 STREAM(stream_no_chunk, NO_CHUNK)
 STREAM(stream_endless, ENDLESS)
@@ -459,8 +483,17 @@ SPOILT(bad_wild_name, export_float32_utf8, LEAKS, s[0]->name = (void *)0x7000000
 SPOILT(bad_open_name, export_float32_utf8, LEAKS, s[0]->name = last_bytes(5))
 SPOILT(bad_no_format, export_float32_utf8, s[0]->format = NULL)
 SPOILT(bad_null_child, export_float32_utf8, LEAKS, array->children[0] = NULL)
+SPOILT(bad_null_children, export_float32_utf8, LEAKS, array->children = NULL)
+SPOILT(bad_null_buffers, export_float32_utf8, LEAKS, a[0]->release = leaks_array, a[1]->buffers = NULL)
+SPOILT(bad_json_metadata, export_float32_utf8, s[1]->metadata = "{\"pandas\": {\"index_columns\": []}}")
+SPOILT(bad_long_name, export_float32_utf8, LEAKS, s[0]->name = memset(calloc(1, 2000001), 'n', 2000000))
+SPOILT(bad_forged_name, export_float32_utf8, s[0]->name = "x\narray: ok\33[2J", a[0]->null_count = 0)
 SPOILT(bad_cycle, export_float32_utf8, LEAKS, array->children[0] = array, schema->children[0] = schema)
 SPOILT(bad_many_children, export_float32_utf8, LEAKS, array->n_children = INT64_C(1) << 40)
 SPOILT(bad_negative_children, export_float32_utf8, LEAKS, schema->n_children = -1)
+SPOILT(bad_mixed_last, export_mixed, a[4]->null_count = 1)
+SPOILT(bad_mixed_union, export_mixed, PUT(a[1], 0, int8_t, 1, 6))
+SPOILT(bad_mixed_runs, export_mixed, PUT(a[2]->children[0], 1, int32_t, 1, 2))
+SPOILT(bad_union, export_union, PUT(array, 0, int8_t, 1, 6))
 SPOILT(bad_release, export_int32, array->release = forgets)
 SPOILT(bad_double_release, export_float32_utf8, array->release = frees_twice)

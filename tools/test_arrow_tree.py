@@ -1,5 +1,5 @@
 #!/usr/bin/env python3
-"""Tests arrow_tree.py over the exports of producer.c and over spoilt memory. Prints how many tests ran, and fails where one does.
+"""Tests arrow_check over the exports of producer.c and over spoilt memory. Prints how many tests ran, and fails where one does.
 
     test_arrow_tree.py [--quiet] [--no-program] [PROGRAM]     PROGRAM: the arrowpipe whose verdicts are compared too
 
@@ -15,8 +15,10 @@ import os
 import random
 import re
 import signal
+import struct
 import subprocess
 import sys
+import time
 import tempfile
 import unittest
 from pathlib import Path
@@ -25,7 +27,9 @@ from typing import Any, Dict, List, NamedTuple, Optional, Tuple
 sys.dont_write_bytecode = True
 HERE = Path(__file__).resolve().parent
 sys.path.insert(0, str(HERE))
-import arrow_tree as at  # noqa: E402
+from arrow_check import abi, assert_lawful, cli  # noqa: E402
+from arrow_check import layout as at  # noqa: E402
+from arrow_check.checker import KNOWN  # noqa: E402
 
 # A job in the background begins with SIGINT ignored, and so would the tool that it starts.
 signal.signal(signal.SIGINT, signal.default_int_handler)
@@ -33,8 +37,8 @@ signal.signal(signal.SIGINT, signal.default_int_handler)
 ROOM = tempfile.TemporaryDirectory(prefix="arrow-tree-")
 FOLDER = Path(ROOM.name)
 PROGRAM: Optional[str] = None
+CHECKED: List[Any] = []
 SPOILT_MEMORIES = 2000
-COUNTS = ("released_schemas", "released_arrays", "released_streams")
 
 
 class Row(NamedTuple):
@@ -58,9 +62,9 @@ ROWS = [
         5: "A 0 0 0 1 2 0", 7: "A 0 -1 0 2 0 0", 8: "B ~", 9: "B ~", 10: "A 0 -1 0 3 0 0", 12: "B ~", 13: "B ~"}, "ok", 0),
     Row("export_64_levels", "", {1: "tree 1\n" + "S =+s =deep 2 1 0 ~\n" * 63 + "S =+s =deep 2 0 0 ~\n"
                                     + "A 0 0 0 1 1 0\nB ~\n" * 63 + "A 0 0 0 1 0 0\nB ~"}, "ok", 0),
-    Row("export_union", "union", {}, "tree /: schema: Format (the root: +ud:5,7, a union)", 4),
+    Row("export_union", "union", {}, "ok", 0),
     Row("export_list_view", "list_view", {}, "tree /: schema: Format (the root: +vl, a list view)", 4),
-    Row("export_runs", "runs", {}, "tree /: schema: Format (the root: +r, a run-end encoded array)", 4),
+    Row("export_runs", "runs", {}, "ok", 0),
     Row("export_decimal64", "decimal64", {},
         "tree /: schema: Format (the root: d:18,2,64, a decimal of 32 or 64 bits)", 4),
     # the rules of schemas
@@ -77,6 +81,7 @@ ROWS = [
         "tree /1: schema: Format (strings: tss)"),
     Row("bad_metadata", "many", {2: "S =+s =many 2 7 0 =%01%00%00%00%04%00%00%00key1%FF%FF%FF%FF"},
         "tree /: schema: Meta (the root: +s)"),
+    Row("bad_json_metadata", "float32_utf8", LOST, "tree /1: schema: Meta (strings: u)"),
     Row("bad_list_type", "many", {
         11: "S =+w:2 =pairs%20of%0Afloats 2 0 0 ~", 12: None, 47: "A !", 48: None, 49: None},
         r"tree /3: schema: ChildCount (pairs of\nfloats: +w:2)"),
@@ -145,18 +150,24 @@ ROWS = [
 UNWRITTEN = [
     ("bad_wild_name", "/0: name at 0x7000000000000000 isn't in mapped memory"),
     ("bad_open_name", r"/0: name at 0x[0-9a-f]+000 isn't in mapped memory"),
-    ("bad_no_format", "/0: format at 0x0 isn't in mapped memory"),
-    ("bad_null_child", "/0: ArrowArray at 0x0 isn't in mapped memory"),
     ("bad_many_children", "/: ArrowArray has 1099511627776 children, or wrongly many buffers"),
     ("bad_negative_children", "/: ArrowSchema has -1 children, or wrongly many buffers"),
+]
+# What is refused as it is read.
+NULLS = [
+    ("bad_no_format", "tree /0: NullPointer: format", "Child 0 has a null pointer in place of its format."),
+    ("bad_null_child", "tree /0: NullPointer: structure", "Column floats has a null pointer in place of its structure."),
+    ("bad_null_children", "tree /: NullPointer: children", "The root has a null pointer in place of its children."),
+    ("bad_null_buffers", "tree /1: NullPointer: buffers", "Column strings has a null pointer in place of its buffers."),
 ]
 # Of streams the lines, the status, and what was released: nodes of schemas, nodes of arrays, streams.
 STREAMS: List[Tuple[str, str, int, str]] = [
     ("stream_chunks", "schema: ok|chunk 0: ok|chunk 1: ok|chunk 2: ok", 0, "3 9 1"),
     ("stream_no_chunk", "schema: ok", 0, "3 0 1"),
-    ("stream_breaks", "schema: ok|chunk 0: ok|chunk 1: ok|producer: get_next answers 5: the disk is gone", 3, "3 6 1"),
+    ("stream_breaks", "schema: ok|chunk 0: ok|chunk 1: ok|producer: get_next answers 5: 'the disk is gone'", 3, "3 6 1"),
     ("stream_breaks_silently", "schema: ok|chunk 0: ok|chunk 1: ok|producer: get_next answers 5: no text", 3, "3 6 1"),
-    ("stream_no_schema", "producer: get_schema answers 12: the disk is gone", 3, "0 0 1"),
+    ("stream_forges", r"schema: ok|chunk 0: ok|chunk 1: ok|producer: get_next answers 5: 'no\nchunk 9: ok\x1b[2J'", 3, "3 6 1"),
+    ("stream_no_schema", "producer: get_schema answers 12: 'the disk is gone'", 3, "0 0 1"),
     ("stream_no_next", "schema: ok|producer: the stream is released, or has no get_next", 8, "3 0 1"),
     ("stream_released", "producer: the stream is released, or has no get_schema", 8, "0 0 1"),
     ("stream_null_rows", "schema: ok|chunk 0: ok|chunk 1: tree /: TopNulls at 0: 1, 0 (the root: +s)|chunk 2: ok", 8,
@@ -190,11 +201,11 @@ def expected_text(row: Row) -> str:
 
 
 def structures(*forms: Any) -> List[Any]:
-    return [(ctypes.c_int64 * len(form._fields))() for form in forms]
+    return [abi.room(form) for form in forms]
 
 
 def filled(function: str) -> Tuple[Any, Any]:
-    schema, array = structures(at.ArrowSchema, at.ArrowArray)
+    schema, array = structures(abi.ArrowSchema, abi.ArrowArray)
     getattr(LIBRARY, function)(ctypes.byref(schema), ctypes.byref(array))
     return schema, array
 
@@ -211,31 +222,26 @@ def tool(*words: Any, **how: Any) -> "subprocess.CompletedProcess[str]":
 
 
 def main_here(*words: Any) -> Tuple[str, int]:
-    """What the tool prints within this process, and its status."""
-    handlers = [(each, signal.getsignal(each)) for each in (signal.SIGINT, signal.SIGTERM)]
-    before, sys.argv = sys.argv, ["arrow_tree.py", *map(str, words)]
-    try:
-        with contextlib.redirect_stdout(io.StringIO()) as printed:
-            status = at.main()
-    finally:
-        sys.argv = before
-        for each, handler in handlers:
-            signal.signal(each, handler)
-    return printed.getvalue(), status
+    """What the tool prints within this process but the sentences, and its status."""
+    with contextlib.redirect_stdout(io.StringIO()) as printed:
+        status = cli.main([*map(str, words), "--no-lifetimes"])
+    return "".join(line for line in printed.getvalue().splitlines(True) if line[0] != " "), status
 
 
 def released_by(*words: Any, **how: Any) -> Tuple[Any, str]:
     """A run of the tool, and what was released in it."""
     counts = FOLDER / "released"
-    counts.write_text("")
-    ran = tool(*words, env={**os.environ, "RELEASED": str(counts)}, **how)
-    return ran, counts.read_text()
+    counts.write_bytes(bytes(12))
+    ran = tool(*words, "--no-lifetimes", env={**os.environ, "RELEASED": str(counts)}, **how)
+    return ran, " ".join(map(str, struct.unpack("3i", counts.read_bytes())))
 
 
 def fake_check(fault: str, status: int) -> Path:
-    """A program that answers as the check would."""
+    """A program that answers as the check would: of the known texts, and of all others the same."""
     path = FOLDER / "fake"
-    path.write_text(f"#!/bin/sh\ncat > /dev/null\necho 'ok'\necho '/ =+s 3 0'\n[ {status} = 0 ] || echo '{fault}' >&2\nexit {status}\n")
+    known = "".join(f"'{text.strip()}') printf '{out}'; printf '{err}' >&2; exit {ends};;\n" for text, ends, out, err in KNOWN)
+    path.write_text(f"#!/bin/sh\ncase $(cat) in\n{known}esac\necho 'ok'\necho '/ =+s 3 0'\n"
+                    f"[ {status} = 0 ] || echo '{fault}' >&2\nexit {status}\n")
     path.chmod(0o755)
     return path
 
@@ -276,75 +282,6 @@ class Grammar:
                 self.array()
 
 
-class Capsules:
-    """Objects of the PyCapsule Interface, made by ctypes. Their destructors release what is in them."""
-
-    held: Dict[int, Any] = {}
-    new = ctypes.PYFUNCTYPE(ctypes.py_object, ctypes.c_void_p, ctypes.c_char_p, ctypes.c_void_p)(
-        ("PyCapsule_New", ctypes.pythonapi))
-
-    @staticmethod
-    @ctypes.PYFUNCTYPE(None, ctypes.c_void_p)
-    def destroy(address: int) -> None:
-        name_of = ctypes.PYFUNCTYPE(ctypes.c_char_p, ctypes.c_void_p)(("PyCapsule_GetName", ctypes.pythonapi))
-        place_of = ctypes.PYFUNCTYPE(ctypes.c_void_p, ctypes.c_void_p, ctypes.c_char_p)(
-            ("PyCapsule_GetPointer", ctypes.pythonapi))
-        at.release(at.ArrowArray, Capsules.held.pop(place_of(address, name_of(address))))
-
-    @staticmethod
-    def of(owned: Any, name: bytes) -> Any:
-        Capsules.held[ctypes.addressof(owned)] = owned
-        return Capsules.new(ctypes.addressof(owned), name, ctypes.cast(Capsules.destroy, ctypes.c_void_p))
-
-
-class CapsuleArray:
-    def __init__(self, function: str) -> None:
-        self.function = function
-
-    def __arrow_c_array__(self, requested_schema: Any = None) -> Tuple[Any, Any]:
-        schema, array = filled(self.function)
-        return Capsules.of(schema, b"arrow_schema"), Capsules.of(array, b"arrow_array")
-
-
-class CapsuleStream:
-    def __init__(self, function: str) -> None:
-        self.function = function
-
-    def __arrow_c_stream__(self, requested_schema: Any = None) -> Any:
-        stream, = structures(at.ArrowArrayStream)
-        getattr(LIBRARY, self.function)(ctypes.byref(stream))
-        return Capsules.of(stream, b"arrow_array_stream")
-
-
-class CapsuleSchema:
-    def __arrow_c_schema__(self) -> Any:
-        schema, array = filled("export_float32_utf8")
-        at.release(at.ArrowArray, array)
-        return Capsules.of(schema, b"arrow_schema")
-
-
-# What the tool is asked for as `test_arrow_tree:NAME`.
-array_capsules = CapsuleArray("export_float32_utf8")
-stream_capsule = CapsuleStream("stream_chunks")
-schema_capsule = CapsuleSchema()
-kept: List[Any] = []
-
-
-def array_addresses() -> Tuple[int, int]:
-    kept[:] = filled("export_float32_utf8")
-    return ctypes.addressof(kept[0]), ctypes.addressof(kept[1])
-
-
-def stream_address() -> int:
-    kept[:] = structures(at.ArrowArrayStream)
-    LIBRARY.stream_chunks(ctypes.byref(kept[0]))
-    return ctypes.addressof(kept[0])
-
-
-def no_export() -> Any:
-    raise NotImplementedError("no Arrow type for it")
-
-
 class Texts(unittest.TestCase):
     def test_each_export_has_its_text(self) -> None:
         compared = 0
@@ -355,9 +292,9 @@ class Texts(unittest.TestCase):
                 Grammar(expected_text(row))
                 compared += 1
                 if row.name != "bad_release":
-                    at.release(at.ArrowArray, array)
-                    at.release(at.ArrowSchema, schema)
-        self.assertEqual(compared, len(ROWS) - 4)
+                    abi.release(array)
+                    abi.release(schema)
+        self.assertEqual(compared, len(ROWS) - 5)
 
     def test_what_cannot_be_written_is_refused(self) -> None:
         for name, why in UNWRITTEN:
@@ -366,6 +303,35 @@ class Texts(unittest.TestCase):
             self.assertEqual(refused.exception.args[0], "not written")
             self.assertRegex(refused.exception.args[1], f"^{why}$")
 
+    def test_a_null_pointer_is_a_rule(self) -> None:
+        for name, fault, sentence in NULLS:
+            with self.subTest(name):
+                ran = tool(f"./libproducer.so:{name}", "--out", "nulls", "--json")
+                said = json.loads(ran.stdout)
+                self.assertEqual((ran.returncode, said["fault"], said["rule"]), (8, fault, "NullPointer"))
+                self.assertEqual(said["sentence"], sentence)
+
+    def test_a_long_name_is_read_in_time_that_is_linear(self) -> None:
+        texts = {}
+        for size in (1 << 18, 1 << 21):
+            name, format = ctypes.create_string_buffer(b"n" * size), ctypes.create_string_buffer(b"i")
+            schema = abi.room(abi.ArrowSchema)
+            schema[:] = [ctypes.addressof(format), ctypes.addressof(name), 0, 0, 0, 0, 0, 1, 0]
+            began = time.process_time()
+            out = io.BytesIO()
+            at.Writer(1 << 26).tree(ctypes.addressof(schema), 0, out)
+            texts[size] = time.process_time() - began
+            self.assertEqual(len(out.getvalue()), len("tree 1\nS =i = 0 0 0 ~\nA !\n") + size)
+        self.assertLess(texts[1 << 21], 64 * max(texts[1 << 18], 0.005))
+
+    def test_no_more_than_twice_the_bound_is_written(self) -> None:
+        schema, array = filled("export_float32_utf8")
+        array[3] = array[4] = 1 << 20  # buffers and children, none of which is read
+        out = io.BytesIO()
+        with self.assertRaisesRegex(at.Refused, "more is to be written than twice what --most allows"):
+            at.Writer(1 << 16).tree(ctypes.addressof(schema), ctypes.addressof(array), out)
+        self.assertLess(len(out.getvalue()), 1 << 18)
+
     def test_each_buffer_is_as_long_as_its_type_asks(self) -> None:
         memory = ctypes.create_string_buffer(b"\7\0\0\0" * 100)
         wide = ctypes.create_string_buffer(b"\7\0\0\0\0\0\0\0" * 50)
@@ -373,7 +339,7 @@ class Texts(unittest.TestCase):
             with self.subTest(format):
                 text = ctypes.create_string_buffer(format.encode())
                 places = (ctypes.c_void_p * 3)(*[ctypes.addressof(wide if format in "UZ" else memory)] * 3)
-                schema, array = structures(at.ArrowSchema, at.ArrowArray)
+                schema, array = structures(abi.ArrowSchema, abi.ArrowArray)
                 schema[:] = [ctypes.addressof(text), 0, 0, 0, 0, 0, 0, 1, 0]
                 array[:] = [6, 0, 3, len(sizes), 0, ctypes.addressof(places), 0, 0, 1, 0]
                 lines = text_of(schema, array).splitlines()[3:]
@@ -383,8 +349,8 @@ class Texts(unittest.TestCase):
         for name in ("export_many", "export_float32_utf8", "export_empty", "export_union", "export_runs"):
             schema, array = filled(name)
             self.assertEqual(text_of(schema, array, direct=True), text_of(schema, array))
-            at.release(at.ArrowArray, array)
-            at.release(at.ArrowSchema, schema)
+            abi.release(array)
+            abi.release(schema)
 
     def test_no_more_than_the_bound_is_read(self) -> None:
         schema, array = filled("export_int32")
@@ -416,11 +382,14 @@ class Texts(unittest.TestCase):
             self.assertNotIn(b"tree line", ran.stderr)
 
     def test_the_source_is_of_python_3_8_and_short(self) -> None:
-        source = (HERE / "arrow_tree.py").read_text()
-        ast.parse(source, feature_version=(3, 8))
-        lines = source.splitlines()
-        self.assertLess(len(lines), 330)
-        self.assertLessEqual(max(map(len, lines)), 120)
+        files = sorted((HERE / "arrow_check").glob("*.py"))
+        self.assertGreater(len(files), 10)
+        for file in [HERE / "arrow_tree.py", *files]:
+            source = file.read_text()
+            ast.parse(source, feature_version=(3, 8))
+            lines = source.splitlines()
+            self.assertLessEqual(len(lines), 300, file)
+            self.assertLessEqual(max(map(len, lines)), 125, file)
 
 
 class SpoiltMemory:
@@ -460,7 +429,7 @@ class SpoiltMemory:
         children = [self.node(level + 1) for _ in range(chance.choice([1, 1, 2]) if is_nested else 0)]
         dictionary = self.node(level + 1) if level < 5 and chance.random() < 0.1 else None
         self.kept.append(ctypes.create_string_buffer(format))
-        schema, array = structures(at.ArrowSchema, at.ArrowArray)
+        schema, array = structures(abi.ArrowSchema, abi.ArrowArray)
         metadata = self.bytes(40) if chance.random() < 0.2 else 0
         schema[:] = [ctypes.addressof(self.kept[-1]), self.bytes(3), metadata, 2, len(children),
                      self.places([ctypes.addressof(child) for child, _ in children]),
@@ -487,88 +456,131 @@ class Runs(unittest.TestCase):
             self.assertEqual((FOLDER / f"kept/here/{name}.tree").read_text(), wanted)
 
     def test_producers_of_a_module_are_read_and_what_is_theirs_stays_so(self) -> None:
-        module = ("--out", "module")
         environment = {**os.environ, "PYTHONPATH": str(HERE), "PRODUCER": str(FOLDER / "libproducer.so")}
         counts = FOLDER / "released"
         for name, parts, released in (("array_capsules", "array", "3 3 0"), ("stream_capsule", "schema", "3 9 1"),
                                       ("schema_capsule", "schema", "3 3 0"), ("array_addresses", "array", "0 0 0"),
                                       ("stream_address", "schema", "3 9 0")):
             with self.subTest(name):
-                ran = tool(f"test_arrow_tree:{name}", *module, env={**environment, "RELEASED": str(counts)})
+                counts.write_bytes(bytes(12))
+                ran = tool(f"capsule_cases:{name}", "--out", f"module-{name}", env={**environment, "RELEASED": str(counts)})
                 self.assertEqual((ran.returncode, ran.stderr), (0, ""))
                 self.assertEqual(ran.stdout.split(":")[0], parts)
-                self.assertEqual(counts.read_text(), released)
-                text = (FOLDER / f"module/{'array' if parts == 'array' else 'schema'}.tree").read_text()
+                self.assertEqual(" ".join(map(str, struct.unpack("3i", counts.read_bytes()))), released)
+                text = (FOLDER / f"module-{name}/{'array' if parts == 'array' else 'schema'}.tree").read_text()
                 stored = (HERE / "expected/float32_utf8.tree").read_text()
                 self.assertEqual(text, stored if parts == "array" else "\n".join(stored.split("\n")[:4]) + "\nA !\n")
-        ran = tool("test_arrow_tree:no_export", *module, env=environment)
-        self.assertEqual(ran.returncode, 1)
-        self.assertIn("NotImplementedError: no Arrow type for it", ran.stderr)
+        ran = tool("capsule_cases:no_export", "--out", "module", env=environment)
+        self.assertEqual((ran.returncode, ran.stdout), (1, "producer: it raises NotImplementedError: no Arrow type for it\n"
+                                                           "    That was while it was called.\n"))
+        self.assertIn("Traceback", ran.stderr)
 
     def test_a_fault_is_printed_with_its_column_and_its_text_is_kept(self) -> None:
         check = fake_check("arrowpipe: tree /1: NotText at 2: 2, 6", 8)
-        words = ("./libproducer.so:bad_text", "--check", check, "--out", "faults")
+        words = ("./libproducer.so:bad_text", "--no-lifetimes", "--check", check, "--out", "faults")
+        sentence = "Item 2 of column strings has 6 bytes, which are UTF-8 up to byte 2 alone."
         ran = tool(*words)
-        self.assertEqual((ran.stdout, ran.returncode), ("array: tree /1: NotText at 2: 2, 6 (strings: u)\n", 8))
+        self.assertEqual((ran.stdout, ran.returncode), (f"array: tree /1: NotText at 2: 2, 6 (strings: u)\n    {sentence}\n", 8))
         row = next(row for row in ROWS if row.name == "bad_text")
         self.assertEqual((FOLDER / "faults/array.tree").read_text(), expected_text(row))
         ran = tool(*words, "--json")
         self.assertEqual(json.loads(ran.stdout), {
             "part": "array", "result": "unlawful", "fault": "tree /1: NotText at 2: 2, 6", "path": "/1", "rule": "NotText",
-            "place": "2", "left": "2", "right": "6", "column": "strings", "format": "u"})
+            "place": "2", "left": "2", "right": "6", "column": "strings", "format": "u", "sentence": sentence,
+            "text": "faults/array-2.tree"})
 
     def test_no_text_of_what_is_lawful_is_kept(self) -> None:
-        ran = tool("./libproducer.so:export_int32", "--check", fake_check("", 0), "--out", "lawful")
+        ran = tool("./libproducer.so:export_int32", "--check", fake_check("", 0), "--out", "lawful", "--no-lifetimes")
         self.assertEqual((ran.stdout, ran.returncode, os.listdir(FOLDER / "lawful")), ("array: ok\n", 0, []))
+
+    def test_texts_are_written_into_new_files_alone(self) -> None:
+        folder, words = FOLDER / "new", ("./libproducer.so:export_int32", "--out", "new")
+        folder.mkdir()
+        (FOLDER / "elsewhere").write_text("as it was")
+        (folder / "array.tree").symlink_to("../elsewhere")
+        os.mkfifo(folder / "array-2.tree")
+        ran = tool(*words)
+        self.assertEqual((ran.stdout, ran.returncode), ("array: new/array-3.tree\n", 0))
+        self.assertEqual((FOLDER / "elsewhere").read_text(), "as it was")
+        (FOLDER / "link").symlink_to("new")
+        ran = tool(words[0], "--out", "link")
+        self.assertEqual((ran.stderr, ran.returncode), ("arrow_tree: link is a link\n", 2))
 
     def test_what_else_the_check_ends_with_is_no_verdict(self) -> None:
         for fault, status, line in (("arrowpipe: input longer than 1073741824 bytes", 5, "input longer than 1073741824 bytes"),
                                     ("arrowpipe: out of memory", 9, "out of memory"),
                                     ("arrowpipe: tree: too many lines", 8, "tree: too many lines"),
                                     ("Killed", 137, f"{FOLDER}/fake ends with status 137")):
-            ran = tool("./libproducer.so:export_int32", "--check", fake_check(fault, status))
+            ran = tool("./libproducer.so:export_int32", "--check", fake_check(fault, status), "--no-lifetimes")
             self.assertEqual((ran.stdout, ran.returncode), (f"array: {line}\n", 3))
+
+    def test_no_check_is_believed_untried(self) -> None:
+        (FOLDER / "checkout/crates").mkdir(parents=True)
+        for name, text in (("arrowpipe", "#!/bin/sh\nsleep 100\n"), ("crates.txt", "")):
+            (FOLDER / "checkout" / name).write_text(text)
+        (FOLDER / "checkout/arrowpipe").chmod(0o755)
+        for check, said in (("/bin/true", "/bin/true is no such checker: of a known text it answers 0, ''"),
+                            ("/bin/cat", "/bin/cat is no such checker: of a known text it answers 1, "),
+                            ("checkout/arrowpipe", "checkout/arrowpipe isn't built in this checkout: make arrowpipe builds it"),
+                            ("none", "none: No such file or directory")):
+            ran, released = released_by("./libproducer.so:export_int32", "--check", check)
+            self.assertEqual((ran.returncode, ran.stdout, released), (2, "", "0 0 0"))
+            self.assertTrue(ran.stderr.startswith(f"arrow_tree: {said}"), ran.stderr)
 
     def test_wrong_words_have_a_status_of_their_own(self) -> None:
         check = ("--check", fake_check("", 0))
         for words in ([], ["./libproducer.so:export_int32"], ["none", *check], ["none:none", *check], ["./none.so:f", *check],
-                      ["./libproducer.so:none", *check], ["os:none", *check], ["os:sep", "--most", "x", *check]):
+                      ["./libproducer.so:none", *check], ["os:none", *check], ["os:sep", "--most", "x", *check],
+                      ["os:sep", *check], ["os:getcwd", *check], ["os:sep", "--seconds", "0", *check]):
             ran = tool(*words)
             self.assertEqual((ran.returncode, ran.stdout), (2, ""), words)
             self.assertTrue(ran.stderr)
+            self.assertNotIn("Traceback", ran.stderr)
 
-    def test_all_is_released_once_on_every_way_out(self) -> None:
-        chunks = ("./libproducer.so:stream_chunks", "--stream")
-        ran, released = released_by(*chunks, "--check", FOLDER / "none")
-        self.assertEqual((ran.returncode, released), (2, "3 0 1"), "a check that can't be started")
-        ran, released = released_by(*chunks, "--out", "/dev/null/none")
-        self.assertEqual((ran.returncode, released), (2, ""), "a folder that can't be made")
-        ran, released = released_by("./libproducer.so:stream_interrupted", "--stream", "--check", fake_check("", 0))
-        self.assertEqual((ran.returncode, released), (130, "3 6 1"), "interrupted")
-        ran, released = released_by("./libproducer.so:stream_interrupted_at_the_end", "--stream", "--check", fake_check("", 0))
-        self.assertEqual((ran.returncode, released), (0, "3 9 1"), "interrupted at the end")
+    def test_a_module_is_no_library_for_its_name(self) -> None:
+        (FOLDER / "acme").mkdir()
+        (FOLDER / "acme/so_urces.py").write_text("from capsule_cases import array_capsules as rows\n")
+        (FOLDER / "acme/__init__.py").write_text("")
+        environment = {**os.environ, "PYTHONPATH": str(HERE), "PRODUCER": str(FOLDER / "libproducer.so")}
+        ran = tool("acme.so_urces:rows", "--out", "modules", env=environment)
+        self.assertEqual((ran.stdout, ran.returncode, ran.stderr), ("array: modules/array.tree\n", 0, ""))
+
+    def test_an_output_that_cannot_be_written_has_a_status(self) -> None:
+        ran, _ = released_by("./libproducer.so:stream_chunks", "--stream", "--out", "/dev/null/none")
+        self.assertEqual(ran.returncode, 2, "a folder that can't be made")
         theirs, ours = os.pipe()
         os.close(theirs)
-        ran, released = released_by(*chunks, "--check", fake_check("", 0), stdout=ours)
+        ran, _ = released_by("./libproducer.so:stream_chunks", "--stream", "--check", fake_check("", 0), stdout=ours)
         os.close(ours)
-        self.assertEqual((ran.returncode, released), (2, "3 0 1"), "a broken pipe")
-        self.assertEqual(ran.stderr, "arrow_tree: BrokenPipeError: [Errno 32] Broken pipe\n")
-        ran, released = released_by("./libproducer.so:bad_null_child", "--check", fake_check("", 0))
-        self.assertEqual((ran.returncode, released[:2]), (3, "0 "), "what can't be written")
-        ran, released = released_by("./libproducer.so:bad_released", "--check", fake_check("arrowpipe: tree /: Released at 0: 0, 0", 8))
-        self.assertEqual((ran.returncode, released), (8, "1 1 0"), "what its producer has released")
+        self.assertEqual((ran.returncode, ran.stderr), (2, "arrow_tree: BrokenPipeError: [Errno 32] Broken pipe\n"))
+        words = f"{sys.executable} {HERE}/arrow_tree.py ./libproducer.so:export_int32 --out"
+        for command in (f"{words} closed >&-", f"PYTHONIOENCODING=ascii {words} caf\u00e9", f"{words} full > /dev/full"):
+            ran = subprocess.run(["/bin/sh", "-c", command], cwd=FOLDER, stdout=-1, stderr=-1, universal_newlines=True)
+            self.assertEqual((ran.returncode, ran.stdout), (2, ""), command)
+            self.assertRegex(ran.stderr, "^arrow_tree: .*\n$")
 
     def test_a_producer_without_end_stops_at_the_bound(self) -> None:
-        ran, released = released_by("./libproducer.so:stream_endless", "--stream", "--out", "endless", "--most", 1 << 20)
+        ran, _ = released_by("./libproducer.so:stream_endless", "--stream", "--out", "endless", "--most", 1 << 20)
         self.assertEqual(ran.returncode, 3)
         self.assertRegex(ran.stdout, r"(?s)chunk 9:.*: more bytes are asked for than --most allows\n$")
-        self.assertRegex(released, r"^3 \d+ 1$")
         self.assertLess(len(ran.stdout.splitlines()), 70)
 
-    def test_a_crash_of_the_producer_is_seen(self) -> None:
-        ran = tool("./libproducer.so:bad_double_release", "--out", "crash")
-        self.assertIn(ran.returncode, (-signal.SIGABRT, -signal.SIGSEGV))
-        self.assertEqual(ran.stdout, "array: crash/array.tree\n")
+    def test_an_end_of_the_tool_ends_what_it_started(self) -> None:
+        for number, status in ((signal.SIGTERM, 143), (signal.SIGINT, 130)):
+            ours = subprocess.Popen([sys.executable, str(HERE / "arrow_tree.py"), "capsule_cases:never", "--out", "never"],
+                                    cwd=FOLDER, stdout=-1, env={**os.environ, "PYTHONPATH": str(HERE), "PIDS": "pids",
+                                                                "PRODUCER": str(FOLDER / "libproducer.so")})
+            pids = FOLDER / "pids"
+            while not (pids.exists() and pids.read_text().endswith("\n")):
+                time.sleep(0.01)
+            began = time.monotonic()
+            ours.send_signal(number)
+            self.assertEqual(ours.wait(timeout=20), status)
+            self.assertLess(time.monotonic() - began, 10)
+            for pid in pids.read_text().split():
+                self.assertFalse(Path(f"/proc/{pid}/fd").exists() and os.listdir(f"/proc/{pid}/fd"), "a child is left")
+            pids.unlink()
+            ours.stdout.close()
 
 
 class Verdicts(unittest.TestCase):
@@ -577,29 +589,52 @@ class Verdicts(unittest.TestCase):
     def setUp(self) -> None:
         if not PROGRAM:
             self.skipTest("there is no built program")
+        global CHECKED
+        beside = [Path(PROGRAM).parent / "arrowtree", Path(PROGRAM).parents[2] / "arrowtree/out/arrowtree"]
+        CHECKED = ["--check", PROGRAM, "--arrowtree", next(str(it) for it in beside if it.exists())]
 
     def test_each_export_has_its_verdict(self) -> None:
         for row in ROWS:
             with self.subTest(row.name):
-                printed, status = main_here(f"{FOLDER}/libproducer.so:{row.name}", "--check", PROGRAM)
+                printed, status = main_here(f"{FOLDER}/libproducer.so:{row.name}", *CHECKED)
                 self.assertRegex(printed, f"^{as_pattern(f'array: {row.verdict}')}\n$")
                 self.assertEqual(status, row.status)
 
     def test_what_cannot_be_written_has_a_status_of_its_own(self) -> None:
         for name, why in UNWRITTEN:
-            printed, status = main_here(f"{FOLDER}/libproducer.so:{name}", "--check", PROGRAM)
-            self.assertRegex(printed, f"^array: {why}\n$")
+            printed, status = main_here(f"{FOLDER}/libproducer.so:{name}", *CHECKED)
+            self.assertRegex(printed, f"^array: {why}( \\(.*\\))?\n$")
             self.assertEqual(status, 3)
 
     def test_each_stream_has_its_lines_and_is_released_once(self) -> None:
         for name, lines, status, wanted in STREAMS:
             with self.subTest(name):
-                ran, released = released_by(f"./libproducer.so:{name}", "--stream", "--check", PROGRAM)
-                self.assertEqual((ran.stdout.rstrip("\n").split("\n"), ran.returncode), (lines.split("|"), status))
+                ran, released = released_by(f"./libproducer.so:{name}", "--stream", *CHECKED)
+                printed = [line for line in ran.stdout.rstrip("\n").split("\n") if line[0] != " "]
+                self.assertEqual((printed, ran.returncode), (lines.split("|"), status))
                 self.assertEqual(released, wanted)
 
+    def test_a_column_that_is_left_out_silences_no_other(self) -> None:
+        tags = "array: tree /3: schema: Format (tags: +vl, a list view)"
+        for name, lines, status in (("export_mixed", [tags, "array: ok"], 4),
+                                    ("bad_mixed_last", [tags, "array: tree /4: NullCount at 0: 1, 0 (last: i)"], 8),
+                                    ("bad_mixed_union", ["array: tree /1: Union (kind: +ud:5,7, a union)", tags], 8),
+                                    ("bad_mixed_runs", ["array: tree /2: RunEnds (runs: +r, a run-end encoded array)", tags], 8),
+                                    ("bad_union", ["array: tree /: Union (the root: +ud:5,7, a union)"], 8)):
+            with self.subTest(name):
+                printed, got = main_here(f"{FOLDER}/libproducer.so:{name}", *CHECKED)
+                self.assertEqual((printed.splitlines(), got), (lines, status))
+
+    def test_a_test_in_python_fails_with_the_line(self) -> None:
+        before = os.environ.get("ARROWPIPE")
+        os.environ["ARROWPIPE"] = str(PROGRAM)
+        assert_lawful(f"{FOLDER}/libproducer.so:export_many")
+        with self.assertRaisesRegex(AssertionError, "NullCount(?s:.*)The null count of column floats is 0"):
+            assert_lawful(f"{FOLDER}/libproducer.so:bad_null_count", str(PROGRAM))
+        os.environ.update({"ARROWPIPE": before} if before else {})
+
     def test_a_kept_text_is_refused_again(self) -> None:
-        tool("./libproducer.so:stream_spoilt_chunk", "--stream", "--check", PROGRAM, "--out", "again")
+        tool("./libproducer.so:stream_spoilt_chunk", "--stream", *CHECKED, "--out", "again")
         self.assertEqual(os.listdir(FOLDER / "again"), ["chunk-1.tree"])
         ran = subprocess.run([PROGRAM, "--check"], input=(FOLDER / "again/chunk-1.tree").read_bytes(), stderr=-1)
         self.assertEqual((ran.returncode, ran.stderr), (8, b"arrowpipe: tree /0: NullCount at 0: 0, 1\n"))
@@ -610,7 +645,8 @@ class Verdicts(unittest.TestCase):
         room.mkdir()
         for name in ("tools", "examples"):
             (room / name).symlink_to(HERE.parent / name)
-        (room / "arrowpipe").symlink_to(str(PROGRAM))
+        for name, program in zip(("arrowpipe", "arrowtree"), CHECKED[1::2]):
+            (room / name).symlink_to(program)
         page = (HERE.parent / "docs/CHECK.md").read_text()
         runs = re.findall(r"^    \$ (.*)\n((?:    (?!\$ ).*\n)*)", page, re.MULTILINE)
         for command, printed in runs:
@@ -630,8 +666,6 @@ class Verdicts(unittest.TestCase):
 
 
 def compiled() -> ctypes.CDLL:
-    if "PRODUCER" in os.environ:  # the tool has imported this file as a module
-        return ctypes.CDLL(os.environ["PRODUCER"])
     library = FOLDER / "libproducer.so"
     command = ["cc", "-std=c11", "-Wall", "-Wextra", "-Werror", "-O1", "-g", "-shared", "-fPIC", str(HERE / "producer.c")]
     subprocess.run([*command, "-o", str(library)], check=True)

@@ -1,0 +1,5 @@
+import sys
+
+from arrow_check.cli import main
+
+sys.exit(main())
