@@ -23,7 +23,7 @@ use raw_schema::RawSchema;
 use run_ends::{RunCol, RunTyped, check_runs, read_runs};
 use std::alloc::Global;
 use unit_pass::NoMemory;
-use value_text::{BoundedText, MOST_MEASURED, has_indexed_lists, measured, plus, push_value};
+use value_text::{BoundedText, MOST_MEASURED, may_repeat, measured, plus, push_value};
 
 /// A line for each item of a run-end encoded array under its schema, or the first fault: of the schema, and then of the array ("Arrow
 /// Columnar Format", "Run-End Encoded Layout").
@@ -53,7 +53,7 @@ fn measured_lines(alloc: Global, typed: &RunTyped, array: &RawArray) -> Result<V
 {
     let col = RunCol::of(typed, array);
     BoundedText::new(alloc).has_room(count_items(&col) * 2)?;
-    if has_indexed_lists(&typed.values) && is_too_long(alloc, typed, array).unwrap_or(false) {
+    if may_repeat(&typed.values) && is_too_long(alloc, typed, array).unwrap_or(false) {
         return Err(NoMemory);
     }
     lines(alloc, &col)

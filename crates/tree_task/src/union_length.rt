@@ -16,12 +16,12 @@ use raw_array::RawArray;
 use std::alloc::Global;
 use union_cols::{UnionCol, UnionTyped, union_holds};
 use unit_pass::NoMemory;
-use value_text::{MOST_MEASURED, has_indexed_lists, measured, plus, whole_length};
+use value_text::{MOST_MEASURED, may_repeat, measured, plus, whole_length};
 
 /// Whether a short array of these kinds may have very many values.
 pub(crate) fn union_tells_often(typed: &UnionTyped) -> bool {
     for kid in &typed.kids {
-        if has_indexed_lists(kid) {
+        if may_repeat(kid) {
             return true;
         }
     }

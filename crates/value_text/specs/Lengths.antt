@@ -1,5 +1,5 @@
 -- How many bytes the texts of values have. What is longer than a text may be counts one more than that.
-use Rattle.std.specs.Prelude.{◌≡◌, ◌+◌, ◌*◌, ◌<◌, ℕ, min, List, Vec, get_or, length}
+use Rattle.std.specs.Prelude.{◌≡◌, ◌+◌, ◌*◌, ◌<◌, ◌≤◌, ℕ, min, List, Vec, get_or, length, vec_len}
 use Rattle.std.specs.Global.{Global}
 use Rattle.tree_model.specs.Tree.{Released, child_at, children_of, trees}
 use Rattle.raw_array.specs.Members.{ArrayTree, members_of}
@@ -12,6 +12,8 @@ use Rattle.data_types.specs.Value.{Value, Null, Items, Fields, values}
 use Rattle.data_types.specs.declared.storage.Storage.{Storage}
 use Rattle.data_types.specs.declared.storage.Storage.TheVariants as storages
 use Rattle.data_types.specs.ValueTexts.{text_limit, value_text}
+use Rattle.value_text.specs.declared.lengths.Lengths.{Lengths}
+use Rattle.value_text.specs.declared.lengths.Lengths.TheVariants as all
 
 abbrev pub capped : ℕ → ℕ
 capped count = min count (text_limit + 1)
@@ -19,10 +21,20 @@ capped count = min count (text_limit + 1)
 abbrev pub text_length : Value → ℕ
 text_length value = capped (length (value_text value))
 
+-- the length at a place: the one that all items have, or the item's own
+abbrev pub length_at : Lengths → ℕ → ℕ
+length_at (all.Same count) i = count
+length_at (all.Own lengths) i = get_or lengths.items i 0
+
+-- the first n items have lengths
+abbrev pub IsReached : Lengths → ℕ → Type 0
+IsReached (all.Same count) n = Unit {0}
+IsReached (all.Own lengths) n = n ≤ vec_len lengths
+
 -- the lengths of the texts of the first n items, in order
-pub record AreLengths (lengths : List ℕ) (item : ℕ → Value) (count : ℕ) : Type 0 where
-  pub many : length lengths ≡ count
-  pub each : (i : ℕ) → i < count → get_or lengths i 0 ≡ text_length (item i)
+pub record AreLengths (lengths : List ℕ) (item : ℕ → Value) (n : ℕ) : Type 0 where
+  pub many : length lengths ≡ n
+  pub each : (i : ℕ) → i < n → get_or lengths i 0 ≡ text_length (item i)
 
 -- those of all items of each child of an array, as far as its first this many children
 pub record AreKidLengths (lengths : List (Vec ℕ Global)) (kids : List KindTree) (array : ArrayTree) (count : ℕ) : Type 0 where
@@ -30,20 +42,51 @@ pub record AreKidLengths (lengths : List (Vec ℕ Global)) (kids : List KindTree
   pub each : (k : ℕ) (d : Vec ℕ Global) → k < count
       → AreLengths (get_or lengths k d).items (value_at (get_or kids k Released) (child_at array k)) (tree_items (child_at array k))
 
--- each has more than this many
-abbrev pub AreLonger : List (Vec ℕ Global) → ℕ → Type 0
-AreLonger lengths place = (k : ℕ) (d : Vec ℕ Global) → k < length lengths → place < length (get_or lengths k d).items
+-- the same, where all items may have one
+abbrev pub Tells : Lengths → (ℕ → Value) → ℕ → Type 0
+Tells (all.Same count) item n = (i : ℕ) → i < n → count ≡ text_length (item i)
+Tells (all.Own lengths) item n = AreLengths lengths.items item n
+
+-- those of all items of each child of an array, as far as its first this many children
+pub record TellsKids (lengths : List Lengths) (kids : List KindTree) (array : ArrayTree) (count : ℕ) : Type 0 where
+  pub many : length lengths ≡ count
+  pub each : (k : ℕ) (d : Lengths) → k < count
+      → Tells (get_or lengths k d) (value_at (get_or kids k Released) (child_at array k)) (tree_items (child_at array k))
+
+-- the first n items have lengths in each
+abbrev pub AreReached : List Lengths → ℕ → Type 0
+AreReached lengths n = (k : ℕ) (d : Lengths) → k < length lengths → IsReached (get_or lengths k d) n
 
 -- at a place of each are those of the fields of a struct
-pub record AreFieldLengths (lengths : List (Vec ℕ Global)) (place : ℕ) (row : List Value) : Type 0 where
+pub record AreFieldLengths (lengths : List Lengths) (place : ℕ) (row : List Value) : Type 0 where
   pub many : length row ≡ length lengths
-  pub each : (k : ℕ) (d : Vec ℕ Global) → k < length lengths → get_or (get_or lengths k d).items place 0 ≡ text_length (get_or row k Null)
+  pub each : (k : ℕ) (d : Lengths) → k < length lengths → length_at (get_or lengths k d) place ≡ text_length (get_or row k Null)
+
+abbrev pub IsSame : Lengths → Type 0
+IsSame (all.Same count) = Unit {0}
+IsSame (all.Own lengths) = ⊥
+
+-- each has one length for all items
+abbrev pub AreSame : List Lengths → Type 0
+AreSame lengths = (k : ℕ) (d : Lengths) → k < length lengths → IsSame (get_or lengths k d)
 
 -- a list or a struct
 abbrev pub IsNested : Value → Type 0
 IsNested (Items items) = Unit {0}
 IsNested (Fields fields) = Unit {0}
 IsNested _ = ⊥
+
+-- items of nothing, or of no bytes
+abbrev pub IsEmptyStorage : Storage → Type 0
+IsEmptyStorage storages.Nothing = Unit {0}
+IsEmptyStorage (storages.Sized size) = size ≡ 0
+IsEmptyStorage _ = ⊥
+
+-- fixed lists and structs
+abbrev pub ArePartsStorage : Storage → Type 0
+ArePartsStorage (storages.FixedLists size) = Unit {0}
+ArePartsStorage storages.Children = Unit {0}
+ArePartsStorage _ = ⊥
 
 -- what a list or a struct is, where its type is stored so; nothing else is one
 abbrev pub IsNestedAt : Storage → Typed → ArrayTree → ℕ → Value → Type 0

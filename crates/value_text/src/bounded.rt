@@ -56,6 +56,16 @@ impl BoundedText {
         }
     }
 
+    /// Takes room for this many bytes more at once. `NoMemory` comes also where the text would be too long with them.
+    pub(crate) fn take_room(&mut self, count: u32) -> Result<(), NoMemory>
+        ensures text { self.new ≡ self.old }
+        ensures fits { OnOk result (length self.old + count ≤ text_limit) }
+    {
+        self.has_room(u64::from(count))?;
+        self.bytes.reserve_exact(count as usize)?;
+        Ok(())
+    }
+
     /// `NoMemory` where the text would be too long with this many bytes more, before any of them is made.
     pub fn has_room(&self, count: u64) -> Result<(), NoMemory>
         ensures { OnOk result (length self.now + count ≤ text_limit) }

@@ -1,11 +1,11 @@
 //! The lengths of texts, counted without the texts.
-ghost use Rattle.std.specs.Prelude.{◌≡◌, ◌+◌, ◌-◌, ◌≤◌, ◌<◌, ◌++◌, ℕ, IfOk, List, get_or, length};
+ghost use Rattle.std.specs.Prelude.{◌≡◌, ◌+◌, ◌-◌, ◌*◌, ◌≤◌, ◌<◌, ◌++◌, true, ℕ, IfOk, IfSome, List, get_or, length};
 ghost use Rattle.data_types.specs.Value.{Value, values};
 ghost use Rattle.data_types.specs.Value.Value.{Bits, Bytes, Fields, Items, Truth, Whole};
 ghost use Rattle.layout_rules.specs.Values.{each};
 ghost use Rattle.value_text.specs.Behind.{item_text};
-ghost use Rattle.value_text.specs.Lengths.{AreFieldLengths, AreLengths, AreLonger, capped, text_length};
-ghost use Rattle.data_types.specs.ValueTexts.{byte_text, bytes_text};
+ghost use Rattle.value_text.specs.Lengths.{AreFieldLengths, AreLengths, Tells, AreReached, AreSame, IsReached, capped, text_length};
+ghost use Rattle.data_types.specs.ValueTexts.{byte_text, bytes_text, lines_text};
 
 use crate::escapes::is_plain;
 use field_codec::{bits_text, whole_text};
@@ -25,11 +25,26 @@ fn counted(count: usize) -> u32
     }
 }
 
+/// The length of a text that has as many bytes and escapes, each of which has two bytes more, behind a byte.
+pub(crate) fn escaped_length(bytes: usize, escapes: u64) -> u32
+    ensures { result ≡ capped (bytes + 2 * escapes + 1) }
+{
+    let longer = escapes.saturating_mul(2).saturating_add(1);
+    counted((bytes as u64).saturating_add(longer) as usize)
+}
+
 /// The sum of two lengths in bytes, of which each above 2^31 is given as 2^31 + 1.
 pub fn plus(one: u32, other: u32) -> u32
     ensures { result ≡ capped (one + other) }
 {
     one.saturating_add(other).min(LONGER)
+}
+
+/// This many times a length in bytes, where 2^31 + 1 stands for each number above 2^31.
+pub(crate) fn times(count: u64, length: u32) -> u32
+    ensures { result ≡ capped (count * length) }
+{
+    counted(count.saturating_mul(u64::from(length)) as usize)
 }
 
 /// The length with a part more of a list or a struct: behind a comma, unless it is the first.
@@ -82,8 +97,52 @@ pub(crate) fn bytes_length(bytes: &[u8]) -> u32
     sum
 }
 
+/// The lengths of the texts of a column's items.
+#[derive(Drop)]
+pub(crate) enum Lengths {
+    /// All items have this one, however many they are.
+    Same(u32),
+    /// The length of each item.
+    Own(Vec<u32>),
+}
+
+impl Lengths {
+    ghost use Rattle.value_text.specs.Lengths.{IsReached, IsSame, length_at};
+
+    /// Whether all items have one.
+    fn is_same(&self) -> bool
+        ensures { result ≡ true → IsSame self.now }
+    {
+        match self {
+            Lengths::Same(_) => true,
+            Lengths::Own(_) => false,
+        }
+    }
+
+    /// That of item `i`.
+    #[inline(always)]
+    pub(crate) fn at(&self, i: usize) -> u32
+        requires { IsReached self.now (i + 1) }
+        ensures { result ≡ length_at self.now i }
+    {
+        match self {
+            Lengths::Same(one) => *one,
+            Lengths::Own(lengths) => lengths[i],
+        }
+    }
+}
+
+/// The length of the text of a list of this many items that all have this length.
+pub(crate) fn same_list(one: u32, count: u64) -> u32
+    ensures { (item : ℕ → Value) (from : ℕ) → ((j : ℕ) → j < count → one ≡ text_length (item (from + j)))
+        → result ≡ text_length (Items (values (each item from count))) }
+{
+    let commas = if count > 0 { count - 1 } else { 0 };
+    plus(plus(times(count, one), counted(commas as usize)), 2)
+}
+
 /// The length of the text of a list of this many items, whose lengths begin at a place.
-pub(crate) fn list_length(lengths: &[u32], from: usize, count: usize) -> u32
+fn own_list(lengths: &[u32], from: usize, count: usize) -> u32
     requires { from + count ≤ length lengths.now }
     ensures { (item : ℕ → Value) → AreLengths lengths.now item (length lengths.now)
         → result ≡ text_length (Items (values (each item from count))) }
@@ -95,14 +154,78 @@ pub(crate) fn list_length(lengths: &[u32], from: usize, count: usize) -> u32
     plus(sum, 2)
 }
 
+/// The length of the text of a list of this many items, whose lengths begin at a place.
+pub(crate) fn list_length(lengths: &Lengths, from: usize, count: usize) -> u32
+    requires { IsReached lengths.now (from + count) }
+    ensures { (item : ℕ → Value) (total : ℕ) → from + count ≤ total → Tells lengths.now item total
+        → result ≡ text_length (Items (values (each item from count))) }
+{
+    match lengths {
+        Lengths::Same(one) => same_list(*one, count as u64),
+        Lengths::Own(lengths) => own_list(lengths, from, count),
+    }
+}
+
 /// The length of the text of a struct whose fields' lengths are at a place of each of these.
-pub(crate) fn row_length(kids: &[Vec<u32>], place: usize) -> u32
-    requires { AreLonger kids.now place }
+pub(crate) fn row_length(kids: &[Lengths], place: usize) -> u32
+    requires { AreReached kids.now (place + 1) }
     ensures { (row : List Value) → AreFieldLengths kids.now place row → result ≡ text_length (Fields (values row)) }
 {
     let mut sum = 0;
     for k in 0..kids.len() {
-        sum = with_part(sum, k as u64, kids[k][place]);
+        sum = with_part(sum, k as u64, kids[k].at(place));
     }
     plus(sum, 2)
+}
+
+/// Whether all items of each of these have one length.
+fn are_same(kids: &[Lengths]) -> bool
+    ensures { result ≡ true → AreSame kids.now }
+{
+    for k in 0..kids.len() {
+        if !kids[k].is_same() {
+            return false;
+        }
+    }
+    true
+}
+
+/// The length of the text of a struct whose fields' lengths are the same at each place; none where one's differ.
+pub(crate) fn same_row(kids: &[Lengths]) -> Option<u32>
+    ensures { IfSome result (λ length. (row : List Value) (place : ℕ) → AreFieldLengths kids.now place row → length ≡ text_length (Fields (values row))) }
+{
+    if !are_same(kids) {
+        return None;
+    }
+    Some(row_length(kids, 0))
+}
+
+/// The length in bytes of `ok` and lines of texts of these lengths.
+pub(crate) fn lines_length(lengths: &Lengths, count: u64) -> u32
+    ensures { (item : ℕ → Value) → Tells lengths.now item count → result ≡ capped (length (lines_text (each item 0 count))) }
+{
+    match lengths {
+        Lengths::Same(one) => same_lines(*one, count),
+        Lengths::Own(lengths) => own_lines(lengths),
+    }
+}
+
+/// The same of lines that all have this length.
+fn same_lines(one: u32, count: u64) -> u32
+    ensures { (item : ℕ → Value) → ((j : ℕ) → j < count → one ≡ text_length (item j))
+        → result ≡ capped (length (lines_text (each item 0 count))) }
+{
+    plus(3, plus(times(count, one), counted(count as usize)))
+}
+
+/// The same of lines that each have a length of their own.
+fn own_lines(lengths: &[u32]) -> u32
+    ensures { (item : ℕ → Value) → AreLengths lengths.now item (length lengths.now)
+        → result ≡ capped (length (lines_text (each item 0 (length lengths.now)))) }
+{
+    let mut sum = 3;
+    for i in 0..lengths.len() {
+        sum = plus(sum, plus(lengths[i], 1));
+    }
+    sum
 }

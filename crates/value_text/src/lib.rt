@@ -1,21 +1,21 @@
 //! Texts of values, and the text of an array's items, a line each.
 //!
 //! - [`push_value`] appends the text of an item of a column, which it reads in place.
-//! - [`items_text`] is the text `ok` and a line for each item of a lawful array. Where lists have indices into
-//!   dictionaries, it finds the length of the text first, from the lengths of the texts of the items of all arrays below,
-//!   each once.
+//! - [`items_text`] is the text `ok` and a line for each item of a lawful array. Where the numbers of items and the sizes of the
+//!   buffers don't show that the text is short, its length is found first, and then the text is made in room of just that length.
 //! - [`BoundedText`] is a text of at most 2^31 bytes. What would make it longer is refused as out of memory: an array of a
 //!   few bytes can have 2^40 items, and a dictionary entry can be the value of any number of them.
-//! - [`measured`] finds the lengths in bytes of the texts of all items of an array, for callers that write an item any
-//!   number of times. [`has_indexed_lists`] says for which kinds that saves time.
+//! - [`measured`] finds the lengths in bytes of the texts of all items of an array, for callers that write an item any number of
+//!   times. [`may_repeat`] says for which kinds that saves time. An item that the buffers hold is measured once, and a byte is read
+//!   once.
 //!
 //! The definitions are in `specs/ValueTexts.antt` of `data_types` (the text of a value) and `specs/Lengths.antt` (its
 //! length). The calls go down one level of the checked kinds at a time. They take no memory but that of the text and of the
-//! lengths, and answer `NoMemory` only where it runs out, where a text is too long, or where there are more than
-//! [`MOST_MEASURED`] items to measure. Left to others: whether an array is lawful (`layout_check`), and what an item of it
-//! is (`arr_import`).
+//! lengths, and answer `NoMemory` only where it runs out or where a text is too long. Left to others: whether an array is lawful
+//! (`layout_check`), and what an item of it is (`arr_import`).
 #![tactic(auto)]
 
+mod bound;
 mod bounded;
 mod escapes;
 mod lengths;
@@ -25,10 +25,11 @@ mod numbered;
 mod placed;
 mod table;
 mod value;
+mod views;
 
 pub use bounded::BoundedText;
 pub use lengths::{plus, whole_length};
 pub use lines::items_text;
-pub use measure::{MOST_MEASURED, has_indexed_lists, measured};
+pub use measure::{MOST_MEASURED, may_repeat, measured};
 pub use numbered::push_numbered;
 pub use value::push_value;

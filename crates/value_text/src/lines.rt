@@ -9,8 +9,9 @@ ghost use Rattle.arr_import.specs.Cols.{window_of};
 ghost use Rattle.arr_import.specs.Window.{items_of};
 ghost use Rattle.data_types.specs.ValueTexts.{lines_text, text_limit, value_line};
 
+use crate::bound::text_bound;
 use crate::bounded::BoundedText;
-use crate::measure::{has_indexed_lists, is_too_long};
+use crate::measure::text_length;
 use crate::table::{is_table, push_rows};
 use crate::value::{count_items, push_value};
 use arr_import::Col;
@@ -19,20 +20,21 @@ use raw_array::RawArray;
 use std::alloc::Global;
 use unit_pass::NoMemory;
 
+/// Items whose texts have at most this many bytes aren't measured.
+const SHORT: u64 = (1 << 31) - 3;
+
 /// The text of an array that `layout_check::check_array` accepted: `ok`, and a line with the text of each item of its window.
-/// `NoMemory` comes where memory runs out, and where the text would have more than 2^31 bytes: at once where the number of items
-/// shows it, since a line has at least two, and before any text is made where lists have indices into dictionaries and there aren't
-/// too many items to measure.
+/// `NoMemory` comes where memory runs out, and, before any text is made, where the text would have more than 2^31 bytes.
 pub fn items_text(alloc: Global, typed: &Typed, array: &RawArray) -> Result<Vec<u8>, NoMemory>
     requires types { TypedOk (typed_of typed.now) }
     requires lawful { LayoutOk (typed_of typed.now) array.now }
     ensures text { IfOk result (λ text. text.items ≡ lines_text (values_of (typed_of typed.now) array.now)) }
     ensures within { IfOk result (λ text. vec_len text ≤ text_limit) }
 {
-    if has_indexed_lists(typed) && is_too_long(alloc, typed, array).unwrap_or(false) {
-        return Err(NoMemory);
-    }
     let mut text = BoundedText::new(alloc);
+    if text_bound(typed, array) > SHORT {
+        text.take_room(text_length(alloc, typed, array)?)?;
+    }
     text.push_bytes(b"ok\n")?;
     push_items(alloc, &mut text, typed, &Col::of(typed, array))?;
     Ok(text.into_bytes())

@@ -1,89 +1,73 @@
-//! The lengths of the texts of an array's items, found before any text is made. Each item of the array, of its children and of
-//! its dictionaries is measured once, however often it is written.
-ghost use Rattle.std.specs.Prelude.{◌≡◌, ◌+◌, ◌<◌, ◌≤◌, ◌^◌, ℕ, None, Some, IfOk, length, map, get_or, nat_lt};
+//! The lengths of the texts of an array's items, found before any text is made. Each item that the buffers of the array, of its
+//! children and of its dictionaries hold is measured once, however often it is written.
+ghost use Rattle.std.specs.Prelude.{◌≡◌, ◌+◌, ◌<◌, ◌≤◌, ◌^◌, ℕ, None, Some, IfOk, length, map, get_or};
 ghost use Rattle.data_types.specs.Value.{Value};
 ghost use Rattle.tree_model.specs.Tree.{Released, IsLive, Depth, depth_of_all, trees, child_at, children_of, dictionary_of};
 ghost use Rattle.data_types.specs.declared.typed.Typed.{out-Typed};
 ghost use Rattle.data_types.specs.KindTrees.{NodesOk, AllNodesOk, TypedOk, most_levels};
 ghost use Rattle.data_types.specs.TypedView.{typed_of, kids_of, dict_in};
-ghost use Rattle.layout_rules.specs.Values.{each, tree_items, value_at, values_of};
+ghost use Rattle.layout_rules.specs.Values.{tree_items, value_at, values_of};
 ghost use Rattle.layout_rules.specs.Walk.{LayoutOk};
 ghost use Rattle.arr_import.specs.Cols.{window_of};
 ghost use Rattle.arr_import.specs.Window.{whole};
-ghost use Rattle.value_text.specs.Lengths.{AreKidLengths, AreLengths, IsNested, text_length};
-ghost use Rattle.data_types.specs.ValueTexts.{lines_text, text_limit};
+ghost use Rattle.value_text.specs.Lengths.{AreLengths, Tells, TellsKids, IsNested, capped, text_length};
+ghost use Rattle.data_types.specs.ValueTexts.{lines_text};
 
-use crate::lengths::{bits_length, bytes_length, plus, truth_length, whole_length};
-use crate::placed::{fixed_list_at, index_at, list_at, nested_is, row_at};
+use crate::lengths::{
+    Lengths, bits_length, bytes_length, lines_length, truth_length, whole_length,
+};
+use crate::placed::{fixed_list_at, index_at, list_at, nested_is, row_at, same_length};
 use crate::value::{count_items, number};
+use crate::views::view_lengths;
 use arr_import::{Col, ValueRef};
-use data_types::{DataType, Storage, Typed, storage_of};
+use data_types::{Storage, Typed, storage_of};
 use layout_rules::{lawful_parts, lawful_root};
 use raw_array::RawArray;
 use std::alloc::Global;
 use unit_pass::NoMemory;
 
-/// How many items are measured at most, so that measuring takes a second or so and 128 megabytes.
-pub const MOST_MEASURED: u64 = 1 << 25;
-
-/// Whether lists of these kinds have indices into dictionaries, so that a short array may have very many values.
-pub fn has_indexed_lists(typed: &Typed) -> bool {
-    lists_indices(typed, false)
+/// The length in bytes of the text of an array, as [`crate::items_text`] makes it, where 2^31 + 1 stands for each above 2^31.
+pub(crate) fn text_length(alloc: Global, typed: &Typed, array: &RawArray) -> Result<u32, NoMemory>
+    requires types { TypedOk (typed_of typed.now) }
+    requires lawful { LayoutOk (typed_of typed.now) array.now }
+    ensures { IfOk result (λ count. count ≡ capped (length (lines_text (values_of (typed_of typed.now) array.now)))) }
+{
+    lawful_root(typed, array);
+    let lengths = lengths_of(alloc, typed, array)?;
+    Ok(lines_length(&lengths, array.length() as u64))
 }
 
-/// The same of kinds that are below a list, or don't.
+/// How many items that no buffer holds are measured one by one at most.
+pub const MOST_MEASURED: u64 = 1 << 25;
+
+/// Whether arrays of these kinds may have items that are written any number of times, or that no buffer holds: dictionaries, views,
+/// fixed lists and nulls.
+pub fn may_repeat(typed: &Typed) -> bool {
+    repeats(typed)
+}
+
 #[cycle(kinds)]
-fn lists_indices(typed: &Typed, is_listed: bool) -> bool {
-    match &typed.dict {
-        Some(dict) => is_listed || lists_indices(dict, is_listed),
-        None => {
-            let is_listed = is_listed
-                || matches!(
-                    typed.kind,
-                    DataType::List { .. } | DataType::FixedList { .. } | DataType::Map
-                );
-            any_lists_indices(&typed.kids, is_listed)
-        }
+fn repeats(typed: &Typed) -> bool {
+    match storage_of(&typed.kind) {
+        Storage::Views { .. } | Storage::FixedLists { .. } | Storage::Nothing => true,
+        _ => typed.dict.is_some() || any_repeats(&typed.kids),
     }
 }
 
 #[cycle(kinds)]
-fn any_lists_indices(kids: &[Typed], is_listed: bool) -> bool {
+fn any_repeats(kids: &[Typed]) -> bool {
     for kid in kids {
-        if lists_indices(kid, is_listed) {
+        if repeats(kid) {
             return true;
         }
     }
     false
 }
 
-/// Whether the text of an array, as [`crate::items_text`] makes it, would have more than 2^31 bytes. `NoMemory` comes also
-/// where there are too many items to measure.
-pub(crate) fn is_too_long(alloc: Global, typed: &Typed, array: &RawArray) -> Result<bool, NoMemory>
-    requires types { TypedOk (typed_of typed.now) }
-    requires lawful { LayoutOk (typed_of typed.now) array.now }
-    ensures { IfOk result (λ long. long ≡ nat_lt text_limit (length (lines_text (values_of (typed_of typed.now) array.now)))) }
-{
-    let mut left = MOST_MEASURED;
-    let lengths = measured(alloc, &mut left, typed, array)?;
-    Ok(are_too_long(&lengths))
-}
-
-/// Whether lines of texts of these lengths, behind `ok`, have more than 2^31 bytes.
-fn are_too_long(lengths: &[u32]) -> bool
-    ensures { (item : ℕ → Value) → AreLengths lengths.now item (length lengths.now)
-        → result ≡ nat_lt text_limit (length (lines_text (each item 0 (length lengths.now)))) }
-{
-    let mut sum = 3;
-    for i in 0..lengths.len() {
-        sum = plus(sum, plus(lengths[i], 1));
-    }
-    sum > 1 << 31
-}
-
-/// The length in bytes of the text of each item of a lawful array's window, where 2^31 + 1 stands for each above 2^31. The items
-/// that are measured, of the array and of all arrays below it, are taken from those that are left to measure; `NoMemory` comes also
-/// where there are too many.
+/// The length in bytes of the text of each item of a lawful array's window, where 2^31 + 1 stands for each above 2^31. Each item that
+/// the buffers of the array and of the arrays below it hold is measured once, whatever points at it, and each byte is read once. Where
+/// no buffer holds the items of the array itself they are taken from those that are left to measure; `NoMemory` comes also where there
+/// are too many.
 pub fn measured(
     alloc: Global,
     left: &mut u64,
@@ -94,7 +78,15 @@ pub fn measured(
     requires lawful { LayoutOk (typed_of typed.now) array.now }
     ensures { IfOk result (λ lengths. AreLengths lengths.items (value_at (typed_of typed.now) array.now) (tree_items array.now)) }
 {
-    lengths_of(alloc, left, typed, array)
+    lawful_root(typed, array);
+    let count = array.length() as u64;
+    match lengths_of(alloc, typed, array)? {
+        Lengths::Own(lengths) => Ok(lengths),
+        Lengths::Same(one) => {
+            spend(left, count)?;
+            repeated(alloc, one, count)
+        }
+    }
 }
 
 /// Takes a number of items from those that are left to measure.
@@ -106,29 +98,35 @@ fn spend(left: &mut u64, count: u64) -> Result<(), NoMemory> {
     Ok(())
 }
 
+/// This many lengths that are the same.
+fn repeated(alloc: Global, one: u32, count: u64) -> Result<Vec<u32>, NoMemory>
+    ensures { IfOk result (λ lengths. (item : ℕ → Value) → ((i : ℕ) → i < count → one ≡ text_length (item i)) → AreLengths lengths.items item count) }
+{
+    let mut lengths = Vec::new(alloc);
+    for i in 0..count {
+        let _number = i;
+        lengths.push(one)?;
+    }
+    Ok(lengths)
+}
+
 /// The lengths of the texts of all items of an array.
 #[cycle(lengths)]
-fn lengths_of(
-    alloc: Global,
-    left: &mut u64,
-    typed: &Typed,
-    array: &RawArray,
-) -> Result<Vec<u32>, NoMemory>
+fn lengths_of(alloc: Global, typed: &Typed, array: &RawArray) -> Result<Lengths, NoMemory>
     requires lawful { LayoutOk (typed_of typed.now) array.now }
     requires levels { Depth (typed_of typed.now) ≤ most_levels }
     requires types { NodesOk (typed_of typed.now) }
-    ensures { IfOk result (λ lengths. AreLengths lengths.items (value_at (typed_of typed.now) array.now) (tree_items array.now)) }
+    ensures { IfOk result (λ lengths. Tells lengths (value_at (typed_of typed.now) array.now) (tree_items array.now)) }
 {
     lawful_root(typed, array);
     lawful_parts(typed, array);
-    spend(left, array.length() as u64)?;
     match (&typed.dict, array.dictionary()) {
         (Some(dict), Some(dictionary)) => {
-            let entries = lengths_of(alloc, left, dict, dictionary)?;
+            let entries = lengths_of(alloc, dict, dictionary)?;
             index_lengths(alloc, typed, array, dict, dictionary, &entries)
         }
         _ => {
-            let kids = kid_lengths(alloc, left, &typed.kids, array)?;
+            let kids = kid_lengths(alloc, &typed.kids, array)?;
             own_lengths(alloc, typed, array, &kids)
         }
     }
@@ -136,22 +134,17 @@ fn lengths_of(
 
 /// The same of each child.
 #[cycle(lengths)]
-fn kid_lengths(
-    alloc: Global,
-    left: &mut u64,
-    kids: &[Typed],
-    array: &RawArray,
-) -> Result<Vec<Vec<u32>>, NoMemory>
+fn kid_lengths(alloc: Global, kids: &[Typed], array: &RawArray) -> Result<Vec<Lengths>, NoMemory>
     requires lawful { (k : ℕ) → k < length (map typed_of kids.now) → LayoutOk (get_or (map typed_of kids.now) k Released) (child_at array.now k) }
     requires levels { 1 + depth_of_all (trees (map typed_of kids.now)) ≤ most_levels }
     requires types { AllNodesOk (trees (map typed_of kids.now)) }
     requires live { IsLive array.now }
     requires children { length (children_of array.now) ≡ length kids.now }
-    ensures { IfOk result (λ lengths. AreKidLengths lengths.items (map typed_of kids.now) array.now (length (map typed_of kids.now))) }
+    ensures { IfOk result (λ lengths. TellsKids lengths.items (map typed_of kids.now) array.now (length (map typed_of kids.now))) }
 {
     let mut lengths = Vec::new(alloc);
     for k in 0..kids.len() {
-        lengths.push(lengths_of(alloc, left, &kids[k], array.child(k))?)?;
+        lengths.push(lengths_of(alloc, &kids[k], array.child(k))?)?;
     }
     Ok(lengths)
 }
@@ -163,38 +156,60 @@ fn index_lengths(
     array: &RawArray,
     dict: &Typed,
     dictionary: &RawArray,
-    entries: &[u32],
-) -> Result<Vec<u32>, NoMemory>
+    entries: &Lengths,
+) -> Result<Lengths, NoMemory>
     requires lawful { LayoutOk (typed_of typed.now) array.now }
     requires types { TypedOk (typed_of typed.now) }
     requires kinds { dict_in (out-Typed typed.now).dict ≡ Some (typed_of dict.now) }
     requires behind { dictionary_of array.now ≡ Some dictionary.now }
-    requires entries { AreLengths entries.now (value_at (typed_of dict.now) dictionary.now) (tree_items dictionary.now) }
-    ensures { IfOk result (λ lengths. AreLengths lengths.items (value_at (typed_of typed.now) array.now) (tree_items array.now)) }
+    requires entries { Tells entries.now (value_at (typed_of dict.now) dictionary.now) (tree_items dictionary.now) }
+    ensures { IfOk result (λ lengths. Tells lengths (value_at (typed_of typed.now) array.now) (tree_items array.now)) }
 {
     let count = count_items(&Col::of(typed, array));
     let mut lengths = Vec::with_capacity(alloc, count as usize)?;
     for i in 0..count {
         lengths.push(match index_at(typed, array, dict, dictionary, i) {
-            Some(index) => entries[index],
+            Some(index) => entries.at(index),
             None => 1,
         })?;
     }
-    Ok(lengths)
+    Ok(Lengths::Own(lengths))
 }
 
-/// The lengths of the texts of an array's items, by those of its children's.
+/// The lengths of the texts of an array's items, by those of its children's: one for all where none has bytes of its own.
 fn own_lengths(
     alloc: Global,
     typed: &Typed,
     array: &RawArray,
-    kids: &[Vec<u32>],
-) -> Result<Vec<u32>, NoMemory>
+    kids: &[Lengths],
+) -> Result<Lengths, NoMemory>
     requires lawful { LayoutOk (typed_of typed.now) array.now }
     requires types { TypedOk (typed_of typed.now) }
     requires own { dict_in (out-Typed typed.now).dict ≡ None }
-    requires kids { AreKidLengths kids.now (kids_of typed.now) array.now (length (kids_of typed.now)) }
-    ensures { IfOk result (λ lengths. AreLengths lengths.items (value_at (typed_of typed.now) array.now) (tree_items array.now)) }
+    requires kids { TellsKids kids.now (kids_of typed.now) array.now (length (kids_of typed.now)) }
+    ensures { IfOk result (λ lengths. Tells lengths (value_at (typed_of typed.now) array.now) (tree_items array.now)) }
+{
+    if let Some(length) = same_length(typed, array, kids) {
+        return Ok(Lengths::Same(length));
+    }
+    match storage_of(&typed.kind) {
+        Storage::Views { .. } => view_lengths(alloc, typed, array),
+        _ => item_lengths(alloc, typed, array, kids),
+    }
+}
+
+/// The length of the text of each item of an array.
+fn item_lengths(
+    alloc: Global,
+    typed: &Typed,
+    array: &RawArray,
+    kids: &[Lengths],
+) -> Result<Lengths, NoMemory>
+    requires lawful { LayoutOk (typed_of typed.now) array.now }
+    requires types { TypedOk (typed_of typed.now) }
+    requires own { dict_in (out-Typed typed.now).dict ≡ None }
+    requires kids { TellsKids kids.now (kids_of typed.now) array.now (length (kids_of typed.now)) }
+    ensures { IfOk result (λ lengths. Tells lengths (value_at (typed_of typed.now) array.now) (tree_items array.now)) }
 {
     let col = Col::of(typed, array);
     let count = count_items(&col);
@@ -203,7 +218,7 @@ fn own_lengths(
     for i in 0..count {
         lengths.push(item_length(&col, typed, array, kids, i, &mut room)?)?;
     }
-    Ok(lengths)
+    Ok(Lengths::Own(lengths))
 }
 
 /// The length of the text of an item.
@@ -211,14 +226,14 @@ fn item_length(
     col: &Col<'_>,
     typed: &Typed,
     array: &RawArray,
-    kids: &[Vec<u32>],
+    kids: &[Lengths],
     i: u64,
     room: &mut Vec<u8>,
 ) -> Result<u32, NoMemory>
     requires lawful { LayoutOk (typed_of typed.now) array.now }
     requires types { NodesOk (typed_of typed.now) }
     requires own { dict_in (out-Typed typed.now).dict ≡ None }
-    requires kids { AreKidLengths kids.now (kids_of typed.now) array.now (length (kids_of typed.now)) }
+    requires kids { TellsKids kids.now (kids_of typed.now) array.now (length (kids_of typed.now)) }
     requires window { window_of col.now ≡ whole (typed_of typed.now) array.now }
     requires inside { i < tree_items array.now }
     requires small { i < 2 ^ 63 }
@@ -235,11 +250,11 @@ fn item_length(
 }
 
 /// The length of the text of a list or a struct.
-fn nested_length(typed: &Typed, array: &RawArray, kids: &[Vec<u32>], i: u64) -> u32
+fn nested_length(typed: &Typed, array: &RawArray, kids: &[Lengths], i: u64) -> u32
     requires lawful { LayoutOk (typed_of typed.now) array.now }
     requires types { NodesOk (typed_of typed.now) }
     requires own { dict_in (out-Typed typed.now).dict ≡ None }
-    requires kids { AreKidLengths kids.now (kids_of typed.now) array.now (length (kids_of typed.now)) }
+    requires kids { TellsKids kids.now (kids_of typed.now) array.now (length (kids_of typed.now)) }
     requires inside { i < tree_items array.now }
     requires nested { IsNested (value_at (typed_of typed.now) array.now i) }
     ensures { result ≡ text_length (value_at (typed_of typed.now) array.now i) }

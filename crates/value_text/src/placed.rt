@@ -9,22 +9,22 @@ ghost use Rattle.raw_array.specs.Members.{members_of};
 ghost use Rattle.data_types.specs.declared.typed.Typed.{out-Typed};
 ghost use Rattle.data_types.specs.KindTrees.{NodesOk};
 ghost use Rattle.data_types.specs.TypedView.{typed_of, kind_of, kids_of, dict_in};
-ghost use Rattle.layout_rules.specs.Layout.{bytes, first, is_valid as is_valid_at, natural, stored_number};
+ghost use Rattle.layout_rules.specs.Layout.{buffer, bytes, first, is_valid as is_valid_at, natural, stored_number};
 ghost use Rattle.layout_rules.specs.Values.{child_item, each, listed, readers, row_items, tree_items, value_at};
 ghost use Rattle.layout_rules.specs.Walk.{LayoutOk};
 ghost use Rattle.arr_import.specs.StoredItems.{AreItemsThere, IsIndexThere, IsListStorage, IsThere};
 ghost use Rattle.arr_import.specs.Window.{index_at as index_in};
 ghost use Rattle.layout_rules.specs.Rules.{window_limit};
-ghost use Rattle.value_text.specs.Lengths.{AreKidLengths, IsNested, IsNestedAt, text_length};
+ghost use Rattle.value_text.specs.Lengths.{TellsKids, ArePartsStorage, IsEmptyStorage, IsNested, IsNestedAt, text_length};
 
-use crate::lengths::{list_length, row_length};
+use crate::lengths::{Lengths, list_length, row_length, same_list, same_row};
 use arr_import::{buffer_bytes, start_at, truth_at, validity_of, whole_at};
 use data_types::{Storage, Typed, kinds_of_typed, storage_of};
 use layout_rules::{lawful_items_lie_within, lawful_parts, lawful_root};
 use raw_array::RawArray;
 
 /// The place of an item in the buffers.
-fn place_of(typed: &Typed, array: &RawArray, i: u64) -> u64
+pub(crate) fn place_of(typed: &Typed, array: &RawArray, i: u64) -> u64
     requires lawful { LayoutOk (typed_of typed.now) array.now }
     requires inside { i < tree_items array.now }
     ensures place { result ≡ first (members_of array.now) + i }
@@ -35,7 +35,7 @@ fn place_of(typed: &Typed, array: &RawArray, i: u64) -> u64
 }
 
 /// What the buffers have of an item.
-fn item_is_there(typed: &Typed, array: &RawArray, i: u64)
+pub(crate) fn item_is_there(typed: &Typed, array: &RawArray, i: u64)
     requires lawful { LayoutOk (typed_of typed.now) array.now }
     requires types { NodesOk (typed_of typed.now) }
     requires inside { i < tree_items array.now }
@@ -64,10 +64,10 @@ fn items_are_there(typed: &Typed, array: &RawArray, i: u64)
 }
 
 /// The length of the text of a list between two offsets.
-pub(crate) fn list_at(wide: bool, typed: &Typed, array: &RawArray, kids: &[Vec<u32>], i: u64) -> u32
+pub(crate) fn list_at(wide: bool, typed: &Typed, array: &RawArray, kids: &[Lengths], i: u64) -> u32
     requires lawful { LayoutOk (typed_of typed.now) array.now }
     requires types { NodesOk (typed_of typed.now) }
-    requires kids { AreKidLengths kids.now (kids_of typed.now) array.now (length (kids_of typed.now)) }
+    requires kids { TellsKids kids.now (kids_of typed.now) array.now (length (kids_of typed.now)) }
     requires inside { i < tree_items array.now }
     requires storage { storage_is (kind_of typed.now) ≡ storages.Lists wide }
     ensures { result ≡ text_length (listed wide (readers (trees (kids_of typed.now))) (members_of array.now) (children_of array.now) i) }
@@ -86,12 +86,12 @@ pub(crate) fn fixed_list_at(
     size: u32,
     typed: &Typed,
     array: &RawArray,
-    kids: &[Vec<u32>],
+    kids: &[Lengths],
     i: u64,
 ) -> u32
     requires lawful { LayoutOk (typed_of typed.now) array.now }
     requires types { NodesOk (typed_of typed.now) }
-    requires kids { AreKidLengths kids.now (kids_of typed.now) array.now (length (kids_of typed.now)) }
+    requires kids { TellsKids kids.now (kids_of typed.now) array.now (length (kids_of typed.now)) }
     requires inside { i < tree_items array.now }
     requires storage { storage_is (kind_of typed.now) ≡ storages.FixedLists size }
     ensures { result ≡ text_length (Items (values (each (child_item (readers (trees (kids_of typed.now))) (children_of array.now))
@@ -109,14 +109,14 @@ fn times(place: u64, size: u32) -> u64
     place * u64::from(size)
 }
 
-/// What the children have of a struct's item.
-fn fields_are_there(typed: &Typed, array: &RawArray, i: u64)
+/// What the children have of a struct's items.
+fn fields_are_there(typed: &Typed, array: &RawArray)
     requires lawful { LayoutOk (typed_of typed.now) array.now }
-    requires inside { i < tree_items array.now }
     requires storage { storage_is (kind_of typed.now) ≡ storages.Children }
-    ensures many { length (row_items (typed_of typed.now) array.now i) ≡ length (kids_of typed.now) }
-    ensures within { (k : ℕ) → k < length (kids_of typed.now) → first (members_of array.now) + i < tree_items (child_at array.now k) }
-    ensures fields { (k : ℕ) → k < length (kids_of typed.now) → get_or (row_items (typed_of typed.now) array.now i) k Null
+    ensures many { (i : ℕ) → length (row_items (typed_of typed.now) array.now i) ≡ length (kids_of typed.now) }
+    ensures within { (i k : ℕ) → i < tree_items array.now → k < length (kids_of typed.now)
+        → first (members_of array.now) + i < tree_items (child_at array.now k) }
+    ensures fields { (i k : ℕ) → k < length (kids_of typed.now) → get_or (row_items (typed_of typed.now) array.now i) k Null
         ≡ value_at (get_or (kids_of typed.now) k Released) (child_at array.now k) (first (members_of array.now) + i) }
 {
     kinds_of_typed(typed);
@@ -125,15 +125,114 @@ fn fields_are_there(typed: &Typed, array: &RawArray, i: u64)
 }
 
 /// The length of the text of a struct.
-pub(crate) fn row_at(typed: &Typed, array: &RawArray, kids: &[Vec<u32>], i: u64) -> u32
+pub(crate) fn row_at(typed: &Typed, array: &RawArray, kids: &[Lengths], i: u64) -> u32
     requires lawful { LayoutOk (typed_of typed.now) array.now }
-    requires kids { AreKidLengths kids.now (kids_of typed.now) array.now (length (kids_of typed.now)) }
+    requires kids { TellsKids kids.now (kids_of typed.now) array.now (length (kids_of typed.now)) }
     requires inside { i < tree_items array.now }
     requires storage { storage_is (kind_of typed.now) ≡ storages.Children }
     ensures { result ≡ text_length (Fields (values (row_items (typed_of typed.now) array.now i))) }
 {
-    fields_are_there(typed, array, i);
+    fields_are_there(typed, array);
     row_length(kids, place_of(typed, array, i) as usize)
+}
+
+/// Items of no bytes, and nulls of a type without values, have a text of one byte.
+fn texts_are_short(typed: &Typed, array: &RawArray)
+    requires lawful { LayoutOk (typed_of typed.now) array.now }
+    requires own { dict_in (out-Typed typed.now).dict ≡ None }
+    requires storage { IsEmptyStorage (storage_is (kind_of typed.now)) }
+    ensures { (i : ℕ) → text_length (value_at (typed_of typed.now) array.now i) ≡ 1 }
+{
+    kinds_of_typed(typed);
+    lawful_root(typed, array);
+}
+
+/// Without validity bits, items of fixed lists and of structs are what their children's are.
+fn parts_are_whole(typed: &Typed, array: &RawArray)
+    requires lawful { LayoutOk (typed_of typed.now) array.now }
+    requires types { NodesOk (typed_of typed.now) }
+    requires own { dict_in (out-Typed typed.now).dict ≡ None }
+    requires valid { buffer (members_of array.now) 0 ≡ None }
+    requires parts { ArePartsStorage (storage_is (kind_of typed.now)) }
+    ensures { (i : ℕ) → IsNestedAt (storage_is (kind_of typed.now)) typed.now array.now i (value_at (typed_of typed.now) array.now i) }
+{
+    kinds_of_typed(typed);
+    lawful_root(typed, array);
+}
+
+/// Fixed lists have one child.
+fn one_kid_is_there(typed: &Typed)
+    requires types { NodesOk (typed_of typed.now) }
+    requires list { IsListStorage (storage_is (kind_of typed.now)) }
+    ensures { length (kids_of typed.now) ≡ 1 }
+{
+    kinds_of_typed(typed);
+}
+
+/// The one length of the texts of all fixed lists without validity bits; none where their items' differ.
+fn same_fixed_lists(size: u32, typed: &Typed, array: &RawArray, kids: &[Lengths]) -> Option<u32>
+    requires lawful { LayoutOk (typed_of typed.now) array.now }
+    requires types { NodesOk (typed_of typed.now) }
+    requires own { dict_in (out-Typed typed.now).dict ≡ None }
+    requires kids { TellsKids kids.now (kids_of typed.now) array.now (length (kids_of typed.now)) }
+    requires valid { buffer (members_of array.now) 0 ≡ None }
+    requires storage { storage_is (kind_of typed.now) ≡ storages.FixedLists size }
+    ensures { IfSome result (λ length. (i : ℕ) → i < tree_items array.now → length ≡ text_length (value_at (typed_of typed.now) array.now i)) }
+{
+    parts_are_whole(typed, array);
+    kinds_of_typed(typed);
+    lawful_root(typed, array);
+    lawful_items_lie_within(typed, array);
+    if size == 0 {
+        return Some(same_list(0, 0));
+    }
+    one_kid_is_there(typed);
+    match &kids[0] {
+        Lengths::Same(one) => Some(same_list(*one, size as u64)),
+        Lengths::Own(_) => None,
+    }
+}
+
+/// The one length of the texts of all structs without validity bits; none where a field's differ.
+fn same_structs(typed: &Typed, array: &RawArray, kids: &[Lengths]) -> Option<u32>
+    requires lawful { LayoutOk (typed_of typed.now) array.now }
+    requires types { NodesOk (typed_of typed.now) }
+    requires own { dict_in (out-Typed typed.now).dict ≡ None }
+    requires kids { TellsKids kids.now (kids_of typed.now) array.now (length (kids_of typed.now)) }
+    requires valid { buffer (members_of array.now) 0 ≡ None }
+    requires storage { storage_is (kind_of typed.now) ≡ storages.Children }
+    ensures { IfSome result (λ length. (i : ℕ) → i < tree_items array.now → length ≡ text_length (value_at (typed_of typed.now) array.now i)) }
+{
+    parts_are_whole(typed, array);
+    fields_are_there(typed, array);
+    same_row(kids)
+}
+
+/// The one length of the texts of all items of an array without bytes for each, however many they are. None of any other array.
+pub(crate) fn same_length(typed: &Typed, array: &RawArray, kids: &[Lengths]) -> Option<u32>
+    requires lawful { LayoutOk (typed_of typed.now) array.now }
+    requires types { NodesOk (typed_of typed.now) }
+    requires own { dict_in (out-Typed typed.now).dict ≡ None }
+    requires kids { TellsKids kids.now (kids_of typed.now) array.now (length (kids_of typed.now)) }
+    ensures { IfSome result (λ length. (i : ℕ) → i < tree_items array.now → length ≡ text_length (value_at (typed_of typed.now) array.now i)) }
+{
+    lawful_root(typed, array);
+    let storage = storage_of(&typed.kind);
+    match storage {
+        Storage::Nothing | Storage::Sized { size: 0 } => {
+            texts_are_short(typed, array);
+            return Some(1);
+        }
+        _ => {}
+    }
+    if validity_of(array).is_some() {
+        return None;
+    }
+    match storage {
+        Storage::FixedLists { size } => same_fixed_lists(size, typed, array, kids),
+        Storage::Children => same_structs(typed, array, kids),
+        _ => None,
+    }
 }
 
 /// What a list or a struct is, by how its type is stored.
@@ -148,7 +247,7 @@ pub(crate) fn nested_is(typed: &Typed, array: &RawArray, i: u64)
 }
 
 /// Whether an item's own validity bit isn't clear.
-fn is_valid(typed: &Typed, array: &RawArray, i: u64) -> bool
+pub(crate) fn is_valid(typed: &Typed, array: &RawArray, i: u64) -> bool
     requires lawful { LayoutOk (typed_of typed.now) array.now }
     requires inside { i < tree_items array.now }
     ensures { result ≡ is_valid_at (members_of array.now) i }
@@ -161,7 +260,7 @@ fn is_valid(typed: &Typed, array: &RawArray, i: u64) -> bool
 }
 
 /// An item whose validity bit is clear is null.
-fn clear_is_null(typed: &Typed, array: &RawArray, i: u64)
+pub(crate) fn clear_is_null(typed: &Typed, array: &RawArray, i: u64)
     requires lawful { LayoutOk (typed_of typed.now) array.now }
     requires clear { is_valid_at (members_of array.now) i ≡ false }
     ensures { value_at (typed_of typed.now) array.now i ≡ Null }
@@ -259,7 +358,8 @@ fn index_of(bits: u8, signed: bool, typed: &Typed, array: &RawArray, i: u64) -> 
     number_of(index)
 }
 
-fn number_of(index: i128) -> u64
+/// A number that isn't below 0.
+pub(crate) fn number_of(index: i128) -> u64
     requires from { pos 0 ≤ℤ index }
     requires bound { natural index < 2 ^ 63 }
     ensures { result ≡ natural index }

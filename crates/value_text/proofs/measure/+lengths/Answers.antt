@@ -1,6 +1,4 @@
-use Rattle.std.proofs.Common.{rules, ◌≡◌, ◌+◌, ◌<◌, ◌∙◌, ℕ, List, length, map, get_or, sym, ap, arith, subst}
-use Rattle.std.specs.Prelude.{Vec}
-use Rattle.std.specs.Global.{Global}
+use Rattle.std.proofs.Common.{rules, ◌≡◌, ◌+◌, ◌<◌, ◌∙◌, List, length, map, get_or, sym, ap, arith, subst}
 use Rattle.std.proofs.lemmas.List.{length-map}
 use Rattle.tree_model.specs.Tree.{Released, child_at}
 use Rattle.raw_array.specs.Members.{ArrayTree}
@@ -9,8 +7,9 @@ use Rattle.data_types.specs.TypedView.{typed_of}
 use Rattle.data_types.proofs.Levels.{levels-kid, kid-ok, get_or-typed}
 use Rattle.layout_rules.specs.Values.{tree_items, value_at}
 use Rattle.layout_rules.specs.Walk.{LayoutOk}
-use Rattle.value_text.specs.Lengths.{AreKidLengths, AreLengths}
-use Rattle.value_text.proofs.KidLengths.{more-kids}
+use Rattle.value_text.specs.Lengths.{TellsKids, Tells}
+use Rattle.value_text.specs.declared.lengths.Lengths.{Lengths}
+use Rattle.value_text.proofs.KidsTold.{more-told}
 use Rattle.value_text.proofs.measure.+lengths.Goals as goal
 
 pub kid_lengths-lengths_of-requires : goal.kid_lengths-lengths_of-requires
@@ -39,9 +38,9 @@ kid_lengths-loop-k-preserved t c =
     let is = sym c.index-kids-k.is in
     let kinds : get_or (map typed_of kids) k Released ≡ typed_of kid = get_or-typed kids k kid inside ∙ ap typed_of is in
     let v = c.in_ok-lengths_of.field-0 in
-    let there : AreLengths v.items (value_at (typed_of kid) (child_at array k)) (tree_items (child_at array k)) =
-    subst (λ (a : ArrayTree). AreLengths v.items (value_at (typed_of kid) a) (tree_items a)) c.child.ensures c.in_ok-lengths_of.ensures in
-    let one : AreLengths v.items (value_at (get_or (map typed_of kids) k Released) (child_at array k)) (tree_items (child_at array k)) =
-    subst (λ (u : KindTree). AreLengths v.items (value_at u (child_at array k)) (tree_items (child_at array k))) (sym kinds) there in
-    subst (λ (ls : List (Vec ℕ Global)). AreKidLengths ls (map typed_of kids) array (k + 1)) (sym c.in_ok-push.ensures.items)
-    (more-kids c.loop-k.lengths.items v (map typed_of kids) array k c.loop-k.invariant one)
+    let there : Tells v (value_at (typed_of kid) (child_at array k)) (tree_items (child_at array k)) =
+    subst (λ (a : ArrayTree). Tells v (value_at (typed_of kid) a) (tree_items a)) c.child.ensures c.in_ok-lengths_of.ensures in
+    let one : Tells v (value_at (get_or (map typed_of kids) k Released) (child_at array k)) (tree_items (child_at array k)) =
+    subst (λ (u : KindTree). Tells v (value_at u (child_at array k)) (tree_items (child_at array k))) (sym kinds) there in
+    subst (λ (ls : List Lengths). TellsKids ls (map typed_of kids) array (k + 1)) (sym c.in_ok-push.ensures.items)
+    (more-told c.loop-k.lengths.items v (map typed_of kids) array k c.loop-k.invariant one)

@@ -1,7 +1,7 @@
 use Rattle.std.proofs.Common.{◌+◌, ◌*◌, map}
 use Rattle.tree_model.specs.Tree.{Depth, depth_of_all, trees}
 use Rattle.data_types.specs.TypedView.{typed_of}
-use Rattle.value_text.specs.Lengths.{AreKidLengths}
+use Rattle.value_text.specs.Lengths.{TellsKids}
 use Rattle.value_text.proofs.measure.+lengths.Given as goal
 
 abbrev pub decreases-lengths_of : goal.decreases-lengths_of
@@ -12,4 +12,4 @@ decreases-kid_lengths a = 2 * depth_of_all (trees (map typed_of a.kids.now)) + 1
 
 -- the children so far
 abbrev pub invariant-kid_lengths-loop-k : goal.invariant-kid_lengths-loop-k
-invariant-kid_lengths-loop-k l = AreKidLengths l.lengths.items (map typed_of l.kids) l.array l.k
+invariant-kid_lengths-loop-k l = TellsKids l.lengths.items (map typed_of l.kids) l.array l.k

@@ -1,7 +1,7 @@
 use Rattle.data_types.specs.TypedView.{typed_of}
 use Rattle.layout_rules.specs.Values.{value_at}
 use Rattle.value_text.specs.Lengths.{AreLengths}
-use Rattle.value_text.proofs.measure.own_lengths.Given as goal
+use Rattle.value_text.proofs.measure.item_lengths.Given as goal
 
 -- the items so far
 abbrev pub invariant-loop-i : goal.invariant-loop-i

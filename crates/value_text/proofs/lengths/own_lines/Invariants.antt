@@ -4,7 +4,7 @@ use Rattle.data_types.specs.Value.{Value}
 use Rattle.layout_rules.specs.Values.{each}
 use Rattle.value_text.specs.Lengths.{AreLengths, capped}
 use Rattle.data_types.specs.ValueTexts.{value_line}
-use Rattle.value_text.proofs.measure.are_too_long.Given as goal
+use Rattle.value_text.proofs.lengths.own_lines.Given as goal
 
 -- the lines so far, behind that of `ok`
 abbrev pub invariant-loop-i : goal.invariant-loop-i

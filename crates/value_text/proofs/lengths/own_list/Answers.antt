@@ -3,7 +3,7 @@ use Rattle.data_types.specs.Value.{Value}
 use Rattle.layout_rules.specs.Values.{each}
 use Rattle.value_text.specs.Lengths.{AreLengths, capped}
 use Rattle.value_text.proofs.Parts.{list-more, parts}
-use Rattle.value_text.proofs.lengths.list_length.Goals as goal
+use Rattle.value_text.proofs.lengths.own_list.Goals as goal
 
 pub loop-k-preserved : goal.loop-k-preserved
 loop-k-preserved c =

@@ -3,7 +3,7 @@ use Rattle.data_types.specs.Value.{Value}
 use Rattle.layout_rules.specs.Values.{each}
 use Rattle.value_text.specs.Lengths.{AreLengths, capped}
 use Rattle.value_text.proofs.Parts.{parts}
-use Rattle.value_text.proofs.lengths.list_length.Given as goal
+use Rattle.value_text.proofs.lengths.own_list.Given as goal
 
 -- the items so far
 abbrev pub invariant-loop-k : goal.invariant-loop-k

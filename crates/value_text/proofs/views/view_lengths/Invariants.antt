@@ -1,0 +1,8 @@
+use Rattle.data_types.specs.TypedView.{typed_of}
+use Rattle.layout_rules.specs.Values.{value_at}
+use Rattle.value_text.specs.Lengths.{AreLengths}
+use Rattle.value_text.proofs.views.view_lengths.Given as goal
+
+-- the items so far
+abbrev pub invariant-loop-i : goal.invariant-loop-i
+invariant-loop-i l = AreLengths l.lengths.items (value_at (typed_of l.typed) l.array) l.i
