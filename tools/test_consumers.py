@@ -178,7 +178,7 @@ class Commands(unittest.TestCase):
     def test_each_end_has_a_status(self) -> None:
         for name, line, status in (("bad_abort", "it is ended by SIGABRT", 9), ("bad_exit", "it ends the process with status 0", 10),
                                    ("bad_folder", "it changes the folder to /", 6), ("bad_hang", "it takes too long", 7),
-                                   ("good_untouched", "none of 1 exports is taken", 4)):
+                                   ("good_untouched", "none of 1 export is taken", 4)):
             part = "consumer" if status == 4 else "int32"
             words = ("--consumer", f"./libconsumers.so:{name}", "--only", "int32", "--seconds", "2")
             self.assertEqual(self.said(*words), ([f"{part}: {line}"], status))

@@ -142,6 +142,10 @@ def verdicts(words: Words) -> Iterator[Dict[str, Any]]:
         yield {"part": name, **judged(words, table[name], outcome, record)}
 
 
+def exports(count: int, more: str = "") -> str:
+    return f"{count} {more}export{'s' * (count != 1)}"
+
+
 def try_consumer(given: Any, name: str, checker: Optional[Checker], report: Report) -> None:
     """Has a consumer tried. Each export's verdict is kept; what is the same with several is told once, but as JSON."""
     if given.answers and not (checker and checker.arrowtree):
@@ -155,10 +159,10 @@ def try_consumer(given: Any, name: str, checker: Optional[Checker], report: Repo
         if report.as_json:
             report.show(name, said)
     lawful, refused = (len(told.pop(each, ())) for each in ("lawful", "refused"))
-    for rule, each in told.items() if not report.as_json else ():
-        also = f" and {len(each) - 1} more exports" if len(each) > 1 else ""
+    for each in told.values() if not report.as_json else ():
+        also = f" and {exports(len(each) - 1, 'more ')}" if len(each) > 1 else ""
         report.show(name, {**each[0], "part": each[0]["part"] + also})
     if not told:
-        fault = f"ok, {lawful} exports taken" + (f", {refused} refused" if refused else "")
+        fault = f"ok, {exports(lawful)} taken" + (f", {refused} refused" if refused else "")
         report.add(name, {"part": "consumer", "result": "lawful" if lawful else "left out",
-                          "fault": fault if lawful else f"none of {refused} exports is taken"})
+                          "fault": fault if lawful else f"none of {exports(refused)} is taken"})
