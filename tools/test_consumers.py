@@ -2,9 +2,9 @@
 """Tests `arrow_tree.py --consumer` over the consumers of consumers.c and consumers.py, and arrow_tree.h over live exports. Prints
 how many tests ran, and fails where one does.
 
-    test_consumers.py [--quiet] [--no-program] [PROGRAM]     PROGRAM: the arrowpipe beside which an arrowtree is
+    test_consumers.py [--quiet] [PROGRAM [TESTS ..]]     PROGRAM: the arrowpipe beside which an arrowtree is
 
-Where no program is named or built the answers of consumers aren't compared."""
+Where no program is named the answers of consumers aren't compared."""
 import argparse
 import ctypes
 import errno
@@ -346,19 +346,15 @@ def main() -> int:
     parser = argparse.ArgumentParser(description=__doc__)
     parser.add_argument("program", nargs="?")
     parser.add_argument("--quiet", action="store_true", help="print only what fails")
-    parser.add_argument("--no-program", action="store_true", help="compare no answers, whatever is built")
     words, rest = parser.parse_known_args()
-    built = [words.program] if words.program else ["out/arrowpipe", "crates/arrowpipe/out/arrowpipe"]
-    for each in [] if words.no_program else built:
-        pipe = (HERE.parent / each).resolve()
+    if words.program:
+        pipe = Path(words.program).resolve()
         trees = [pipe.parent / "arrowtree", pipe.parents[2] / "arrowtree/out/arrowtree"]
         tree = next((it for it in trees if os.access(it, os.X_OK)), None)
-        if os.access(pipe, os.X_OK) and tree:
-            PROGRAMS = str(pipe), str(tree)
-            break
-    if words.program and not PROGRAMS[0]:
-        print(f"consumers: there is no program {words.program} with an arrowtree beside it")
-        return 1
+        if not tree or not os.access(pipe, os.X_OK):
+            print(f"consumers: there is no program {words.program}, or no arrowtree beside it")
+            return 1
+        PROGRAMS = str(pipe), str(tree)
     compiled()
     suite = unittest.defaultTestLoader.loadTestsFromNames(rest or ["Consumers", "Commands", "Answers", "Header", "Sanitized"],
                                                           sys.modules[__name__])
