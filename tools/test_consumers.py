@@ -47,7 +47,7 @@ ARRAYS = {
     "bad_child_of_a_moved_parent": "ReleasedTwice", "bad_never": "NeverReleased", "bad_schema_never": "NeverReleased",
     "bad_left": "NeverReleased", "bad_child_kept": "NeverReleased", "bad_refusal": "NeverReleased",
     "bad_child_released": "ReleasedChild", "bad_all_children_released": "ReleasedChild",
-    "bad_dictionary_released": "ReleasedChild", "bad_child_type_released": "ReleasedChild",
+    "bad_moved_parents_child": "ReleasedChild", "bad_dictionary_released": "ReleasedChild", "bad_child_type_released": "ReleasedChild",
     "bad_source": "SourceNotReleased", "bad_child_source": "SourceNotReleased", "bad_read_late": "ReadReleased",
     "bad_child_late": "ReadReleased", "bad_name_late": "ReadReleased", "bad_offset_of_nothing": "ReadBeyond",
     "bad_padding": "ReadBeyond", "bad_write": "WroteData", "bad_name_written": "WroteData",

@@ -9,7 +9,7 @@ from typing import Any, Dict, List, Optional
 
 PAGE = mmap.PAGESIZE
 LIVE, RELEASED, END, OLD_TEXT = range(4)
-MOST_NOTES, MOST_BLOCKS = 1 << 16, 1 << 13
+MOST_NOTES, MOST_BLOCKS = 1 << 16, 1 << 15
 HEAD, BLOCK = struct.Struct("<3q"), struct.Struct("<3q104s")  # fault, notes, blocks; start, end, state, label
 RULE_OF = {RELEASED: "ReadReleased", END: "ReadPastEnd", OLD_TEXT: "ReadOldError"}
 # void (int, siginfo_t *info, void *): stores info->si_addr. mov rax, SLOT; mov rcx, [rsi+16]; mov [rax], rcx; ret
