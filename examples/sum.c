@@ -2,6 +2,8 @@
  *
  *     cc -g -shared -fPIC -Itools examples/sum.c -o libsum.so
  */
+#include <stdlib.h>
+
 #include "arrow_tree.h" /* for the structures alone */
 
 static int64_t total; /* of the last array */
@@ -30,6 +32,17 @@ int wrong_sum(struct ArrowSchema *schema, struct ArrowArray *array) {
   if (!fault) add_up(&kept);
   schema->release(schema);
   return fault;
+}
+
+/* Adds up a copy, which it never frees. */
+int forgetful_sum(struct ArrowSchema *schema, struct ArrowArray *array) {
+  if (!strcmp(schema->format, "i") && !schema->dictionary && array->length) {
+    size_t size = sizeof(int32_t) * (size_t)array->length;
+    int32_t *copy = malloc(size);
+    memcpy(copy, (const int32_t *)array->buffers[1] + array->offset, size);
+    total = copy[0];
+  }
+  return sum(schema, array);
 }
 
 /* Answers with what it was given, moved. */

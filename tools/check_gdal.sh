@@ -1,7 +1,7 @@
 #!/usr/bin/env bash
-# Checks GDAL's own Arrow streams: of all its field types, of layers that its drivers wrote and read, and of three inputs that
-# don't keep to what they declare. Prints the versions, each case with its status, and the lines of what isn't lawful. It installs
-# Debian's python3-gdal where that is missing, and is no part of the gate.
+# Checks GDAL's own Arrow streams, their layouts and lifetimes: of all its field types, of layers that its drivers wrote and read,
+# and of three inputs that don't keep to what they declare. Prints the versions, each case with its status, and the lines of what
+# isn't lawful. It installs Debian's python3-gdal where that is missing, and is no part of the gate.
 #
 #     tools/check_gdal.sh PROGRAM      PROGRAM: the built arrowpipe
 program=$(realpath "${1:?the built arrowpipe}") || exit 2
@@ -18,7 +18,7 @@ for name in $($python -c 'import gdal_exports; print(*gdal_exports.CASES)'); do
     status=$?
     chunks=$(grep -c '^chunk' <<< "$lines")
     echo "$name: status $status, $chunks chunks"
-    [ $status = 0 ] || grep -v ': ok$' <<< "$lines" | tail -3 | sed 's/^/    /'
+    [ $status = 0 ] || grep -Ev ': ok(,|$)' <<< "$lines" | tail -6 | sed 's/^/    /'
     ran=$((ran + 1)) other=$((other + (status != 0)))
 done
 echo "$ran cases, $other of them not lawful as a whole"

@@ -110,6 +110,11 @@ CONSUMER(bad_child_kept, if (array->n_children) array->children[0]->release = NU
 CONSUMER(bad_refusal, if (array->offset) return array->release = NULL, ENOTSUP)
 CONSUMER(bad_child_released, if (array->n_children) RELEASE(array->children[0]))
 CONSUMER(bad_all_children_released, for (int64_t i = 0; i < array->n_children; i++) RELEASE(array->children[i]))
+CONSUMER(bad_moved_parents_child, if (array->n_children) {
+  struct ArrowArray mine = array_out_of(array);
+  RELEASE(mine.children[0]);
+  RELEASE(&mine);
+})
 CONSUMER(bad_dictionary_released, if (array->dictionary) RELEASE(array->dictionary))
 CONSUMER(bad_child_type_released, if (schema->n_children) RELEASE(schema->children[0]))
 CONSUMER(bad_source, struct ArrowArray mine = *array; RELEASE(&mine); RELEASE(schema); return fault)

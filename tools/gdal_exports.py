@@ -1,10 +1,11 @@
 """GDAL's own Arrow streams, each by the name of a case: `arrow_tree.py gdal_exports:NAME`. For check_gdal.sh.
 
-The streams are filled in by OGR_L_GetArrowStream of the library that osgeo has loaded, and released when Python ends."""
+The streams are filled in by OGR_L_GetArrowStream of the library that osgeo has loaded, and handed over in capsules. A layer stays
+open until its stream was released, as GDAL asks for: up to the next stream that is asked for behind its capsule's end."""
 import atexit
 import ctypes
-import glob
-import os
+import itertools
+import shutil
 import tempfile
 from typing import Any, Callable, Dict, List
 
@@ -29,6 +30,13 @@ DRIVERS = {"geojson": "GeoJSON", "csv": "CSV", "shp": "ESRI Shapefile", "gpkg": 
            "sqlite": "SQLite", "kml": "KML", "geojsonl": "GeoJSONSeq"}
 CASES: Dict[str, Callable[[], Any]] = {}
 kept: List[Any] = []
+held: Dict[int, Any] = {}
+numbers = itertools.count()
+atexit.register(shutil.rmtree, FOLDER, ignore_errors=True)
+
+
+def file(name: str) -> str:
+    return f"{FOLDER}/{next(numbers)}-{name}"
 
 
 def case(function: Callable[[], Any]) -> None:
@@ -105,7 +113,7 @@ def ignored_fields() -> Any:
 
 def stored(suffix: str) -> Any:
     """The layer as a driver wrote it, read again."""
-    path = f"{FOLDER}/rows.{suffix}"
+    path = file(f"rows.{suffix}")
     fields = [it for it in FIELDS if it[0] in ("whole", "real", "text", "day")]
     source = ogr.GetDriverByName(DRIVERS[suffix]).CreateDataSource(path)
     source.CopyLayer(layer_of(6, fields), "rows")
@@ -119,7 +127,7 @@ for each in DRIVERS:
 
 
 def coded(value: int) -> Any:
-    path = f"{FOLDER}/coded.gpkg"
+    path = file("coded.gpkg")
     source = gdal.GetDriverByName("GPKG").Create(path, 0, 0, 0, gdal.GDT_Unknown)
     source.AddFieldDomain(ogr.CreateCodedFieldDomain("colours", "", ogr.OFTInteger, ogr.OFSTNone, {0: "red", 1: "blue"}))
     layer = source.CreateLayer("rows", None, ogr.wkbNone)
@@ -145,9 +153,10 @@ def coded_domain_other_value() -> Any:
 
 
 def opened(name: str, content: bytes) -> Any:
-    with open(f"{FOLDER}/{name}", "wb") as file:
-        file.write(content)
-    kept.append(ogr.Open(file.name))
+    path = file(name)
+    with open(path, "wb") as out:
+        out.write(content)
+    kept.append(ogr.Open(path))
     return kept[-1].GetLayer(0)
 
 
@@ -168,18 +177,36 @@ def flatgeobuf_filter_of_nothing() -> Any:
     return layer
 
 
-def stream_of(layer: Any) -> int:
-    """The address of a layer's stream."""
-    library = ctypes.CDLL(next(line.split()[-1] for line in open("/proc/self/maps") if "libgdal.so" in line))
-    library.OGR_L_GetArrowStream.argtypes = [ctypes.c_void_p] * 3
-    stream = (ctypes.c_int64 * 5)()
-    kept.append(stream)
-    if not library.OGR_L_GetArrowStream(int(layer.this), stream, None):
-        raise RuntimeError("GDAL gives no stream")
-    atexit.register(lambda: stream[3] and ctypes.CFUNCTYPE(None, ctypes.c_void_p)(stream[3])(ctypes.addressof(stream)))
-    atexit.register(lambda: [os.remove(it) for it in glob.glob(f"{FOLDER}/*")] and os.rmdir(FOLDER))
-    return ctypes.addressof(stream)
+NEW = ctypes.PYFUNCTYPE(ctypes.py_object, ctypes.c_void_p, ctypes.c_char_p, ctypes.c_void_p)(("PyCapsule_New", ctypes.pythonapi))
+PLACE = ctypes.PYFUNCTYPE(ctypes.c_void_p, ctypes.c_void_p, ctypes.c_char_p)(("PyCapsule_GetPointer", ctypes.pythonapi))
+NAME = b"arrow_array_stream"
+
+
+@ctypes.PYFUNCTYPE(None, ctypes.c_void_p)
+def destroy(capsule: int) -> None:
+    stream, *sources = held.pop(PLACE(capsule, NAME))
+    if stream[3]:
+        ctypes.CFUNCTYPE(None, ctypes.c_void_p)(stream[3])(ctypes.addressof(stream))
+    kept.extend(sources)
+
+
+class Stream:
+    """The stream of a layer, which is made anew each time."""
+
+    def __init__(self, layer: Callable[[], Any]) -> None:
+        self.layer = layer
+
+    def __arrow_c_stream__(self, requested_schema: Any = None) -> Any:
+        kept.clear()
+        layer, stream = self.layer(), (ctypes.c_int64 * 5)()
+        library = ctypes.CDLL(next(line.split()[-1] for line in open("/proc/self/maps") if "libgdal.so" in line))
+        library.OGR_L_GetArrowStream.argtypes = [ctypes.c_void_p] * 3
+        if not library.OGR_L_GetArrowStream(int(layer.this), stream, None):
+            raise RuntimeError("GDAL gives no stream")
+        held[ctypes.addressof(stream)] = [stream, layer, *kept]
+        kept.clear()
+        return NEW(ctypes.addressof(stream), NAME, ctypes.cast(destroy, ctypes.c_void_p))
 
 
 for name, layer in list(CASES.items()):
-    globals()[name] = lambda layer=layer: stream_of(layer())
+    globals()[name] = Stream(layer)

@@ -2,9 +2,9 @@
 """Tests `arrow_tree.py --consumer` over the consumers of consumers.c and consumers.py, and arrow_tree.h over live exports. Prints
 how many tests ran, and fails where one does.
 
-    test_consumers.py [--quiet] [--no-program] [PROGRAM]     PROGRAM: the arrowpipe beside which an arrowtree is
+    test_consumers.py [--quiet] [PROGRAM [TESTS ..]]     PROGRAM: the arrowpipe beside which an arrowtree is
 
-Where no program is named or built the answers of consumers aren't compared."""
+Where no program is named the answers of consumers aren't compared."""
 import argparse
 import ctypes
 import errno
@@ -47,7 +47,7 @@ ARRAYS = {
     "bad_child_of_a_moved_parent": "ReleasedTwice", "bad_never": "NeverReleased", "bad_schema_never": "NeverReleased",
     "bad_left": "NeverReleased", "bad_child_kept": "NeverReleased", "bad_refusal": "NeverReleased",
     "bad_child_released": "ReleasedChild", "bad_all_children_released": "ReleasedChild",
-    "bad_dictionary_released": "ReleasedChild", "bad_child_type_released": "ReleasedChild",
+    "bad_moved_parents_child": "ReleasedChild", "bad_dictionary_released": "ReleasedChild", "bad_child_type_released": "ReleasedChild",
     "bad_source": "SourceNotReleased", "bad_child_source": "SourceNotReleased", "bad_read_late": "ReadReleased",
     "bad_child_late": "ReadReleased", "bad_name_late": "ReadReleased", "bad_offset_of_nothing": "ReadBeyond",
     "bad_padding": "ReadBeyond", "bad_write": "WroteData", "bad_name_written": "WroteData",
@@ -178,7 +178,7 @@ class Commands(unittest.TestCase):
     def test_each_end_has_a_status(self) -> None:
         for name, line, status in (("bad_abort", "it is ended by SIGABRT", 9), ("bad_exit", "it ends the process with status 0", 10),
                                    ("bad_folder", "it changes the folder to /", 6), ("bad_hang", "it takes too long", 7),
-                                   ("good_untouched", "none of 1 exports is taken", 4)):
+                                   ("good_untouched", "none of 1 export is taken", 4)):
             part = "consumer" if status == 4 else "int32"
             words = ("--consumer", f"./libconsumers.so:{name}", "--only", "int32", "--seconds", "2")
             self.assertEqual(self.said(*words), ([f"{part}: {line}"], status))
@@ -346,19 +346,15 @@ def main() -> int:
     parser = argparse.ArgumentParser(description=__doc__)
     parser.add_argument("program", nargs="?")
     parser.add_argument("--quiet", action="store_true", help="print only what fails")
-    parser.add_argument("--no-program", action="store_true", help="compare no answers, whatever is built")
     words, rest = parser.parse_known_args()
-    built = [words.program] if words.program else ["out/arrowpipe", "crates/arrowpipe/out/arrowpipe"]
-    for each in [] if words.no_program else built:
-        pipe = (HERE.parent / each).resolve()
+    if words.program:
+        pipe = Path(words.program).resolve()
         trees = [pipe.parent / "arrowtree", pipe.parents[2] / "arrowtree/out/arrowtree"]
         tree = next((it for it in trees if os.access(it, os.X_OK)), None)
-        if os.access(pipe, os.X_OK) and tree:
-            PROGRAMS = str(pipe), str(tree)
-            break
-    if words.program and not PROGRAMS[0]:
-        print(f"consumers: there is no program {words.program} with an arrowtree beside it")
-        return 1
+        if not tree or not os.access(pipe, os.X_OK):
+            print(f"consumers: there is no program {words.program}, or no arrowtree beside it")
+            return 1
+        PROGRAMS = str(pipe), str(tree)
     compiled()
     suite = unittest.defaultTestLoader.loadTestsFromNames(rest or ["Consumers", "Commands", "Answers", "Header", "Sanitized"],
                                                           sys.modules[__name__])

@@ -63,7 +63,8 @@ def read(export: Export) -> Dict[str, Any]:
 def text_at(schema: Any, array: Any) -> str:
     """A text, read directly: what was released while it was answered with is seen by that."""
     out = io.BytesIO()
-    layout.Writer(MOST, direct=True).tree(ctypes.addressof(schema), ctypes.addressof(array) if array else 0, out, is_whole=True)
+    places = [ctypes.addressof(each) if each else 0 for each in (schema, array)]
+    layout.Writer(MOST, direct=True).tree(*places, out, is_whole=True)
     return out.getvalue().decode()
 
 
@@ -113,7 +114,8 @@ def compared(got: Any, want: Any, texts: Sequence[bytes], check: str) -> Iterato
         yield {"rule": "UnlawfulAnswer", "what": "the answer", "detail": fault_of(check, texts)}
     elif got != want:
         place = next((i for i, pair in enumerate(zip(want, got)) if pair[0] != pair[1]), min(len(want), len(got)))
-        row, was = (each[place].decode(errors="replace")[:40] if place < len(each) else "missing" for each in (got, want))
+        row, was = ("missing" if place >= len(each) else each[place].decode(errors="replace")[:40]
+                    for each in (got, want))
         yield {"rule": "OtherValues", "what": "the answer", "detail": f"row {place} is {row} and was {was}"}
 
 

@@ -23,19 +23,18 @@ class Unusable(Exception):
 
 def built(program: str) -> str:
     """The program itself, where a checkout's launcher is named: that would build it, which takes minutes."""
-    path = Path(os.path.realpath(program))
+    path, name = Path(os.path.realpath(program)), os.path.basename(program)
     try:
         with open(path, "rb") as file:
             is_script = file.read(2) == b"#!"
     except OSError as why:
         raise Unusable(f"{program}: {why.strerror}")
-    if not (is_script and (path.parent / "crates.txt").exists()):
-        return str(path)
-    name = os.path.basename(os.path.abspath(program))
     made = path.parent / "out" / name
-    if not (os.access(made, os.X_OK) and made.stat().st_size):
+    if is_script and os.access(made, os.X_OK) and made.stat().st_size:
+        return str(made)
+    if is_script and (path.parent / "crates.txt").exists():
         raise Unusable(f"{program} isn't built in this checkout: make {name} builds it")
-    return str(made)
+    return os.path.abspath(program)
 
 
 class Checker:

@@ -30,7 +30,8 @@ RULES = {  # what is said of the thing that a rule is broken with, and the secti
     "LostError": Rule("failed, and the consumer says that all is well", "Error codes"),
     "ReadPastEnd": Rule("is used, though it is marked released", "ArrowArrayStream.get_next"),
     "ReadOldError": Rule("is used after the next call", "ArrowArrayStream.get_last_error"),
-    "AskedNoError": Rule("is asked for its last error, though the last call didn't fail", "ArrowArrayStream.get_last_error"),
+    "AskedNoError": Rule("is asked for its last error, though the last call didn't fail",
+                         "ArrowArrayStream.get_last_error"),
     "CalledReleased": Rule("is asked for something after its release", "ArrowArrayStream.get_next"),
     "OtherValues": Rule("has other values than what was given", "Data type description"),
     "Leak": Rule("has lost memory; LeakSanitizer tells where it came from", "Memory management"),
@@ -38,6 +39,7 @@ RULES = {  # what is said of the thing that a rule is broken with, and the secti
 }
 # How a process ends that doesn't return from the consumer, as results.
 LEAK = rb"\w+ leak of .*\n    #0 .*\n(    #1 .*\n)?(?:    #.*\n)*"  # with the frame that called malloc
+OF_PYTHON = rb"in _?Py|/(?:lib)?python| (?:Objects|Modules|Python|Parser)/"  # such a frame
 ENDS = {"signal": "crashed", "timeout": "hung", "exited": "exited"}
 
 
@@ -64,7 +66,7 @@ def lost() -> List[bytes]:
         os.dup2(kept, 2)
         said.seek(0)
         text = said.read()
-    return [each[0] for each in re.finditer(LEAK, text) if not re.search(rb"in _?Py|/(?:lib)?python| (?:Objects|Modules|Python|Parser)/", each[1])]
+    return [each[0] for each in re.finditer(LEAK, text) if not re.search(OF_PYTHON, each[1])]
 
 
 def take(words: Words, given: Any, record: Record, say: trial.Say) -> None:
@@ -142,6 +144,10 @@ def verdicts(words: Words) -> Iterator[Dict[str, Any]]:
         yield {"part": name, **judged(words, table[name], outcome, record)}
 
 
+def exports(count: int, more: str = "") -> str:
+    return f"{count} {more}export{'s' * (count != 1)}"
+
+
 def try_consumer(given: Any, name: str, checker: Optional[Checker], report: Report) -> None:
     """Has a consumer tried. Each export's verdict is kept; what is the same with several is told once, but as JSON."""
     if given.answers and not (checker and checker.arrowtree):
@@ -155,10 +161,10 @@ def try_consumer(given: Any, name: str, checker: Optional[Checker], report: Repo
         if report.as_json:
             report.show(name, said)
     lawful, refused = (len(told.pop(each, ())) for each in ("lawful", "refused"))
-    for rule, each in told.items() if not report.as_json else ():
-        also = f" and {len(each) - 1} more exports" if len(each) > 1 else ""
+    for each in told.values() if not report.as_json else ():
+        also = f" and {exports(len(each) - 1, 'more ')}" if len(each) > 1 else ""
         report.show(name, {**each[0], "part": each[0]["part"] + also})
     if not told:
-        fault = f"ok, {lawful} exports taken" + (f", {refused} refused" if refused else "")
+        fault = f"ok, {exports(lawful)} taken" + (f", {refused} refused" if refused else "")
         report.add(name, {"part": "consumer", "result": "lawful" if lawful else "left out",
-                          "fault": fault if lawful else f"none of {refused} exports is taken"})
+                          "fault": fault if lawful else f"none of {exports(refused)} is taken"})

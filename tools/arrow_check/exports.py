@@ -66,7 +66,8 @@ def texts(format: str, values: Sequence[bytes], valid: Optional[str] = None, ski
     return replace(column, buffers=[column.buffers[0], *data])
 
 
-def views(format: str, buffers: Sequence[bytes], items: Sequence[Any], valid: Optional[str] = None, **more: Any) -> Column:
+def views(format: str, buffers: Sequence[bytes], items: Sequence[Any], valid: Optional[str] = None,
+          **more: Any) -> Column:
     """Views: an item is bytes that stand in the view, or a buffer's number, a place in it and a length."""
     data = b""
     for item in items:
@@ -86,7 +87,8 @@ def lists(format: str, lengths: Sequence[int], child: Column, valid: Optional[st
 
 def rows(*children: Column, valid: Optional[str] = None, **more: Any) -> Column:
     """A struct, as long as its children unless said otherwise."""
-    column = flat("+s", b"", **{"length": children[0].length if children else 0, **more}, valid=valid, children=children)
+    length = more.pop("length", children[0].length if children else 0)
+    column = flat("+s", b"", length, valid, children=children, **more)
     return replace(column, buffers=column.buffers[:1])
 
 
@@ -115,9 +117,9 @@ def deep(levels: int) -> Column:
 WORDS = texts("u", [b"one", b"", b"\xc3\xa9t\xc3\xa9", b"four", b"five"], "10111")
 COLOURS = texts("u", [b"red", b"green", b"blue"])
 LONG = [b"a text of more than twelve bytes", b"", b"another one that is as long as it is dull"]
-TYPES = {**dict.fromkeys("cC", 1), **dict.fromkeys("sSe", 2), **dict.fromkeys(["i", "I", "f", "tdD", "tts", "ttm", "tiM"], 4),
-         **dict.fromkeys(["l", "L", "g", "tdm", "ttu", "ttn", "tss:", "tsm:UTC", "tsu:Asia/Tokyo", "tsn:+09:00", "tDs", "tDm",
-                          "tDu", "tDn", "tiD"], 8), "tin": 16, "d:38,10": 16, "d:76,-3,256": 32, "w:5": 5}
+WIDE = "l L g tdm ttu ttn tss: tsm:UTC tsu:Asia/Tokyo tsn:+09:00 tDs tDm tDu tDn tiD"
+TYPES = {**dict.fromkeys("cC", 1), **dict.fromkeys("sSe", 2), **dict.fromkeys("i I f tdD tts ttm tiM".split(), 4),
+         **dict.fromkeys(WIDE.split(), 8), "tin": 16, "d:38,10": 16, "d:76,-3,256": 32, "w:5": 5}
 
 
 def all_types() -> Column:
@@ -153,8 +155,8 @@ ARRAYS: Dict[str, Column] = {
     "large bytes": texts("Z", [b"\0\xff", b"", b"\n"], "011", offset=1, length=2),
     "many rows": flat("l", packed("q", *range(-35000, 35000)), 70000, "1101" * 17500),
     "views within": views("vu", [], [b"short", b"", b"twelve bytes"], "111"),
-    "views over buffers": views("vu", [LONG[0], b"", LONG[2] + LONG[0]], [(0, 0, 32), b"in", (2, 5, 30), (2, 0, 73), b""],
-                                "11101", offset=1, length=4),
+    "views over buffers": views("vu", [LONG[0], b"", LONG[2] + LONG[0]],
+                                [(0, 0, 32), b"in", (2, 5, 30), (2, 0, 73), b""], "11101", offset=1, length=4),
     "binary views": views("vz", [bytes(range(40))], [(0, 1, 39), b"\0\xff", b""], "101"),
     "no columns": rows(length=3),
     "no columns, no rows": rows(),
@@ -174,24 +176,30 @@ ARRAYS: Dict[str, Column] = {
     "fixed lists": Column("+w:2", 3, [bits("101")], [ints(1, 2, 3, 4, 5, 6, valid="111011", name="item")], nulls=1),
     "a window of fixed lists": Column("+w:2", 2, [None], [ints(9, 1, 2, 3, 4, 5, 6, offset=1, length=6)], offset=1),
     "fixed lists of nothing": Column("+w:0", 4, [None], [Column("i", 0, [None, None], name="item")]),
-    "maps": map_of([2, 0, 1], texts("u", [b"k", b"l", b"k"]), ints(1, 2, 3, valid="101"), valid="101", flags=NULLABLE | SORTED),
+    "maps": map_of([2, 0, 1], texts("u", [b"k", b"l", b"k"]), ints(1, 2, 3, valid="101"), valid="101",
+                   flags=NULLABLE | SORTED),
     "a dictionary": with_dictionary(flat("c", bytes([2, 0, 1, 0, 9]), 5, "11110"), COLOURS),
-    "a window of a dictionary": with_dictionary(flat("S", packed("H", 9, 0, 1, 9), 2, offset=1), replace(COLOURS, offset=1, length=2),
-                                                flags=NULLABLE | ORDERED),
+    "a window of a dictionary": with_dictionary(flat("S", packed("H", 9, 0, 1, 9), 2, offset=1),
+                                                replace(COLOURS, offset=1, length=2), flags=NULLABLE | ORDERED),
     "null entries": with_dictionary(flat("l", packed("q", 0, 1, 2), 3), texts("u", [b"a", b"", b"b"], "101")),
     "a dictionary of nothing": with_dictionary(Column("i", 0, [None, None]), Column("u", 0, [None, None, None])),
-    "dictionaries within": rows(lists("+l", [1, 2], with_dictionary(flat("C", bytes([1, 0, 2]), 3), COLOURS, name="item"), name="c")),
+    "dictionaries within": rows(lists("+l", [1, 2], with_dictionary(
+        flat("C", bytes([1, 0, 2]), 3), COLOURS, name="item"), name="c")),
     "every flat type": all_types(),
     "nulls alone": Column("n", 4, [], nulls=4),
     "items of no bytes": Column("w:0", 3, [bits("101"), None], nulls=1),
-    "floats": rows(*named(half=flat("e", packed("H", 0x7e01, 0x8000, 1), 3), single=flat("f", packed("I", 0x7fc00001, 1 << 31, 1), 3),
+    "floats": rows(*named(half=flat("e", packed("H", 0x7e01, 0x8000, 1), 3),
+                          single=flat("f", packed("I", 0x7fc00001, 1 << 31, 1), 3),
                           double=flat("g", packed("Q", 0x7ff8000000000001, 1 << 63, 1), 3))),
-    "short decimals": rows(flat("d:9,2,32", packed("i", 5, -7), 2, name="a"), flat("d:18,2,64", packed("q", 5, -7), 2, name="b")),
+    "short decimals": rows(*named(a=flat("d:9,2,32", packed("i", 5, -7), 2), b=flat("d:18,2,64", packed("q", 5, -7), 2))),
     "a dense union": Column("+ud:5,7", 2, [bytes([7, 5, 7]), packed("i", 0, 1, 1)],
                             [ints(10, 11, name="t"), texts("u", [b"hi", b"ho"], "10", name="w")], offset=1),
-    "a sparse union": Column("+us:0,1", 3, [bytes([0, 1, 0])], [ints(1, 2, 3, name="t"), texts("u", [b"a", b"b", b"c"], name="w")]),
-    "run ends": Column("+r", 4, [], [ints(2, 5, 7, name="run_ends", flags=0), texts("u", [b"a", b"", b"b"], "101", name="values")], offset=1),
-    "list views": Column("+vl", 3, [bits("101"), packed("i", 1, 9, 0), packed("i", 1, 0, 2)], [ints(10, 11, name="item")], nulls=1),
+    "a sparse union": Column("+us:0,1", 3, [bytes([0, 1, 0])],
+                             named(t=ints(1, 2, 3), w=texts("u", [b"a", b"b", b"c"]))),
+    "run ends": Column("+r", 4, [], named(run_ends=ints(2, 5, 7, flags=0), values=texts("u", [b"a", b"", b"b"], "101")),
+                       offset=1),
+    "list views": Column("+vl", 3, [bits("101"), packed("i", 1, 9, 0), packed("i", 1, 0, 2)], named(item=ints(10, 11)),
+                         nulls=1),
     "metadata": rows(ints(1, 2, name="caf\u00e9\n%", metadata=pairs(b"ARROW:extension:name", b"acme.id", b"", b"")),
                      metadata=pairs(b"key\0with", b"\xff", b"key", b"")),
     "no names": rows(ints(1, name=None), ints(2, name=""), ints(3, name=""), name=None),
@@ -201,8 +209,10 @@ TABLE = ARRAYS["a table"]
 STREAMS: Dict[str, Stream] = {
     "no chunk": Stream([], TABLE),
     "one chunk": Stream([TABLE], TABLE),
-    "many chunks": Stream([replace(TABLE, length=2), rows(*named(number=Column("i", 0, [None, None]), text=Column("u", 0, [None] * 3))),
-                           replace(TABLE, offset=1, length=1), replace(TABLE, offset=1, length=2), TABLE, TABLE, TABLE], TABLE),
+    "many chunks": Stream([replace(TABLE, length=2),
+                           rows(*named(number=Column("i", 0, [None, None]), text=Column("u", 0, [None] * 3))),
+                           replace(TABLE, offset=1, length=1), replace(TABLE, offset=1, length=2), TABLE, TABLE, TABLE],
+                          TABLE),
     "a chunk of no rows": Stream([replace(TABLE, length=0)], TABLE),
     "another dictionary in each chunk": Stream(
         [rows(replace(with_dictionary(flat("c", bytes([1, 0]), 2), texts("u", each)), name="d")) for each in
@@ -210,8 +220,9 @@ STREAMS: Dict[str, Stream] = {
     "numbers without a table": Stream([ints(1, 2, valid="01"), ints(3)], ints()),
     "no columns": Stream([rows(length=2), rows(length=1)], rows()),
     "a wide table": Stream([ARRAYS["1,000 columns"]], ARRAYS["1,000 columns"]),
-    "tables with windows and lists": Stream([rows(replace(ARRAYS[name], name="l")) for name in ("lists", "a window of lists")],
-                                            rows(replace(ARRAYS["lists"], name="l"))),
+    "tables with windows and lists": Stream(
+        [rows(replace(ARRAYS[name], name="l")) for name in ("lists", "a window of lists")],
+        rows(replace(ARRAYS["lists"], name="l"))),
     "a failure at once": Stream([], TABLE, 5, "there is no such table", fails_at_once=True),
     "a failure before the first chunk": Stream([], TABLE, 5, "the disk is gone"),
     "a failure in mid-stream": Stream([TABLE, TABLE], TABLE, 12, "out of memory \u2014 d\u00e9sol\u00e9\n\x1b[31m"),

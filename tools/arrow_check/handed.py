@@ -1,4 +1,4 @@
-"""Hands an export to a consumer: to a function in C, or to a callable of Python as an object of the PyCapsule Interface."""
+"""Hands an export to a consumer: to a function in C, or as an object of the PyCapsule Interface to a callable."""
 import ctypes
 import os
 from typing import Any, Callable, NamedTuple, Optional, Tuple
@@ -12,7 +12,8 @@ CAPSULES = {"schema": b"arrow_schema", "array": b"arrow_array", "stream": b"arro
 NEW = ctypes.PYFUNCTYPE(ctypes.py_object, ctypes.c_void_p, ctypes.c_char_p, ctypes.c_void_p)(
     ("PyCapsule_New", ctypes.pythonapi))
 NAME_OF = ctypes.PYFUNCTYPE(ctypes.c_char_p, ctypes.c_void_p)(("PyCapsule_GetName", ctypes.pythonapi))
-PLACE_OF = ctypes.PYFUNCTYPE(ctypes.c_void_p, ctypes.c_void_p, ctypes.c_char_p)(("PyCapsule_GetPointer", ctypes.pythonapi))
+PLACE_OF = ctypes.PYFUNCTYPE(ctypes.c_void_p, ctypes.c_void_p, ctypes.c_char_p)(
+    ("PyCapsule_GetPointer", ctypes.pythonapi))
 
 
 class Answer(NamedTuple):
@@ -60,8 +61,8 @@ class LentStream(Lent):
 
 
 def to_c(function: Any, lender: Lender, given: Any, answers: bool) -> Answer:
-    """int FUNCTION(struct ArrowSchema *, struct ArrowArray *) or (struct ArrowArrayStream *): 0, or an errno where it refuses.
-    With `answers` as many structures come behind, which it fills in."""
+    """int FUNCTION(struct ArrowSchema *, struct ArrowArray *) or (struct ArrowArrayStream *), which answers 0, or an
+    errno where it refuses. With `answers` as many structures come behind, which it fills in."""
     kinds = ["stream"] if isinstance(given, Stream) else ["schema", "array"]
     places = [lend(lender, kind, given).place for kind in kinds]
     answered = [room(FORMS[kind]) for kind in kinds] if answers else []

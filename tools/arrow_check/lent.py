@@ -24,7 +24,7 @@ class Held:
     blocks: List[Any] = field(default_factory=list)
     released_at: int = 0  # 0 while it is live
     is_ours: bool = False  # whether its place is the tool's memory, and not what a taker of a stream has handed in
-    stream: Optional[Stream] = None  # of a stream what it gives, the number of the next chunk, whether the last call failed
+    stream: Optional[Stream] = None  # what a stream gives, the number of the next chunk, whether the last call failed
     next: int = 0
     failed: bool = False
     texts: List[Any] = field(default_factory=list)  # and the blocks of its errors' texts
@@ -113,7 +113,8 @@ class Lender:
         for child, at, way in zip(below, places, ways):
             self.lend(kind, child, at, f"{label}/{way}" if parent else f"{label} /{way}", held)
         children = b"".join(at.to_bytes(8, "little") for at in places[:len(column.children)])
-        (self.schema if kind == "schema" else self.array)(held, column, children, places[-1] if column.dictionary else 0)
+        dictionary = places[-1] if column.dictionary else 0
+        (self.schema if kind == "schema" else self.array)(held, column, children, dictionary)
         return held
 
     def schema(self, held: Held, column: Column, children: bytes, dictionary: int) -> None:

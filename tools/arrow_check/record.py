@@ -9,7 +9,7 @@ from typing import Any, Dict, List, Optional
 
 PAGE = mmap.PAGESIZE
 LIVE, RELEASED, END, OLD_TEXT = range(4)
-MOST_NOTES, MOST_BLOCKS = 1 << 16, 1 << 13
+MOST_NOTES, MOST_BLOCKS = 1 << 16, 1 << 15
 HEAD, BLOCK = struct.Struct("<3q"), struct.Struct("<3q104s")  # fault, notes, blocks; start, end, state, label
 RULE_OF = {RELEASED: "ReadReleased", END: "ReadPastEnd", OLD_TEXT: "ReadOldError"}
 # void (int, siginfo_t *info, void *): stores info->si_addr. mov rax, SLOT; mov rcx, [rsi+16]; mov [rax], rcx; ret
@@ -38,7 +38,7 @@ def pages(address: Optional[int], size: int, more: int = 0) -> int:
 
 class Record:
     def __init__(self) -> None:
-        self.memory = mmap.mmap(-1, PAGE + MOST_NOTES + MOST_BLOCKS * BLOCK.size)  # shared with the processes begun here
+        self.memory = mmap.mmap(-1, PAGE + MOST_NOTES + MOST_BLOCKS * BLOCK.size)  # shared with children
         self.address = ctypes.addressof(ctypes.c_char.from_buffer(self.memory))
 
     def head(self) -> List[int]:
@@ -63,7 +63,8 @@ class Record:
         fault, used, count = self.head()
         if count < MOST_BLOCKS:
             HEAD.pack_into(self.memory, 0, fault, used, count + 1)
-            BLOCK.pack_into(self.memory, PAGE + MOST_NOTES + count * BLOCK.size, start, end, state, label.encode()[:104])
+            place = PAGE + MOST_NOTES + count * BLOCK.size
+            BLOCK.pack_into(self.memory, place, start, end, state, label.encode()[:104])
         return count
 
     def state(self, number: int, state: int) -> None:
