@@ -1,5 +1,5 @@
 -- One link of a chain.
-use Rattle.std.proofs.Common.{◌≡◌, ◌≤◌, ◌+◌, ℕ, List, [], ◌∷◌, Option, Some, None, Result, Ok, Err, OnErr, OnOk, refl, ◌∙◌, ap, subst}
+use Rattle.std.proofs.Common.{◌≡◌, ◌≤◌, ◌+◌, ℕ, List, [], ◌∷◌, Option, Some, None, Result, Ok, Err, OnErr, OnOk, refl, sym, ◌∙◌, ap, subst}
 use Rattle.std.proofs.Common.{arith, inl, inr}
 use Rattle.std.proofs.lemmas.Bool.Decides.{eqb_tells}
 use Rattle.std.proofs.lemmas.List.Sums.{sum_by-cons}
@@ -13,7 +13,7 @@ use Rattle.stage_model.specs.Typing.{Stage}
 use Rattle.stream_face.specs.Raw.{raw_joints, raw_state}
 use Rattle.stream_face.specs.Shown.{Seen, Shown}
 use Rattle.stream_face.specs.declared.fault.StreamFault.{StreamFault}
-use Rattle.stream_face.specs.Streams.{Stream, Traffic, telling}
+use Rattle.stream_face.specs.Streams.{IsFresh, Stream, Traffic, telling}
 use Rattle.stage_chain.specs.Chains.{chain_links, chain_traffic, joints_with, over_stream}
 use Rattle.csv_write.specs.Runs.{Counted, ShowsSome}
 use Rattle.csv_write.proofs.RunLemmas.{grown-nil}
@@ -41,6 +41,10 @@ IsStarted link nodes s up = up ≡ raw_state link nodes None (telling None s)
 pub started : (own link nodes : ℕ) (fault : Option StreamFault) (inner s : Stream) → own ≡ link → fault ≡ None → inner ≡ telling None s
     → IsStarted link nodes s (raw_state own nodes fault inner)
 started own link nodes fault inner s at none told = λ i. raw_state (at i) nodes (none i) (told i)
+
+-- where the stream had not refused, nor has it
+pub started-fresh : (s up : Stream) (link nodes : ℕ) → IsStarted link nodes s up → IsFresh s → IsFresh up
+started-fresh s up link nodes raw fresh = subst IsFresh (sym raw) (record { lawful = fresh.lawful; no_failure = fresh.no_failure })
 
 raw_above : (s : Stream) (link : ℕ) → ((later : ℕ) → link ≤ later → s.joints later ≡ []) → (later : ℕ) → link + 1 ≤ later
     → raw_joints link (telling None s) later ≡ []
@@ -72,6 +76,12 @@ module _ (stage : Stage) (s up node : Stream) (link nodes : ℕ) (raw : IsStarte
   -- no link from the next one on is below it
   pub joints-above : ((later : ℕ) → link ≤ later → s.joints later ≡ []) → (later : ℕ) → link + 1 ≤ later → node.joints later ≡ []
   joints-above none later above = rw (is, raw) (raw_above s link none later above)
+
+  -- it has not refused where the stream had not
+  pub fresh-above : IsFresh s → IsFresh node
+  fresh-above fresh =
+      let started = started-fresh s up link nodes raw fresh in
+      subst IsFresh (sym is) (record { lawful = started.lawful; no_failure = started.no_failure })
 
   -- what is shown
   pub joints-step : (rest stages : List Stage) → stages ≡ stage ∷ rest

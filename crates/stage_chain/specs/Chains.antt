@@ -19,7 +19,7 @@ chunks_of s = record { chunks = s.ahead; ending = s.ending }
 abbrev pub over_stream : Stage → Stream → Stream
 over_stream stage up =
     let chunks = chunks_after stage.step up.ending up.ahead in
-    record up { columns = stage.columns; ahead = chunks; due = due_with stage.step stage.columns chunks up.due; schema = None; chunk = None; said = None }
+    record up { columns = stage.columns; ahead = chunks; due = due_with stage.step stage.columns chunks up.due; schema = None; chunk = None; gave = None; said = None }
 
 -- the links of a chain of stages over a stream
 abbrev pub chain_links : Stream → List Stage → List Link

@@ -52,5 +52,6 @@ returns g c =
       };
       schema = None;
       chunk = None;
+      gave = None;
       said = None;
     })

@@ -10,10 +10,11 @@ use Rattle.data_types.specs.Table.{Column}
 use Rattle.stage_model.specs.Links.{Whole}
 use Rattle.stage_model.specs.Stages.{table}
 use Rattle.stage_model.specs.Typing.{Stage}
-use Rattle.stream_face.specs.Streams.{Stream}
+use Rattle.stream_face.specs.Streams.{IsFresh, Stream}
 use Rattle.stage_chain.specs.Boxes.{boxed_state}
-use Rattle.stage_chain.specs.Chains.{chain_links, link_shows}
-use Rattle.csv_write.specs.Runs.{ShowsAll, ShowsSome}
+use Rattle.stage_chain.specs.Chains.{chain_links, chain_traffic, joints_with, link_shows}
+use Rattle.csv_write.specs.Runs.{Counted, ShowsAll, ShowsSome}
+use Rattle.csv_write.proofs.RunLemmas.{on-row}
 use Rattle.stage_chain.specs.Plans.{AreStages, links_of, plan_stages, stages_in, stages_left}
 use Rattle.stage_chain.proofs.Chaining.{on-err, on-ok}
 use Rattle.stage_chain.proofs.Driving.{shows-all, shows-some, text-is}
@@ -87,6 +88,14 @@ returns-in-Ok-prepare g c =
     let last =
     last-of s b (plan_stages c.args.plan) (stages_left c.into_iter.result) (get_or (links_of c.args.plan) (length c.args.plan.steps.items) []) made left
     (last-link-is s.columns c.requires.plan.0 c.args.plan c.requires.plan.1) in
+    let shown = λ (shows : ShowsAll (joints_with 0 b.joints (chain_links b (stages_left c.into_iter.result))) (g.T.Tap.seen c.args.tap.now)
+    (g.T.Tap.seen c.drive_from.new.tap)).
+    subst (λ (m : Stream). ShowsAll (link_shows (chain_links m (plan_stages c.args.plan))) (g.T.Tap.seen c.args.tap.now) (g.T.Tap.seen c.drive_from.new.tap)) made
+    (shows-all b (plan_stages c.args.plan) (stages_left c.into_iter.result) (g.T.Tap.seen c.args.tap.now) (g.T.Tap.seen c.drive_from.new.tap) left
+    (none-below s b made c.requires.no_joints) shows) in
+    let counted = λ (counted : Counted (chain_traffic b (stages_left c.into_iter.result)) c.args.pass.now c.drive_from.new.pass).
+    subst (λ (ss : List Stage). Counted (chain_traffic s ss) c.args.pass.now c.drive_from.new.pass) left
+    (subst (λ (m : Stream). Counted (chain_traffic m (stages_left c.into_iter.result)) c.args.pass.now c.drive_from.new.pass) made counted) in
     record {
       text = subst (λ (m : Stream). IfOk c.drive_from.result (λ text. text.items
           ≡ table_text c.args.mark.now (Whole (table m.columns (joined_rows m.ahead)) (plan_stages c.args.plan)))) made
@@ -94,12 +103,8 @@ returns-in-Ok-prepare g c =
           c.chunks_give_the_whole.ensures.rows c.chunks_give_the_whole.ensures.columns
           (subst (λ cs. HasText c.in-Ok-prepare.text c.args.mark.now cs
           (header_text cs)) last c.in-Ok-prepare.ensures.text) c.drive_from.ensures.ends c.drive_from.ensures.text);
-      shows = on-ok c.drive_from.result
-          (λ shows. subst (λ (m : Stream). ShowsAll (link_shows (chain_links m (plan_stages c.args.plan))) (g.T.Tap.seen c.args.tap.now)
-          (g.T.Tap.seen c.drive_from.new.tap)) made
-          (shows-all b (plan_stages c.args.plan) (stages_left c.into_iter.result) (g.T.Tap.seen c.args.tap.now) (g.T.Tap.seen c.drive_from.new.tap) left
-          (none-below s b made c.requires.no_joints) shows))
-          c.drive_from.ensures.shows;
+      shows = on-ok c.drive_from.result shown c.drive_from.ensures.shows;
+      refused_shows = λ fresh. on-row c.drive_from.result shown (c.drive_from.ensures.refused_shows (subst IsFresh (sym made) fresh));
       shows_some = on-err c.drive_from.result
           (λ shows. subst (λ (m : Stream). ShowsSome (link_shows (chain_links m (plan_stages c.args.plan))) (g.T.Tap.seen c.args.tap.now)
           (g.T.Tap.seen c.drive_from.new.tap)) made
@@ -109,7 +114,8 @@ returns-in-Ok-prepare g c =
       ends = grind (arith, common_steps);
       row = grind (arith, common_steps);
       units = grind (arith, common_steps);
-      counts = grind (arith, common_steps);
+      counts = on-ok c.drive_from.result counted c.drive_from.ensures.counts;
+      refused_counts = λ fresh. on-row c.drive_from.result counted (c.drive_from.ensures.refused_counts (subst IsFresh (sym made) fresh));
     }
 
 pub returns-in-Err : goal.returns-in-Err
@@ -120,7 +126,9 @@ returns-in-Err g c =
       row = grind (arith, common_steps);
       units = grind (arith, common_steps);
       counts = grind (arith, common_steps);
+      refused_counts = λ _. rw c.refuse.ensures.refused tt;
       shows = grind (arith, common_steps);
+      refused_shows = λ _. rw c.refuse.ensures.refused tt;
       shows_some = grind (arith, common_steps);
     }
 
@@ -132,6 +140,8 @@ returns-in-Err-prepare g c =
       row = grind (arith, common_steps);
       units = grind (arith, common_steps);
       counts = grind (arith, common_steps);
+      refused_counts = λ _. rw c.refuse-in-Err-prepare.ensures.refused tt;
       shows = grind (arith, common_steps);
+      refused_shows = λ _. rw c.refuse-in-Err-prepare.ensures.refused tt;
       shows_some = grind (arith, common_steps);
     }

@@ -12,9 +12,10 @@ use Rattle.stage_chain.specs.Boxes.{boxed_state}
 use Rattle.stage_chain.specs.Chains.{over_stream}
 use Rattle.stage_chain.specs.Plans.{AreStages, stage_in, stages_in, stages_left}
 use Rattle.csv_write.specs.Runs.{ShowsAll, ShowsSome}
+use Rattle.csv_write.proofs.RunLemmas.{on-row}
 use Rattle.stage_chain.proofs.Planning.{no_stages}
 use Rattle.stage_chain.proofs.Chaining.{IsStarted, started, counted-last, counted-step, joints-above, joints-last}
-use Rattle.stage_chain.proofs.Chaining.{joints-step, on-err, on-ok, shows-nothing, whatever}
+use Rattle.stage_chain.proofs.Chaining.{fresh-above, joints-step, on-err, on-ok, shows-nothing, started-fresh, whatever}
 use Rattle.stage_chain.proofs.Driving.{text-last}
 use Rattle.stage_chain.proofs.chain.SuccChain.drive_from.Goals as goal
 
@@ -27,7 +28,9 @@ returns-in-Err g c =
       row = rw c.refuse.ensures.refused tt;
       units = grind (arith, common_steps);
       counts = rw c.refuse.ensures.refused tt;
+      refused_counts = λ _. rw c.refuse.ensures.refused tt;
       shows = rw c.refuse.ensures.refused tt;
+      refused_shows = λ _. rw c.refuse.ensures.refused tt;
     }
 
 -- ---- what the rest of the chain asks
@@ -81,20 +84,22 @@ returns-in-None g c =
     c.in-Ok.ensures.link c.in-Ok.ensures.fault c.in-Ok.ensures.started in
     let none : stages_left c.args.stages ≡ [] = no_stages c.args.stages.rest.items c.args.stages.rest.len c.args.stages.rest.ok.0 c.in-None.ensures.cases.0 in
     let ending = ap (λ (m : Stream). m.ending) raw in
+    let counted =
+    counted-last (stages_left c.args.stages) s up c.args.link _ c.args.pass.now c.start.new.pass c.write_rows.new.pass none raw
+    (c.schemas_are_small.ensures.counted s.columns) (c.in-Ok.ensures.nodes c.requires.lawful) (c.in-Ok.ensures.blocks c.requires.lawful) in
+    let shown =
+    subst (λ joints. ShowsAll joints (g.T.Tap.seen c.args.tap.now) (g.T.Tap.seen c.write_rows.new.tap))
+    (joints-last (stages_left c.args.stages) s up c.args.link _ none raw) in
     record {
       text = text-last c.write_rows.result (stages_left c.args.stages) s up c.args.link _ c.args.text none raw c.write_rows.ensures.text;
-      counts = on-ok c.write_rows.result
-          (counted-last (stages_left c.args.stages) s up c.args.link _ c.args.pass.now c.start.new.pass c.write_rows.new.pass none raw
-          (c.schemas_are_small.ensures.counted s.columns) (c.in-Ok.ensures.nodes c.requires.lawful) (c.in-Ok.ensures.blocks c.requires.lawful))
-          c.write_rows.ensures.counts;
+      counts = on-ok c.write_rows.result counted c.write_rows.ensures.counts;
+      refused_counts = λ fresh. on-row c.write_rows.result counted (c.write_rows.ensures.refused_counts (started-fresh s up c.args.link _ raw fresh));
       shows_some = on-err c.write_rows.result
           (subst (λ joints. ShowsSome joints (g.T.Tap.seen c.args.tap.now) (g.T.Tap.seen c.write_rows.new.tap)) (joints-last
           (stages_left c.args.stages) s up c.args.link _ none raw))
           c.write_rows.ensures.shows_some;
-      shows = on-ok c.write_rows.result
-          (subst (λ joints. ShowsAll joints (g.T.Tap.seen c.args.tap.now) (g.T.Tap.seen c.write_rows.new.tap)) (joints-last
-          (stages_left c.args.stages) s up c.args.link _ none raw))
-          c.write_rows.ensures.shows;
+      shows = on-ok c.write_rows.result shown c.write_rows.ensures.shows;
+      refused_shows = λ fresh. on-row c.write_rows.result shown (c.write_rows.ensures.refused_shows (started-fresh s up c.args.link _ raw fresh));
       ends = on-ok c.write_rows.result (λ e. sym ending ∙ e) c.write_rows.ensures.ends;
       row = subst (λ o. IfErr c.write_rows.result (λ e. IfRow e (λ fault. o ≡ Some fault))) ending c.write_rows.ensures.row;
       units = grind (arith, common_steps);
@@ -113,16 +118,20 @@ returns-in-Ok-new g c =
     let rest = stages_left c.next.new.self in
     let are : stages_left c.args.stages ≡ stage ∷ rest = ap stages_in c.in-Some.ensures.items in
     let ending = ap (λ (m : Stream). m.ending) is ∙ ap (λ (m : Stream). m.ending) raw in
+    let counted =
+    counted-step stage s up node c.args.link _ raw is rest (stages_left c.args.stages) c.args.pass.now c.start.new.pass c.drive_from.new.pass are
+    (c.schemas_are_small.ensures.counted s.columns) (c.in-Ok.ensures.nodes c.requires.lawful) (c.in-Ok.ensures.blocks c.requires.lawful) in
+    let shown =
+    subst (λ joints. ShowsAll joints (g.T.Tap.seen c.args.tap.now) (g.T.Tap.seen c.drive_from.new.tap))
+    (joints-step stage s up node c.args.link _ raw is rest (stages_left c.args.stages) are) in
     record {
       text = search rules;
-      counts = on-ok c.drive_from.result
-          (counted-step stage s up node c.args.link _ raw is rest (stages_left c.args.stages) c.args.pass.now c.start.new.pass c.drive_from.new.pass are
-          (c.schemas_are_small.ensures.counted s.columns) (c.in-Ok.ensures.nodes c.requires.lawful) (c.in-Ok.ensures.blocks c.requires.lawful))
-          c.drive_from.ensures.counts;
-      shows = on-ok c.drive_from.result
-          (subst (λ joints. ShowsAll joints (g.T.Tap.seen c.args.tap.now) (g.T.Tap.seen c.drive_from.new.tap)) (joints-step stage s up node c.args.link _
-          raw is rest (stages_left c.args.stages) are))
-          c.drive_from.ensures.shows;
+      counts = on-ok c.drive_from.result counted c.drive_from.ensures.counts;
+      refused_counts = λ fresh. on-row c.drive_from.result counted
+          (c.drive_from.ensures.refused_counts (fresh-above stage s up node c.args.link _ raw is fresh));
+      shows = on-ok c.drive_from.result shown c.drive_from.ensures.shows;
+      refused_shows = λ fresh. on-row c.drive_from.result shown
+          (c.drive_from.ensures.refused_shows (fresh-above stage s up node c.args.link _ raw is fresh));
       shows_some = on-err c.drive_from.result
           (subst (λ joints. ShowsSome joints (g.T.Tap.seen c.args.tap.now) (g.T.Tap.seen c.drive_from.new.tap)) (joints-step stage s up node c.args.link _
           raw is rest (stages_left c.args.stages) are))
@@ -141,5 +150,7 @@ returns-in-Err-new g c =
       row = rw c.refuse-in-Err-new.ensures.refused tt;
       units = grind (arith, common_steps);
       counts = rw c.refuse-in-Err-new.ensures.refused tt;
+      refused_counts = λ _. rw c.refuse-in-Err-new.ensures.refused tt;
       shows = rw c.refuse-in-Err-new.ensures.refused tt;
+      refused_shows = λ _. rw c.refuse-in-Err-new.ensures.refused tt;
     }

@@ -9,7 +9,8 @@ use Rattle.csv_write.specs.Faults.{IfRow}
 use Rattle.stream_face.specs.Meaning.{meaning, raw_schema}
 use Rattle.stage_chain.specs.Plans.{stages_left}
 use Rattle.csv_write.specs.Runs.{ShowsAll, ShowsSome}
-use Rattle.stage_chain.proofs.Chaining.{IsStarted, started, counted-last, joints-last, on-err, on-ok, shows-nothing, whatever}
+use Rattle.csv_write.proofs.RunLemmas.{on-row}
+use Rattle.stage_chain.proofs.Chaining.{IsStarted, started, counted-last, joints-last, on-err, on-ok, shows-nothing, started-fresh, whatever}
 use Rattle.stage_chain.proofs.chain.ZeroChain.drive_from.Goals as goal
 
 none_left : (stages : List Stage) → length stages ≤ 0 → stages ≡ []
@@ -25,7 +26,9 @@ returns g c =
       row = rw c.refuse.ensures.refused tt;
       units = grind (arith, common_steps);
       counts = rw c.refuse.ensures.refused tt;
+      refused_counts = λ _. rw c.refuse.ensures.refused tt;
       shows = rw c.refuse.ensures.refused tt;
+      refused_shows = λ _. rw c.refuse.ensures.refused tt;
     }
 
 pub returns-in-Ok : goal.returns-in-Ok
@@ -36,20 +39,22 @@ returns-in-Ok g c =
     c.in-Ok.ensures.link c.in-Ok.ensures.fault c.in-Ok.ensures.started in
     let none : stages_left c.args._stages ≡ [] = none_left (stages_left c.args._stages) c.requires.few in
     let ending = ap (λ (m : Stream). m.ending) raw in
+    let counted =
+    counted-last (stages_left c.args._stages) s up c.args.link _ c.args.pass.now c.start.new.pass c.write_rows.new.pass none raw
+    (c.schemas_are_small.ensures.counted s.columns) (c.in-Ok.ensures.nodes c.requires.lawful) (c.in-Ok.ensures.blocks c.requires.lawful) in
+    let shown =
+    subst (λ joints. ShowsAll joints (g.T.Tap.seen c.args.tap.now) (g.T.Tap.seen c.write_rows.new.tap))
+    (joints-last (stages_left c.args._stages) s up c.args.link _ none raw) in
     record {
       text = search rules;
-      counts = on-ok c.write_rows.result
-          (counted-last (stages_left c.args._stages) s up c.args.link _ c.args.pass.now c.start.new.pass c.write_rows.new.pass none raw
-          (c.schemas_are_small.ensures.counted s.columns) (c.in-Ok.ensures.nodes c.requires.lawful) (c.in-Ok.ensures.blocks c.requires.lawful))
-          c.write_rows.ensures.counts;
+      counts = on-ok c.write_rows.result counted c.write_rows.ensures.counts;
+      refused_counts = λ fresh. on-row c.write_rows.result counted (c.write_rows.ensures.refused_counts (started-fresh s up c.args.link _ raw fresh));
       shows_some = on-err c.write_rows.result
           (subst (λ joints. ShowsSome joints (g.T.Tap.seen c.args.tap.now) (g.T.Tap.seen c.write_rows.new.tap)) (joints-last
           (stages_left c.args._stages) s up c.args.link _ none raw))
           c.write_rows.ensures.shows_some;
-      shows = on-ok c.write_rows.result
-          (subst (λ joints. ShowsAll joints (g.T.Tap.seen c.args.tap.now) (g.T.Tap.seen c.write_rows.new.tap)) (joints-last
-          (stages_left c.args._stages) s up c.args.link _ none raw))
-          c.write_rows.ensures.shows;
+      shows = on-ok c.write_rows.result shown c.write_rows.ensures.shows;
+      refused_shows = λ fresh. on-row c.write_rows.result shown (c.write_rows.ensures.refused_shows (started-fresh s up c.args.link _ raw fresh));
       ends = on-ok c.write_rows.result (λ e. sym ending ∙ e) c.write_rows.ensures.ends;
       row = subst (λ o. IfErr c.write_rows.result (λ e. IfRow e (λ fault. o ≡ Some fault))) ending c.write_rows.ensures.row;
       units = grind (arith, common_steps);
