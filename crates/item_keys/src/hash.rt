@@ -35,9 +35,9 @@ pub(crate) fn slot_at(hash: u32, step: usize, slots: usize) -> usize
     (hash as usize + step) & (slots - 1)
 }
 
-/// How many slots there are for this many texts: at least twice as many, a power of two from 16 to 2^22.
+/// How many slots there are for this many texts: a power of two from 16 to 2^29, and up to that at least twice as many.
 pub(crate) fn slots_for(most: u32) -> usize
     ensures { 0 < result }
 {
-    1usize << (33 - most.leading_zeros()).clamp(4, 22)
+    1usize << (33 - most.leading_zeros()).clamp(4, 29)
 }

@@ -171,6 +171,24 @@ impl<'a> Column<'a> {
         }
     }
 
+    /// How many distinct values these many items can have, nulls aside.
+    pub(crate) fn most_values(&self, count: u64) -> u32 {
+        let kinds = match storage_of(&self.typed.kind) {
+            Storage::Truths => 2,
+            Storage::Wholes { bits: 8, .. } | Storage::Sized { size: 1 } => 1 << 8,
+            Storage::Wholes { bits: 16, .. }
+            | Storage::Floats { bits: 16 }
+            | Storage::Sized { size: 2 } => 1 << 16,
+            Storage::Sized { size: 0 } => 1,
+            _ => u32::MAX,
+        };
+        if count < u64::from(kinds) {
+            count as u32
+        } else {
+            kinds
+        }
+    }
+
     /// Whether the items have no bytes and none is null, so that all are the same.
     pub(crate) fn are_alike(&self) -> bool
         requires { IsColumn self.now }

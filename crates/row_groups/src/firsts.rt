@@ -61,15 +61,6 @@ fn only_first(alloc: Global, count: u64) -> Result<Vec<u64>, GroupFault>
     }
 }
 
-/// How many distinct values of this many items are found fast.
-fn found_fast(count: u64) -> u32 {
-    if count < 1 << 32 {
-        count as u32
-    } else {
-        u32::MAX
-    }
-}
-
 /// The first item of each distinct value, where each item is looked at.
 fn walked_firsts(
     alloc: Global,
@@ -84,7 +75,7 @@ fn walked_firsts(
     ensures few { IfOk result (λ firsts. length firsts.items ≤ most_groups) }
     ensures fault { IfErr result (IsRefusedFor (length (distinct (each (λ i. item_of column.now (start + i)) 0 count)))) }
 {
-    let Ok(mut numbering) = Numbering::new(alloc, found_fast(count)) else {
+    let Ok(mut numbering) = Numbering::new(alloc, column.most_values(count)) else {
         return Err(GroupFault::NoMemory);
     };
     let mut firsts = Vec::new(alloc);

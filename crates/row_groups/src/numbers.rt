@@ -41,7 +41,7 @@ pub(crate) fn numbered(
     requires few { count < 2 ^ 31 }
     ensures { IfOk result (λ found. IsGrouped (λ i. item_of column.now (start + i)) count found.numbers.items found.firsts.items) }
 {
-    let mut numbering = Numbering::new(alloc, count)?;
+    let mut numbering = Numbering::new(alloc, column.most_values(count as u64))?;
     let mut numbers = Vec::with_capacity(alloc, count as usize)?;
     let mut firsts = Vec::new(alloc);
     for i in 0..count {
