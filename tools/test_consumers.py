@@ -259,7 +259,7 @@ class Header(unittest.TestCase):
         text = (HERE / "producer.c").read_text()
         for name in re.findall(r"^(?:void |SPOILT\()((?:export|bad)_\w+)(?:,|\(struct ArrowSchema \*schema, )", text, re.MULTILINE):
             schema, array = room(ArrowSchema), room(ArrowArray)
-            if "wild" not in name and "memory" not in name and "open" not in name:
+            if not re.search("wild|memory|open|json", name):  # what leads out of memory
                 getattr(self.producer, name)(schema, array)
                 yield name, schema, array
         for name, each in exports.ARRAYS.items():
