@@ -8,11 +8,13 @@
 #   ints, decimals, floats (16 hexadecimal digits), bytes (8 bytes), truths: eight columns a to h of that kind
 #   octets (0 to 255), signed8, words (0 to 65535), signed16, halves (4 hexadecimal digits), singles (8), blocks (16 bytes),
 #   fractions (10 digits behind the point): the same
+#   one: the column a of whole numbers; wide: 500 columns c1 to c500 of them, and columns-N N columns
+#   letters: id,text; 2,000 letters a row
 #   nulls-KIND: KIND with one in ten fields empty
 rows=${1:?rows}
 kind=${2:-plain}
 exec awk -v n="$rows" -v kind="$kind" '
-function eight(i, k) {
+function eight(i, k, kind) {
   if (kind == "ints") return (i * 7919 * k) % 1000003
   if (kind == "decimals") return sprintf("%d.%02d", (i * 101 * k) % 1000003, (i * k) % 100)
   if (kind == "truths") return i * k % 3 ? "false" : "true"
@@ -33,10 +35,28 @@ BEGIN {
   if (kind ~ /^(ints|decimals|floats|bytes|truths|octets|signed8|words|signed16|halves|singles|blocks|fractions)$/) {
     print "a,b,c,d,e,f,g,h"
     for (i = 1; i <= n; i++) {
-      line = field(i, 1, eight(i, 1))
-      for (k = 2; k <= 8; k++) line = line "," field(i, k, eight(i, k))
+      line = field(i, 1, eight(i, 1, kind))
+      for (k = 2; k <= 8; k++) line = line "," field(i, k, eight(i, k, kind))
       print line
     }
+    exit
+  }
+  if (kind == "one" || kind == "wide" || sub(/^columns-/, "", kind)) {
+    columns = kind == "one" ? 1 : kind == "wide" ? 500 : kind
+    line = columns == 1 ? "a" : "c1"
+    for (k = 2; k <= columns; k++) line = line ",c" k
+    print line
+    for (i = 1; i <= n; i++) {
+      line = eight(i, 1, "ints")
+      for (k = 2; k <= columns; k++) line = line "," eight(i, k, "ints")
+      print line
+    }
+    exit
+  }
+  if (kind == "letters") {
+    print "id,text"
+    for (k = 1; k <= 200; k++) text = text "abcdefghij"
+    for (i = 1; i <= n; i++) print i "," text
     exit
   }
   if (kind == "longtext") {

@@ -11,3 +11,4 @@ pub mod AfterColumns
 pub mod Fits
 pub mod Rules
 pub mod PlanWalk
+pub mod NamedPlaces

@@ -1,6 +1,7 @@
 -- What the code's plans are.
-use Rattle.std.specs.Prelude.{◌≡◌, ℕ, Bool, true, false, List, ◌++◌, get_or, length, map}
+use Rattle.std.specs.Prelude.{◌≡◌, ℕ, Bool, true, false, List, Option, ◌++◌, get_or, length, map}
 use Rattle.std.specs.Borrow.{Bor}
+use Rattle.std.specs.HashMap.{HashMap, get_by}
 use Rattle.std.specs.List.{list_any}
 use Rattle.std.specs.Str.{bytes_eq}
 use Rattle.data_types.specs.ColumnView.{column_of}
@@ -25,6 +26,10 @@ has_text borrows text = list_any (λ b. bytes_eq text b.now) borrows
 
 abbrev pub columns_in : List ColumnType → List Column
 columns_in columns = map column_of columns
+
+-- the place that a map has for a text
+abbrev pub place_among : {S : Type 0} → HashMap (Bor (List ℕ)) ℕ S → List ℕ → Option ℕ
+place_among known text = get_by (λ b. bytes_eq text b.now) known
 
 -- the columns that a stage names are at these places
 pub record IsThere (columns : List Column) (text : StageText) (places : List ℕ) : Type 0 where

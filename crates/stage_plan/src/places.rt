@@ -1,32 +1,39 @@
 //! The places of columns by their names, and names that are there twice.
-ghost use Rattle.std.specs.Prelude.{◌≡◌, ◌<◌, ℕ, List, [], None, Ok, IfOk, IfSome, IfNone, length, map, is_none, position, true, false};
-ghost use Rattle.std.specs.Str.{bytes_eq};
+ghost use Rattle.std.specs.Prelude.{◌≡◌, ◌<◌, ℕ, List, [], None, Ok, IfOk, IfSome, IfNone, length, map, is_none, true, false};
+ghost use Rattle.std.specs.Borrow.{Bor};
 ghost use Rattle.std.specs.List.{list_any};
 ghost use Rattle.csv_model.specs.Header.{first_twice, is_among};
 ghost use Rattle.data_types.specs.ColumnView.{column_of};
 ghost use Rattle.data_types.specs.Parts.{AreWithin};
 ghost use Rattle.stage_model.specs.Typing.{has_twice, others, place_if, places_of};
-ghost use Rattle.stage_plan.specs.PlanWords.{has_text, texts};
+ghost use Rattle.stage_plan.specs.PlanWords.{has_text, place_among, texts};
 
 use data_types::ColumnType;
 use std::alloc::Global;
-use std::collections::HashSet;
+use std::collections::{HashMap, HashSet};
 use unit_pass::{Name, NoMemory};
 
-/// The place of the column of a name.
-pub(crate) fn place_of(columns: &[ColumnType], name: &[u8]) -> Option<usize>
-    ensures { result ≡ place_if (map column_of columns.now) name.now }
+/// The place of the first column of each name.
+fn places_by_name<'a>(
+    alloc: Global,
+    columns: &'a [ColumnType],
+) -> Result<HashMap<&'a [u8], usize>, NoMemory>
+    ensures { IfOk result (λ known. (name : Bor (List ℕ)) → place_among known name.now ≡ place_if (map column_of columns.now) name.now) }
 {
-    first_named(columns, name)
+    let mut known = HashMap::new(alloc);
+    let mut place = columns.len();
+    while place > 0 {
+        place -= 1;
+        known.insert(columns[place].name.as_slice(), place)?;
+    }
+    Ok(known)
 }
 
-/// The place of the first column of a name, as the code has the columns.
-fn first_named(columns: &[ColumnType], name: &[u8]) -> Option<usize>
-    ensures { result ≡ position (λ c. bytes_eq c.name name.now) columns.now }
+/// The place that is known of a name.
+fn place_of(known: &HashMap<&[u8], usize>, name: &[u8]) -> Option<usize>
+    ensures { result ≡ place_among known.now name.now }
 {
-    columns
-        .iter()
-        .position(|column| column.name.as_slice() == name)
+    known.get(name).copied()
 }
 
 /// The places of the columns of names, or none where a column isn't there.
@@ -39,9 +46,10 @@ pub(crate) fn places_of(
     ensures all { IfOk result (λ places. IfSome places (λ _. list_any (λ name. is_none (place_if (map column_of columns.now) name)) names.now ≡ false)) }
     ensures none { IfOk result (λ places. IfNone places (list_any (λ name. is_none (place_if (map column_of columns.now) name)) names.now ≡ true)) }
 {
+    let known = places_by_name(alloc, columns)?;
     let mut places = Vec::new(alloc);
     for name in names {
-        let Some(place) = place_of(columns, name.as_slice()) else {
+        let Some(place) = place_of(&known, name.as_slice()) else {
             return Ok(None);
         };
         places.push(place)?;
