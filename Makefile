@@ -52,6 +52,7 @@ install uninstall:
 	@tools/release $@ "$${DESTDIR-}$${PREFIX:-/usr/local}"
 else
 
+$(if $(shell flock -n crates echo free),$(error LOCKED is refused: this Makefile alone sets it, when it has the lock))
 # What the launcher compares with: where the sources are and since when, before anything of them is read.
 SOURCES := $(shell . ./arrowpipe && sources)
 # What would fail later is told at once: no kit, a folder that can't be written, a disk that is full.
@@ -125,7 +126,7 @@ define made
 @{ cd ./crates/$(name) && $(1); } > $(log) 2>&1 || { cd "$$TOP"; $(why); exit 1; }; cd "$$TOP"; \
   [ "$$($(call sum,$(name)))" = $(SUM_$(name)) ] || { echo 'a source of $(name) has changed meanwhile' >&2; exit 1; }; \
   rm -rf $(@D)/$(name)-*.proved $(2) && mv $(2).new $(2) && $(if $(filter out,$(@D)),sha256sum < $(2),true) > $@.new && mv $@.new $@ && \
-  rm -f $(log) $(2).new.* && \
+  rm -f $(log) $(2).new.* || { echo "$(2) can't be written" >&2; exit 1; }; \
   echo "proved $$(ls $(foreach it,$(NEEDED),$(STAMP_$(it))) 2> /dev/null | wc -l) of $(words $(NEEDED)) crates: $(name)"
 endef
 
