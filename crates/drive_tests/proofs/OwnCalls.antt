@@ -1,9 +1,10 @@
 -- What the example's calls answer and count.
-use Rattle.std.proofs.Common.{◌≡◌, ◌∙◌, ℤ, pos, Bool, true, false, Option, None, Some, refl, subst, sym, arith}
+use Rattle.std.proofs.Common.{◌≡◌, ◌≢◌, ◌∙◌, ℤ, pos, Bool, true, false, Option, None, Some, Result, Err, refl, subst, sym, arith}
 use Rattle.std.proofs.lemmas.Bool.{false≢true}
 use Rattle.raw_array.specs.Members.{ArrayTree}
 use Rattle.stream_face.proofs.Producers.{counts-nothing, given-answers, not-released, row-answers, wanting-answers}
 use Rattle.stream_face.specs.Calls.{Answers, Counts}
+use Rattle.stream_face.specs.Codes.{enomem}
 use Rattle.stream_face.specs.Lawful.{IsChunkOf, IsTable, LawfulTables}
 use Rattle.tree_model.specs.Tree.{IsLive, Released}
 use Rattle.unit_pass.specs.Tally.{Tally, risen}
@@ -65,3 +66,12 @@ pub counts-end : (given : Bool) (t : Tally) (out : ArrayTree) → given ≡ true
 counts-end false t out is = absurd (false≢true is)
 counts-end true t out is =
     counts-nothing (due_unless true) t t out refl refl (omega (arith, t.most_blocks)) (omega (arith, t.most_nodes)) (λ _. refl) (λ _. refl)
+
+-- the record at fault
+pub counts-record : (given : Bool) (t : Tally) (out : ArrayTree) → given ≡ true → Counts (due_unless given) (due_unless given) t t out
+counts-record false t out is = absurd (false≢true is)
+counts-record true t out is = counts-end true t out is
+
+pub only-record : (why : Refused) (code : ℤ) → code ≡ (refusal_of why).code → code ≢ enomem → ◌≡◌ {A = Result (Unit {0}) Refused} (Err why) (Err refused.Record)
+only-record refused.Record code is had = refl
+only-record refused.NoMemory code is had = absurd (had is)

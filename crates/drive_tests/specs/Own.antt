@@ -122,6 +122,7 @@ own_stream bad given failure said released = record {
   live = not released;
   schema = None;
   chunk = None;
+  gave = None;
   failure = refusal_in failure;
   fault = record_in failure;
   said = refusal_in said;

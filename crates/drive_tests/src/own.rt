@@ -7,7 +7,7 @@
 //! 2. Its calls. A refusal stays: behind a call for a chunk that refused each further one refuses in the same way.
 //! 3. That it is lawful (`lawful_facts`). Its columns are made of values, so it is enough that these fit their types
 //!    ([`Fitting.antt`](../proofs/Fitting.antt)): `column_fill::fitting_values_make_a_lawful_chunk` says the rest.
-ghost use Rattle.std.specs.Prelude.{◌≡◌, ◌+◌, ◌≤◌, Some, true, false, map, IfErr, IfOk, OnErr, OnOk};
+ghost use Rattle.std.specs.Prelude.{◌≡◌, ◌+◌, ◌≤◌, Some, Err, true, false, map, IfErr, IfOk, OnErr, OnOk};
 ghost use Rattle.data_types.specs.ColumnView.{column_of};
 ghost use Rattle.unit_pass.specs.declared.pass.TheConstants.{ROOM};
 ghost use Rattle.drive_tests.specs.Own.{own_columns};
@@ -93,6 +93,7 @@ impl OwnStream {
         ensures refuses { OnErr result (out.new ≡ Released) }
         ensures units { pass.new.units + Cost out.new ≡ pass.old.units }
         ensures counts { OnOk result (Counts (due_unless self.now.given) (due_unless true) pass.old pass.new out.new) }
+        ensures refused_counts { result ≡ Err Refused.Record → Counts (due_unless self.now.given) (due_unless self.now.given) pass.old pass.new out.new }
     {
         if self.given {
             return if self.bad {

@@ -2,7 +2,7 @@ use Rattle.std.proofs.Common.{◌≡◌, ◌∙◌, arith, of_z, refl, to_z, w32
 use Rattle.std.proofs.lemmas.Int.{ints}
 use Rattle.stream_face.proofs.Producers.{shows-nothing}
 use Rattle.drive_tests.proofs.Fitting.{fit}
-use Rattle.drive_tests.proofs.OwnCalls.{given, refuses}
+use Rattle.drive_tests.proofs.OwnCalls.{given, only-record, refuses}
 use Rattle.drive_tests.specs.Own.{own_values}
 use Rattle.drive_tests.proofs.own.OwnStreamArrayStream.get_next.Goals as goal
 
@@ -27,6 +27,11 @@ returns-in-Err-clause-answers g c = λ fresh.
     let code : to_z w32 (of_z w32 c.code-in-Err.result) ≡ c.code-in-Err.result = omega (arith, ints) in
     refuses stream.failure stream.said stream.released stream.bad stream.given c.in-Err.refused _ c.next_chunk.new.out c.in-Err.ensures.why
     c.in-Err.ensures.refuses (code ∙ c.code-in-Err.ensures)
+
+pub returns-in-Err-clause-counts : goal.returns-in-Err-clause-counts
+returns-in-Err-clause-counts g c = λ _ had.
+    let code : to_z w32 (of_z w32 c.code-in-Err.result) ≡ c.code-in-Err.result = omega (arith, ints) in
+    c.in-Err.ensures.refused_counts (only-record c.in-Err.refused _ (code ∙ c.code-in-Err.ensures) had)
 
 pub returns-in-Err-clause-shows : goal.returns-in-Err-clause-shows
 returns-in-Err-clause-shows g c = λ _. shows-nothing _ _ _ _ (λ _ _ _. refl)
