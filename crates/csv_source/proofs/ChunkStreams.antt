@@ -1,15 +1,21 @@
--- What a call for a chunk of rows, or for the end, counts.
-use Rattle.std.proofs.Common.{◌≡◌, ◌<◌, ◌^◌, List, [], ◌∷◌, None, refl, sym, ap, subst}
+-- What a call for a chunk of rows, for the end or for a record at fault counts.
+use Rattle.std.proofs.Common.{◌≡◌, ◌≢◌, ◌<◌, ◌^◌, ℤ, List, [], ◌∷◌, None, Some, arith, refl, sym, ap, subst}
 use Rattle.std.proofs.lemmas.List.Sums.{sum_by-cons}
 use Rattle.std.specs.List.{sum_by}
 use Rattle.data_types.specs.Table.{Column, Row}
 use Rattle.raw_array.specs.Members.{ArrayTree}
 use Rattle.stage_model.specs.Traffic.{made_blocks, made_nodes}
 use Rattle.stream_face.specs.Calls.{Counts}
+use Rattle.stream_face.specs.Codes.{enomem}
 use Rattle.stream_face.proofs.Producers.{counts-nothing, not-released}
 use Rattle.tree_model.specs.Tree.{IsLive}
 use Rattle.unit_pass.specs.Tally.{Tally, risen}
+use Rattle.csv_source.specs.NextChunks.{CountsNothing}
+use Rattle.csv_source.specs.Refusals.{refusal_of, row_of}
 use Rattle.csv_source.specs.SourceStreams.{chunks_traffic}
+use Rattle.csv_source.specs.declared.refused.Refused.{Refused}
+use Rattle.csv_source.specs.declared.refused.Refused.TheVariants as refused
+use Rattle.data_types.specs.declared.row_fault.RowFault.{RowFault}
 
 -- the chunk of the first rows
 pub made-counts : (columns : List Column) (rows : List Row) (chunks : List (List Row)) (before after : Tally) (out : ArrayTree) → IsLive out
@@ -24,6 +30,25 @@ made-counts columns rows chunks before after out live blocks nodes = record {
   no_blocks = λ e. absurd (not-released out live e);
   no_nodes = λ e. absurd (not-released out live e);
 }
+
+-- a record at fault, which nothing is left before
+pub refused-counts : (columns after : List Column) (old new : List (List Row)) (why : Refused) (code : ℤ) (before later : Tally) (out : ArrayTree)
+    → code ≡ (refusal_of why).code → code ≢ enomem → ((row : RowFault) → row_of why ≡ Some row → (old ≡ []) × (new ≡ [])) → CountsNothing why before later
+    → before.blocks < 2 ^ 64 → before.nodes < 2 ^ 64 → Counts (chunks_traffic columns old) (chunks_traffic after new) before later out
+refused-counts columns after old new (refused.Row row) code before later out is had none same blocks nodes =
+    let empty = none row.fault refl in
+    let left = ap (sum_by (made_blocks None after)) empty.1 in
+    let left_nodes = ap (sum_by (λ (rows : List Row). made_nodes None after)) empty.1 in
+    subst (λ (t : Tally). Counts (chunks_traffic columns old) (chunks_traffic after new) before t out) (sym (same row.fault refl)) (record {
+      made = record { blocks = 0; nodes = 0 };
+      blocks = omega (arith, blocks);
+      nodes = omega (arith, nodes);
+      fewer_blocks = ap (sum_by (made_blocks None columns)) empty.0 ∙ sym left;
+      fewer_nodes = ap (sum_by (λ (rows : List Row). made_nodes None columns)) empty.0 ∙ sym left_nodes;
+      no_blocks = λ _. left;
+      no_nodes = λ _. left_nodes;
+    })
+refused-counts columns after old new refused.NoMemory code before later out is had none same blocks nodes = absurd (had is)
 
 -- the end, which nothing is left before
 pub end-counts : (columns : List Column) (chunks : List (List Row)) (t : Tally) (out : ArrayTree) → chunks ≡ [] → t.blocks < 2 ^ 64 → t.nodes < 2 ^ 64

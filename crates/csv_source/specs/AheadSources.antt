@@ -30,6 +30,7 @@ ahead_state s = record {
   live = is_some s.ahead;
   schema = None;
   chunk = None;
+  gave = None;
   failure = refusal_in s.refused;
   fault = row_in s.refused;
   said = said_by s.word s.refused;

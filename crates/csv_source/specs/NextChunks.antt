@@ -28,3 +28,7 @@ pub record IsNextChunk (batch : ℕ) (chunk : ArrayTree) (old new : BatchesLeft)
 -- a record at fault ends the batches, and none is left behind it
 abbrev pub EndsAt : ℕ → Refused → BatchesLeft → BatchesLeft → Type 0
 EndsAt batch why old new = (row : RowFault) → row_of why ≡ Some row → (batches_left batch old ≡ no_batches (Some row)) × (new.records ≡ [])
+
+-- a record at fault counts nothing
+abbrev pub CountsNothing : Refused → Tally → Tally → Type 0
+CountsNothing why before after = (row : RowFault) → row_of why ≡ Some row → after ≡ before

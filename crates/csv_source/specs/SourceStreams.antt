@@ -39,6 +39,7 @@ stream_of columns batches = record {
   live = true;
   schema = None;
   chunk = None;
+  gave = None;
   failure = None;
   fault = None;
   said = None;

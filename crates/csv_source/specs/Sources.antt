@@ -20,6 +20,7 @@ source_state s = record {
   live = not s.released;
   schema = None;
   chunk = None;
+  gave = None;
   failure = refusal_in s.refused;
   fault = row_in s.refused;
   said = said_by s.word s.refused;

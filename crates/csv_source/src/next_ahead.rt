@@ -1,6 +1,7 @@
 //! The chunk of the next piece of a text.
 ghost use Rattle.std.specs.Prelude.{◌≡◌, ◌≤◌, ◌+◌, [], is_some, true, length, IfErr, OnErr, OnOk};
 ghost use Rattle.csv_model.specs.Header.{most_columns};
+ghost use Rattle.csv_source.specs.NextChunks.{CountsNothing};
 ghost use Rattle.csv_source.specs.NextPieces.{AreLast, IsPieceChunk, StopsAt, to_come};
 ghost use Rattle.csv_source.specs.declared.maker.CsvMaker.{CsvMaker as AMaker};
 ghost use Rattle.raw_array.specs.Members.{Cost};
@@ -35,6 +36,7 @@ pub(crate) fn next_chunk<R: Threads + Drop>(
     ensures end { OnOk result (out.new ≡ Released → (to_come ahead.old ≡ []) × (to_come ahead.new ≡ [])) }
     ensures end_counts { OnOk result (out.new ≡ Released → pass.new ≡ pass.old) }
     ensures fault { IfErr result (λ why. StopsAt why (to_come ahead.old) (to_come ahead.new)) }
+    ensures fault_counts { IfErr result (λ why. CountsNothing why pass.old pass.new) }
     ensures refuses { OnErr result (out.new ≡ Released) }
     ensures units_back { OnErr result (pass.new.units ≡ pass.old.units) }
 {

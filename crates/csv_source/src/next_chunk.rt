@@ -4,7 +4,7 @@ ghost use Rattle.csv_model.specs.Header.{most_columns};
 ghost use Rattle.csv_read.specs.BatchesLeft.{batches_left, columns_in};
 ghost use Rattle.csv_read.specs.Body.{HoldRows};
 ghost use Rattle.csv_source.specs.SourceStreams.{AreShort, no_batches};
-ghost use Rattle.csv_source.specs.NextChunks.{EndsAt, IsNextChunk, ending_of};
+ghost use Rattle.csv_source.specs.NextChunks.{CountsNothing, EndsAt, IsNextChunk, ending_of};
 ghost use Rattle.data_types.specs.Table.{Column, Row};
 ghost use Rattle.raw_array.specs.Members.{Cost};
 ghost use Rattle.tree_model.specs.Tree.{IsLive, Released};
@@ -44,6 +44,7 @@ pub(crate) fn next_chunk<B: Read>(
     ensures ending { OnOk result (ending_of batch batches.new ≡ ending_of batch batches.old) }
     ensures end_counts { OnOk result (out.new ≡ Released → pass.new ≡ pass.old) }
     ensures fault { IfErr result (λ why. EndsAt batch why batches.old batches.new) }
+    ensures fault_counts { IfErr result (λ why. CountsNothing why pass.old pass.new) }
     ensures refuses { OnErr result (out.new ≡ Released) }
     ensures units_back { OnErr result (pass.new.units ≡ pass.old.units) }
     ensures short { AreShort batches.new.records }

@@ -1,5 +1,5 @@
 -- What follows of a table from what is between its header and its rows.
-use Rattle.std.proofs.Common.{◌≡◌, ◌∙◌, ◌⊎◌, ℕ, List, [], None, Some, Ok, IsTrue, ap, refl, subst, sym}
+use Rattle.std.proofs.Common.{◌≡◌, ◌∙◌, ◌⊎◌, ℕ, List, [], None, Some, Result, Ok, Err, IsTrue, true, false, ap, refl, subst, sym}
 use Rattle.csv_model.specs.Reading.{Record}
 use Rattle.csv_model.specs.Text.{table_text}
 use Rattle.data_types.specs.Parts.{joined_rows}
@@ -16,18 +16,27 @@ use Rattle.stage_model.specs.Typing.{plan_of}
 use Rattle.stage_model.specs.declared.stage.StageText.{StageText}
 use Rattle.stage_plan.specs.PlanWords.{IsPlan}
 use Rattle.stage_plan.specs.declared.typing.Plan.{Plan}
-use Rattle.stream_face.specs.Streams.{Stream, kept}
-use Rattle.csv_write.specs.Faults.{IfRow}
+use Rattle.stream_face.specs.Streams.{IsFresh, Stream, kept}
+use Rattle.csv_write.specs.Faults.{IfRow, OnRow}
 use Rattle.csv_write.specs.Runs.{Counted}
 use Rattle.csv_write.specs.declared.fault.DriveFault.{DriveFault}
+use Rattle.csv_write.specs.declared.fault.DriveFault.TheVariants as drives
 use Rattle.unit_pass.specs.Tally.{Tally}
 use Rattle.run_model.specs.RunAnswer.{answer_of_records}
 use Rattle.pipe_top.specs.ChainFaults.{fault_of_chain}
 use Rattle.pipe_top.specs.Begun.{IsBegun}
+use Rattle.pipe_top.specs.Over.{is_behind_records}
 use Rattle.pipe_top.specs.Traffic.{LinksTraffic, links_of}
 use Rattle.pipe_top.proofs.Bodies.{driven-text, driven-told}
 use Rattle.pipe_top.proofs.Flat.{proper-flat}
 use Rattle.pipe_top.proofs.LinksMade.{chain-counts, chain-links-are}
+
+-- what holds where a record is refused holds behind all records
+pub told-behind : {A : Type 0} (chain : Result A DriveFault) (why : DriveFault) (fault : RunFault) (P : Type 0) → chain ≡ Err why → fault ≡ fault_of_chain why
+    → OnRow chain P → is_behind_records fault ≡ true → P
+told-behind chain (drives.Row row) fault P is told holds behind = subst (λ r. OnRow r P) is holds
+told-behind chain drives.NoMemory fault P is told holds behind =
+    absurd (let e : false ≡ true = subst (λ f. is_behind_records f ≡ true) told behind in cc)
 
 module _ (request : Request) (records : List Record) (s : Stream) (plan : Plan) (begun : IsBegun request records s plan) where
   planned : plan_of begun.columns request.stages ≡ Ok (plan_stages plan)
@@ -39,6 +48,9 @@ module _ (request : Request) (records : List Record) (s : Stream) (plan : Plan) 
 
   pub begun-lawful : IsTrue s.lawful
   begun-lawful = subst (λ (m : Stream). IsTrue m.lawful) (sym begun.source_is) refl
+
+  pub begun-fresh : IsFresh s
+  begun-fresh = subst IsFresh (sym begun.source_is) (record { lawful = refl; no_failure = refl })
 
   pub begun-alone : (link : ℕ) → s.joints link ≡ []
   begun-alone link = ap (λ (m : Stream). m.joints link) begun.source_is

@@ -18,16 +18,18 @@ use Rattle.stage_model.specs.declared.fault.PlanFault.TheVariants as plan
 use Rattle.edge_io.specs.Edge.{LosesPrefix}
 use Rattle.stream_face.specs.Shown.{Seen, of_link}
 use Rattle.tree_check.specs.Checks.{Checked}
+use Rattle.tree_check.specs.declared.fault.CheckFault.{CheckFault}
+use Rattle.tree_check.specs.declared.fault.CheckFault.TheVariants as check
 use Rattle.run_model.specs.Answer.{Answer, Text, Fault, Request, Task, Table, Tree, Cause, OfWords}
 use Rattle.run_model.specs.Answer.{OfTexts, OfPlan, OfRecords, OfTree, OfLength, Reading, Writing, Memory}
-use Rattle.run_model.specs.Answer.{cause_of, fault_of_header, fault_of_plan}
+use Rattle.run_model.specs.Answer.{cause_of, fault_of_check, fault_of_header, fault_of_plan}
 use Rattle.run_model.specs.Outcomes.{AtWriteFault, AtWriting, decides_early, is_decided, is_early, is_write_fault, is_writing}
 use Rattle.run_model.specs.declared.fault.RunFault.{RunFault}
 use Rattle.run_model.specs.declared.fault.RunFault.TheVariants as run
 use Rattle.run_model.specs.RunAnswer.{AnswersBytes, AnswersWithin, AreBytes, IsTooLong, answer_of_check, answer_of_columns, answer_of_plan}
 use Rattle.run_model.specs.RunAnswer.{answer_of_rows, input_limit, is_too_long, IsAnswerTo}
-use Rattle.pipe_top.specs.Over.{CarriedOver}
-use Rattle.pipe_top.specs.Traffic.{ShowsAsked, ShowsTask}
+use Rattle.pipe_top.specs.Over.{CarriedOver, is_behind_records}
+use Rattle.pipe_top.specs.Traffic.{CountsTask, ShowsAsked, ShowsTask}
 use Rattle.pipe_top.proofs.Written.{answered, shown-within, some-bytes}
 
 -- ---- a result that is known
@@ -191,6 +193,45 @@ pub early-not_reading : (X : Type 0) (fault : RunFault) → (is_early fault ≡ 
 early-not_reading X fault (inl early) read = let e : false ≡ true = subst (λ f. is_early f ≡ true) read early in absurd (cc)
 early-not_reading X fault (inr none) read = absurd (cc)
 
+-- ---- the faults that aren't behind all records
+before-early : (fault : RunFault) → is_early fault ≡ true → is_behind_records fault ≡ true → ⊥
+before-early (run.Words fault) early behind = cc
+before-early (run.Stage number fault) early behind = cc
+before-early (run.Schema entry rule) early behind = cc
+before-early (run.Plan number rule) early behind = cc
+before-early run.NoHeader early behind = cc
+before-early (run.TooManyColumns count) early behind = cc
+before-early (run.HeaderText column) early behind = cc
+before-early (run.HeaderTwice column) early behind = cc
+before-early (run.HeaderUnknown entry) early behind = cc
+before-early (run.Ragged number found) early behind = cc
+before-early (run.Field number column) early behind = cc
+before-early (run.Tree fault) early behind = cc
+before-early run.InputTooLong early behind = cc
+before-early run.ReadFault early behind = cc
+before-early (run.WriteFault taken) early behind = cc
+before-early run.NoMemory early behind = cc
+
+pub early-not_behind : (X : Type 0) (fault : RunFault) → (is_early fault ≡ true) ⊎ (fault ≡ run.NoMemory) → is_behind_records fault ≡ true → X
+early-not_behind X fault (inl early) behind = absurd (before-early fault early behind)
+early-not_behind X fault (inr none) behind = absurd (untrue (subst (λ f. is_behind_records f ≡ true) none behind))
+
+pub header-before : (fault : HeaderFault) → is_behind_records (fault_of_header fault) ≡ false
+header-before header.NoHeader = refl
+header-before (header.TooManyColumns count) = refl
+header-before (header.NotText column) = refl
+header-before (header.Twice column) = refl
+header-before (header.Unknown entry) = refl
+header-before header.NoMemory = refl
+
+pub plan-before : (fault : PlanFault) → is_behind_records (fault_of_plan fault) ≡ false
+plan-before (plan.At stage rule) = refl
+plan-before plan.NoMemory = refl
+
+pub check-before : (fault : CheckFault) → is_behind_records (fault_of_check fault) ≡ false
+check-before (check.Tree fault) = refl
+check-before check.NoMemory = refl
+
 -- ---- the outcome of a task
 
 -- a fault that the words and the bytes decide is the answer
@@ -202,14 +243,19 @@ refused-with asked task bytes is fault (inr answers) decided = answered asked ta
 -- a run that ends in a fault, but for that of a write
 pub over-fault : (asked : Result Task RunFault) (bytes : List ℕ) (result : Result (Unit {0}) RunFault) (taken got : Option (List ℕ))
     (seen shown : Option (List Seen)) (old_blocks old_nodes blocks nodes : ℕ) (fault : RunFault) → result ≡ Err fault → is_write_fault fault ≡ false
-    → (is_decided fault ≡ true → IsAnswerTo asked bytes (Fault fault)) → ShowsAsked asked bytes seen shown
+    → (is_decided fault ≡ true → IsAnswerTo asked bytes (Fault fault))
+    → (is_behind_records fault ≡ true → (task : Task) × (asked ≡ Ok task)
+    × CountsTask task bytes old_blocks old_nodes blocks nodes × ShowsTask task bytes seen shown)
+    → ShowsAsked asked bytes seen shown
     → CarriedOver asked bytes result taken got seen shown old_blocks old_nodes blocks nodes
-over-fault asked bytes result taken got seen shown old_blocks old_nodes blocks nodes fault same unwritten refused shows = record {
+over-fault asked bytes result taken got seen shown old_blocks old_nodes blocks nodes fault same unwritten refused behind shows = record {
   text = no-ok _ _ _ same;
   refused = at-err (λ f. is_decided f ≡ true → IsAnswerTo asked bytes (Fault f)) result fault same refused;
   first = no-write _ _ fault same unwritten;
   counts = no-ok _ _ _ same;
   shows = no-ok _ _ _ same;
+  behind = at-err (λ f. is_behind_records f ≡ true → (task : Task) × (asked ≡ Ok task)
+      × CountsTask task bytes old_blocks old_nodes blocks nodes × ShowsTask task bytes seen shown) result fault same behind;
   shows_some = at-err (λ f. ShowsAsked asked bytes seen shown) result fault same shows;
 }
 
@@ -259,6 +305,11 @@ module _ (rows : Option ℕ) (Rises : Type 0) where
   unread-not_writing left fault (inl none) = subst (λ f. is_write_fault f ≡ false) (sym none) refl
   unread-not_writing left fault (inr (inl read)) = subst (λ f. is_write_fault f ≡ false) (sym read.0) refl
   unread-not_writing left fault (inr (inr long)) = subst (λ f. is_write_fault f ≡ false) (sym long.0) refl
+
+  pub unread-not_behind : (X : Type 0) (left : Option (List ℕ)) (fault : RunFault) → Unread rows Rises left fault → is_behind_records fault ≡ true → X
+  unread-not_behind X left fault (inl none) behind = absurd (untrue (subst (λ f. is_behind_records f ≡ true) none behind))
+  unread-not_behind X left fault (inr (inl read)) behind = absurd (untrue (subst (λ f. is_behind_records f ≡ true) read.0 behind))
+  unread-not_behind X left fault (inr (inr long)) behind = absurd (untrue (subst (λ f. is_behind_records f ≡ true) long.0 behind))
 
   pub unread-failed : (left : Option (List ℕ)) (fault : RunFault) → Unread rows Rises left fault → fault ≡ run.ReadFault → (rows ≡ None) × Rises
   unread-failed left fault (inl none) read = absurd (cc)

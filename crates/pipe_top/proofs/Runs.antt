@@ -14,8 +14,8 @@ use Rattle.run_model.specs.declared.asked.Task.{Task as AsksTask}
 use Rattle.run_model.specs.Diagnostics.{Says, Told, Took, audit_if, fault_line}
 use Rattle.run_model.specs.declared.fault.RunFault.{RunFault}
 use Rattle.run_model.specs.declared.fault.RunFault.TheVariants as run
-use Rattle.pipe_top.specs.Over.{CarriedOver, RanOver}
-use Rattle.pipe_top.specs.Traffic.{CountsTask, IsShownInPart, IsTraffic, ShowsAsked, ShowsTask}
+use Rattle.pipe_top.specs.Over.{CarriedOver, RanOver, is_behind_records}
+use Rattle.pipe_top.specs.Traffic.{CountsTask, IsShown, IsShownInPart, IsTraffic, ShowsAsked, ShowsTask}
 use Rattle.run_model.specs.Words.{made_of}
 use Rattle.pipe_top.proofs.Carried.{over-fault}
 use Rattle.pipe_top.proofs.Unshown.{unshown}
@@ -205,6 +205,26 @@ module _ (words : List (List ℕ)) (request : Result AsksTask RunFault) (carried
         (subst (λ b. OnOk carried (IfOk (asked_of request) (λ t. CountsTask t bytes b old_nodes new_blocks new_nodes))) no-blocks counts))
         none)
 
+    -- behind all records the words ask for what was read
+    behind-for-task : (seen shown : Option (List Seen)) (old_blocks old_nodes new_blocks new_nodes blocks nodes : ℕ) → old_blocks ≡ 0 → old_nodes ≡ 0
+        → blocks ≡ new_blocks → nodes ≡ new_nodes
+        → IfErr carried (λ f. is_behind_records f ≡ true → (task : Task) × (asked_of request ≡ Ok task)
+        × CountsTask task bytes old_blocks old_nodes new_blocks new_nodes × ShowsTask task bytes seen shown)
+        → IfSome fault (λ f. is_behind_records f ≡ true → IsTraffic words bytes blocks nodes × IsShown words bytes seen shown)
+    behind-for-task seen shown old_blocks old_nodes new_blocks new_nodes blocks nodes no-blocks no-nodes same-blocks same-nodes =
+        then-fault
+        (λ f. is_behind_records f ≡ true → (task : Task) × (asked_of request ≡ Ok task)
+        × CountsTask task bytes old_blocks old_nodes new_blocks new_nodes × ShowsTask task bytes seen shown)
+        (λ f. is_behind_records f ≡ true → IsTraffic words bytes blocks nodes × IsShown words bytes seen shown)
+        (λ f is holds behind.
+        let (task, taken, counts, shows) = holds behind in
+        let asks : Asks words (Ok task) = subst (Asks words) taken (asked-unless (λ none.
+        let never : ◌≡◌ {A = Result Task RunFault} (Err run.NoMemory) (Ok task) = sym (ap asked_of none) ∙ taken in cc)) in
+        let begun : CountsTask task bytes 0 0 new_blocks new_nodes =
+        subst (λ n. CountsTask task bytes 0 n new_blocks new_nodes) no-nodes
+        (subst (λ b. CountsTask task bytes b old_nodes new_blocks new_nodes) no-blocks counts) in
+        ((task, asks, rw (same-blocks, same-nodes) begun), (task, asks, shows)))
+
     -- ---- which outcome it is
     module _ (alone : (words : List (List ℕ)) (bytes : List ℕ) (one other : Answer) → IsAnswer words bytes one → IsAnswer words bytes other → one ≡ other)
         (ReadRose WriteRose : Type 0) (read : fault ≡ Some run.ReadFault → ReadRose)
@@ -276,7 +296,7 @@ module _ (words : List (List ℕ)) (request : Result AsksTask RunFault) (carried
           some.0,
           some.1,
           over-fault (asked_of request) some.0 carried taken got seen shown old_blocks old_nodes blocks nodes run.NoMemory
-              (memory-carried memory) refl (λ decided. absurd (false≢true decided)) (unshown (asked_of request) some.0 seen shown same),
+              (memory-carried memory) refl (λ decided. absurd (false≢true decided)) (λ behind. absurd (false≢true behind)) (unshown (asked_of request) some.0 seen shown same),
         )
     over-input (inr same) over = (over.0, subst (λ r. AreBytes (input_by r left) over.0) same over.1, over.2)
 
@@ -329,6 +349,8 @@ module _ (words : List (List ℕ)) (request : Result AsksTask RunFault) (carried
           first = first;
           shows = done-for-task bytes (λ task. ShowsTask task bytes seen shown) over.shows;
           shows_some = shown-in-part bytes seen shown none only over.shows_some;
+          behind = behind-for-task bytes seen shown old_blocks old_nodes new_blocks new_nodes blocks nodes no-blocks no-nodes same-blocks same-nodes
+              over.behind;
           counts = counts-of-task bytes old_blocks old_nodes new_blocks new_nodes blocks nodes no-blocks no-nodes same-blocks same-nodes over.counts;
           complete = complete-text bytes alone ReadRose WriteRose read-rose refused (of-fault (λ f. AtWriteFault f (λ taken. WriteRose)) wrote);
           complete_fault = complete-fault bytes alone ReadRose WriteRose read-rose refused taken got text first;

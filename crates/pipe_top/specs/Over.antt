@@ -1,5 +1,5 @@
 -- What a run comes to over the bytes of its input: the answer, what the sink got of it, what the tap saw and what was made.
-use Rattle.std.specs.Prelude.{◌≡◌, ◌⊎◌, ℕ, List, true, Option, None, Some, IfSome, Result, IfErr, IfOk, OnErr, OnOk}
+use Rattle.std.specs.Prelude.{◌≡◌, ◌⊎◌, ℕ, Bool, List, true, false, Option, None, Some, IfSome, Result, Ok, IfErr, IfOk, OnErr, OnOk}
 use Rattle.run_model.specs.Answer.{Fault, Task, Text}
 use Rattle.run_model.specs.Outcomes.{AtWriteFault, is_decided}
 use Rattle.run_model.specs.declared.fault.RunFault.{RunFault}
@@ -8,6 +8,13 @@ use Rattle.run_model.specs.RunAnswer.{IsAnswer, IsAnswerTo}
 use Rattle.run_model.specs.RunOutcomes.{GotFirst, GotText}
 use Rattle.pipe_top.specs.Traffic.{CountsTask, IsShown, IsShownInPart, IsTraffic, ShowsAsked, ShowsTask}
 use Rattle.stream_face.specs.Shown.{Seen}
+
+-- all records were read, or those before one at fault: a record is refused, or a write failed
+abbrev pub is_behind_records : RunFault → Bool
+is_behind_records (run.Ragged row found) = true
+is_behind_records (run.Field row column) = true
+is_behind_records (run.WriteFault taken) = true
+is_behind_records _ = false
 
 -- what it comes to to carry out what is asked for over these bytes
 pub record CarriedOver (asked : Result Task RunFault) (bytes : List ℕ) (result : Result (Unit {0}) RunFault) (taken got : Option (List ℕ))
@@ -21,6 +28,9 @@ pub record CarriedOver (asked : Result Task RunFault) (bytes : List ℕ) (result
   -- on success as many blocks and nodes were made as the task needs, and each chunk of each link was shown
   pub counts : OnOk result (IfOk asked (λ task. CountsTask task bytes old_blocks old_nodes blocks nodes))
   pub shows : OnOk result (IfOk asked (λ task. ShowsTask task bytes seen shown))
+  -- as many and each where a record is refused or a write failed
+  pub behind : IfErr result (λ fault. is_behind_records fault ≡ true → (task : Task) × (asked ≡ Ok task)
+      × CountsTask task bytes old_blocks old_nodes blocks nodes × ShowsTask task bytes seen shown)
   -- on a fault the first ones of each link
   pub shows_some : OnErr result (ShowsAsked asked bytes seen shown)
 
@@ -39,6 +49,8 @@ pub record RanOver (words : List (List ℕ)) (bytes : List ℕ) (fault : Option 
   pub shows_some : IfSome fault (λ f. IsShownInPart words bytes seen shown)
   -- on success as many blocks and nodes were made as the links or the tree need
   pub counts : fault ≡ None → IsTraffic words bytes blocks nodes
+  -- as many, and each chunk of each link was shown, once and in order, where a record is refused or a write failed
+  pub behind : IfSome fault (λ f. is_behind_records f ≡ true → IsTraffic words bytes blocks nodes × IsShown words bytes seen shown)
   -- where neither rose and the answer is a text, it is given, or there was no memory
   pub complete : (text : List ℕ) → IsAnswer words bytes (Text text) → ¬ ReadRose → ¬ WriteRose → (fault ≡ None) ⊎ (fault ≡ Some run.NoMemory)
   -- where it is a fault, it is reported, whatever the sink does

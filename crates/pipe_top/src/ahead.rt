@@ -1,5 +1,5 @@
 //! The records of a text, read ahead of the stages in a thread beside them.
-ghost use Rattle.std.specs.Prelude.{◌≡◌, ◌⊎◌, ◌≤◌, ◌^◌, length, IfErr, IfOk, All, map};
+ghost use Rattle.std.specs.Prelude.{◌≡◌, ◌⊎◌, ◌≤◌, ◌^◌, length, IfErr, IfOk, All, map, false};
 ghost use Rattle.csv_source.specs.AheadSources.{ahead_state};
 ghost use Rattle.csv_model.specs.Batches.{batches_in};
 ghost use Rattle.csv_model.specs.Header.{most_columns};
@@ -13,6 +13,7 @@ ghost use Rattle.run_model.specs.Answer.{Fault};
 ghost use Rattle.run_model.specs.Outcomes.{request_of};
 ghost use Rattle.run_model.specs.RunAnswer.{answer_of_records, input_limit};
 ghost use Rattle.pipe_top.specs.Begun.{IsBegun};
+ghost use Rattle.pipe_top.specs.Over.{is_behind_records};
 
 use crate::answer::{header_columns, plan_stages, read_columns, shared_records};
 use csv_read::{Records, SharedText};
@@ -66,6 +67,7 @@ pub(crate) fn begin_ahead<'a, R: Threads>(
     ensures few { IfOk result (λ made. length made.1.steps.items ≤ most_stages) }
     ensures fault { IfErr result
         (λ fault. (fault ≡ RunFault.NoMemory) ⊎ (answer_of_records (request_of request.now) (records_of bytes.items) ≡ Fault fault)) }
+    ensures no_record { IfErr result (λ fault. is_behind_records fault ≡ false) }
 {
     let mark = request.mark.as_slice();
     let mut records = shared_records(alloc, bytes)?;

@@ -1,5 +1,5 @@
 //! The text of a table, made of the bytes of an input.
-ghost use Rattle.std.specs.Prelude.{◌≡◌, ◌⊎◌, ◌≤◌, ◌*◌, ◌^◌, vec_len, length, ℕ, List, IfErr, IfOk, OnErr, OnOk, All, Ok, map, get_or, []};
+ghost use Rattle.std.specs.Prelude.{◌≡◌, ◌⊎◌, ◌≤◌, ◌*◌, ◌^◌, vec_len, length, ℕ, List, IfErr, IfOk, OnErr, OnOk, All, Ok, map, get_or, [], true, false};
 ghost use Rattle.csv_model.specs.Batches.{batches_in};
 ghost use Rattle.csv_model.specs.Header.{header_of, most_columns};
 ghost use Rattle.csv_model.specs.Reading.{behind_header, records_of};
@@ -19,6 +19,7 @@ ghost use Rattle.run_model.specs.Outcomes.{request_of};
 ghost use Rattle.run_model.specs.RunAnswer.{answer_of_plan, answer_of_records, input_limit};
 ghost use Rattle.pipe_top.specs.ChainFaults.{fault_of_chain};
 ghost use Rattle.pipe_top.specs.Begun.{IsBegun};
+ghost use Rattle.pipe_top.specs.Over.{is_behind_records};
 ghost use Rattle.pipe_top.specs.Traffic.{LinksTraffic, links_of};
 
 use crate::ahead::begin_ahead;
@@ -61,6 +62,7 @@ pub(crate) fn header_columns(
     ensures fault { IfErr result
         (λ fault. (fault ≡ RunFault.NoMemory)
         ⊎ ((request : ARequest) → request.entries ≡ entries.now → answer_of_records request records.old.records ≡ Fault fault)) }
+    ensures no_record { IfErr result (λ fault. is_behind_records fault ≡ false) }
     ensures behind { OnOk result (records.new.records ≡ behind_header records.old.records) }
     ensures size { records.new.size ≤ records.old.size }
 {
@@ -85,6 +87,7 @@ pub(crate) fn plan_stages(
     ensures fault { IfErr result (λ fault. (fault ≡ RunFault.NoMemory)
         ⊎ ((mark : List ℕ) (records : List (List (List ℕ)))
         → answer_of_plan mark (map column_of columns.items) (plan_of (map column_of columns.items) stages.now) records ≡ Fault fault)) }
+    ensures no_record { IfErr result (λ fault. is_behind_records fault ≡ false) }
 {
     match type_plan(alloc, columns, stages) {
         Ok(plan) => Ok(plan),
@@ -147,6 +150,7 @@ fn begin(
     ensures few { IfOk result (λ made. length made.1.steps.items ≤ most_stages) }
     ensures fault { IfErr result
         (λ fault. (fault ≡ RunFault.NoMemory) ⊎ (answer_of_records (request_of request.now) (records_of bytes.items) ≡ Fault fault)) }
+    ensures no_record { IfErr result (λ fault. is_behind_records fault ≡ false) }
 {
     let mark = request.mark.as_slice();
     let mut records = shared_records(alloc, bytes)?;
@@ -184,6 +188,10 @@ fn answer_begun<W: PlanStep, S: ArrayStream, R: Threads + Sync, T: Tap>(
         → OnOk result (ShowsAll (link_shows (links_of (request_of request.now) records)) (T.seen tap.old) (T.seen tap.new)) }
     ensures shows_some { (records : List (List (List ℕ))) → IsBegun (request_of request.now) records (S.state source) plan
         → OnErr result (ShowsSome (link_shows (links_of (request_of request.now) records)) (T.seen tap.old) (T.seen tap.new)) }
+    ensures behind { (records : List (List (List ℕ))) → IsBegun (request_of request.now) records (S.state source) plan
+        → IfErr result (λ fault. is_behind_records fault ≡ true
+        → LinksTraffic (links_of (request_of request.now) records) pass.old.blocks pass.old.nodes pass.new.blocks pass.new.nodes
+        × ShowsAll (link_shows (links_of (request_of request.now) records)) (T.seen tap.old) (T.seen tap.new)) }
 {
     stage_model::batches_give_the_whole();
     let mark = request.mark.as_slice();
@@ -218,6 +226,9 @@ pub(crate) fn answer_input<W: PlanStep, R: Threads + Sync, T: Tap>(
     ensures shows { OnOk result (ShowsAll (link_shows (links_of (request_of request.now) (records_of bytes.items))) (T.seen tap.old) (T.seen tap.new)) }
     ensures shows_some { OnErr result (ShowsSome (link_shows (links_of (request_of request.now)
         (records_of bytes.items))) (T.seen tap.old) (T.seen tap.new)) }
+    ensures behind { IfErr result (λ fault. is_behind_records fault ≡ true
+        → LinksTraffic (links_of (request_of request.now) (records_of bytes.items)) pass.old.blocks pass.old.nodes pass.new.blocks pass.new.nodes
+        × ShowsAll (link_shows (links_of (request_of request.now) (records_of bytes.items))) (T.seen tap.old) (T.seen tap.new)) }
 {
     match request.ahead {
         None => {

@@ -11,7 +11,7 @@ ghost use Rattle.run_model.specs.Answer.{Fault, Text};
 ghost use Rattle.run_model.specs.Outcomes.{AtWriteFault, IfTable, asked_of, is_early, is_write_fault, task_of};
 ghost use Rattle.run_model.specs.RunAnswer.{AnswersBytes, AreBytes, IsTooLong, input_by, input_limit};
 ghost use Rattle.run_model.specs.RunOutcomes.{IsRead};
-ghost use Rattle.pipe_top.specs.Over.{CarriedOver};
+ghost use Rattle.pipe_top.specs.Over.{CarriedOver, is_behind_records};
 ghost use Rattle.pipe_top.specs.Traffic.{CountsTask, ShowsAsked, ShowsTask};
 
 use crate::answer::answer_input;
@@ -101,6 +101,9 @@ fn answer_task<W: PlanStep, R: Threads + Sync, T: Tap>(
     ensures counts { OnOk result (CountsTask (task_of task.now) bytes.items pass.old.blocks pass.old.nodes pass.new.blocks pass.new.nodes) }
     ensures shows { OnOk result (ShowsTask (task_of task.now) bytes.items (T.seen tap.old) (T.seen tap.new)) }
     ensures shows_some { OnErr result (ShowsAsked (Ok (task_of task.now)) bytes.items (T.seen tap.old) (T.seen tap.new)) }
+    ensures behind { IfErr result (λ fault. is_behind_records fault ≡ true
+        → CountsTask (task_of task.now) bytes.items pass.old.blocks pass.old.nodes pass.new.blocks pass.new.nodes
+        × ShowsTask (task_of task.now) bytes.items (T.seen tap.old) (T.seen tap.new)) }
 {
     match task {
         Task::Table(request) => answer_input::<W, _, _>(rt, alloc, bytes, request, pass, tap, gate),

@@ -5,10 +5,10 @@ use Rattle.run_model.specs.Answer.{Fault, cause_of}
 use Rattle.run_model.specs.Outcomes.{asked_of, is_early, task_of}
 use Rattle.run_model.specs.declared.fault.RunFault.TheVariants as run
 use Rattle.run_model.specs.RunAnswer.{IsAnswerTo, input_by}
-use Rattle.pipe_top.proofs.Carried.{all-asked, at-err, at-ok, early-not_reading, early-not_writing, if-some}
+use Rattle.pipe_top.proofs.Carried.{all-asked, at-err, at-ok, early-not_behind, early-not_reading, early-not_writing, if-some}
 use Rattle.pipe_top.proofs.Carried.{keeps-same, late, late-not_early, late-not_writing, no-write}
 use Rattle.pipe_top.proofs.Carried.{late-not_reading, loses-nothing, no-err, no-ok, of-err, one-error, over-fault, refused-with, the-error}
-use Rattle.pipe_top.proofs.Carried.{unread-failed, unread-late, unread-not_writing, unread-refused, untrue}
+use Rattle.pipe_top.proofs.Carried.{unread-failed, unread-not_behind, unread-late, unread-not_writing, unread-refused, untrue}
 use Rattle.pipe_top.proofs.Unshown.{unshown}
 use Rattle.pipe_top.proofs.Written.{all-written, first-written, shown-for, some-bytes}
 use Rattle.pipe_top.proofs.carry.run_task.Goals as goal
@@ -32,7 +32,7 @@ returns-in_err-task g c =
         bytes.0,
         bytes.1,
         over-fault asked bytes.0 _ _ _ seen seen _ _ _ _ fault same unwritten
-            (λ _. subst (λ a. IsAnswerTo a bytes.0 (Fault fault)) (sym refused) refl) (unshown asked bytes.0 seen seen refl),
+            (λ _. subst (λ a. IsAnswerTo a bytes.0 (Fault fault)) (sym refused) refl) (early-not_behind _ fault early) (unshown asked bytes.0 seen seen refl),
       );
       text_read_to_end = no-ok _ _ _ same;
       refused_early = at-err _ _ _ was same;
@@ -67,7 +67,8 @@ returns-in_err-bytes g c =
       over = (
         refused.0,
         refused.1,
-        over-fault asked refused.0 _ _ _ seen seen _ _ _ _ fault same unwritten refused.2 (unshown asked refused.0 seen seen refl),
+        over-fault asked refused.0 _ _ _ seen seen _ _ _ _ fault same unwritten refused.2 (unread-not_behind c.args.rows rises _ input fault why)
+            (unshown asked refused.0 seen seen refl),
       );
       text_read_to_end = no-ok _ _ _ same;
       refused_early = no-err _ _ _ was;
@@ -104,6 +105,7 @@ returns-in_err-text g c =
         read,
         over-fault asked bytes _ _ _ seen shown _ _ _ _ fault same (late-not_writing (cause_of fault) late_one)
             (refused-with asked task bytes (ap asked_of was) fault c.in_err-text.ensures.fault)
+            (λ behind. let made = c.in_err-text.ensures.behind behind in (task, ap asked_of was, made.0, made.1))
             (shown-for asked task bytes (ap asked_of was) seen shown c.in_err-text.ensures.shows_some),
       );
       text_read_to_end = no-ok _ _ _ same;
@@ -143,6 +145,7 @@ returns-in-Ok g c =
           first = tt;
           counts = at-ok _ _ _ (ap asked_of was) c.in_ok-text.ensures.counts;
           shows = at-ok _ _ _ (ap asked_of was) c.in_ok-text.ensures.shows;
+          behind = tt;
           shows_some = tt;
         },
       );
@@ -190,6 +193,7 @@ returns g c =
           first = search (rules, got);
           counts = tt;
           shows = tt;
+          behind = λ _. (task, ap asked_of was, c.in_ok-text.ensures.counts, c.in_ok-text.ensures.shows);
           shows_some = shown-for asked task bytes (ap asked_of was) seen shown (all-asked task bytes seen shown fits c.in_ok-text.ensures.shows);
         },
       );

@@ -1,7 +1,8 @@
-use Rattle.std.proofs.Common.{◌≡◌, ◌≤◌, ◌<◌, ◌^◌, ◌∙◌, List, ◌∷◌, Option, None, Some, length, map, arith, ap, refl, subst, sym, to_z, of_z, w32}
+use Rattle.std.proofs.Common.{◌≡◌, ◌≤◌, ◌<◌, ◌^◌, ◌∙◌, List, [], ◌∷◌, Option, None, Some, length, map, arith, ap, refl, subst, sym, to_z, of_z, w32}
 use Rattle.std.proofs.lemmas.Int.{ints}
 use Rattle.csv_source.proofs.PlainKinds.{plain-columns}
 use Rattle.csv_source.proofs.ChunkReplies.{no-refusal, refused-answers}
+use Rattle.csv_source.proofs.ChunkStreams.{refused-counts}
 use Rattle.csv_source.specs.declared.refused.Refused.{Refused}
 use Rattle.csv_model.specs.Header.{most_columns}
 use Rattle.data_types.specs.ColumnView.{column_of}
@@ -100,3 +101,17 @@ returns-in-Err-clause-answers g c = λ fresh.
 
 pub returns-in-Err-clause-shows : goal.returns-in-Err-clause-shows
 returns-in-Err-clause-shows g c = λ _. shows-nothing _ _ _ _ (λ _ _ _. refl)
+
+pub returns-in-Err-clause-counts : goal.returns-in-Err-clause-counts
+returns-in-Err-clause-counts g c = λ fresh had.
+    let source = c.args.self.now in
+    let last = source.last c.in_default.is c.requires.live in
+    let old = to_come source.ahead in
+    let new = to_come c.next_chunk.new.ahead in
+    let code : to_z w32 (of_z w32 c.code-code-in-Err.result) ≡ c.code-code-in-Err.result = omega (arith, ints) in
+    refused-counts (map column_of source.columns) (map column_of source.columns) (tables_left source.refused source.ahead) [] c.in-Err.refused _
+    c.args.pass.now c.next_chunk.new.pass c.next_chunk.new.out (code ∙ c.code-code-in-Err.ensures) had
+    (λ row is.
+    let is_bad = c.in-Err.ensures.fault row is in
+    (tables-none source.refused source.ahead (none-stopped old new row is_bad (stopped source.whole.value old row new last is_bad).0), refl))
+    c.in-Err.ensures.fault_counts (omega (arith, c.args.pass.now.most_blocks)) (omega (arith, c.args.pass.now.most_nodes))
