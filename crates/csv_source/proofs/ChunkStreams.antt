@@ -1,5 +1,5 @@
 -- What a call for a chunk of rows, for the end or for a record at fault counts.
-use Rattle.std.proofs.Common.{◌≡◌, ◌≢◌, ◌<◌, ◌^◌, ℤ, List, [], ◌∷◌, None, Some, arith, refl, sym, ap, subst}
+use Rattle.std.proofs.Common.{◌≡◌, ◌≢◌, ◌<◌, ◌^◌, ℤ, List, [], ◌∷◌, None, Some, refl, sym, ap, subst}
 use Rattle.std.proofs.lemmas.List.Sums.{sum_by-cons}
 use Rattle.std.specs.List.{sum_by}
 use Rattle.data_types.specs.Table.{Column, Row}
@@ -37,17 +37,10 @@ pub refused-counts : (columns after : List Column) (old new : List (List Row)) (
     → before.blocks < 2 ^ 64 → before.nodes < 2 ^ 64 → Counts (chunks_traffic columns old) (chunks_traffic after new) before later out
 refused-counts columns after old new (refused.Row row) code before later out is had none same blocks nodes =
     let empty = none row.fault refl in
-    let left = ap (sum_by (made_blocks None after)) empty.1 in
-    let left_nodes = ap (sum_by (λ (rows : List Row). made_nodes None after)) empty.1 in
-    subst (λ (t : Tally). Counts (chunks_traffic columns old) (chunks_traffic after new) before t out) (sym (same row.fault refl)) (record {
-      made = record { blocks = 0; nodes = 0 };
-      blocks = omega (arith, blocks);
-      nodes = omega (arith, nodes);
-      fewer_blocks = ap (sum_by (made_blocks None columns)) empty.0 ∙ sym left;
-      fewer_nodes = ap (sum_by (λ (rows : List Row). made_nodes None columns)) empty.0 ∙ sym left_nodes;
-      no_blocks = λ _. left;
-      no_nodes = λ _. left_nodes;
-    })
+    subst (λ (t : Tally). Counts (chunks_traffic columns old) (chunks_traffic after new) before t out) (sym (same row.fault refl))
+    (subst (λ (chunks : List (List Row)). Counts (chunks_traffic columns old) (chunks_traffic after chunks) before before out) (sym empty.1)
+    (subst (λ (chunks : List (List Row)). Counts (chunks_traffic columns chunks) (chunks_traffic after []) before before out) (sym empty.0)
+    (counts-nothing (chunks_traffic after []) before before out refl refl blocks nodes (λ _. refl) (λ _. refl))))
 refused-counts columns after old new refused.NoMemory code before later out is had none same blocks nodes = absurd (had is)
 
 -- the end, which nothing is left before
