@@ -1,5 +1,5 @@
 -- What a call for a chunk of rows, for the end or for a record at fault counts.
-use Rattle.std.proofs.Common.{◌≡◌, ◌≢◌, ◌<◌, ◌^◌, ℤ, List, [], ◌∷◌, None, Some, arith, refl, sym, ap, subst}
+use Rattle.std.proofs.Common.{◌≡◌, ◌≢◌, ◌∙◌, ◌<◌, ◌^◌, ℤ, List, [], ◌∷◌, None, Some, arith, refl, sym, ap, subst}
 use Rattle.std.proofs.lemmas.List.Sums.{sum_by-cons}
 use Rattle.std.specs.List.{sum_by}
 use Rattle.data_types.specs.Table.{Column, Row}
