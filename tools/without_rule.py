@@ -55,7 +55,7 @@ def named(rule: str) -> List[str]:
     producers += [f"capsule_cases:{it}" for it in cases.CAPSULE_CASES]
     producers = [it for it in producers if it.rpartition(":")[2].startswith(f"{rule}_")]
     with contextlib.redirect_stdout(io.StringIO()) as printed, contextlib.redirect_stderr(io.StringIO()):
-        cli.main([*producers, cases.LAWFUL[0], "--lifetimes", "--json", "--seconds", "3"])
+        cli.main([*producers, cases.LAWFUL[0], "--lifetimes", "--json", "--seconds", "20"])
     said = [json.loads(line) for line in printed.getvalue().splitlines()]
     return [it for it in producers if rule in [one.get("rule") for one in said if one["producer"] == it]]
 
