@@ -14,7 +14,7 @@ fi
 $python -c 'import platform; from osgeo import gdal; print("GDAL", gdal.__version__, "Python", platform.python_version())' || exit 2
 ran=0 other=0
 for name in $($python -c 'import gdal_exports; print(*gdal_exports.CASES)'); do
-    lines=$(timeout 300 $python arrow_tree.py "gdal_exports:$name" --check "$program" --most 67108864 2>&1)
+    lines=$(timeout 900 $python arrow_tree.py "gdal_exports:$name" --check "$program" --most 67108864 --seconds 300 2>&1)
     status=$?
     chunks=$(grep -c '^chunk' <<< "$lines")
     echo "$name: status $status, $chunks chunks"

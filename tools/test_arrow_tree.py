@@ -389,7 +389,7 @@ class Texts(unittest.TestCase):
             ast.parse(source, feature_version=(3, 8))
             lines = source.splitlines()
             self.assertLessEqual(len(lines), 300, file)
-            self.assertLessEqual(max(map(len, lines)), 130, file)
+            self.assertLessEqual(max(map(len, lines)), 160, file)
 
 
 class SpoiltMemory:

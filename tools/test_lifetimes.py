@@ -72,7 +72,7 @@ class Producers(unittest.TestCase):
         producers = {f"{LIBRARY}:{it}": it for it in ARRAYS if not it.startswith("Ends")}
         producers.update({f"{LIBRARY}:stream:{it}": it for it in STREAMS if it[0].isupper() and not it.startswith("Ends")})
         producers.update({f"capsule_cases:{it}": it for it in CAPSULE_CASES})
-        said, status = verdicts(*producers, "--lifetimes", "--seconds", 5)
+        said, status = verdicts(*producers, "--lifetimes", "--seconds", 20)
         self.assertEqual((status, set(said)), (8, set(producers)))
         for producer, name in producers.items():
             with self.subTest(name):

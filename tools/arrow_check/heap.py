@@ -6,7 +6,7 @@ from typing import Callable
 
 M_PERTURB, FILL = -6, 0xA5  # mallopt's number for the byte that freed memory is filled with, and that byte
 CACHED, OF_A_SIZE = range(16, 1041, 16), 7  # the blocks that each thread keeps back, which mallopt's byte doesn't reach
-WARM_UP, EXPORTS, ROUNDS, SECONDS = 3, 8, 6, 0.2  # of a search for a leak; seconds a round
+WARM_UP, EXPORTS, ROUNDS, SECONDS = 3, 8, 20, 0.2  # of a search for a leak; seconds a round
 C = ctypes.CDLL(None)
 C.malloc.restype = ctypes.c_void_p
 C.malloc.argtypes = [ctypes.c_size_t]

@@ -20,6 +20,7 @@ pub mod NestedLaw
 pub mod NestedRows
 pub mod NestedGather
 pub mod NestedKids
+mod NestedNodes
 pub mod NestedWhole
 pub mod NestedChunks
 pub mod NestedPlaces

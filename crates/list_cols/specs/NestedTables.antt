@@ -1,12 +1,12 @@
 -- The table of rows that are grouped by the values of a column: a column of its distinct values, and a list column for each other one.
-use Rattle.std.specs.Prelude.{◌≡◌, ◌≢◌, ◌<◌, ◌≤◌, ℕ, ◌==◌, if◌then◌else◌, List, get_or, length, map, None}
+use Rattle.std.specs.Prelude.{◌≡◌, ◌≢◌, ◌+◌, ◌-◌, ◌*◌, ◌<◌, ◌≤◌, ℕ, ◌==◌, nat_lt, if◌then◌else◌, List, get_or, length, map, None}
 use Rattle.data_types.specs.declared.kind.DataType.{DataType}
 use Rattle.data_types.specs.declared.kind.DataType.TheVariants as kinds
 use Rattle.data_types.specs.Parts.{column_values}
 use Rattle.data_types.specs.Table.{Row}
 use Rattle.data_types.specs.Value.{Value}
 use Rattle.tree_model.specs.Tree.{children_of}
-use Rattle.raw_array.specs.Members.{ArrayTree}
+use Rattle.raw_array.specs.Members.{ArrayTree, Cost}
 use Rattle.col_build.specs.Encoding.{Fits}
 use Rattle.data_types.specs.ColumnKinds.{table_type}
 use Rattle.data_types.specs.KindTrees.{KindTree, kind_in}
@@ -54,6 +54,12 @@ pub record FitNested (column : ℕ) (types : List DataType) (rows : List Row) : 
   pub columns : (k : ℕ) → k < length types → FitColumn column types rows k
   pub few : length (keys_of column rows) ≤ window_limit
 
+-- ---- what is made
+
+-- the nodes of the first n columns: of the column itself this many, of each other one two, a list and its items
+abbrev pub nodes_to : ℕ → ℕ → ℕ → ℕ
+nodes_to own column n = if nat_lt column n then own + 2 * (n - 1) else 2 * n
+
 -- ---- of a chunk
 
 abbrev pub nested_type : ℕ → KindTree → KindTree
@@ -61,3 +67,7 @@ nested_type column typed = nested_table_type column (map kind_in (children_of ty
 
 abbrev pub nested_array : ℕ → KindTree → ArrayTree → ArrayTree
 nested_array column typed array = nested_table column (map kind_in (children_of typed)) (rows_of typed array)
+
+-- the blocks of the new array, one for each buffer: what it costs but for its nodes, as many as twice its columns
+abbrev pub nested_blocks : ℕ → KindTree → ArrayTree → ℕ
+nested_blocks column typed array = Cost (nested_array column typed array) - 2 * length (children_of typed)

@@ -1,5 +1,5 @@
 //! The array of the distinct values of a column alone.
-ghost use Rattle.std.specs.Prelude.{◌≡◌, ◌≢◌, ◌⊎◌, ◌+◌, ◌<◌, ◌≤◌, ◌∷◌, [], All, true, false, None, IfOk, IfErr, OnOk, MatchResult, length, map};
+ghost use Rattle.std.specs.Prelude.{◌≡◌, ◌≢◌, ◌⊎◌, ◌+◌, ◌-◌, ◌<◌, ◌≤◌, ◌∷◌, [], All, true, false, None, IfOk, IfErr, OnOk, MatchResult, length, map};
 ghost use Rattle.arr_export.specs.ArrayTrees.{IsColumn, column_tree, table_tree};
 ghost use Rattle.column_fill.specs.Gathered.{CanGatherRuns, values_at};
 ghost use Rattle.data_types.specs.Table.{Flat};
@@ -12,6 +12,7 @@ ghost use Rattle.raw_array.specs.Members.{Cost};
 ghost use Rattle.tree_model.specs.Tree.{children_of};
 ghost use Rattle.data_types.specs.Groups.{distinct};
 ghost use Rattle.row_groups.specs.Items.{IsRefusedFor, most_groups};
+ghost use Rattle.unit_pass.specs.Tally.{risen};
 ghost use Rattle.unit_pass.specs.declared.pass.TheConstants.{SUPPLY};
 ghost use Rattle.list_cols.specs.NestFaults.{is_nest_too_long};
 ghost use Rattle.list_cols.specs.NestedGroups.{AreFirsts, CanNest, row_keys, run_at};
@@ -62,6 +63,9 @@ fn far_column(
     ensures made { IfOk result (λ made. made ≡ column_tree (kind_of kid.now) (values_at (type_of_kind (Flat (kind_of kid.now))) items.now start firsts.now) None) }
     ensures units { MatchResult result (λ made. pass.new.units + Cost made ≡ pass.old.units) (λ _. pass.new.units ≡ pass.old.units) }
     ensures left { IfOk result (λ _. pass.old.units ≤ pass.new.units + 4) }
+    ensures least { OnOk result (pass.new.units + 1 ≤ pass.old.units) }
+    ensures blocks { OnOk result (pass.new.blocks ≡ risen pass.old.blocks (pass.old.units - pass.new.units - 1)) }
+    ensures nodes { OnOk result (pass.new.nodes ≡ risen pass.old.nodes 1) }
 {
     let runs = once_each(alloc, firsts, start)?;
     let builder = gathered_runs(alloc, &kid.kind, kid, items, &runs)?;
@@ -86,7 +90,9 @@ fn table_of_one(
     ensures units { MatchResult result
         (λ made. pass.new.units + Cost made ≡ pass.old.units + Cost column)
         (λ _. pass.new.units ≡ pass.old.units + Cost column) }
-    ensures left { OnOk result (pass.old.units ≤ pass.new.units + 1) }
+    ensures left { OnOk result (pass.new.units + 1 ≡ pass.old.units) }
+    ensures blocks { OnOk result (pass.new.blocks ≡ pass.old.blocks) }
+    ensures nodes { OnOk result (pass.new.nodes ≡ risen pass.old.nodes 1) }
 {
     let columns = one_child(alloc, column, pass)?;
     match export_table(alloc, columns, rows as i64, pass) {
@@ -117,6 +123,9 @@ fn keys_table(
     ensures fits { OnOk result (FitNested column (map kind_in (children_of (typed_of typed.now))) (rows_of (typed_of typed.now) array.now)) }
     ensures units { MatchResult result (λ made. pass.new.units + Cost made ≡ pass.old.units) (λ _. pass.new.units ≡ pass.old.units) }
     ensures left { OnOk result (pass.old.units ≤ pass.new.units + 5) }
+    ensures least { OnOk result (pass.new.units + 2 ≤ pass.old.units) }
+    ensures blocks { OnOk result (pass.new.blocks ≡ risen pass.old.blocks (pass.old.units - pass.new.units - 2)) }
+    ensures nodes { OnOk result (pass.new.nodes ≡ risen pass.old.nodes 2) }
 {
     kinds_of_typed(typed);
     lawful_trees();
@@ -187,6 +196,9 @@ pub(crate) fn lone_table(
     ensures untouched { IfErr result (λ fault. fault ≢ ListFault.NoMemory → pass.new ≡ pass.old) }
     ensures units { MatchResult result (λ made. pass.new.units + Cost made ≡ pass.old.units) (λ _. pass.new.units ≡ pass.old.units) }
     ensures left { OnOk result (pass.old.units ≤ pass.new.units + 5) }
+    ensures least { OnOk result (pass.new.units + 2 ≤ pass.old.units) }
+    ensures blocks { OnOk result (pass.new.blocks ≡ risen pass.old.blocks (pass.old.units - pass.new.units - 2)) }
+    ensures nodes { OnOk result (pass.new.nodes ≡ risen pass.old.nodes 2) }
 {
     match only_firsts(alloc, typed, array, column) {
         Ok(firsts) => match keys_table(alloc, typed, array, column, &firsts, pass) {

@@ -1,14 +1,15 @@
 //! The columns of grouped rows.
-ghost use Rattle.std.specs.Prelude.{◌≡◌, ◌+◌, ◌*◌, ◌<◌, ◌≤◌, ◌≤ℤ◌, ℕ, pos, None, IfOk, OnOk, MatchResult, length, map};
+ghost use Rattle.std.specs.Prelude.{◌≡◌, ◌+◌, ◌-◌, ◌*◌, ◌<◌, ◌≤◌, ◌≤ℤ◌, ◌==◌, if◌then◌else◌, ℕ, pos, None, IfOk, OnOk, MatchResult, length, map};
 ghost use Rattle.data_types.specs.KindTrees.{TypedOk, kind_in};
 ghost use Rattle.data_types.specs.TypedView.{kids_of, kind_of, typed_of};
 ghost use Rattle.layout_rules.specs.Layout.{first};
 ghost use Rattle.layout_rules.specs.Values.{each, rows_of, tree_items};
 ghost use Rattle.raw_array.specs.Members.{Cost, cost_of_all, members_of};
 ghost use Rattle.tree_model.specs.Tree.{IsLive, children_of, trees};
+ghost use Rattle.unit_pass.specs.Tally.{risen};
 ghost use Rattle.unit_pass.specs.declared.pass.TheConstants.{SUPPLY};
 ghost use Rattle.list_cols.specs.NestedGroups.{AreRowGroups, CanNest};
-ghost use Rattle.list_cols.specs.NestedTables.{FitColumn, nested_column};
+ghost use Rattle.list_cols.specs.NestedTables.{FitColumn, nested_column, nodes_to};
 
 use crate::nest_lists::{list_column, picked_column};
 use array_laws::{flat_types_have_no_children, lawful_values_fit};
@@ -57,6 +58,9 @@ fn nested_column(
     ensures fits { OnOk result (FitColumn column (map kind_in (children_of (typed_of typed.now))) (rows_of (typed_of typed.now) array.now) k) }
     ensures units { MatchResult result (λ made. pass.new.units + Cost made ≡ pass.old.units) (λ _. pass.new.units ≡ pass.old.units) }
     ensures left { IfOk result (λ _. pass.old.units ≤ pass.new.units + 6) }
+    ensures least { OnOk result (pass.new.units + (if k == column then 1 else 2) ≤ pass.old.units) }
+    ensures blocks { OnOk result (pass.new.blocks ≡ risen pass.old.blocks (pass.old.units - pass.new.units - (if k == column then 1 else 2))) }
+    ensures nodes { OnOk result (pass.new.nodes ≡ risen pass.old.nodes (if k == column then 1 else 2)) }
 {
     kinds_of_typed(typed);
     lawful_trees();
@@ -96,6 +100,10 @@ pub(crate) fn nested_columns(
         (λ columns. pass.new.units + cost_of_all (trees columns.items) ≡ pass.old.units)
         (λ _. pass.new.units ≡ pass.old.units) }
     ensures left { IfOk result (λ _. pass.old.units ≤ pass.new.units + 6 * length (kids_of typed.now)) }
+    ensures least { OnOk result (pass.new.units + nodes_to 1 column (length (kids_of typed.now)) ≤ pass.old.units) }
+    ensures blocks { OnOk result (pass.new.blocks
+        ≡ risen pass.old.blocks (pass.old.units - pass.new.units - nodes_to 1 column (length (kids_of typed.now)))) }
+    ensures nodes { OnOk result (pass.new.nodes ≡ risen pass.old.nodes (nodes_to 1 column (length (kids_of typed.now)))) }
 {
     let count = typed.kids.len();
     let Ok(mut columns) = Vec::with_capacity(alloc, count) else {

@@ -106,7 +106,9 @@ fn lists_over(
     ensures units { MatchResult result
         (λ made. pass.new.units + Cost made ≡ pass.old.units + Cost items)
         (λ _. pass.new.units ≡ pass.old.units + Cost items) }
-    ensures left { OnOk result (pass.old.units ≤ pass.new.units + 2) }
+    ensures left { OnOk result (pass.new.units + 2 ≡ pass.old.units) }
+    ensures blocks { OnOk result (pass.new.blocks ≡ risen pass.old.blocks 1) }
+    ensures nodes { OnOk result (pass.new.nodes ≡ risen pass.old.nodes 1) }
 {
     let Ok(children) = one_child(alloc, items, pass) else {
         return Err(NoMemory);
@@ -143,6 +145,9 @@ pub(crate) fn picked_column(
     ensures made { IfOk result (λ made. made ≡ column_tree (kind_of kid.now) (values_at (type_of_kind (Flat (kind_of kid.now))) items.now start picks.now) None) }
     ensures units { MatchResult result (λ made. pass.new.units + Cost made ≡ pass.old.units) (λ _. pass.new.units ≡ pass.old.units) }
     ensures left { IfOk result (λ _. pass.old.units ≤ pass.new.units + 4) }
+    ensures least { OnOk result (pass.new.units + 1 ≤ pass.old.units) }
+    ensures blocks { OnOk result (pass.new.blocks ≡ risen pass.old.blocks (pass.old.units - pass.new.units - 1)) }
+    ensures nodes { OnOk result (pass.new.nodes ≡ risen pass.old.nodes 1) }
 {
     let builder = gathered(alloc, &kid.kind, kid, items, start, picks)?;
     match built_column(alloc, builder, None, pass) {
@@ -169,6 +174,9 @@ pub(crate) fn list_column(
         → made ≡ list_tree (kind_of kid.now) (grouped_lists (type_of_kind (Flat (kind_of kid.now))) items.now start vs)) }
     ensures units { MatchResult result (λ made. pass.new.units + Cost made ≡ pass.old.units) (λ _. pass.new.units ≡ pass.old.units) }
     ensures left { OnOk result (pass.old.units ≤ pass.new.units + 6) }
+    ensures least { OnOk result (pass.new.units + 2 ≤ pass.old.units) }
+    ensures blocks { OnOk result (pass.new.blocks ≡ risen pass.old.blocks (pass.old.units - pass.new.units - 2)) }
+    ensures nodes { OnOk result (pass.new.nodes ≡ risen pass.old.nodes 2) }
 {
     lawful_values_fit(kid, items);
     let offsets = offset_bytes(alloc, &groups.offsets)?;

@@ -1,10 +1,12 @@
 //! The schema of a chunk whose rows are grouped by a column.
-ghost use Rattle.std.specs.Prelude.{◌≡◌, ◌+◌, ◌*◌, ◌<◌, ◌≤◌, ℕ, None, IfOk, IfErr, MatchResult, if◌then◌else◌, is_ok, length};
+ghost use Rattle.std.specs.Prelude.{◌≡◌, ◌+◌, ◌*◌, ◌<◌, ◌≤◌, ◌==◌, ℕ, None, IfOk, IfErr, OnOk, MatchResult, if◌then◌else◌, is_ok, length};
 ghost use Rattle.tree_model.specs.Tree.{IsLive, child_at, children_of, dictionary_of, trees};
 ghost use Rattle.raw_schema.specs.Members.{Nodes, nodes_of_all};
 ghost use Rattle.layout_rules.specs.Values.{each};
+ghost use Rattle.unit_pass.specs.Tally.{risen};
 ghost use Rattle.unit_pass.specs.declared.pass.TheConstants.{SUPPLY};
 ghost use Rattle.list_cols.specs.NestedFields.{list_field, nested_schema, new_field};
+ghost use Rattle.list_cols.specs.NestedTables.{nodes_to};
 
 use crate::fields::{NULLABLE, copied, one_field, renamed_field};
 use arr_move::with_fields;
@@ -19,6 +21,7 @@ fn list_field(alloc: Global, field: &RawSchema, pass: &mut Pass) -> Result<RawSc
     ensures made { IfOk result (λ made. made ≡ list_field field.now) }
     ensures units { pass.new.units + (if is_ok result then 2 else 0) ≡ pass.old.units }
     ensures blocks { pass.new.blocks ≡ pass.old.blocks }
+    ensures nodes { OnOk result (pass.new.nodes ≡ risen pass.old.nodes 2) }
 {
     let format = Vec::from_slice(alloc, b"+l")?;
     let name = copied(alloc, field.name())?;
@@ -50,6 +53,7 @@ fn new_field(
     ensures units { MatchResult result (λ made. pass.new.units + Nodes made ≡ pass.old.units) (λ _. pass.new.units ≡ pass.old.units) }
     ensures left { pass.old.units ≤ pass.new.units + 2 }
     ensures blocks { pass.new.blocks ≡ pass.old.blocks }
+    ensures nodes { OnOk result (pass.new.nodes ≡ risen pass.old.nodes (if k == column then 0 else 2)) }
 {
     if k == column {
         Ok(RawSchema::released())
@@ -74,6 +78,7 @@ fn new_fields(
         (λ _. pass.new.units ≡ pass.old.units) }
     ensures left { IfOk result (λ _. pass.old.units ≤ pass.new.units + 2 * length (children_of schema.now)) }
     ensures blocks { pass.new.blocks ≡ pass.old.blocks }
+    ensures nodes { OnOk result (pass.new.nodes ≡ risen pass.old.nodes (nodes_to 0 column (length (children_of schema.now)))) }
 {
     let count = schema.n_children() as usize;
     let Ok(mut fields) = Vec::with_capacity(alloc, count) else {
@@ -109,6 +114,8 @@ pub(crate) fn nested_schema(
         (λ made. pass.new.units + Nodes made ≡ pass.old.units + Nodes schema)
         (λ _. pass.new.units ≡ pass.old.units) }
     ensures blocks { pass.new.blocks ≡ pass.old.blocks }
+    // A node of its own, and two for each list over a field.
+    ensures nodes { OnOk result (pass.new.nodes ≡ risen pass.old.nodes (1 + nodes_to 0 column (length (children_of schema)))) }
 {
     match new_fields(alloc, &schema, column, pass) {
         Ok(fields) => with_fields(alloc, schema, fields, pass),

@@ -1,5 +1,5 @@
 //! The array of grouped rows.
-ghost use Rattle.std.specs.Prelude.{◌≡◌, ◌≢◌, ◌⊎◌, ◌+◌, ◌<◌, ◌≤◌, ◌≤ℤ◌, true, false, pos, IfOk, IfErr, OnOk, MatchResult, length, map};
+ghost use Rattle.std.specs.Prelude.{◌≡◌, ◌≢◌, ◌⊎◌, ◌+◌, ◌-◌, ◌*◌, ◌<◌, ◌≤◌, ◌≤ℤ◌, true, false, pos, IfOk, IfErr, OnOk, MatchResult, length, map};
 ghost use Rattle.col_build.specs.Encoding.{narrow_limit};
 ghost use Rattle.data_types.specs.KindTrees.{TypedOk, kind_in};
 ghost use Rattle.data_types.specs.TypedView.{kids_of, typed_of};
@@ -7,6 +7,7 @@ ghost use Rattle.layout_rules.specs.Values.{rows_of, tree_items};
 ghost use Rattle.raw_array.specs.Members.{Cost, members_of};
 ghost use Rattle.tree_model.specs.Tree.{IsLive, children_of};
 ghost use Rattle.data_types.specs.Groups.{distinct};
+ghost use Rattle.unit_pass.specs.Tally.{risen};
 ghost use Rattle.unit_pass.specs.declared.pass.TheConstants.{CHUNK};
 ghost use Rattle.list_cols.specs.Faults.{most_columns, most_named};
 ghost use Rattle.list_cols.specs.NestFaults.{is_nest_too_long};
@@ -83,6 +84,9 @@ fn grouped_table(
     ensures fits { OnOk result (FitNested column (map kind_in (children_of (typed_of typed.now))) (rows_of (typed_of typed.now) array.now)) }
     ensures units { MatchResult result (λ made. pass.new.units + Cost made ≡ pass.old.units) (λ _. pass.new.units ≡ pass.old.units) }
     ensures left { OnOk result (pass.old.units ≤ pass.new.units + 6145) }
+    ensures least { OnOk result (pass.new.units + 2 * length (kids_of typed.now) ≤ pass.old.units) }
+    ensures blocks { OnOk result (pass.new.blocks ≡ risen pass.old.blocks (pass.old.units - pass.new.units - 2 * length (kids_of typed.now))) }
+    ensures nodes { OnOk result (pass.new.nodes ≡ risen pass.old.nodes (2 * length (kids_of typed.now))) }
 {
     kinds_of_typed(typed);
     let groups = chunk_groups(alloc, typed, array, column)?;
@@ -118,6 +122,9 @@ pub(crate) fn nested_table(
     ensures untouched { IfErr result (λ fault. fault ≢ ListFault.NoMemory → pass.new ≡ pass.old) }
     ensures units { MatchResult result (λ made. pass.new.units + Cost made ≡ pass.old.units) (λ _. pass.new.units ≡ pass.old.units) }
     ensures left { OnOk result (pass.old.units ≤ pass.new.units + 6145) }
+    ensures least { OnOk result (pass.new.units + 2 * length (kids_of typed.now) ≤ pass.old.units) }
+    ensures blocks { OnOk result (pass.new.blocks ≡ risen pass.old.blocks (pass.old.units - pass.new.units - 2 * length (kids_of typed.now))) }
+    ensures nodes { OnOk result (pass.new.nodes ≡ risen pass.old.nodes (2 * length (kids_of typed.now))) }
 {
     kinds_of_typed(typed);
     lawful_trees();

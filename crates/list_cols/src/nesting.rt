@@ -1,5 +1,5 @@
 //! Rows that are grouped by the values of a column.
-ghost use Rattle.std.specs.Prelude.{◌≡◌, ◌≢◌, ◌+◌, ◌<◌, ◌≤◌, ℕ, None, Some, IfOk, IfErr, OnOk, MatchResult, length};
+ghost use Rattle.std.specs.Prelude.{◌≡◌, ◌≢◌, ◌+◌, ◌-◌, ◌*◌, ◌<◌, ◌≤◌, ℕ, None, Some, IfOk, IfErr, OnOk, MatchResult, length};
 ghost use Rattle.tree_model.specs.Tree.{children_of};
 ghost use Rattle.data_types.specs.KindTrees.{TypedOk};
 ghost use Rattle.data_types.specs.TypedView.{typed_of};
@@ -8,12 +8,13 @@ ghost use Rattle.layout_rules.specs.Walk.{ChunkOk};
 ghost use Rattle.raw_array.specs.Members.{Cost};
 ghost use Rattle.raw_schema.specs.Members.{Nodes};
 ghost use Rattle.schema_check.specs.Schemas.{TypedOf};
+ghost use Rattle.unit_pass.specs.Tally.{risen};
 ghost use Rattle.unit_pass.specs.declared.pass.TheConstants.{CHUNK, SUPPLY};
 ghost use Rattle.list_cols.specs.Faults.{IsRefusedBy, first_wrong, most_columns, most_named};
 ghost use Rattle.list_cols.specs.NestFaults.{nest_fault, nests};
 ghost use Rattle.list_cols.specs.Nested.{Nest};
 ghost use Rattle.list_cols.specs.NestedFields.{nested_schema};
-ghost use Rattle.list_cols.specs.NestedTables.{nested_array, nested_type};
+ghost use Rattle.list_cols.specs.NestedTables.{nested_array, nested_blocks, nested_type};
 
 use crate::fault::ListFault;
 use crate::nest_laws::{nested_schemas_have_their_kinds, nested_tables_have_their_rows};
@@ -72,6 +73,9 @@ pub fn nest(
     ensures units { MatchResult result
         (λ made. pass.new.units + (Nodes made.0 + Cost made.1) ≡ pass.old.units + (Nodes schema + Cost array))
         (λ _. pass.new.units ≡ pass.old.units) }
+    // What is made: two nodes for each column of the new array, one for the schema and two for each list in it; a block for each buffer.
+    ensures nodes { OnOk result (pass.new.nodes ≡ risen pass.old.nodes (4 * length (children_of (typed_of typed.now)) - 1)) }
+    ensures blocks { OnOk result (pass.new.blocks ≡ risen pass.old.blocks (nested_blocks column (typed_of typed.now) array)) }
     // Nothing is made where one of the two faults is found.
     ensures untouched { IfErr result (λ refused. refused.2 ≢ ListFault.NoMemory → pass.new ≡ pass.old) }
 {

@@ -125,9 +125,9 @@ Makes commands.Union array old_blocks old_nodes blocks nodes = (blocks ≡ old_b
 Makes (commands.Tag dense) array old_blocks old_nodes blocks nodes = (blocks ≡ risen old_blocks (tag_blocks dense array)) × (nodes ≡ risen old_nodes 2)
 -- the producer's own block
 Makes commands.Foreign array old_blocks old_nodes blocks nodes = (blocks ≡ risen old_blocks 1) × (nodes ≡ old_nodes)
--- of run ends and of new columns nothing is said
-Makes commands.Runs array old_blocks old_nodes blocks nodes = Unit {0}
-Makes commands.Flat array old_blocks old_nodes blocks nodes = Unit {0}
+Makes commands.Runs array old_blocks old_nodes blocks nodes = (blocks ≡ old_blocks) × (nodes ≡ old_nodes)
+Makes commands.Flat array old_blocks old_nodes blocks nodes = (blocks ≡ old_blocks) × (nodes ≡ old_nodes)
+-- of new columns nothing is said
 Makes (commands.Explode column) array old_blocks old_nodes blocks nodes = Unit {0}
 Makes (commands.Nest column) array old_blocks old_nodes blocks nodes = Unit {0}
 

@@ -34,4 +34,7 @@ returns-in-Ok c =
       made = made ∙ ap (λ (vs : List Value). column_tree kind vs None) same;
       units = omega (arith, units, cost);
       left = omega (arith, units, few-blocks kind values);
+      least = omega (arith, units);
+      blocks = omega (arith, units, c.in-Ok.ensures.blocks kind values holds);
+      nodes = c.in-Ok.ensures.nodes;
     }

@@ -1,10 +1,11 @@
-use Rattle.std.proofs.Common.{◌≡◌, ◌≤◌, ◌<◌, ◌+◌, ◌*◌, ℕ, length, map, vec_len, vec_capacity}
+use Rattle.std.proofs.Common.{◌≡◌, ◌≤◌, ◌<◌, ◌+◌, ◌-◌, ◌*◌, ℕ, length, map, vec_len, vec_capacity}
 use Rattle.tree_model.specs.Tree.{children_of, trees}
 use Rattle.raw_array.specs.Members.{cost_of_all}
 use Rattle.data_types.specs.KindTrees.{kind_in}
 use Rattle.data_types.specs.TypedView.{kids_of, typed_of}
 use Rattle.layout_rules.specs.Values.{each, rows_of}
-use Rattle.list_cols.specs.NestedTables.{FitColumn, nested_column}
+use Rattle.unit_pass.specs.Tally.{risen}
+use Rattle.list_cols.specs.NestedTables.{FitColumn, nested_column, nodes_to}
 use Rattle.list_cols.proofs.nest_columns.nested_columns.Given as goal
 
 -- the columns so far, and room for the others
@@ -16,4 +17,7 @@ invariant-loop-k l = record {
   room : length (kids_of l.typed) ≤ vec_capacity l.columns;
   units : l.pass.units + cost_of_all (trees l.columns.items) ≡ l.initial.pass.units;
   left : l.initial.pass.units ≤ l.pass.units + 6 * l.k;
+  least : l.pass.units + nodes_to 1 l.column l.k ≤ l.initial.pass.units;
+  blocks : l.pass.blocks ≡ risen l.initial.pass.blocks (l.initial.pass.units - l.pass.units - nodes_to 1 l.column l.k);
+  nodes : l.pass.nodes ≡ risen l.initial.pass.nodes (nodes_to 1 l.column l.k);
 }

@@ -24,4 +24,7 @@ returns-in-Ok c =
       made = made;
       units = omega (arith, units, cost);
       left = omega (arith, units, few-blocks kind values);
+      least = omega (arith, units);
+      blocks = omega (arith, units, c.in-Ok.ensures.blocks kind values holds);
+      nodes = c.in-Ok.ensures.nodes;
     }

@@ -4,6 +4,7 @@ use Rattle.raw_schema.specs.Members.{nodes_of_all}
 use Rattle.layout_rules.specs.Values.{each}
 use Rattle.list_cols.specs.NestedFields.{new_field}
 use Rattle.list_cols.proofs.ListItems.{each-next}
+use Rattle.list_cols.proofs.NestedNodes.{nodes-next}
 use Rattle.list_cols.proofs.NestedPlaces.{nodes-append}
 use Rattle.list_cols.proofs.nest_schema.new_fields.Goals as goal
 
@@ -23,5 +24,6 @@ loop-k-preserved c =
       room = omega (arith, c.push_reserved.ensures.capacity, c.loop-k.invariant.room);
       units = omega (arith, cost, more, c.in-Ok-new_field.ensures.units, c.loop-k.invariant.units);
       blocks = c.in-Ok-new_field.ensures.blocks ∙ c.loop-k.invariant.blocks;
+      nodes = omega (arith, nodes-next 0 c.args.column k, c.in-Ok-new_field.ensures.nodes, c.loop-k.invariant.nodes);
       left = omega (arith, c.in-Ok-new_field.ensures.left, c.loop-k.invariant.left);
     }

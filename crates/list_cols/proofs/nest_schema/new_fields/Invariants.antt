@@ -3,6 +3,8 @@ use Rattle.tree_model.specs.Tree.{children_of, trees}
 use Rattle.raw_schema.specs.Members.{nodes_of_all}
 use Rattle.layout_rules.specs.Values.{each}
 use Rattle.list_cols.specs.NestedFields.{new_field}
+use Rattle.unit_pass.specs.Tally.{risen}
+use Rattle.list_cols.specs.NestedTables.{nodes_to}
 use Rattle.list_cols.proofs.nest_schema.new_fields.Given as goal
 
 -- the lists over the fields so far, and room for the others
@@ -13,5 +15,6 @@ invariant-loop-k l = record {
   room : length (children_of l.schema) ≤ vec_capacity l.fields;
   units : l.pass.units + nodes_of_all (trees l.fields.items) ≡ l.initial.pass.units;
   blocks : l.pass.blocks ≡ l.initial.pass.blocks;
+  nodes : l.pass.nodes ≡ risen l.initial.pass.nodes (nodes_to 0 l.column l.k);
   left : l.initial.pass.units ≤ l.pass.units + 2 * l.k;
 }

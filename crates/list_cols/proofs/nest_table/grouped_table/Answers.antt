@@ -11,6 +11,7 @@ use Rattle.arr_export.specs.ArrayTrees.{IsColumn, table_tree}
 use Rattle.arr_export.proofs.Each.{length-each}
 use Rattle.list_cols.specs.NestedTables.{keys_of, nested_column}
 use Rattle.list_cols.proofs.Kids.{kids-are}
+use Rattle.list_cols.proofs.NestedNodes.{nodes-all}
 use Rattle.list_cols.proofs.NestedWhole.{all-columns, few-keys, many-rows}
 use Rattle.list_cols.proofs.nest_table.grouped_table.Goals as goal
 
@@ -71,3 +72,35 @@ returns-in-Ok-clause-fits c =
 
 pub returns-in-Ok-clause-left : goal.returns-in-Ok-clause-left
 returns-in-Ok-clause-left c = omega (arith, c.in-Ok.ensures.units, c.in_ok-columns.ensures.left, c.requires.narrow)
+
+pub returns-in-Ok-clause-least : goal.returns-in-Ok-clause-least
+returns-in-Ok-clause-least c =
+    omega (
+      arith,
+      nodes-all 1 c.args.column (length (kids_of c.args.typed.now)) c.requires.inside,
+      c.in-Ok.ensures.units,
+      c.in_ok-columns.ensures.least,
+      c.requires.inside,
+    )
+
+pub returns-in-Ok-clause-blocks : goal.returns-in-Ok-clause-blocks
+returns-in-Ok-clause-blocks c =
+    omega (
+      arith,
+      nodes-all 1 c.args.column (length (kids_of c.args.typed.now)) c.requires.inside,
+      c.in-Ok.ensures.units,
+      c.in_ok-columns.ensures.least,
+      c.in_ok-columns.ensures.blocks,
+      c.in-Ok.ensures.blocks,
+      c.requires.inside,
+    )
+
+pub returns-in-Ok-clause-nodes : goal.returns-in-Ok-clause-nodes
+returns-in-Ok-clause-nodes c =
+    omega (
+      arith,
+      nodes-all 1 c.args.column (length (kids_of c.args.typed.now)) c.requires.inside,
+      c.in_ok-columns.ensures.nodes,
+      c.in-Ok.ensures.nodes,
+      c.requires.inside,
+    )

@@ -1,5 +1,6 @@
 use Rattle.std.proofs.Common.{◌≡◌, None, length, map, ap, sym, subst, arith, rules}
 use Rattle.tree_model.specs.Tree.{children_of}
+use Rattle.raw_array.specs.Members.{Cost}
 use Rattle.raw_schema.specs.Members.{SchemaTree}
 use Rattle.data_types.specs.KindTrees.{kind_in}
 use Rattle.data_types.specs.TypedView.{typed_of}
@@ -10,6 +11,7 @@ use Rattle.list_cols.specs.Faults.{first_wrong}
 use Rattle.list_cols.specs.NestFaults.{nests}
 use Rattle.list_cols.specs.NestedTables.{nested_type}
 use Rattle.list_cols.proofs.Kids.{kids-are, level-live}
+use Rattle.list_cols.proofs.NestedNodes.{nodes-all}
 use Rattle.list_cols.proofs.NestedSchemas.{all-flat, live-fields, many-fields}
 use Rattle.list_cols.proofs.NestedWhole.{many-rows}
 use Rattle.list_cols.proofs.nesting.nest.Goals as goal
@@ -44,3 +46,16 @@ pub returns-in-Err-clause-many : goal.returns-in-Err-clause-many
 returns-in-Err-clause-many c none wide more =
     c.in-Err.ensures.many (omega (arith, ap length (kids-are c.args.typed.now c.kinds_of_typed.ensures), wide))
     (omega (arith, many-rows (typed_of c.args.typed.now) c.args.array, more))
+
+pub returns-in-Ok-nested_schema-clause-nodes : goal.returns-in-Ok-nested_schema-clause-nodes
+returns-in-Ok-nested_schema-clause-nodes c =
+    let kids = ap length (kids-are c.args.typed.now c.kinds_of_typed.ensures) in
+    let fields = many-fields c.args.schema (typed_of c.args.typed.now) c.requires.schema in
+    let lists = nodes-all 0 c.args.column (length (children_of c.args.schema)) (omega (arith, fields, c.requires.inside)) in
+    omega (arith, kids, fields, lists, c.requires.inside, c.in-Ok.ensures.nodes, c.in-Ok-nested_schema.ensures.nodes, c.end.ensures.nodes)
+
+pub returns-in-Ok-nested_schema-clause-blocks : goal.returns-in-Ok-nested_schema-clause-blocks
+returns-in-Ok-nested_schema-clause-blocks c =
+    let kids = ap length (kids-are c.args.typed.now c.kinds_of_typed.ensures) in
+    let cost = ap Cost c.in-Ok.ensures.made in
+    omega (arith, kids, cost, c.in-Ok.ensures.units, c.in-Ok.ensures.blocks, c.in-Ok-nested_schema.ensures.blocks, c.end.ensures.blocks)
