@@ -18,11 +18,9 @@ use Rattle.stage_model.specs.declared.fault.PlanFault.TheVariants as plan
 use Rattle.edge_io.specs.Edge.{LosesPrefix}
 use Rattle.stream_face.specs.Shown.{Seen, of_link}
 use Rattle.tree_check.specs.Checks.{Checked}
-use Rattle.tree_check.specs.declared.fault.CheckFault.{CheckFault}
-use Rattle.tree_check.specs.declared.fault.CheckFault.TheVariants as check
 use Rattle.run_model.specs.Answer.{Answer, Text, Fault, Request, Task, Table, Tree, Cause, OfWords}
 use Rattle.run_model.specs.Answer.{OfTexts, OfPlan, OfRecords, OfTree, OfLength, Reading, Writing, Memory}
-use Rattle.run_model.specs.Answer.{cause_of, fault_of_check, fault_of_header, fault_of_plan}
+use Rattle.run_model.specs.Answer.{cause_of, fault_of_header, fault_of_plan}
 use Rattle.run_model.specs.Outcomes.{AtWriteFault, AtWriting, decides_early, is_decided, is_early, is_write_fault, is_writing}
 use Rattle.run_model.specs.declared.fault.RunFault.{RunFault}
 use Rattle.run_model.specs.declared.fault.RunFault.TheVariants as run
@@ -215,22 +213,6 @@ before-early run.NoMemory early behind = cc
 pub early-not_behind : (X : Type 0) (fault : RunFault) → (is_early fault ≡ true) ⊎ (fault ≡ run.NoMemory) → is_behind_records fault ≡ true → X
 early-not_behind X fault (inl early) behind = absurd (before-early fault early behind)
 early-not_behind X fault (inr none) behind = absurd (untrue (subst (λ f. is_behind_records f ≡ true) none behind))
-
-pub header-before : (fault : HeaderFault) → is_behind_records (fault_of_header fault) ≡ false
-header-before header.NoHeader = refl
-header-before (header.TooManyColumns count) = refl
-header-before (header.NotText column) = refl
-header-before (header.Twice column) = refl
-header-before (header.Unknown entry) = refl
-header-before header.NoMemory = refl
-
-pub plan-before : (fault : PlanFault) → is_behind_records (fault_of_plan fault) ≡ false
-plan-before (plan.At stage rule) = refl
-plan-before plan.NoMemory = refl
-
-pub check-before : (fault : CheckFault) → is_behind_records (fault_of_check fault) ≡ false
-check-before (check.Tree fault) = refl
-check-before check.NoMemory = refl
 
 -- ---- the outcome of a task
 
