@@ -13,12 +13,13 @@ use Rattle.data_types.specs.Value.{Value, Null, Truth, Whole, Bits, Bytes, Items
 use Rattle.data_types.specs.declared.kind.DataType.{DataType}
 use Rattle.col_build.specs.Encoding.{Fits, HasForm, are_bounded, are_within, fault_if, is_form, is_storable, is_text, is_wide, is_within, push_fault}
 use Rattle.col_build.specs.Holding.{HasBytes}
+use Rattle.col_build.specs.Settled.{IsNarrow}
 use Rattle.col_build.specs.Shapes.{between_fault, shape_fault, shape_in, text_fault}
 use Rattle.col_build.specs.declared.item.PushFault.TheVariants.{WrongKind, OutOfRange, NotText}
 use Rattle.col_build.specs.declared.shape.Shape.{Shape}
 use Rattle.col_build.specs.declared.shape.Shape.TheVariants as shapes
 use Rattle.col_build.proofs.OffsetBytes.{concat-push}
-use Rattle.col_build.proofs.ShapeFacts.{fault-is, shape_if}
+use Rattle.col_build.proofs.ShapeFacts.{fault-is, shape-same, shape_if}
 
 -- ---- the bytes of all items
 
@@ -125,11 +126,31 @@ within-form wide form values (Items vs) small taken =
 within-form wide form values (Fields vs) small taken =
     reached (is_form form (Fields vs)) (is_storable form (Fields vs)) (is_within wide form (byte_total values + 0)) (is_text form (Fields vs)) taken
 
-within-kind : (wide : Bool) (form : Option Form) (values : List Value) (value : Value) → are_within wide form (byte_total values) ≡ true
+pub within-kind : (wide : Bool) (form : Option Form) (values : List Value) (value : Value) → are_within wide form (byte_total values) ≡ true
     → fault_if wide form values value ≡ None
     → are_within wide form (byte_total (values ++ value ∷ [])) ≡ true
 within-kind wide None values value small taken = refl
 within-kind wide (Some form) values value small taken = ap (is_within wide form) (total-push values value) ∙ within-form wide form values value small taken
+
+-- between narrow offsets there are fewer bytes than they reach
+pub narrow-within : (wide : Bool) (form : Option Form) (text : Bool) (total : ℕ) → shape_if wide form ≡ shapes.Between false text
+    → are_within wide form total ≡ true → total < 2 ^ 31
+narrow-within wide None text total is within = cc
+narrow-within wide (Some Truths) text total is within = cc
+narrow-within wide (Some (Wholes bits signed)) text total is within = cc
+narrow-within wide (Some (FloatBits bits)) text total is within = cc
+narrow-within true (Some Text) text total is within = cc
+narrow-within false (Some Text) text total is within = grind (arith, nat_tests, within)
+narrow-within true (Some HexBytes) text total is within = cc
+narrow-within false (Some HexBytes) text total is within = grind (arith, nat_tests, within)
+narrow-within wide (Some (SizedHex size)) text total is within = cc
+narrow-within wide (Some (Decimals precision places)) text total is within = cc
+
+-- how many bytes there are at most between narrow offsets
+pub narrow-small : (kind : DataType) (values : List Value) (shape : Shape) → shape ≡ shape_in (storage_of kind) → IsNarrow shape → Fits kind values
+    → byte_total values < 2 ^ 31
+narrow-small kind values shape is narrow fits =
+    narrow-within (is_wide kind) (form_of kind) narrow.0 (byte_total values) (sym (shape-same kind fits.flat) ∙ sym is ∙ narrow.1) fits.small
 
 within-none : (wide : Bool) (form : Option Form) → are_within wide form 0 ≡ true
 within-none wide None = refl

@@ -1,6 +1,7 @@
 pub mod BitBytes
 pub mod Halves
 pub mod OffsetBytes
+pub mod EndBytes
 pub mod StoredFacts
 pub mod ShapeFacts
 pub mod MadeAhead

@@ -1,22 +1,24 @@
 -- A builder with nothing made ahead holds what it holds, and what is cut is what was ahead.
-use Rattle.std.proofs.Common.{◌≡◌, ◌∙◌, ◌+◌, ◌*◌, ◌/◌, ℕ, zero, suc, Bool, true, false, List, [], ◌∷◌, length, refl, sym, ap, subst, arith, inl, inr}
+use Rattle.std.proofs.Common.{◌≡◌, ◌∙◌, ◌+◌, ◌*◌, ◌/◌, ◌<◌, ◌^◌, ℕ, zero, suc, Bool, true, false, List, [], ◌∷◌, length, take, refl, sym, ap, subst, arith, inl, inr}
 use Rattle.std.proofs.Common.{length-append}
 use Rattle.std.proofs.Math.Nat.{suc-mul}
 use Rattle.std.proofs.lemmas.List.{length-map, length-replicate, take_all}
 use Rattle.std.proofs.lemmas.List.Elements.{All-head, All-tail}
-use Rattle.std.specs.List.{All, flat_map}
+use Rattle.std.specs.List.{All, concat, flat_map}
 use Rattle.std.specs.Prelude.{map, None}
 use Rattle.data_types.specs.Packed.{le_bytes, offset_width, stored}
 use Rattle.data_types.specs.Storage.{storage_of}
-use Rattle.data_types.specs.Value.{Value, Null, Truth, Whole, Bits, Bytes, Items, Fields, bytes_of}
+use Rattle.data_types.specs.Value.{Value, Null, Truth, Whole, Bits, Bytes, Items, Fields, byte_total, bytes_of}
 use Rattle.data_types.specs.declared.kind.DataType.{DataType}
 use Rattle.col_build.specs.Encoding.{Fits, ends, offset_bytes, stored_item}
-use Rattle.col_build.specs.Holding.{HasBytes, Holds, bytes_in, kept_bytes, offsets_in}
-use Rattle.col_build.specs.Settled.{HoldsWhole, IsNumbers}
+use Rattle.col_build.specs.Holding.{HasBytes, Holds, bytes_in, end_at, kept_bytes, offsets_in}
+use Rattle.col_build.specs.Settled.{HoldsWhole, IsNarrow, IsNumbers}
 use Rattle.col_build.specs.Shapes.{shape_fault, shape_in}
 use Rattle.col_build.specs.declared.builder.Builder.{Builder}
 use Rattle.col_build.specs.declared.shape.Shape.{Shape}
 use Rattle.col_build.specs.declared.shape.Shape.TheVariants as shapes
+use Rattle.col_build.proofs.EndBytes.{end-there}
+use Rattle.col_build.proofs.FitsFacts.{narrow-small}
 use Rattle.col_build.proofs.ShapeFacts.{fault-is}
 
 -- ---- how long the bytes of items are
@@ -83,16 +85,26 @@ numbers-long (shapes.Sized size) width values offsets bytes is taken has = absur
 numbers-long (shapes.Between wide text) width values offsets bytes is taken has = absurd is
 
 bytes-whole : (shape : Shape) (count : ℕ) (values : List Value) (offsets bytes : List ℕ) → All (Taken shape) values → count ≡ length values
-    → HasBytes shape values offsets bytes → bytes_in shape count bytes ≡ bytes
-bytes-whole shapes.Truths count values offsets bytes taken is has = refl
-bytes-whole (shapes.Wholes width signed) count values offsets bytes taken is has =
+    → (IsNarrow shape → byte_total values < 2 ^ 31) → HasBytes shape values offsets bytes → bytes_in shape count offsets bytes ≡ bytes
+bytes-whole shapes.Truths count values offsets bytes taken is small has = refl
+bytes-whole (shapes.Wholes width signed) count values offsets bytes taken is small has =
     take_all (count * width) bytes
     (omega (arith, numbers-long (shapes.Wholes width signed) width values offsets bytes refl taken has, ap (λ n. n * width) is))
-bytes-whole (shapes.Floats width) count values offsets bytes taken is has =
+bytes-whole (shapes.Floats width) count values offsets bytes taken is small has =
     take_all (count * width) bytes
     (omega (arith, numbers-long (shapes.Floats width) width values offsets bytes refl taken has, ap (λ n. n * width) is))
-bytes-whole (shapes.Sized size) count values offsets bytes taken is has = refl
-bytes-whole (shapes.Between wide text) count values offsets bytes taken is has = refl
+bytes-whole (shapes.Sized size) count values offsets bytes taken is small has = refl
+bytes-whole (shapes.Between true text) count values offsets bytes taken is small has = refl
+bytes-whole (shapes.Between false text) count values offsets bytes taken is small has = elim has.0 [
+  | inl begun ↦
+      let items = map bytes_of values in
+      let all : take ((count + 1) * 4) offsets ≡ offset_bytes false items =
+      take_all ((count + 1) * 4) offsets (omega (arith, ap length begun, length-offset_bytes false items, length-map values bytes_of)) ∙ begun in
+      let reach = end-there offsets items count (is ∙ sym (length-map values bytes_of)) (omega (arith, small (text, refl))) all in
+      take_all (end_at offsets count) bytes (omega (arith, reach, ap length has.1))
+  | inr none ↦
+      take_all (end_at offsets count) bytes (omega (arith, ap length has.1, ap (λ (items : List (List ℕ)). length (concat items)) none.1))
+]
 
 offsets-whole : (shape : Shape) (count : ℕ) (values : List Value) (offsets bytes : List ℕ) → count ≡ length values
     → HasBytes shape values offsets bytes → offsets_in shape count offsets ≡ offsets
@@ -115,7 +127,8 @@ pub whole_holds : (builder : Builder) (kind : DataType) (values : List Value) �
 whole_holds builder kind values holds =
     let taken = subst (λ shape. All (Taken shape) values) (sym holds.shape) (taken-each kind values holds.fits) in
     let offsets = offsets-whole builder.shape builder.count values builder.offsets.items builder.bytes.items holds.count holds.bytes in
-    let bytes = bytes-whole builder.shape builder.count values builder.offsets.items builder.bytes.items taken holds.count holds.bytes in
+    let small = narrow-small kind values builder.shape holds.shape in
+    let bytes = bytes-whole builder.shape builder.count values builder.offsets.items builder.bytes.items taken holds.count (λ narrow. small narrow holds.fits) holds.bytes in
     record {
       is_kind = holds.is_kind;
       shape = holds.shape;

@@ -101,12 +101,12 @@ pub record IsTimes (old new : Builder) (values : List Value) (value : Value) (ti
 
 -- nothing is made ahead in such a shape
 as-whole : (shape : Shape) (count : ℕ) (values : List Value) (offsets bytes : List ℕ) → IsBitwise shape → HasBytes shape values offsets bytes
-    → HasBytes shape values (offsets_in shape count offsets) (bytes_in shape count bytes)
+    → HasBytes shape values (offsets_in shape count offsets) (bytes_in shape count offsets bytes)
 as-whole shape count values offsets bytes (inl e) has =
-    let Has : Shape → Type 0 = λ s. HasBytes s values (offsets_in s count offsets) (bytes_in s count bytes) in
+    let Has : Shape → Type 0 = λ s. HasBytes s values (offsets_in s count offsets) (bytes_in s count offsets bytes) in
     let Whole : Shape → Type 0 = λ s. HasBytes s values offsets bytes in subst Has (sym e) (subst Whole e has)
 as-whole shape count values offsets bytes (inr e) has =
-    let Has : Shape → Type 0 = λ s. HasBytes s values (offsets_in s count offsets) (bytes_in s count bytes) in
+    let Has : Shape → Type 0 = λ s. HasBytes s values (offsets_in s count offsets) (bytes_in s count offsets bytes) in
     let Whole : Shape → Type 0 = λ s. HasBytes s values offsets bytes in subst Has (sym e) (subst Whole e has)
 
 taken-first : (builder : Builder) (kind : DataType) (values : List Value) (value : Value) (times : ℕ) → Holds builder kind values
@@ -130,7 +130,7 @@ pub times-holds : (old new : Builder) (kind : DataType) (values : List Value) (v
     → Holds new kind (values ++ replicate times value)
 times-holds old new kind values value times holds takes bitwise more =
     let all = values ++ replicate times value in
-    let Has : Shape → Type 0 = λ s. HasBytes s all (offsets_in s new.count new.offsets.items) (bytes_in s new.count new.bytes.items) in
+    let Has : Shape → Type 0 = λ s. HasBytes s all (offsets_in s new.count new.offsets.items) (bytes_in s new.count new.offsets.items new.bytes.items) in
     record {
       is_kind = more.is_kind ∙ holds.is_kind;
       shape = more.shape ∙ holds.shape;
@@ -181,11 +181,11 @@ pub nothing-times : (builder : Builder) (kind : DataType) (values : List Value) 
     → Holds builder kind values → TakesTimes builder value times → builder.shape ≡ shapes.Sized 0
     → HasBytes builder.shape (values ++ replicate times value) offsets builder.bytes.items
 nothing-times builder kind values value zero offsets holds takes is =
-    let Has : Shape → Type 0 = λ s. HasBytes s values (offsets_in s builder.count builder.offsets.items) (bytes_in s builder.count builder.bytes.items) in
+    let Has : Shape → Type 0 = λ s. HasBytes s values (offsets_in s builder.count builder.offsets.items) (bytes_in s builder.count builder.offsets.items builder.bytes.items) in
     let All : Shape → Type 0 = λ s. HasBytes s (values ++ []) offsets builder.bytes.items in
     subst All (sym is) (subst Has is holds.bytes ∙ ap (flat_map (stored_item 0)) (sym (append-nil values)))
 nothing-times builder kind values value (suc times) offsets holds takes is =
-    let Has : Shape → Type 0 = λ s. HasBytes s values (offsets_in s builder.count builder.offsets.items) (bytes_in s builder.count builder.bytes.items) in
+    let Has : Shape → Type 0 = λ s. HasBytes s values (offsets_in s builder.count builder.offsets.items) (bytes_in s builder.count builder.offsets.items builder.bytes.items) in
     let All : Shape → Type 0 = λ s. HasBytes s (values ++ replicate (suc times) value) offsets builder.bytes.items in
     let taken = taken-first builder kind values value times holds takes in
     let fault = sym (fault-is kind [] value holds.fits.kind_ok holds.fits.flat) ∙ taken in

@@ -1,7 +1,7 @@
 -- What a builder holds: the buffers of the encoding of its values, in the making.
-use Rattle.std.specs.Prelude.{◌≡◌, ◌≢◌, ◌⊎◌, ℕ, ◌+◌, ◌*◌, ◌^◌, ◌<◌, Bool, false, IsTrue, List, [], ◌∷◌, ◌++◌, length, map, take, None, Result}
+use Rattle.std.specs.Prelude.{◌≡◌, ◌≢◌, ◌⊎◌, ℕ, ◌+◌, ◌*◌, ◌^◌, ◌<◌, ◌≤◌, Bool, false, IsTrue, List, [], ◌∷◌, ◌++◌, length, map, take, None, Result}
 use Rattle.std.specs.List.{concat, flat_map}
-use Rattle.data_types.specs.Packed.{IsWidth}
+use Rattle.data_types.specs.Packed.{IsWidth, number_at}
 use Rattle.data_types.specs.Storage.{storage_of}
 use Rattle.data_types.specs.declared.storage.Storage.TheVariants as stored
 use Rattle.data_types.specs.Value.{Value, bytes_of}
@@ -43,11 +43,20 @@ pub record HasValidity (bits : List ℕ) (count nulls : ℕ) (values : List Valu
   pub nulls_counted : nulls ≡ null_total values
   pub shown : if_some bits ≡ validity_of values
 
--- the bytes of this many items: behind those of numbers there may be others, made ahead
-abbrev pub bytes_in : Shape → ℕ → List ℕ → List ℕ
-bytes_in (shapes.Wholes width signed) count bytes = take (count * width) bytes
-bytes_in (shapes.Floats width) count bytes = take (count * width) bytes
-bytes_in shape count bytes = bytes
+-- the narrow offset behind this many items, which is how many bytes they have; before the first offset there are none
+abbrev pub end_at : List ℕ → ℕ → ℕ
+end_at offsets count = number_at offsets (count * 4) 4
+
+-- it is there, or none is yet
+abbrev pub HasEnd : List ℕ → ℕ → Type 0
+HasEnd offsets count = (offsets ≡ []) ⊎ (count * 4 + 4 ≤ length offsets)
+
+-- the bytes of this many items with these offsets: behind those of numbers and of narrow offsets there may be others, made ahead
+abbrev pub bytes_in : Shape → ℕ → List ℕ → List ℕ → List ℕ
+bytes_in (shapes.Wholes width signed) count offsets bytes = take (count * width) bytes
+bytes_in (shapes.Floats width) count offsets bytes = take (count * width) bytes
+bytes_in (shapes.Between false text) count offsets bytes = take (end_at offsets count) bytes
+bytes_in shape count offsets bytes = bytes
 
 -- and their offsets, behind which there may be others where they are narrow
 abbrev pub offsets_in : Shape → ℕ → List ℕ → List ℕ
@@ -55,7 +64,7 @@ offsets_in (shapes.Between false text) count offsets = take ((count + 1) * 4) of
 offsets_in shape count offsets = offsets
 
 abbrev pub kept_bytes : Builder → List ℕ
-kept_bytes builder = bytes_in builder.shape builder.count builder.bytes.items
+kept_bytes builder = bytes_in builder.shape builder.count builder.offsets.items builder.bytes.items
 
 abbrev pub kept_offsets : Builder → List ℕ
 kept_offsets builder = offsets_in builder.shape builder.count builder.offsets.items

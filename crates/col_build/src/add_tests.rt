@@ -196,6 +196,15 @@ fn expect_bytes(rt: &impl Abort, alloc: Global, wide: bool) {
     ];
     expect_alike(rt, alloc, DataType::Utf8 { wide }, 0, &texts, 700);
     expect_alike(rt, alloc, DataType::Binary { wide }, 10, &texts, 300);
+    let lengths = [
+        Bytes(b"0123456789abcdef"),
+        Bytes(b"0123456"),
+        Bytes(b"0123456789abcdefg"),
+        Bytes(b"0123456789abcde"),
+        Bytes(b"012"),
+        Bytes(b"0"),
+    ];
+    expect_alike(rt, alloc, DataType::Utf8 { wide }, 0, &lengths, 701);
     let nulls = [Bytes(b"abc"), Null, Bytes(b""), Bytes(b"0123456789")];
     expect_alike(rt, alloc, DataType::Utf8 { wide }, 800, &nulls, 700);
     expect_alike(rt, alloc, DataType::Binary { wide }, 0, &[Null], 300);

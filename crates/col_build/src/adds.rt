@@ -9,7 +9,9 @@ ghost use Rattle.col_build.specs.Encoding.{HasForm, is_null, is_set, most_values
 ghost use Rattle.col_build.specs.Holding.{HasBytes, bytes_in, offsets_in};
 ghost use Rattle.col_build.specs.Items.{value_of};
 
-use crate::ahead::{AHEAD, append_bytes, fill_ahead, put_number, put_whole, put_zeros};
+use crate::ahead::{
+    AHEAD, end_of, fill_ahead, last_end, put_bytes, put_number, put_whole, put_zeros,
+};
 use crate::bits::push_bit;
 use crate::shape::{Shape, shape_of};
 use crate::validity::{add_validity, make_room, push_validity};
@@ -53,7 +55,7 @@ fn begin_ahead(alloc: Global, items: usize) -> Result<Vec<u8>, NoMemory>
 
 /// The offsets of no items, with room for those of this many where they are narrow.
 fn first_offsets(alloc: Global, shape: Shape, items: usize) -> Result<Vec<u8>, NoMemory>
-    ensures { IfOk result (λ offsets. HasBytes shape [] (offsets_in shape 0 offsets.items) (bytes_in shape 0 [])) }
+    ensures { IfOk result (λ offsets. HasBytes shape [] (offsets_in shape 0 offsets.items) (bytes_in shape 0 offsets.items [])) }
 {
     match shape {
         Shape::Between {
@@ -349,15 +351,10 @@ impl Builder {
             → Adds value self.old self.new) }
         ensures kept { OnErr result (Keeps self.old self.new) }
     {
-        append_bytes(&mut self.bytes, bytes)?;
-        let end = self.bytes.len();
-        match add_validity(&mut self.validity, self.count, self.nulls, null) {
-            Ok(()) => {}
-            Err(NoMemory) => {
-                self.bytes.truncate(end - bytes.len());
-                return Err(NoMemory);
-            }
-        }
+        let start = last_end(&self.offsets, self.count);
+        put_bytes(&mut self.bytes, start, bytes)?;
+        add_validity(&mut self.validity, self.count, self.nulls, null)?;
+        let end = start + bytes.len();
         put_number(&mut self.offsets, self.count * 4 + 4, 4, end as u64);
         self.count += 1;
         self.nulls += usize::from(null);
@@ -396,6 +393,14 @@ impl Builder {
         }
     }
 
+    /// How many bytes the items have between narrow offsets.
+    fn bytes_between(&self) -> usize
+        requires holds { HoldsSome self.now }
+        requires narrow { IsNarrow self.now.shape }
+    {
+        end_of(&self.offsets, self.count)
+    }
+
     /// How many items there are, and how many bytes they take beside their offsets, as a measure of the room that others
     /// like them need.
     pub fn used(&self) -> (usize, usize)
@@ -405,6 +410,10 @@ impl Builder {
         let bytes = match self.shape {
             Shape::Wholes { width, signed: _ } => self.count * width,
             Shape::Floats { width } => self.count * width,
+            Shape::Between {
+                wide: false,
+                text: _,
+            } => self.bytes_between(),
             _ => self.bytes.len(),
         };
         (self.count, bytes)

@@ -1,10 +1,11 @@
-//! What is made ahead of further items: bytes behind those of numbers and of narrow offsets, which nothing reads. An item
-//! that finds its place there is stored without a look at the vector's room.
-ghost use Rattle.std.specs.Prelude.{◌≡◌, ◌≢◌, ◌≤◌, ◌<◌, ◌+◌, ◌*◌, ◌++◌, Bool, true, OnOk, OnErr, length, replicate, take, vec_len};
+//! What is made ahead of further items: bytes behind those of numbers, of narrow offsets and between them, which nothing
+//! reads. An item that finds its place there is stored without a look at the vector's room.
+ghost use Rattle.std.specs.Prelude.{◌≡◌, ◌^◌, ◌≢◌, ◌≤◌, ◌<◌, ◌+◌, ◌*◌, ◌++◌, Bool, true, OnOk, OnErr, length, replicate, take, vec_len};
 ghost use Rattle.data_types.specs.Packed.{IsWidth, le_bytes, stored};
 ghost use Rattle.data_types.specs.FieldText.{in_range};
 ghost use Rattle.col_build.specs.Encoding.{most_values};
-ghost use Rattle.col_build.specs.Holding.{ShapeOk, bytes_in, offsets_in};
+ghost use Rattle.col_build.specs.Holding.{HasEnd, ShapeOk, bytes_in, end_at, offsets_in};
+ghost use Rattle.col_build.specs.Settled.{IsNarrow};
 
 use crate::shape::Shape;
 use unit_pass::NoMemory;
@@ -12,12 +13,41 @@ use unit_pass::NoMemory;
 /// How many bytes are made ahead: so few that they are cleared by vectors, and not by a string instruction.
 pub(crate) const AHEAD: usize = 1024;
 
+/// The narrow offset behind this many items.
+#[inline(always)]
+pub(crate) fn last_end(offsets: &Vec<u8>, count: usize) -> usize
+    requires { count * 4 + 4 ≤ vec_len offsets.now }
+    ensures is { result ≡ end_at offsets.now.items count }
+    ensures small { result < 2 ^ 32 }
+{
+    let at = count * 4;
+    let four = [
+        offsets[at],
+        offsets[at + 1],
+        offsets[at + 2],
+        offsets[at + 3],
+    ];
+    u32::from_le_bytes(four) as usize
+}
+
+/// How many bytes this many items have by their narrow offsets, of which there may be none yet.
+pub(crate) fn end_of(offsets: &Vec<u8>, count: usize) -> usize
+    requires { HasEnd offsets.now.items count }
+    ensures { result ≡ end_at offsets.now.items count }
+{
+    if offsets.is_empty() {
+        return 0;
+    }
+    last_end(offsets, count)
+}
+
 /// Cuts what is made ahead of this many items.
 #[inline(always)]
 pub(crate) fn cut_ahead(shape: Shape, count: usize, offsets: &mut Vec<u8>, bytes: &mut Vec<u8>)
     requires ok { ShapeOk shape }
     requires few { count ≤ most_values }
-    ensures bytes { bytes.new.items ≡ bytes_in shape count bytes.old.items }
+    requires begun { IsNarrow shape → HasEnd offsets.old.items count }
+    ensures bytes { bytes.new.items ≡ bytes_in shape count offsets.old.items bytes.old.items }
     ensures offsets { offsets.new.items ≡ offsets_in shape count offsets.old.items }
 {
     match shape {
@@ -26,12 +56,15 @@ pub(crate) fn cut_ahead(shape: Shape, count: usize, offsets: &mut Vec<u8>, bytes
         Shape::Between {
             wide: false,
             text: _,
-        } => offsets.truncate((count + 1) * 4),
+        } => {
+            bytes.truncate(end_of(offsets, count));
+            offsets.truncate((count + 1) * 4);
+        }
         _ => {}
     }
 }
 
-/// Makes zeros behind this many bytes, where the next numbers will be.
+/// Makes zeros behind this many bytes, where the next items will be.
 pub(crate) fn fill_ahead(bytes: &mut Vec<u8>, start: usize, width: usize) -> Result<(), NoMemory>
     requires start { start ≤ vec_len bytes.old }
     requires width { width ≤ 16 }
@@ -174,37 +207,36 @@ fn put_few(bytes: &mut Vec<u8>, at: usize, more: &[u8])
     }
 }
 
-/// Appends at most sixteen bytes.
-#[inline(always)]
-fn append_few(bytes: &mut Vec<u8>, more: &[u8]) -> Result<(), NoMemory>
-    requires { length more.now ≤ 16 }
-    ensures added { OnOk result (bytes.new.items ≡ bytes.old.items ++ more.now) }
-    ensures kept { OnErr result (bytes.new.items ≡ bytes.old.items) }
-{
-    let start = bytes.len();
-    append(bytes, &[0; 16])?;
-    put_few(bytes, start, more);
-    bytes.truncate(start + more.len());
-    Ok(())
-}
-
-/// Appends bytes of any number.
+/// Stores bytes of any number behind the first ones. Where few find no place it makes others ahead, but not behind an item
+/// that is the first.
 #[inline(never)]
-fn append_many(bytes: &mut Vec<u8>, more: &[u8]) -> Result<(), NoMemory>
-    ensures added { OnOk result (bytes.new.items ≡ bytes.old.items ++ more.now) }
-    ensures kept { OnErr result (bytes.new.items ≡ bytes.old.items) }
+fn put_many(bytes: &mut Vec<u8>, at: usize, more: &[u8]) -> Result<(), NoMemory>
+    requires inside { at ≤ vec_len bytes.old }
+    ensures put { OnOk result (take (at + length more.now) bytes.new.items ≡ take at bytes.old.items ++ more.now) }
+    ensures kept { OnErr result (take at bytes.new.items ≡ take at bytes.old.items) }
 {
-    append(bytes, more)
+    if more.len() <= bytes.len() - at {
+        put_at(bytes, at, more);
+        return Ok(());
+    }
+    bytes.truncate(at);
+    append(bytes, more)?;
+    if at == 0 || more.len() > 16 {
+        return Ok(());
+    }
+    fill_ahead(bytes, at + more.len(), 16)
 }
 
-/// Appends bytes, and few of them without a call where there is room.
+/// Stores bytes behind the first ones, and few of them without a call where they have their place.
 #[inline(always)]
-pub(crate) fn append_bytes(bytes: &mut Vec<u8>, more: &[u8]) -> Result<(), NoMemory>
-    ensures added { OnOk result (bytes.new.items ≡ bytes.old.items ++ more.now) }
-    ensures kept { OnErr result (bytes.new.items ≡ bytes.old.items) }
+pub(crate) fn put_bytes(bytes: &mut Vec<u8>, at: usize, more: &[u8]) -> Result<(), NoMemory>
+    requires inside { at ≤ vec_len bytes.old }
+    ensures put { OnOk result (take (at + length more.now) bytes.new.items ≡ take at bytes.old.items ++ more.now) }
+    ensures kept { OnErr result (take at bytes.new.items ≡ take at bytes.old.items) }
 {
-    if more.len() <= 16 && bytes.capacity() - bytes.len() >= 16 {
-        return append_few(bytes, more);
+    if more.len() <= 16 && bytes.len() - at >= 16 {
+        put_few(bytes, at, more);
+        return Ok(());
     }
-    append_many(bytes, more)
+    put_many(bytes, at, more)
 }

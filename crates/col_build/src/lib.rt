@@ -14,8 +14,8 @@
 //!   builder and no values, each push adds its value or keeps them, and the finished column is the encoding of exactly
 //!   these values (`IsEncoded`).
 //! - An item that the caller knows to be taken is added by [`Builder::add_whole`] and its like, which fail only where
-//!   memory runs out. Numbers and narrow offsets have zeros made ahead behind them, which `Holds` doesn't see; a push and a
-//!   finish cut them first.
+//!   memory runs out. Numbers, narrow offsets and the bytes between them have others made ahead behind them, which `Holds`
+//!   doesn't see; a push and a finish cut them first.
 //! - [`Builder::add_times`] adds an item many times at once, and the bits of items without bytes by whole bytes.
 //! - A push allocates only to let a buffer grow, by amortised growth. Validity bits are made with the first null, for all
 //!   items before it. The code copies no byte to finish, except where memory runs out; no clause says so.

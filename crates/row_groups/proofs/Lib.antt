@@ -4,6 +4,7 @@ pub mod Eaches
 pub mod Final
 pub mod ItemKeys
 pub mod Keys
+pub mod OneGroup
 pub mod Ordered
 pub mod Places
 pub mod Steps

@@ -1,12 +1,12 @@
 //! The items of a column, grouped by value.
-ghost use Rattle.std.specs.Prelude.{◌≡◌, ◌+◌, ◌<◌, ◌≤◌, ◌^◌, IfOk, All, length, map};
+ghost use Rattle.std.specs.Prelude.{◌≡◌, ◌==◌, ◌+◌, ◌<◌, ◌≤◌, ◌^◌, ◌∷◌, [], IfOk, All, if◌then◌else◌, length, map};
 ghost use Rattle.data_types.specs.ColumnForms.{HasForm};
 ghost use Rattle.data_types.specs.FieldText.{form_of};
 ghost use Rattle.data_types.specs.Table.{Flat};
 ghost use Rattle.data_types.specs.ColumnKinds.{type_of_kind};
 ghost use Rattle.data_types.specs.KindTrees.{TypedOk, kind_in};
 ghost use Rattle.data_types.specs.TypedView.{typed_of};
-ghost use Rattle.layout_rules.specs.Values.{tree_items, value_at};
+ghost use Rattle.layout_rules.specs.Values.{each, tree_items, value_at};
 ghost use Rattle.layout_rules.specs.Walk.{LayoutOk};
 ghost use Rattle.array_laws.specs.Items.{AreApart};
 ghost use Rattle.data_types.specs.Groups.{distinct, firsts_of, offsets_of, order_of};
@@ -32,8 +32,40 @@ pub struct Groups {
     pub offsets: Vec<u32>,
 }
 
+/// The one group of this many items that are all the same; no items are no group.
+fn one_group(alloc: Global, count: u32) -> Result<Groups, NoMemory>
+    ensures firsts { IfOk result (λ groups. groups.firsts.items ≡ (if count == 0 then [] else 0 ∷ [])) }
+    ensures order { IfOk result (λ groups. groups.order.items ≡ each (λ i. i) 0 count) }
+    ensures offsets { IfOk result (λ groups. groups.offsets.items ≡ 0 ∷ (if count == 0 then [] else count ∷ [])) }
+{
+    let mut firsts = Vec::new(alloc);
+    let mut offsets = Vec::new(alloc);
+    offsets.push(0)?;
+    if count > 0 {
+        firsts.push(0)?;
+        offsets.push(count)?;
+    }
+    Ok(Groups {
+        firsts,
+        order: all_places(alloc, count)?,
+        offsets,
+    })
+}
+
+/// The numbers from 0 on, this many of them.
+fn all_places(alloc: Global, count: u32) -> Result<Vec<u32>, NoMemory>
+    ensures { IfOk result (λ places. places.items ≡ each (λ i. i) 0 count) }
+{
+    let mut places = Vec::with_capacity(alloc, count as usize)?;
+    for i in 0..count {
+        places.push_reserved(i);
+    }
+    Ok(places)
+}
+
 /// The items of a column, grouped by value. `count` items of the array are looked at, from item `start` on; the numbers are counted
-/// from `start`. A null is a value, and floats are by their bits.
+/// from `start`. A null is a value, and floats are by their bits. Items without bytes of a column without a validity bitmap are all the
+/// same, and none is looked at.
 ///
 /// # Errors
 ///
@@ -64,6 +96,9 @@ pub fn grouped(
 {
     lawful_root(typed, array);
     let column = Column::of(typed, array);
+    if column.are_alike() {
+        return one_group(alloc, count);
+    }
     let ItemNumbers { numbers, firsts } = numbered(alloc, &column, start, count)?;
     let Order { places, offsets } = ordered(alloc, &numbers, firsts.len() as u32)?;
     Ok(Groups {

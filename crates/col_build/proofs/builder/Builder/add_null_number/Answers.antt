@@ -26,5 +26,6 @@ returns-clause-added c kind values holds =
       nulls = omega arith;
       validity = c.in_ok-add_validity.ensures.added values Null (bits-held old kind values here) refl;
       bytes = numbers-more old.shape c.args.width old.count values Null (kept_offsets old) (offsets_in old.shape (old.count + 1) old.offsets.items)
+          old.offsets.items old.offsets.items
           old.bytes.items c.put_zeros.new.bytes.items (replicate c.args.width 0) numbers here.bytes c.put_zeros.ensures refl;
     })

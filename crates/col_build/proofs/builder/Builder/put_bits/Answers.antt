@@ -17,5 +17,6 @@ returns-clause-added c kind values holds =
       nulls = omega arith;
       validity = c.in_ok-add_validity.ensures.added values value (bits-held old kind values holds) refl;
       bytes = numbers-more old.shape c.args.width old.count values value (kept_offsets old) (offsets_in old.shape (old.count + 1) old.offsets.items)
+          old.offsets.items old.offsets.items
           old.bytes.items c.put_number.new.bytes.items (le_bytes c.args.width c.args.number) numbers holds.bytes c.put_number.ensures.put refl;
     })

@@ -36,7 +36,7 @@ returns-clause-added c value null set takes kind values holds =
     let flags = map is_set values in
     let bits = c.in_ok-push_bit.ensures.added flags (length-map values is_set ∙ sym holds.count) (truths-bits old kind values is holds) in
     let Has : Shape → Type 0 = λ s. HasBytes s (values ++ value ∷ []) (offsets_in s (old.count + 1) old.offsets.items)
-    (bytes_in s (old.count + 1) c.push_bit.new.bits.items) in
+    (bytes_in s (old.count + 1) old.offsets.items c.push_bit.new.bits.items) in
     let HasBits : List ℕ → Type 0 = λ bits. HasValidity bits old.count old.nulls values in
     more-holds old _ kind values value holds takes (record {
       is_kind = refl;

@@ -26,5 +26,6 @@ returns-clause-added c kind values holds =
       nulls = omega arith;
       validity = c.in_ok-add_validity.ensures.added values value (bits-held old kind values holds) refl;
       bytes = numbers-more old.shape c.args.width old.count values value (kept_offsets old) (offsets_in old.shape (old.count + 1) old.offsets.items)
+          old.offsets.items old.offsets.items
           old.bytes.items c.put_whole.new.bytes.items _ numbers holds.bytes c.put_whole.ensures (cc (to_z-of_z c.ranges.number));
     })
