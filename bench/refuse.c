@@ -5,7 +5,7 @@
 //                   error fails as by a signal (EINTR).
 //   MOST=N          a read or a write gives and takes N bytes at most.
 //   SEEN=FILE       what was seen is written to this file: how many calls of each kind, in this order, how many allocations are
-//                   left at the end, and how many calls were interrupted.
+//                   left at the end, how many calls were interrupted, and how many bytes were asked for in all.
 // Memory is filled with bytes of its own before it is given and before it is taken back.
 #define _GNU_SOURCE
 #include <dlfcn.h>
@@ -20,7 +20,7 @@
 
 enum { ALLOCATION, THREAD, READ, WRITE, KINDS };
 static const char *const names[KINDS] = {"allocation", "thread", "read", "write"};
-static long counts[KINDS], live, interrupted, calls;
+static long counts[KINDS], live, interrupted, calls, asked;
 static long refused, most;
 static int kind = -1, goes_on, interrupts;
 
@@ -70,6 +70,7 @@ void *malloc(size_t size) {
   }
   *head = (struct head){MARK, size};
   __atomic_add_fetch(&live, 1, __ATOMIC_SEQ_CST);
+  __atomic_add_fetch(&asked, size, __ATOMIC_SEQ_CST);
   return memset(head + 1, 0xa5, size);
 }
 
@@ -84,6 +85,7 @@ void *realloc(void *old, size_t size) {
     errno = ENOMEM;
     return NULL;
   }
+  __atomic_add_fetch(&asked, size, __ATOMIC_SEQ_CST);
   if (size > to->size)
     memset((char *)(to + 1) + to->size, 0xa5, size - to->size);
   to->size = size;
@@ -145,8 +147,8 @@ __attribute__((destructor)) static void tell(void) {
   int fd = to ? open(to, O_WRONLY | O_CREAT | O_TRUNC, 0644) : -1;
   if (fd < 0)
     return;
-  int size = snprintf(line, sizeof line, "%ld %ld %ld %ld %ld %ld\n", counts[ALLOCATION], counts[THREAD], counts[READ],
-                      counts[WRITE], live, interrupted);
+  int size = snprintf(line, sizeof line, "%ld %ld %ld %ld %ld %ld %ld\n", counts[ALLOCATION], counts[THREAD], counts[READ],
+                      counts[WRITE], live, interrupted, asked);
   syscall(SYS_write, fd, line, size);
   syscall(SYS_close, fd);
 }

@@ -3,7 +3,7 @@ use Rattle.std.proofs.Common.{if◌then◌else◌, Bool, ◌≡◌, ◌∙◌, �
 use Rattle.std.proofs.Common.{IfErr, IsErrAnd, OnOk, ap, arith, refl, subst, sym}
 use Rattle.std.proofs.lemmas.Bool.Decides.{nat_tests}
 use Rattle.std.proofs.lemmas.List.{length-append}
-use Rattle.std.specs.Io.KnownBytes.{Appends, Keeps}
+use Rattle.std.specs.Io.KnownBytes.{Appends, IsAtEnd, Keeps}
 use Rattle.edge_io.specs.Edge.{LosesCount, LosesPrefix}
 use Rattle.data_types.specs.KindTrees.{KindTree}
 use Rattle.layout_rules.specs.Walk.{Fault as ArrayFault, first_chunk_fault, first_fault}
@@ -31,7 +31,7 @@ use Rattle.tree_task.specs.ChunkAnswer.{ChunkCommand, answer_of_chunk, answer_of
 use Rattle.tree_task.specs.FlatAnswer.{flat_of_schema, flat_unless}
 use Rattle.tree_task.specs.ForeignAnswer.{chunk_of_kinds, chunk_unless}
 use Rattle.tree_task.specs.ListsAnswer.{exploded, lines_unless, nested, rows_unless as new_rows_unless, answer_of_column}
-use Rattle.tree_task.specs.Over.{RanOver}
+use Rattle.tree_task.specs.Over.{RanOver, ReadFor}
 use Rattle.tree_task.specs.Refusals.{fault_of_tree}
 use Rattle.tree_task.specs.RowsAnswer.{rows_of_kinds, rows_unless}
 use Rattle.tree_task.specs.RunsAnswer.{runs_of_array, runs_of_kinds, runs_unless}
@@ -257,6 +257,15 @@ not_writing-of Reading of = absurd of
 not_writing-of (Writing taken) of = absurd of
 not_writing-of Memory of = refl
 
+-- it is found once the source was read
+pub read-of : (cause : Cause) → IsOfText cause → (before after : Option (List ℕ)) → IsAtEnd after → ReadFor cause before after
+read-of OfWords of before after end = tt
+read-of OfLength of before after end = absurd of
+read-of OfTrees of before after end = end
+read-of Reading of before after end = tt
+read-of (Writing taken) of before after end = end
+read-of Memory of before after end = tt
+
 pub not_reading-of : (X : Type 0) (fault : TreeRunFault) → IsOfText (cause_of fault) → fault ≡ run.ReadFault → X
 not_reading-of X fault of is = absurd (subst (λ f. IsOfText (cause_of f)) is of)
 
@@ -353,6 +362,11 @@ module _ (alone : (command : Option Command) (bytes : List ℕ) (one other : Ans
     complete = λ text is no-read no-write. absurd (no-write rose);
     complete_fault = λ g is no-read. not-both _ text g answer is;
   }
+
+-- a write fails once the source was read
+pub failed-read : (before after : Option (List ℕ)) (taken : ℕ) (fault : TreeRunFault) → fault ≡ run.WriteFault taken → IsAtEnd after
+    → ReadFor (cause_of fault) before after
+failed-read before after taken fault is end = subst (λ f. ReadFor (cause_of f) before after) (sym is) end
 
 -- what a failed write isn't
 module _ (X : Type 0) (taken : ℕ) (fault : TreeRunFault) (is : fault ≡ run.WriteFault taken) where

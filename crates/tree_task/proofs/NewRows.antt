@@ -1,5 +1,5 @@
 -- What the making of new rows of a chunk comes to.
-use Rattle.std.proofs.Common.{◌≡◌, ◌<◌, ◌≤◌, ◌∙◌, ◌⊎◌, ℕ, Bool, true, false, nat_lt, if◌then◌else◌, arith, List, length, map, Option, None, Some, Result, Ok, Err, IfOk, IfErr, inl, inr, ap, refl, subst, sym}
+use Rattle.std.proofs.Common.{◌≡◌, ◌<◌, ◌≤◌, ◌∙◌, ◌⊎◌, ℕ, Bool, true, false, nat_lt, if◌then◌else◌, arith, List, length, map, Option, None, Some, Result, Ok, Err, IfOk, IfErr, OnOk, inl, inr, ap, refl, subst, sym}
 use Rattle.std.proofs.lemmas.Bool.Decides.{nat_tests}
 use Rattle.data_types.specs.Table.{Row}
 use Rattle.data_types.specs.KindTrees.{KindTree, TypedOk}
@@ -132,3 +132,8 @@ module _ (one-schema : (schema : SchemaTree) (first second : Result KindTree Fir
       ∙ made-lines tables typed array ok chunk
       ∙ ap (λ k. lines_text (map row_value (rows_of k array))) (same-kinds other also)
   made-text tables array ok chunk items (Err e) is = tt
+
+-- what holds of what was made, where there is a text
+pub both-made : {T E : Type 0} (r : Result T E) (A B C : Type 0) → (A → B → C) → OnOk r A → OnOk r B → OnOk r C
+both-made (Ok text) A B C of a b = of a b
+both-made (Err fault) A B C of a b = tt

@@ -1,6 +1,7 @@
 -- What the runs of a column and the items of a run-end encoded array come to.
-use Rattle.std.proofs.Common.{◌≡◌, ◌∙◌, ◌<◌, ◌+◌, ℕ, zero, suc, List, ◌++◌, length, get_or, None, Some, Ok, Err}
-use Rattle.std.proofs.Common.{inl, inr, ap, arith, refl, subst, sym}
+use Rattle.std.proofs.Common.{◌≡◌, ◌∙◌, ◌<◌, ◌≤◌, ◌+◌, ◌*◌, ℕ, zero, suc, List, ◌++◌, length, get_or, None, Some, Ok, Err}
+use Rattle.std.proofs.Common.{inl, inr, ap, arith, refl, subst, sym, length-append}
+use Rattle.std.proofs.Math.Nat.{suc-mul, zero-mul}
 use Rattle.std.specs.List.{flat_map}
 use Rattle.data_types.specs.Value.{Value}
 use Rattle.data_types.specs.Value.Value.{Null}
@@ -29,6 +30,7 @@ use Rattle.tree_check.specs.Checks.{array_refused}
 use Rattle.tree_check.specs.declared.fault.CheckFault.{CheckFault}
 use Rattle.data_types.specs.ValueTexts.{lines_text, value_line}
 use Rattle.value_text.proofs.Parts.{lines-more}
+use Rattle.value_text.specs.Lengths.{capped}
 use Rattle.tree_task.specs.FlatAnswer.{FlatAnswer, flat_unless}
 use Rattle.tree_task.specs.Refusals.{fault_of_check}
 use Rattle.tree_task.specs.RunLines.{Reaches}
@@ -100,7 +102,37 @@ lines-more-at f n =
     let from : 0 + n ≡ n = omega arith in
     lines-more f 0 n ∙ ap (λ k. flat_map value_line (each f 0 n) ++ value_line (f k)) from
 
+-- lines that are all one item's
+pub same-lines-more : (f : ℕ → Value) (i n : ℕ) → ((j : ℕ) → i ≤ j → j < i + n → f j ≡ f i)
+    → length (flat_map value_line (each f 0 (i + n))) ≡ length (flat_map value_line (each f 0 i)) + n * length (value_line (f i))
+same-lines-more f i zero same =
+    let e : i + 0 ≡ i = omega arith in
+    let none : zero * length (value_line (f i)) ≡ 0 = zero-mul (length (value_line (f i))) in
+    omega (arith, ap (λ k. length (flat_map value_line (each f 0 k))) e, none)
+same-lines-more f i (suc n) same =
+    let e : i + suc n ≡ i + n + 1 = omega arith in
+    let before = same-lines-more f i n (λ j from to. same j from (omega (arith, to))) in
+    let long : length (flat_map value_line (each f 0 (i + n + 1))) ≡ length (flat_map value_line (each f 0 (i + n))) + length (value_line (f (i + n))) =
+    ap length (lines-more-at f (i + n)) ∙ length-append (flat_map value_line (each f 0 (i + n))) (value_line (f (i + n))) in
+    let last = ap (λ v. length (value_line v)) (same (i + n) (omega arith) (omega arith)) in
+    let one : suc n * length (value_line (f i)) ≡ n * length (value_line (f i)) + length (value_line (f i)) = suc-mul n (length (value_line (f i))) in
+    omega (arith, ap (λ k. length (flat_map value_line (each f 0 k))) e, before, long, last, one)
+
+pub capped-times : (n l : ℕ) → capped (n * capped l) ≡ capped (n * l)
+capped-times zero l = ap capped (zero-mul (capped l) ∙ sym (zero-mul l))
+capped-times (suc n) l =
+    omega (arith, suc-mul n (capped l), suc-mul n l, capped-times n l)
+
 module _ (u : RunTree) (array : ArrayTree) where
+  -- a run is behind
+  pub reaches-end : (i run stop : ℕ) → i < stop → Reaches u array i run stop → Reaches u array stop run stop
+  reaches-end i run stop lt is = record {
+    ordered = omega arith;
+    within = is.within;
+    same = λ j from to. absurd (omega (arith, from, to));
+    next = is.next;
+  }
+
   -- an item is behind
   pub reaches-more : (i run stop : ℕ) → i < stop → Reaches u array i run stop → Reaches u array (i + 1) run stop
   reaches-more i run stop lt is = record {

@@ -1,9 +1,14 @@
 -- What the program for trees answers: the text of a command, or the first fault of the words, the input, its text, the schema and
 -- the array.
-use Rattle.std.specs.Prelude.{◌≡◌, ◌<◌, ◌+◌, ℕ, nat_lt, Bool, true, false, List, [], ◌∷◌, length, map, string_bytes, if◌then◌else◌, codes, Option, None, Some, IfSome, Result, Ok, Err, String}
+use Rattle.std.specs.Prelude.{◌≡◌, ◌<◌, ◌+◌, ◌-◌, ◌*◌, ℕ, nat_lt, Bool, true, false, List, [], ◌∷◌, length, map, string_bytes, if◌then◌else◌, codes, Option, None, Some, IfSome, Result, Ok, Err, String}
 use Rattle.std.specs.Global.{Global}
 use Rattle.std.specs.Str.{bytes_eq}
 use Rattle.unit_pass.specs.Tally.{risen}
+use Rattle.data_types.specs.KindTrees.{KindTree}
+use Rattle.list_cols.specs.Exploded.{exploded_blocks}
+use Rattle.list_cols.specs.NestedTables.{nested_blocks}
+use Rattle.schema_check.specs.Schemas.{TypedOf}
+use Rattle.tree_model.specs.Tree.{children_of}
 use Rattle.tree_model.specs.TreeCost.{Holds, Nodes}
 use Rattle.raw_array.specs.Members.{ArrayTree, holds}
 use Rattle.raw_schema.specs.Members.{SchemaTree}
@@ -118,18 +123,23 @@ IsTooLong told = (bytes : List ℕ) × AreBytes told bytes × (input_limit < len
 -- ---- what is made
 
 -- the counts of blocks and nodes rise by what a command makes of its trees, behind those of the trees
-abbrev pub Makes : Command → ArrayTree → ℕ → ℕ → ℕ → ℕ → Type 0
-Makes commands.Rows array old_blocks old_nodes blocks nodes = (blocks ≡ old_blocks) × (nodes ≡ old_nodes)
-Makes commands.Union array old_blocks old_nodes blocks nodes = (blocks ≡ old_blocks) × (nodes ≡ old_nodes)
+abbrev pub Makes : Command → SchemaTree → ArrayTree → ℕ → ℕ → ℕ → ℕ → Type 0
+Makes commands.Rows schema array old_blocks old_nodes blocks nodes = (blocks ≡ old_blocks) × (nodes ≡ old_nodes)
+Makes commands.Union schema array old_blocks old_nodes blocks nodes = (blocks ≡ old_blocks) × (nodes ≡ old_nodes)
 -- a union over the columns: its schema's node and its own, and its buffers
-Makes (commands.Tag dense) array old_blocks old_nodes blocks nodes = (blocks ≡ risen old_blocks (tag_blocks dense array)) × (nodes ≡ risen old_nodes 2)
+Makes (commands.Tag dense) schema array old_blocks old_nodes blocks nodes = (blocks ≡ risen old_blocks (tag_blocks dense array)) × (nodes ≡ risen old_nodes 2)
 -- the producer's own block
-Makes commands.Foreign array old_blocks old_nodes blocks nodes = (blocks ≡ risen old_blocks 1) × (nodes ≡ old_nodes)
-Makes commands.Runs array old_blocks old_nodes blocks nodes = (blocks ≡ old_blocks) × (nodes ≡ old_nodes)
-Makes commands.Flat array old_blocks old_nodes blocks nodes = (blocks ≡ old_blocks) × (nodes ≡ old_nodes)
--- of new columns nothing is said
-Makes (commands.Explode column) array old_blocks old_nodes blocks nodes = Unit {0}
-Makes (commands.Nest column) array old_blocks old_nodes blocks nodes = Unit {0}
+Makes commands.Foreign schema array old_blocks old_nodes blocks nodes = (blocks ≡ risen old_blocks 1) × (nodes ≡ old_nodes)
+Makes commands.Runs schema array old_blocks old_nodes blocks nodes = (blocks ≡ old_blocks) × (nodes ≡ old_nodes)
+Makes commands.Flat schema array old_blocks old_nodes blocks nodes = (blocks ≡ old_blocks) × (nodes ≡ old_nodes)
+-- a node for each column, one for their table and two of the schema; a block for each of the columns' buffers
+Makes (commands.Explode column) schema array old_blocks old_nodes blocks nodes =
+    (typed : KindTree) × TypedOf schema typed × (blocks ≡ risen old_blocks (exploded_blocks column typed array))
+    × (nodes ≡ risen old_nodes (length (children_of typed) + 3))
+-- two nodes for each column of the new array, one of the schema and two for each list in it; a block for each of the array's buffers
+Makes (commands.Nest column) schema array old_blocks old_nodes blocks nodes =
+    (typed : KindTree) × TypedOf schema typed × (blocks ≡ risen old_blocks (nested_blocks column typed array))
+    × (nodes ≡ risen old_nodes (4 * length (children_of typed) - 1))
 
 -- The counts rise by the trees of a text, a block for each buffer that is there and a node for each live node of the schema and of
 -- the array, and then by what the command makes.
@@ -137,4 +147,4 @@ pub record CountsCommand (command : Command) (bytes : List ℕ) (old_blocks old_
   pub schema : SchemaTree
   pub array : ArrayTree
   pub text : TreeIs bytes schema array
-  pub made : Makes command array (risen old_blocks (Holds holds array)) (risen old_nodes (Nodes schema + Nodes array)) blocks nodes
+  pub made : Makes command schema array (risen old_blocks (Holds holds array)) (risen old_nodes (Nodes schema + Nodes array)) blocks nodes

@@ -1,8 +1,9 @@
 -- What a run comes to over the bytes of its input: the answer, what the sink got of it, and what was made.
-use Rattle.std.specs.Prelude.{◌≡◌, ◌≤◌, ◌⊎◌, ℕ, List, length, take, true, Option, None, Some, IfSome}
-use Rattle.std.specs.Io.KnownBytes.{Appends}
-use Rattle.tree_task.specs.Answer.{Answer, CountsCommand, Fault, IsAnswerTo, Text}
-use Rattle.tree_task.specs.Faults.{AtWriteFault, is_decided}
+use Rattle.std.specs.Prelude.{◌≡◌, ◌+◌, ◌≤◌, ◌⊎◌, ℕ, List, length, take, true, Option, None, Some, IfSome}
+use Rattle.std.specs.Io.KnownBytes.{Appends, IsAtEnd}
+use Rattle.edge_io.specs.Edge.{LosesCount}
+use Rattle.tree_task.specs.Answer.{Answer, CountsCommand, Fault, IsAnswerTo, Text, input_limit}
+use Rattle.tree_task.specs.Faults.{AtWriteFault, Cause, OfLength, OfTrees, Writing, is_decided}
 use Rattle.tree_task.specs.declared.command.Command.{Command}
 use Rattle.tree_task.specs.declared.fault.TreeRunFault.{TreeRunFault}
 use Rattle.tree_task.specs.declared.fault.TreeRunFault.TheVariants as run
@@ -14,6 +15,14 @@ GotText IsAnswer old new = (text : List ℕ) × IsAnswer (Text text) × Appends 
 -- an answer is a text, and the sink got its first bytes
 abbrev pub GotFirst : (Answer → Type 0) → Option (List ℕ) → Option (List ℕ) → ℕ → Type 0
 GotFirst IsAnswer old new taken = (text : List ℕ) × IsAnswer (Text text) × (taken ≤ length text) × Appends old new (take taken text)
+
+-- how far the source was read at a fault of this cause: to its end, where the fault is found behind that; and where the input is too
+-- long, one byte past the most that are read
+abbrev pub ReadFor : Cause → Option (List ℕ) → Option (List ℕ) → Type 0
+ReadFor OfTrees before after = IsAtEnd after
+ReadFor (Writing taken) before after = IsAtEnd after
+ReadFor OfLength before after = LosesCount before after (input_limit + 1)
+ReadFor _ before after = Unit {0}
 
 -- ReadRose and WriteRose say that the source's and the sink's faults rose
 pub record RanOver (command : Option Command) (bytes : List ℕ) (fault : Option TreeRunFault) (taken got : Option (List ℕ))

@@ -36,7 +36,7 @@ fn trees_text(
     ensures text { IfOk result (λ text. TreesAnswer command schema array (Text text.items)) }
     ensures fault { IfErr result (λ fault. (fault ≡ TreeRunFault.NoMemory) ⊎ TreesAnswer command schema array (Fault fault)) }
     ensures units { pass.new.units ≡ pass.old.units + (Nodes schema + Cost array) }
-    ensures made { OnOk result (Makes command array pass.old.blocks pass.old.nodes pass.new.blocks pass.new.nodes) }
+    ensures made { OnOk result (Makes command schema array pass.old.blocks pass.old.nodes pass.new.blocks pass.new.nodes) }
 {
     let answer = match command {
         Command::Rows => rows_text(alloc, &schema, &array),

@@ -4,8 +4,8 @@ ghost use Rattle.std.specs.Io.KnownBytes.{IsAtEnd, Keeps};
 ghost use Rattle.edge_io.specs.Edge.{LosesPrefix, Rose};
 ghost use Rattle.unit_pass.specs.declared.pass.TheConstants.{ROOM};
 ghost use Rattle.tree_task.specs.Answer.{AreBytes, IsTooLong, input_limit};
-ghost use Rattle.tree_task.specs.Faults.{AtWriteFault, fault_in, is_write_fault};
-ghost use Rattle.tree_task.specs.Over.{RanOver};
+ghost use Rattle.tree_task.specs.Faults.{AtWriteFault, cause_of, fault_in, is_write_fault};
+ghost use Rattle.tree_task.specs.Over.{RanOver, ReadFor};
 
 use crate::answer::answer_text;
 use crate::command::Command;
@@ -26,6 +26,7 @@ fn read_source<S: Source>(alloc: Global, source: &mut S) -> Result<Vec<u8>, Tree
     ensures fault { IfErr result (λ fault. (fault ≡ TreeRunFault.NoMemory)
         ⊎ (fault ≡ TreeRunFault.ReadFault) × Rose (S.faults source.old) (S.faults source.new)
         ⊎ (fault ≡ TreeRunFault.InputTooLong) × IsTooLong (S.left source.old)) }
+    ensures read { IfErr result (λ fault. ReadFor (cause_of fault) (S.left source.old) (S.left source.new)) }
     ensures prefix { LosesPrefix (S.left source.old) (S.left source.new) }
 {
     match read_all(alloc, source, INPUT_LIMIT) {
@@ -49,6 +50,7 @@ fn run_command<S: Source, K: Sink>(
         × RanOver (Some command) bytes (fault_in result) (K.taken sink.old) (K.taken sink.new) pass.old.blocks pass.old.nodes
         pass.new.blocks pass.new.nodes (Rose (S.faults source.old) (S.faults source.new)) (Rose (K.faults sink.old) (K.faults sink.new)) }
     ensures read_to_end { OnOk result (IsAtEnd (S.left source.new)) }
+    ensures fault_read { IfErr result (λ fault. ReadFor (cause_of fault) (S.left source.old) (S.left source.new)) }
     ensures not_words { result ≢ Err TreeRunFault.Words }
     ensures read_fault { result ≡ Err TreeRunFault.ReadFault → Rose (S.faults source.old) (S.faults source.new) }
     ensures write_fault { IfErr result (λ fault. AtWriteFault fault (λ taken. Rose (K.faults sink.old) (K.faults sink.new))) }
@@ -80,6 +82,7 @@ pub fn run_over_source<S: Source, K: Sink>(
         × RanOver command bytes (fault_in result) (K.taken sink.old) (K.taken sink.new) pass.old.blocks pass.old.nodes pass.new.blocks pass.new.nodes
         (Rose (S.faults source.old) (S.faults source.new)) (Rose (K.faults sink.old) (K.faults sink.new)) }
     ensures read_to_end { OnOk result (IsAtEnd (S.left source.new)) }
+    ensures fault_read { IfErr result (λ fault. ReadFor (cause_of fault) (S.left source.old) (S.left source.new)) }
     ensures words { (result ≡ Err TreeRunFault.Words) ↔ (command ≡ None) }
     ensures words_unread { command ≡ None → Keeps (S.left source.old) (S.left source.new) }
     ensures words_unfailed { command ≡ None → S.faults source.new ≡ S.faults source.old }

@@ -1,5 +1,5 @@
 //! The items of a run-end encoded array.
-ghost use Rattle.std.specs.Prelude.{◌≡◌, ◌<◌, ◌^◌, ◌++◌, ◌⊎◌, ℕ, IfOk, IfErr, OnOk, length, nat_lt};
+ghost use Rattle.std.specs.Prelude.{◌≡◌, ◌<◌, ◌^◌, ◌++◌, ◌⊎◌, ℕ, IfOk, IfErr, OnOk, length};
 ghost use Rattle.std.specs.List.{flat_map};
 ghost use Rattle.layout_rules.specs.Layout.{items};
 ghost use Rattle.data_types.specs.TypedView.{typed_of};
@@ -11,8 +11,8 @@ ghost use Rattle.run_ends.specs.RunCols.{array_in, kinds_in};
 ghost use Rattle.run_ends.specs.RunRules.{RunsOk};
 ghost use Rattle.run_ends.specs.Runs.{RunTypedOk, run_of, run_value, run_values};
 ghost use Rattle.tree_model.specs.Tree.{child_at, children_of};
-ghost use Rattle.value_text.specs.Lengths.{AreLengths, capped};
-ghost use Rattle.data_types.specs.ValueTexts.{lines_text, text_limit, value_line};
+ghost use Rattle.value_text.specs.Lengths.{Tells, capped};
+ghost use Rattle.data_types.specs.ValueTexts.{lines_text, value_line};
 ghost use Rattle.tree_task.specs.FlatAnswer.{FlatAnswer};
 ghost use Rattle.tree_task.specs.RunLines.{Reaches};
 ghost use Rattle.tree_task.specs.TextOrFault.{Fault, Text};
@@ -23,7 +23,7 @@ use raw_schema::RawSchema;
 use run_ends::{RunCol, RunTyped, check_runs, read_runs};
 use std::alloc::Global;
 use unit_pass::NoMemory;
-use value_text::{BoundedText, MOST_MEASURED, may_repeat, measured, plus, push_value};
+use value_text::{BoundedText, Lengths, measured_lengths, plus, push_value, times};
 
 /// A line for each item of a run-end encoded array under its schema, or the first fault: of the schema, and then of the array ("Arrow
 /// Columnar Format", "Run-End Encoded Layout").
@@ -45,41 +45,37 @@ pub(crate) fn flat_text(
     }
 }
 
-/// The text of an array's items. Where a short array may have very many values, its length is found first.
+/// The text of an array's items. Its length is found first.
 fn measured_lines(alloc: Global, typed: &RunTyped, array: &RawArray) -> Result<Vec<u8>, NoMemory>
     requires types { RunTypedOk (runs_of typed.now) }
     requires lawful { RunsOk (runs_of typed.now) array.now }
     ensures { IfOk result (λ text. text.items ≡ lines_text (run_values (runs_of typed.now) array.now)) }
 {
-    let col = RunCol::of(typed, array);
-    BoundedText::new(alloc).has_room(count_items(&col) * 2)?;
-    if may_repeat(&typed.values) && is_too_long(alloc, typed, array).unwrap_or(false) {
-        return Err(NoMemory);
-    }
-    lines(alloc, &col)
+    let length = flat_length(alloc, typed, array)?;
+    lines(alloc, &RunCol::of(typed, array), length)
 }
 
-/// The text of a column's items.
-fn lines(alloc: Global, col: &RunCol<'_>) -> Result<Vec<u8>, NoMemory>
+/// The text of a column's items, in room of this length.
+fn lines(alloc: Global, col: &RunCol<'_>, length: u32) -> Result<Vec<u8>, NoMemory>
     ensures { IfOk result (λ text. text.items ≡ lines_text (run_values (kinds_in col.now) (array_in col.now))) }
 {
     let mut text = BoundedText::new(alloc);
+    text.take_room(length)?;
     text.push_bytes(b"ok\n")?;
     push_items(&mut text, col)?;
     Ok(text.into_bytes())
 }
 
-/// Whether the text of an array's items would have more than 2^31 bytes. Each value is measured once, however long its run is.
-/// `NoMemory` comes also where there are too many items to measure.
-fn is_too_long(alloc: Global, typed: &RunTyped, array: &RawArray) -> Result<bool, NoMemory>
+/// The length in bytes of the text of an array's items, where 2^31 + 1 stands for each above 2^31. Each value is measured once,
+/// however long its run is.
+fn flat_length(alloc: Global, typed: &RunTyped, array: &RawArray) -> Result<u32, NoMemory>
     requires types { RunTypedOk (runs_of typed.now) }
     requires lawful { RunsOk (runs_of typed.now) array.now }
-    ensures { IfOk result (λ long. long ≡ nat_lt text_limit (length (lines_text (run_values (runs_of typed.now) array.now)))) }
+    ensures { IfOk result (λ count. count ≡ capped (length (lines_text (run_values (runs_of typed.now) array.now)))) }
 {
     values_are_lawful(typed, array);
-    let mut left = MOST_MEASURED;
-    let lengths = measured(alloc, &mut left, &typed.values, array.child(1))?;
-    Ok(are_too_long(&RunCol::of(typed, array), &lengths))
+    let lengths = measured_lengths(alloc, &typed.values, array.child(1))?;
+    Ok(text_length(&RunCol::of(typed, array), &lengths))
 }
 
 /// A law: where no rule fails, the second child is there and lawful.
@@ -91,29 +87,36 @@ fn values_are_lawful(typed: &RunTyped, array: &RawArray)
     root_check::faultless_roots();
 }
 
-/// The same of a column whose values have texts of these lengths.
-fn are_too_long(col: &RunCol<'_>, lengths: &[u32]) -> bool
-    requires { AreLengths lengths.now (value_at (kinds_in col.now).values (child_at (array_in col.now) 1)) (tree_items (child_at (array_in col.now) 1)) }
-    ensures { result ≡ nat_lt text_limit (length (lines_text (run_values (kinds_in col.now) (array_in col.now)))) }
+/// The same of a column whose values have texts of these lengths: that of a run at once.
+fn text_length(col: &RunCol<'_>, lengths: &Lengths) -> u32
+    requires { Tells lengths.now (value_at (kinds_in col.now).values (child_at (array_in col.now) 1)) (tree_items (child_at (array_in col.now) 1)) }
+    ensures { result ≡ capped (length (lines_text (run_values (kinds_in col.now) (array_in col.now)))) }
 {
+    let count = count_items(col);
     let mut at = first_run(col);
     let mut sum = 3;
-    for i in 0..count_items(col) {
+    let mut i = 0;
+    while i < count {
         at = run_from(col, i, at);
-        sum = plus(sum, line_length(col, lengths, i, at.run));
+        sum = plus(
+            sum,
+            times(at.stop - i, line_length(col, lengths, i, at.run)),
+        );
+        i = at.stop;
     }
-    sum > 1 << 31
+    sum
 }
 
 /// The length of the line of an item of this run.
-fn line_length(col: &RunCol<'_>, lengths: &[u32], i: u64, run: u64) -> u32
-    requires lengths { AreLengths lengths.now (value_at (kinds_in col.now).values (child_at (array_in col.now) 1)) (tree_items (child_at (array_in col.now) 1)) }
+fn line_length(col: &RunCol<'_>, lengths: &Lengths, i: u64, run: u64) -> u32
+    requires lengths { Tells lengths.now (value_at (kinds_in col.now).values (child_at (array_in col.now) 1)) (tree_items (child_at (array_in col.now) 1)) }
     requires inside { i < items (members_of (array_in col.now)) }
     requires at { run ≡ run_of (kinds_in col.now) (array_in col.now) i }
     ensures { result ≡ capped (length (value_line (run_value (kinds_in col.now) (array_in col.now) i))) }
 {
-    col.values();
-    plus(lengths[run as usize], 1)
+    count_values(col);
+    let _values = col.values();
+    plus(lengths.at(run as usize), 1)
 }
 
 /// The number of a column's items.

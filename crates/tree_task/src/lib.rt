@@ -22,6 +22,7 @@ mod chunk;
 mod column_number;
 mod command;
 mod diagnostics;
+mod exploded_length;
 mod fault;
 mod flat;
 mod foreign;

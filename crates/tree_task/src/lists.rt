@@ -1,21 +1,24 @@
 //! The rows of a chunk of which the lists in a column are spread out.
-ghost use Rattle.std.specs.Prelude.{◌≡◌, ◌+◌, ◌⊎◌, ◌<◌, ◌≤◌, None, IfOk, IfErr, IfSome, List, length};
+ghost use Rattle.std.specs.Prelude.{◌≡◌, ◌+◌, ◌⊎◌, ◌<◌, ◌≤◌, None, IfOk, IfErr, IfSome, OnOk, List, length};
 ghost use Rattle.data_types.specs.Table.{Row};
 ghost use Rattle.data_types.specs.KindTrees.{KindTree, TypedOk};
 ghost use Rattle.data_types.specs.TypedView.{typed_of};
 ghost use Rattle.layout_rules.specs.Values.{rows_of};
 ghost use Rattle.layout_rules.specs.Walk.{ChunkOk, first_chunk_fault};
+ghost use Rattle.list_cols.specs.Exploded.{exploded_blocks};
 ghost use Rattle.list_cols.specs.Faults.{most_columns};
 ghost use Rattle.raw_array.specs.Members.{Cost};
 ghost use Rattle.raw_schema.specs.Members.{Nodes};
 ghost use Rattle.schema_check.specs.Schemas.{TypedOf};
 ghost use Rattle.tree_model.specs.Tree.{children_of};
+ghost use Rattle.unit_pass.specs.Tally.{risen};
 ghost use Rattle.unit_pass.specs.declared.pass.TheConstants.{CHUNK, SUPPLY};
 ghost use Rattle.tree_task.specs.ChunkAnswer.{ChunkAnswer};
 ghost use Rattle.tree_task.specs.ListsAnswer.{ExplodeAnswer, column_fault, exploded, answer_of_column};
 ghost use Rattle.tree_task.specs.TextOrFault.{Answer, Fault, Text};
 
 use crate::chunk::{chunk_kinds, chunk_lines};
+use crate::exploded_length::is_exploded_too_long;
 use crate::fault::TreeRunFault;
 use data_types::{Typed, kinds_of_typed};
 use list_cols::{ListFault, explode, exploded_rows, wrong_to_explode};
@@ -85,6 +88,8 @@ pub(crate) fn explode_text(
     ensures text { IfOk result (λ text. ExplodeAnswer column schema array (Text text.items)) }
     ensures fault { IfErr result (λ fault. (fault ≡ TreeRunFault.NoMemory) ⊎ ExplodeAnswer column schema array (Fault fault)) }
     ensures units { pass.new.units ≡ pass.old.units + (Nodes schema + Cost array) }
+    ensures made { OnOk result ((typed : KindTree) × TypedOf schema typed × (pass.new.blocks ≡ risen pass.old.blocks (exploded_blocks column typed array))
+        × (pass.new.nodes ≡ risen pass.old.nodes (length (children_of typed) + 3))) }
 {
     match column_kinds(alloc, &schema, &array, column) {
         Ok(typed) => exploded_text(alloc, &typed, schema, array, column, pass),
@@ -116,6 +121,8 @@ fn exploded_text(
     ensures fault { IfErr result (λ fault. (fault ≡ TreeRunFault.NoMemory)
         ⊎ (Fault fault ≡ exploded column (typed_of typed.now) (rows_of (typed_of typed.now) array))) }
     ensures units { pass.new.units ≡ pass.old.units + (Nodes schema + Cost array) }
+    ensures blocks { OnOk result (pass.new.blocks ≡ risen pass.old.blocks (exploded_blocks column (typed_of typed.now) array)) }
+    ensures nodes { OnOk result (pass.new.nodes ≡ risen pass.old.nodes (length (children_of (typed_of typed.now)) + 3)) }
 {
     if let Some(fault) = early_fault(alloc, typed, &array, column) {
         schema.end(pass);
@@ -137,8 +144,9 @@ fn exploded_text(
     }
 }
 
-/// Why nothing is made where the number of rows shows that the text would be too long: a row has two bytes at least for its braces and
-/// its line's end, and two for each column. It is a column of another kind, or else the text is refused as out of memory.
+/// Why nothing is made where the text would be too long. It is a column of another kind, or else the text is refused as out of memory:
+/// at once where the number of rows shows it, since a row has two bytes at least for its braces and its line's end, and two for each
+/// column; and else by the lengths of the columns' texts.
 fn early_fault(alloc: Global, typed: &Typed, array: &RawArray, column: u32) -> Option<TreeRunFault>
     requires valid { TypedOk (typed_of typed.now) }
     requires chunk { ChunkOk (typed_of typed.now) array.now }
@@ -150,7 +158,8 @@ fn early_fault(alloc: Global, typed: &Typed, array: &RawArray, column: u32) -> O
     kinds_of_typed(typed);
     let rows = exploded_rows(typed, array, column as usize)?;
     let row_bytes = 2 + 2 * typed.kids.len() as u64;
-    if BoundedText::new(alloc).has_room(rows * row_bytes).is_ok() {
+    let may_fit = BoundedText::new(alloc).has_room(rows * row_bytes).is_ok();
+    if may_fit && !is_exploded_too_long(alloc, typed, array, column as usize).unwrap_or(true) {
         return None;
     }
     match wrong_to_explode(typed, column as usize) {

@@ -1,14 +1,16 @@
 //! The rows of a chunk, grouped by the values of a column.
-ghost use Rattle.std.specs.Prelude.{◌≡◌, ◌+◌, ◌⊎◌, ◌<◌, ◌≤◌, ℕ, IfOk, IfErr, IfSome, length};
-ghost use Rattle.data_types.specs.KindTrees.{TypedOk};
+ghost use Rattle.std.specs.Prelude.{◌≡◌, ◌+◌, ◌-◌, ◌*◌, ◌⊎◌, ◌<◌, ◌≤◌, ℕ, IfOk, IfErr, IfSome, OnOk, length};
+ghost use Rattle.data_types.specs.KindTrees.{KindTree, TypedOk};
 ghost use Rattle.data_types.specs.TypedView.{typed_of};
 ghost use Rattle.layout_rules.specs.Values.{rows_of};
 ghost use Rattle.layout_rules.specs.Walk.{ChunkOk};
 ghost use Rattle.list_cols.specs.Faults.{most_columns};
+ghost use Rattle.list_cols.specs.NestedTables.{nested_blocks};
 ghost use Rattle.raw_array.specs.Members.{Cost};
 ghost use Rattle.raw_schema.specs.Members.{Nodes};
 ghost use Rattle.schema_check.specs.Schemas.{TypedOf};
 ghost use Rattle.tree_model.specs.Tree.{children_of};
+ghost use Rattle.unit_pass.specs.Tally.{risen};
 ghost use Rattle.unit_pass.specs.declared.pass.TheConstants.{CHUNK, SUPPLY};
 ghost use Rattle.tree_task.specs.ListsAnswer.{NestAnswer, nested};
 ghost use Rattle.tree_task.specs.TextOrFault.{Fault, Text};
@@ -43,6 +45,8 @@ pub(crate) fn nest_text(
     ensures text { IfOk result (λ text. NestAnswer column schema array (Text text.items)) }
     ensures fault { IfErr result (λ fault. (fault ≡ TreeRunFault.NoMemory) ⊎ NestAnswer column schema array (Fault fault)) }
     ensures units { pass.new.units ≡ pass.old.units + (Nodes schema + Cost array) }
+    ensures made { OnOk result ((typed : KindTree) × TypedOf schema typed × (pass.new.blocks ≡ risen pass.old.blocks (nested_blocks column typed array))
+        × (pass.new.nodes ≡ risen pass.old.nodes (4 * length (children_of typed) - 1))) }
 {
     match column_kinds(alloc, &schema, &array, column) {
         Ok(typed) => nested_text(alloc, &typed, schema, array, column, pass),
@@ -74,6 +78,8 @@ fn nested_text(
     ensures fault { IfErr result (λ fault. (fault ≡ TreeRunFault.NoMemory)
         ⊎ (Fault fault ≡ nested column (typed_of typed.now) (rows_of (typed_of typed.now) array))) }
     ensures units { pass.new.units ≡ pass.old.units + (Nodes schema + Cost array) }
+    ensures blocks { OnOk result (pass.new.blocks ≡ risen pass.old.blocks (nested_blocks column (typed_of typed.now) array)) }
+    ensures nodes { OnOk result (pass.new.nodes ≡ risen pass.old.nodes (4 * length (children_of (typed_of typed.now)) - 1)) }
 {
     if let Some(fault) = early_fault(alloc, typed, &array) {
         schema.end(pass);

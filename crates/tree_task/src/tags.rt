@@ -16,19 +16,22 @@ ghost use Rattle.tree_task.specs.TextOrFault.{Fault, Text};
 use crate::chunk::chunk_kinds;
 use crate::fault::TreeRunFault;
 use crate::union::union_text;
-use data_types::Typed;
-use layout_rules::lawful_root;
+use data_types::{Storage, Typed, kinds_of_typed, storage_of};
+use layout_rules::{lawful_parts, lawful_root};
 use raw_array::RawArray;
 use raw_schema::RawSchema;
 use std::alloc::Global;
 use union_cols::{one_union_answer, tag};
-use unit_pass::{Pass, SUPPLY};
-use value_text::BoundedText;
+use unit_pass::{NoMemory, Pass, SUPPLY};
+use value_text::{BoundedText, Lengths, measured_lengths};
 
 /// The most columns and the most rows of a dense union, as `tag` takes them.
 const MOST_COLUMNS: i64 = 128;
 
 const MOST_DENSE_ROWS: u64 = (1 << 31) - 1;
+
+/// The bytes of the shortest line.
+const LEAST_LINE: u64 = 4;
 
 /// A line for each row of a chunk, whose columns are made the children of a union ("Arrow Columnar Format", "Union Layout"): the number
 /// of the first column that isn't null, and its value; or the first fault: of the schema, of the chunk, of the number of columns and
@@ -80,7 +83,7 @@ fn columns_text(
 {
     one_union_answer();
     lawful_root(typed, &array);
-    if !may_fit(alloc, &array, dense) {
+    if !may_fit(alloc, typed, &array, dense) {
         schema.end(pass);
         array.end(pass);
         return Err(TreeRunFault::NoMemory);
@@ -100,16 +103,42 @@ fn columns_text(
     }
 }
 
-/// Whether a text may have a line for each row of a chunk, so that nothing is made for very many rows: a line has two bytes at least.
-/// Where the columns make no union, that is reported first.
-fn may_fit(alloc: Global, array: &RawArray, dense: bool) -> bool
+/// The fewest bytes of a line: its number, two marks, and the value of the first column whose type has values. That is null nowhere where
+/// all its items have one length above 1.
+fn least_line(alloc: Global, typed: &Typed, array: &RawArray) -> Result<u64, NoMemory>
+    requires types { TypedOk (typed_of typed.now) }
+    requires chunk { ChunkOk (typed_of typed.now) array.now }
+{
+    kinds_of_typed(typed);
+    lawful_root(typed, array);
+    lawful_parts(typed, array);
+    for k in 0..typed.kids.len() {
+        let kid = &typed.kids[k];
+        if !matches!(storage_of(&kid.kind), Storage::Nothing) {
+            return match measured_lengths(alloc, kid, array.child(k))? {
+                Lengths::Same(length) => Ok(3 + u64::from(length)),
+                Lengths::Own(_) => Ok(LEAST_LINE),
+            };
+        }
+    }
+    Ok(LEAST_LINE)
+}
+
+/// Whether a text may have a line for each row of a chunk, so that nothing is made for very many rows. Where the columns make no union,
+/// that is reported first.
+fn may_fit(alloc: Global, typed: &Typed, array: &RawArray, dense: bool) -> bool
+    requires types { TypedOk (typed_of typed.now) }
+    requires chunk { ChunkOk (typed_of typed.now) array.now }
     requires live { IsLive array.now }
     requires length { pos 0 ≤ℤ (members_of array.now).length }
 {
     let rows = array.length() as u64;
     let columns = array.n_children();
-    columns == 0
-        || columns > MOST_COLUMNS
-        || (dense && rows > MOST_DENSE_ROWS)
-        || BoundedText::new(alloc).has_room(rows * 2).is_ok()
+    if columns == 0 || columns > MOST_COLUMNS || (dense && rows > MOST_DENSE_ROWS) {
+        return true;
+    }
+    let line = least_line(alloc, typed, array).unwrap_or(LEAST_LINE);
+    BoundedText::new(alloc)
+        .has_room(rows.saturating_mul(line))
+        .is_ok()
 }

@@ -12,7 +12,7 @@ ghost use Rattle.tree_task.specs.TextOrFault.{Fault, Text};
 ghost use Rattle.tree_task.specs.UnionAnswer.{UnionAnswer, items_text, numbered_item};
 
 use crate::fault::TreeRunFault;
-use crate::union_length::{is_union_too_long, union_tells_often};
+use crate::union_length::union_length;
 use raw_array::RawArray;
 use raw_schema::RawSchema;
 use std::alloc::Global;
@@ -40,23 +40,22 @@ pub(crate) fn union_text(
     }
 }
 
-/// The text of a union's items. Where a short array may have very many values, its length is found first.
+/// The text of a union's items. Its length is found first.
 fn measured_lines(alloc: Global, typed: &UnionTyped, array: &RawArray) -> Result<Vec<u8>, NoMemory>
     requires types { UnionTypedOk (union_of typed.now) }
     requires lawful { UnionOk (union_of typed.now) array.now }
     ensures { IfOk result (λ text. text.items ≡ items_text (union_items (union_of typed.now) array.now)) }
 {
-    if union_tells_often(typed) && is_union_too_long(alloc, typed, array).unwrap_or(false) {
-        return Err(NoMemory);
-    }
-    lines(alloc, &UnionCol::of(typed, array))
+    let length = union_length(alloc, typed, array)?;
+    lines(alloc, &UnionCol::of(typed, array), length)
 }
 
-/// The text of a column's items.
-fn lines(alloc: Global, col: &UnionCol<'_>) -> Result<Vec<u8>, NoMemory>
+/// The text of a column's items, in room of this length.
+fn lines(alloc: Global, col: &UnionCol<'_>, length: u32) -> Result<Vec<u8>, NoMemory>
     ensures { IfOk result (λ text. text.items ≡ items_text (union_items (kinds_in col.now) (array_in col.now))) }
 {
     let mut text = BoundedText::new(alloc);
+    text.take_room(length)?;
     text.push_bytes(b"ok\n")?;
     push_items(&mut text, col)?;
     Ok(text.into_bytes())

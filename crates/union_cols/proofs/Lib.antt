@@ -9,3 +9,4 @@ pub mod TagItems
 pub mod TagLaw
 pub mod TagSteps
 mod SomeFormat
+mod NullColumns

@@ -1,10 +1,10 @@
 -- The steps of the making of a union's buffers and its format.
-use Rattle.std.proofs.Common.{◌≡◌, ℕ, zero, suc, ◌+◌, ◌-◌, ◌/◌, ◌%◌, take, ◌<◌, ◌≤◌, Bool, true, false, cond, List, [], ◌∷◌, ◌++◌, length, get_or, map, Option, None, Some, refl, ap, sym, ◌∙◌, append_assoc, inl, inr, arith}
+use Rattle.std.proofs.Common.{◌≡◌, ℕ, zero, suc, ◌+◌, ◌-◌, ◌/◌, ◌%◌, take, ◌<◌, ◌≤◌, Bool, true, false, cond, List, [], ◌∷◌, ◌++◌, length, get_or, map, Option, None, Some, refl, ap, sym, ◌∙◌, append_assoc, arith}
 use Rattle.std.specs.Prelude.{decimal, not, slice_range, if◌then◌else◌, ◌==◌}
 use Rattle.std.specs.List.{flat_map, position_from}
 use Rattle.std.specs.declared.alloc.Global.{Global}
 use Rattle.std.specs.declared.vec.Vec.{Vec}
-use Rattle.std.proofs.lemmas.Bool.{cases_eq, ne_eqb}
+use Rattle.std.proofs.lemmas.Bool.{ne_eqb}
 use Rattle.std.proofs.lemmas.Grind.{flat_map-append}
 use Rattle.std.proofs.lemmas.Iterator.Adapters.{position_from-zero}
 use Rattle.std.proofs.lemmas.List.{append-nil, take_all}
@@ -14,7 +14,7 @@ use Rattle.raw_array.specs.Members.{Buffer, holds_of, whole}
 use Rattle.raw_array.specs.View.{buffer_if, buffers_of}
 use Rattle.raw_array.proofs.Buffers.{buffers_of-append}
 use Rattle.data_types.specs.Table.{Row}
-use Rattle.data_types.specs.Value.{Value, Null, is_null}
+use Rattle.data_types.specs.Value.{Value, is_null}
 use Rattle.fmt_string.specs.FormatString.{comma}
 use Rattle.layout_rules.specs.Values.{each}
 use Rattle.union_cols.specs.Tags.{block_of, numbers, start_bytes, tag_buffers, tag_format, tag_of}
@@ -77,14 +77,6 @@ pub format-last : (dense : Bool) (n : ℕ) → (keyword dense ++ ids_before (num
 format-last dense n =
     append_assoc (keyword dense) (ids_before (numbers n)) (decimal n)
     ∙ ap (λ t. keyword dense ++ t) (sym (ap (λ ids. joined (map decimal ids)) (numbers-next n) ∙ joined_push (numbers n) n))
-
-pub null-more : (row : Row) (k : ℕ) → ((j : ℕ) → j < k → is_null (get_or row j Null) ≡ true) → is_null (get_or row k Null) ≡ true
-    → (j : ℕ) → j < k + 1 → is_null (get_or row j Null) ≡ true
-null-more row k before here j h =
-    elim (cases_eq j k) [
-      | inl same ↦ ap (λ p. is_null (get_or row p Null)) same ∙ here
-      | inr apart ↦ before j (omega (arith, h, apart))
-    ]
 
 -- ---- bytes
 

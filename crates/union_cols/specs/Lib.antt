@@ -14,3 +14,4 @@ pub mod TagAnswers
 pub mod TagViews
 pub mod FaultTexts
 pub mod WorkedUnions
+pub mod NullColumns

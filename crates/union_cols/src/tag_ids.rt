@@ -1,36 +1,64 @@
 //! Which column each item of a union comes from, and where it is there.
-ghost use Rattle.std.specs.Prelude.{◌≡◌, ◌+◌, ◌<◌, ◌≤◌, ◌^◌, ◌∷◌, [], ℕ, All, IfOk, IsTrue, if◌then◌else◌, get_or, length, map};
+ghost use Rattle.std.specs.Prelude.{◌≡◌, ◌<◌, ◌≤◌, ◌^◌, ◌∷◌, [], ℕ, true, IfOk, IsTrue, if◌then◌else◌, get_or, length, map};
 ghost use Rattle.data_types.specs.Value.{Null, is_null};
 ghost use Rattle.tree_model.specs.Tree.{children_of};
 ghost use Rattle.data_types.specs.KindTrees.{TypedOk};
 ghost use Rattle.data_types.specs.TypedView.{typed_of};
-ghost use Rattle.layout_rules.specs.Values.{each, row_items, rows_of};
-ghost use Rattle.layout_rules.specs.Walk.{ChunkOk};
+ghost use Rattle.layout_rules.specs.Values.{rows_of, value_at};
+ghost use Rattle.layout_rules.specs.Walk.{ChunkOk, LayoutOk};
 ghost use Rattle.arr_import.specs.declared.col.Col.{Col as ACol};
 ghost use Rattle.arr_import.specs.Cols.{window_of};
-ghost use Rattle.arr_import.specs.Window.{IsStruct, item_at};
+ghost use Rattle.arr_import.specs.Window.{item_at};
+ghost use Rattle.union_cols.specs.NullColumns.{AreAllBut, IsNullColumn};
 ghost use Rattle.union_cols.specs.Tags.{block_of, start_bytes, tag_of};
 ghost use Rattle.union_cols.specs.TagViews.{starts_in};
 
 use arr_import::{Col, ValueRef};
-use data_types::Typed;
+use data_types::{Storage, Typed, kinds_of_typed, storage_of};
+use layout_rules::{chunks_are_tables, lawful_root, lawful_trees};
 use raw_array::RawArray;
 use std::alloc::Global;
 use unit_pass::NoMemory;
 
-/// The columns of a struct's fields, over its window.
-fn columns_of<'a>(alloc: Global, table: &Col<'a>) -> Result<Vec<Col<'a>>, NoMemory>
-    requires { IsStruct (window_of table.now).typed }
-    ensures rows { IfOk result (λ columns. (i : ℕ) → map (λ c. item_at (window_of c) i) columns.items
-        ≡ row_items (window_of table.now).typed (window_of table.now).array ((window_of table.now).start + i)) }
-    ensures counts { IfOk result (λ columns. All (λ c. (window_of c).count ≡ (window_of table.now).count) columns.items) }
+/// Whether each item of an array is null since its type has no values.
+fn has_no_values(typed: &Typed, array: &RawArray) -> bool
+    requires { LayoutOk (typed_of typed.now) array.now }
+    ensures { IsTrue result → (i : ℕ) → value_at (typed_of typed.now) array.now i ≡ Null }
 {
-    table.rows_are_whole();
-    let mut columns = Vec::new(alloc);
-    for k in 0..table.n_children() {
-        columns.push(table.child(k))?;
+    kinds_of_typed(typed);
+    lawful_root(typed, array);
+    typed.dict.is_none() && matches!(storage_of(&typed.kind), Storage::Nothing)
+}
+
+/// Whether a column of a chunk is null in each row since its type has no values.
+fn is_null_column(typed: &Typed, array: &RawArray, k: usize) -> bool
+    requires types { TypedOk (typed_of typed.now) }
+    requires chunk { ChunkOk (typed_of typed.now) array.now }
+    requires inside { k < length (children_of (typed_of typed.now)) }
+    ensures { IsTrue result → IsNullColumn (typed_of typed.now) array.now k }
+{
+    kinds_of_typed(typed);
+    lawful_trees();
+    chunks_are_tables();
+    lawful_root(typed, array);
+    let _items = Col::of(typed, array).child(k);
+    has_no_values(&typed.kids[k], array.child(k))
+}
+
+/// The numbers of the columns of a chunk that have values, in their order.
+fn valued_columns(alloc: Global, typed: &Typed, array: &RawArray) -> Result<Vec<usize>, NoMemory>
+    requires types { TypedOk (typed_of typed.now) }
+    requires chunk { ChunkOk (typed_of typed.now) array.now }
+    ensures { IfOk result (λ numbers. AreAllBut (IsNullColumn (typed_of typed.now) array.now) (length (children_of (typed_of typed.now))) numbers.items) }
+{
+    kinds_of_typed(typed);
+    let mut numbers = Vec::new(alloc);
+    for k in 0..typed.kids.len() {
+        if !is_null_column(typed, array, k) {
+            numbers.push(k)?;
+        }
     }
-    Ok(columns)
+    Ok(numbers)
 }
 
 /// Whether item `i` of the column of this number is null.
@@ -47,14 +75,17 @@ fn is_null(columns: &[Col<'_>], k: usize, i: u64) -> bool
     }
 }
 
-/// The number of the first of these columns of which item `i` isn't null, and 0 where all are null.
-fn tag_at(columns: &[Col<'_>], i: u64) -> u8
+/// The number of the first of these columns of which item `i` isn't null, and 0 where all are null. Those of these numbers are looked
+/// at; in all others the item is null.
+fn tag_at(columns: &[Col<'_>], numbers: &[usize], i: u64) -> u8
     requires few { length columns.now ≤ 128 }
+    requires numbers { AreAllBut (λ k. is_null (get_or (map (λ c. item_at (window_of c) i) columns.now) k Null) ≡ true) (length columns.now) numbers.now }
     requires inside { (k : ℕ) (d : ACol) → k < length columns.now → i < (window_of (get_or columns.now k d)).count }
     requires small { i < 2 ^ 63 }
     ensures { result ≡ tag_of (map (λ c. item_at (window_of c) i) columns.now) }
 {
-    for k in 0..columns.len() {
+    for p in 0..numbers.len() {
+        let k = numbers[p];
         if !is_null(columns, k, i) {
             return k as u8;
         }
@@ -70,20 +101,28 @@ fn count_items(table: &Col<'_>) -> u64
     table.len() as u64
 }
 
-/// Of each item of a struct, the number of its first field that isn't null, and 0 where all are null. Room for all is taken at
-/// once, before an item is read.
-pub(crate) fn row_tags(alloc: Global, table: &Col<'_>) -> Result<Vec<u8>, NoMemory>
-    requires kind { IsStruct (window_of table.now).typed }
-    requires few { length (children_of (window_of table.now).typed) ≤ 128 }
-    ensures { IfOk result (λ ids. ids.items
-        ≡ each (λ i. tag_of (row_items (window_of table.now).typed (window_of table.now).array i)) (window_of table.now).start (window_of table.now).count) }
+/// The ids of a chunk's rows: of each row the number of its first column that isn't null, and 0 where all are null. Room for all is
+/// taken at once, before an item is read. Columns of nulls alone aren't looked at.
+pub(crate) fn chunk_tags(
+    alloc: Global,
+    typed: &Typed,
+    array: &RawArray,
+) -> Result<Vec<u8>, NoMemory>
+    requires types { TypedOk (typed_of typed.now) }
+    requires chunk { ChunkOk (typed_of typed.now) array.now }
+    requires few { length (children_of (typed_of typed.now)) ≤ 128 }
+    ensures { IfOk result (λ ids. ids.items ≡ map tag_of (rows_of (typed_of typed.now) array.now)) }
 {
+    lawful_trees();
+    chunks_are_tables();
+    let table = Col::of(typed, array);
     table.rows_are_whole();
-    let columns = columns_of(alloc, table)?;
-    let count = count_items(table);
+    let numbers = valued_columns(alloc, typed, array)?;
+    let columns = table.columns(alloc)?;
+    let count = count_items(&table);
     let mut ids = Vec::with_capacity(alloc, count as usize)?;
     for i in 0..count {
-        ids.push_reserved(tag_at(&columns, i));
+        ids.push_reserved(tag_at(&columns, &numbers, i));
     }
     Ok(ids)
 }
@@ -97,20 +136,6 @@ pub(crate) fn row_starts(alloc: Global, count: u32) -> Result<Vec<u8>, NoMemory>
         bytes.extend_from_slice(&i.to_le_bytes())?;
     }
     Ok(bytes)
-}
-
-/// The ids of a chunk's rows.
-pub(crate) fn chunk_tags(
-    alloc: Global,
-    typed: &Typed,
-    array: &RawArray,
-) -> Result<Vec<u8>, NoMemory>
-    requires types { TypedOk (typed_of typed.now) }
-    requires chunk { ChunkOk (typed_of typed.now) array.now }
-    requires few { length (children_of (typed_of typed.now)) ≤ 128 }
-    ensures { IfOk result (λ ids. ids.items ≡ map tag_of (rows_of (typed_of typed.now) array.now)) }
-{
-    row_tags(alloc, &Col::of(typed, array))
 }
 
 /// The offsets of a dense union with this many items.

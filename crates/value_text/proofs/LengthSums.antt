@@ -1,16 +1,19 @@
 -- How long the texts of lists and of lines are, by the lengths of their items.
-use Rattle.std.proofs.Common.{◌≡◌, ◌∙◌, ℕ, zero, suc, ◌+◌, ◌-◌, ◌*◌, ◌<◌, ◌≤◌, List, [], ◌∷◌, length, ap, refl, sym, arith, length-append}
+use Rattle.std.proofs.Common.{◌≡◌, ◌∙◌, ℕ, zero, suc, ◌+◌, ◌-◌, ◌*◌, ◌<◌, ◌≤◌, List, [], ◌∷◌, ◌++◌, length, get_or, take, inl, inr, ap, refl, sym, arith, length-append}
+use Rattle.std.proofs.lemmas.Bool.{cases_eq}
+use Rattle.std.proofs.lemmas.List.{get_or_append_left, take_all, take_more}
+use Rattle.std.proofs.Math.Seq.{get_or-append_seam}
 use Rattle.std.proofs.Math.Nat.{suc-mul}
 use Rattle.std.specs.Prelude.{IfSome, None, Option, Some}
 use Rattle.std.specs.List.{flat_map}
-use Rattle.data_types.specs.Value.{Value, Items, values}
+use Rattle.data_types.specs.Value.{Value, Null, Items, Fields, values}
 use Rattle.data_types.specs.ValueTexts.{value_line, value_text}
 use Rattle.layout_rules.specs.Values.{each}
 use Rattle.value_text.specs.Behind.{item_text}
-use Rattle.value_text.specs.Lengths.{Tells, IsReached, IsSame, capped, length_at, text_length}
+use Rattle.value_text.specs.Lengths.{AreFieldLengths, AreSummed, Tells, IsReached, capped, field_length, first_fields, length_at, some_fields, text_length}
 use Rattle.value_text.specs.declared.lengths.Lengths.{Lengths}
 use Rattle.value_text.specs.declared.lengths.Lengths.TheVariants as all
-use Rattle.value_text.proofs.Parts.{lines-more, list-more, parts}
+use Rattle.value_text.proofs.Parts.{lines-more, list-more, parts, row-more}
 
 -- ---- items of one length
 
@@ -71,16 +74,83 @@ pub length-there : (ls : Lengths) (item : ℕ → Value) (n i : ℕ) → Tells l
 length-there (all.Same count) item n i known inside = known i inside
 length-there (all.Own lengths) item n i known inside = known.each i inside
 
-pub same-reached : (ls : Lengths) (n : ℕ) → IsSame ls → IsReached ls n
-same-reached (all.Same count) n same = tt
-same-reached (all.Own lengths) n same = absurd same
+-- ---- the fields of a struct
 
-pub same-there : (ls : Lengths) (i j : ℕ) → IsSame ls → length_at ls i ≡ length_at ls j
-same-there (all.Same count) i j same = refl
-same-there (all.Own lengths) i j same = absurd same
+some-more : (ls : List Lengths) (place : ℕ) (ks : List ℕ) (k : ℕ) → some_fields ls place (ks ++ k ∷ []) ≡ some_fields ls place ks + field_length ls place k
+some-more ls place [] k = omega arith
+some-more ls place (j ∷ ks) k = omega (arith, some-more ls place ks k)
+
+-- one with a length for all rows more
+pub summed-same : (ls : List Lengths) (n same c : ℕ) (own : List ℕ) → get_or ls n (all.Same 0) ≡ all.Same c → AreSummed ls n same own
+    → AreSummed ls (n + 1) (capped (same + c)) own
+summed-same ls n same c own is so_far = record {
+  sums = λ place.
+      let e : n + 1 ≡ suc n = omega arith in
+      let one : field_length ls place n ≡ c = ap (λ l. length_at l place) is in
+      omega (arith, ap (first_fields ls place) e, so_far.sums place, one);
+  below = λ q inside. omega (arith, so_far.below q inside);
+}
+
+-- one with a length for each row more
+pub summed-own : (ls : List Lengths) (n same : ℕ) (own : List ℕ) → AreSummed ls n same own → AreSummed ls (n + 1) same (own ++ n ∷ [])
+summed-own ls n same own so_far = record {
+  sums = λ place.
+      let e : n + 1 ≡ suc n = omega arith in
+      omega (arith, ap (first_fields ls place) e, so_far.sums place, some-more ls place own n);
+  below = λ q inside.
+      elim (cases_eq q (length own)) [
+        | inl last ↦ omega (arith, ap (λ k. get_or {A = ℕ} (own ++ n ∷ []) k 0) last, get_or-append_seam own n [] 0)
+        | inr other ↦
+            let before : q < length own = omega (arith, inside, other, length-append own (n ∷ [])) in
+            omega (arith, get_or_append_left own (n ∷ []) 0 q before, so_far.below q before)
+      ];
+}
+
+pub any-length : (ls : List Lengths) (k : ℕ) (c d : Lengths) → k < length ls → get_or ls k c ≡ get_or ls k d
+any-length [] k c d inside = absurd (omega (arith, inside))
+any-length (l ∷ ls) zero c d inside = refl
+any-length (l ∷ ls) (suc k) c d inside = any-length ls k c d (omega (arith, inside))
+
+-- one of these more
+pub some-next : (ls : List Lengths) (place : ℕ) (own : List ℕ) (q : ℕ) → q < length own
+    → some_fields ls place (take (q + 1) own) ≡ some_fields ls place (take q own) + field_length ls place (get_or own q 0)
+some-next ls place own q inside = ap (some_fields ls place) (take_more own q 0 inside) ∙ some-more ls place (take q own) (get_or own q 0)
+
+part-next : (n c total sum : ℕ) (v : Value) → c ≡ text_length v → capped sum ≡ capped (total + (n - 1))
+    → capped (sum + length (item_text n v)) ≡ capped (total + c + n)
+part-next zero c total sum v is so_far = omega (arith, is, so_far)
+part-next (suc n) c total sum v is so_far = omega (arith, is, so_far)
+
+row-parts : (ls : List Lengths) (row : List Value) (place n : ℕ) → AreFieldLengths ls place row → n ≤ length row
+    → capped (length (parts (take n row))) ≡ capped (first_fields ls place n + (n - 1))
+row-parts ls row place zero known few = refl
+row-parts ls row place (suc n) known few =
+    let before = row-parts ls row place n known (omega (arith, few)) in
+    let v = get_or row n Null in
+    let e : n + 1 ≡ suc n = omega arith in
+    let long : length (parts (take (suc n) row)) ≡ length (parts (take n row)) + length (item_text n v) =
+    ap (λ k. length (parts (take k row))) (sym e) ∙ ap length (row-more row n (omega (arith, few))) ∙ length-append (parts (take n row)) (item_text n v) in
+    let one = part-next n (field_length ls place n) (first_fields ls place n) (length (parts (take n row))) v
+    (known.each n (all.Same 0) (omega (arith, few, known.many))) before in
+    omega (arith, long, one)
+
+row-text : (row : List Value) → length (value_text (Fields (values row))) ≡ length (parts row) + 2
+row-text row = omega (arith, length-append (parts row) (125 ∷ []))
+
+-- a struct's text by what its fields have together
+pub row-long : (ls : List Lengths) (row : List Value) (place same : ℕ) (own : List ℕ) → AreFieldLengths ls place row → AreSummed ls (length ls) same own
+    → text_length (Fields (values row)) ≡ capped (same + some_fields ls place own + (length ls - 1) + 2)
+row-long ls row place same own known summed =
+    let all_of : take (length row) row ≡ row = take_all (length row) row (omega arith) in
+    let long = row-parts ls row place (length row) known (omega arith) in
+    let whole : length (parts (take (length row) row)) ≡ length (parts row) = ap (λ vs. length (parts vs)) all_of in
+    let total : first_fields ls place (length row) ≡ first_fields ls place (length ls) = ap (first_fields ls place) known.many in
+    omega (arith, row-text row, whole, long, total, known.many, summed.sums place)
 
 -- ---- what is so of a number, where there is one
 
 pub some-by : {P Q : ℕ → Type 0} → (found : Option ℕ) → IfSome found P → ((n : ℕ) → P n → Q n) → IfSome found Q
 some-by None known so = tt
 some-by (Some n) known so = so n known
+
+pub ruleset known_lengths = (are-reached, length-there)

@@ -1,8 +1,9 @@
 pub mod PlainBytes
 pub mod Parts
 mod EscapeCounts
-mod LengthSums
+pub mod LengthSums
 pub mod KidLengths
-mod KidsTold
+pub mod KidsTold
 pub mod Sizes
 mod NumberedLines
+mod FieldColumns

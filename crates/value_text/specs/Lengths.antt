@@ -1,5 +1,5 @@
 -- How many bytes the texts of values have. What is longer than a text may be counts one more than that.
-use Rattle.std.specs.Prelude.{◌≡◌, ◌+◌, ◌*◌, ◌<◌, ◌≤◌, ℕ, min, List, Vec, get_or, length, vec_len}
+use Rattle.std.specs.Prelude.{◌≡◌, ◌+◌, ◌*◌, ◌<◌, ◌≤◌, ℕ, zero, suc, min, List, [], ◌∷◌, get_or, length, Vec, vec_len}
 use Rattle.std.specs.Global.{Global}
 use Rattle.tree_model.specs.Tree.{Released, child_at, children_of, trees}
 use Rattle.raw_array.specs.Members.{ArrayTree, members_of}
@@ -12,6 +12,7 @@ use Rattle.data_types.specs.Value.{Value, Null, Items, Fields, values}
 use Rattle.data_types.specs.declared.storage.Storage.{Storage}
 use Rattle.data_types.specs.declared.storage.Storage.TheVariants as storages
 use Rattle.data_types.specs.ValueTexts.{text_limit, value_text}
+use Rattle.value_text.specs.declared.lengths.FieldSums.{FieldSums}
 use Rattle.value_text.specs.declared.lengths.Lengths.{Lengths}
 use Rattle.value_text.specs.declared.lengths.Lengths.TheVariants as all
 
@@ -62,13 +63,27 @@ pub record AreFieldLengths (lengths : List Lengths) (place : ℕ) (row : List Va
   pub many : length row ≡ length lengths
   pub each : (k : ℕ) (d : Lengths) → k < length lengths → length_at (get_or lengths k d) place ≡ text_length (get_or row k Null)
 
-abbrev pub IsSame : Lengths → Type 0
-IsSame (all.Same count) = Unit {0}
-IsSame (all.Own lengths) = ⊥
+-- the length at a place of the field of this number
+abbrev pub field_length : List Lengths → ℕ → ℕ → ℕ
+field_length lengths place k = length_at (get_or lengths k (all.Same 0)) place
 
--- each has one length for all items
-abbrev pub AreSame : List Lengths → Type 0
-AreSame lengths = (k : ℕ) (d : Lengths) → k < length lengths → IsSame (get_or lengths k d)
+-- those of the first n fields together
+abbrev pub first_fields : List Lengths → ℕ → ℕ → ℕ
+first_fields lengths place zero = 0
+first_fields lengths place (suc n) = first_fields lengths place n + field_length lengths place n
+
+-- those of the fields of these numbers together
+abbrev pub some_fields : List Lengths → ℕ → List ℕ → ℕ
+some_fields lengths place [] = 0
+some_fields lengths place (k ∷ ks) = field_length lengths place k + some_fields lengths place ks
+
+-- the first n fields have a sum that is the same at each place, and with it the lengths of the fields of these numbers
+pub record AreSummed (lengths : List Lengths) (n same : ℕ) (own : List ℕ) : Type 0 where
+  pub sums : (place : ℕ) → capped (first_fields lengths place n) ≡ capped (same + some_fields lengths place own)
+  pub below : (q : ℕ) → q < length own → get_or own q 0 < n
+
+abbrev pub AreSums : List Lengths → FieldSums → Type 0
+AreSums lengths sums = AreSummed lengths (length lengths) sums.same sums.own.items
 
 -- a list or a struct
 abbrev pub IsNested : Value → Type 0

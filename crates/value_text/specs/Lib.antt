@@ -1,3 +1,4 @@
 pub mod Behind
 pub mod Escapes
 pub mod Lengths
+pub mod Fields

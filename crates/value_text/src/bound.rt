@@ -12,7 +12,7 @@ use layout_rules::{lawful_parts, lawful_root};
 use raw_array::RawArray;
 
 /// At most how many bytes the texts of all items of an array have together, each with a comma or a line's end.
-pub(crate) fn text_bound(typed: &Typed, array: &RawArray) -> u64
+pub fn text_bound(typed: &Typed, array: &RawArray) -> u64
     requires types { TypedOk (typed_of typed.now) }
     requires lawful { LayoutOk (typed_of typed.now) array.now }
 {

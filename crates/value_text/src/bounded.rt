@@ -57,7 +57,7 @@ impl BoundedText {
     }
 
     /// Takes room for this many bytes more at once. `NoMemory` comes also where the text would be too long with them.
-    pub(crate) fn take_room(&mut self, count: u32) -> Result<(), NoMemory>
+    pub fn take_room(&mut self, count: u32) -> Result<(), NoMemory>
         ensures text { self.new ≡ self.old }
         ensures fits { OnOk result (length self.old + count ≤ text_limit) }
     {

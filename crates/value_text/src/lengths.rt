@@ -4,11 +4,12 @@ ghost use Rattle.data_types.specs.Value.{Value, values};
 ghost use Rattle.data_types.specs.Value.Value.{Bits, Bytes, Fields, Items, Truth, Whole};
 ghost use Rattle.layout_rules.specs.Values.{each};
 ghost use Rattle.value_text.specs.Behind.{item_text};
-ghost use Rattle.value_text.specs.Lengths.{AreFieldLengths, AreLengths, Tells, AreReached, AreSame, IsReached, capped, text_length};
+ghost use Rattle.value_text.specs.Lengths.{AreFieldLengths, AreLengths, AreSums, Tells, AreReached, IsReached, capped, some_fields, text_length};
 ghost use Rattle.data_types.specs.ValueTexts.{byte_text, bytes_text, lines_text};
 
 use crate::escapes::is_plain;
 use field_codec::{bits_text, whole_text};
+use std::alloc::Global;
 use unit_pass::NoMemory;
 
 /// What stands for each length above 2^31.
@@ -41,7 +42,7 @@ pub fn plus(one: u32, other: u32) -> u32
 }
 
 /// This many times a length in bytes, where 2^31 + 1 stands for each number above 2^31.
-pub(crate) fn times(count: u64, length: u32) -> u32
+pub fn times(count: u64, length: u32) -> u32
     ensures { result ≡ capped (count * length) }
 {
     counted(count.saturating_mul(u64::from(length)) as usize)
@@ -99,7 +100,7 @@ pub(crate) fn bytes_length(bytes: &[u8]) -> u32
 
 /// The lengths of the texts of a column's items.
 #[derive(Drop)]
-pub(crate) enum Lengths {
+pub enum Lengths {
     /// All items have this one, however many they are.
     Same(u32),
     /// The length of each item.
@@ -107,21 +108,11 @@ pub(crate) enum Lengths {
 }
 
 impl Lengths {
-    ghost use Rattle.value_text.specs.Lengths.{IsReached, IsSame, length_at};
-
-    /// Whether all items have one.
-    fn is_same(&self) -> bool
-        ensures { result ≡ true → IsSame self.now }
-    {
-        match self {
-            Lengths::Same(_) => true,
-            Lengths::Own(_) => false,
-        }
-    }
+    ghost use Rattle.value_text.specs.Lengths.{IsReached, length_at};
 
     /// That of item `i`.
     #[inline(always)]
-    pub(crate) fn at(&self, i: usize) -> u32
+    pub fn at(&self, i: usize) -> u32
         requires { IsReached self.now (i + 1) }
         ensures { result ≡ length_at self.now i }
     {
@@ -166,38 +157,68 @@ pub(crate) fn list_length(lengths: &Lengths, from: usize, count: usize) -> u32
     }
 }
 
-/// The length of the text of a struct whose fields' lengths are at a place of each of these.
-pub(crate) fn row_length(kids: &[Lengths], place: usize) -> u32
-    requires { AreReached kids.now (place + 1) }
-    ensures { (row : List Value) → AreFieldLengths kids.now place row → result ≡ text_length (Fields (values row)) }
-{
-    let mut sum = 0;
-    for k in 0..kids.len() {
-        sum = with_part(sum, k as u64, kids[k].at(place));
-    }
-    plus(sum, 2)
+/// The lengths of the texts of a struct's fields: of all fields that have one for all rows their sum, and which fields have one for each
+/// row.
+#[derive(Drop)]
+pub struct FieldSums {
+    same: u32,
+    own: Vec<usize>,
 }
 
-/// Whether all items of each of these have one length.
-fn are_same(kids: &[Lengths]) -> bool
-    ensures { result ≡ true → AreSame kids.now }
+/// Those of fields with these lengths.
+pub fn field_sums(alloc: Global, kids: &[Lengths]) -> Result<FieldSums, NoMemory>
+    ensures { IfOk result (λ sums. AreSums kids.now sums) }
 {
+    let mut same = 0;
+    let mut own = Vec::new(alloc);
     for k in 0..kids.len() {
-        if !kids[k].is_same() {
-            return false;
+        match &kids[k] {
+            Lengths::Same(one) => same = plus(same, *one),
+            Lengths::Own(_) => own.push(k)?,
         }
     }
-    true
+    Ok(FieldSums { same, own })
+}
+
+/// The length of the text of a struct of this many fields, whose texts have so many bytes together.
+fn braced(sum: u32, count: usize) -> u32
+    ensures { result ≡ capped (sum + (count - 1) + 2) }
+{
+    plus(plus(sum, counted(count.saturating_sub(1))), 2)
+}
+
+/// The length of the text of a struct whose fields' lengths are at a place of each of these. Only those are looked at that differ.
+pub(crate) fn row_length(kids: &[Lengths], sums: &FieldSums, place: usize) -> u32
+    requires reached { AreReached kids.now (place + 1) }
+    requires sums { AreSums kids.now sums.now }
+    ensures { (row : List Value) → AreFieldLengths kids.now place row → result ≡ text_length (Fields (values row)) }
+{
+    braced(with_own(kids, &sums.own, sums.same, place), kids.len())
+}
+
+/// A sum, and with it the lengths at a place of the fields of these numbers.
+fn with_own(kids: &[Lengths], own: &[usize], same: u32, place: usize) -> u32
+    requires reached { AreReached kids.now (place + 1) }
+    requires below { (q : ℕ) → q < length own.now → get_or own.now q 0 < length kids.now }
+    ensures { capped result ≡ capped (same + some_fields kids.now place own.now) }
+{
+    let mut sum = same;
+    for q in 0..own.len() {
+        let k = own[q];
+        sum = plus(sum, kids[k].at(place));
+    }
+    sum
 }
 
 /// The length of the text of a struct whose fields' lengths are the same at each place; none where one's differ.
-pub(crate) fn same_row(kids: &[Lengths]) -> Option<u32>
+pub(crate) fn same_row(kids: &[Lengths], sums: &FieldSums) -> Option<u32>
+    requires { AreSums kids.now sums.now }
     ensures { IfSome result (λ length. (row : List Value) (place : ℕ) → AreFieldLengths kids.now place row → length ≡ text_length (Fields (values row))) }
 {
-    if !are_same(kids) {
+    if sums.own.len() > 0 {
         return None;
     }
-    Some(row_length(kids, 0))
+    Some(braced(sums.same, kids.len()))
 }
 
 /// The length in bytes of `ok` and lines of texts of these lengths.

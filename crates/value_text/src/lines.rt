@@ -12,7 +12,7 @@ ghost use Rattle.data_types.specs.ValueTexts.{lines_text, text_limit, value_line
 use crate::bound::text_bound;
 use crate::bounded::BoundedText;
 use crate::measure::text_length;
-use crate::table::{is_table, push_rows};
+use crate::table::{fields_of, is_table, push_rows};
 use crate::value::{count_items, push_value};
 use arr_import::Col;
 use data_types::Typed;
@@ -55,7 +55,8 @@ fn push_items(
     text.has_room(count * 2)?;
     if is_table(typed) && col.n_children() as u64 <= count {
         let columns = col.columns(alloc)?;
-        return push_rows(text, col, &columns);
+        let fields = fields_of(alloc, &columns)?;
+        return push_rows(text, col, &fields);
     }
     push_lines(text, col)
 }

@@ -10,17 +10,18 @@ ghost use Rattle.layout_rules.specs.Values.{tree_items, value_at, values_of};
 ghost use Rattle.layout_rules.specs.Walk.{LayoutOk};
 ghost use Rattle.arr_import.specs.Cols.{window_of};
 ghost use Rattle.arr_import.specs.Window.{whole};
-ghost use Rattle.value_text.specs.Lengths.{AreLengths, Tells, TellsKids, IsNested, capped, text_length};
+ghost use Rattle.value_text.specs.Lengths.{AreLengths, AreSums, Tells, TellsKids, IsNested, capped, text_length};
 ghost use Rattle.data_types.specs.ValueTexts.{lines_text};
 
 use crate::lengths::{
-    Lengths, bits_length, bytes_length, lines_length, truth_length, whole_length,
+    FieldSums, Lengths, bits_length, bytes_length, field_sums, lines_length, truth_length,
+    whole_length,
 };
-use crate::placed::{fixed_list_at, index_at, list_at, nested_is, row_at, same_length};
+use crate::placed::{fixed_list_at, index_at, list_at, nested_is, same_length, struct_length_at};
 use crate::value::{count_items, number};
 use crate::views::view_lengths;
 use arr_import::{Col, ValueRef};
-use data_types::{Storage, Typed, storage_of};
+use data_types::{Storage, Typed, kinds_of_typed, storage_of};
 use layout_rules::{lawful_parts, lawful_root};
 use raw_array::RawArray;
 use std::alloc::Global;
@@ -33,8 +34,35 @@ pub(crate) fn text_length(alloc: Global, typed: &Typed, array: &RawArray) -> Res
     ensures { IfOk result (λ count. count ≡ capped (length (lines_text (values_of (typed_of typed.now) array.now)))) }
 {
     lawful_root(typed, array);
-    let lengths = lengths_of(alloc, typed, array)?;
+    let lengths = measured_lengths(alloc, typed, array)?;
     Ok(lines_length(&lengths, array.length() as u64))
+}
+
+/// The length in bytes of the text of each item of a lawful array's window, where 2^31 + 1 stands for each above 2^31. Each item that
+/// the buffers of the array and of the arrays below it hold is measured once, whatever points at it, and each byte is read once. Items
+/// without bytes cost nothing, however many they are.
+pub fn measured_lengths(alloc: Global, typed: &Typed, array: &RawArray) -> Result<Lengths, NoMemory>
+    requires types { TypedOk (typed_of typed.now) }
+    requires lawful { LayoutOk (typed_of typed.now) array.now }
+    ensures { IfOk result (λ lengths. Tells lengths (value_at (typed_of typed.now) array.now) (tree_items array.now)) }
+{
+    lengths_of(alloc, typed, array)
+}
+
+/// The same of each child of a lawful array.
+pub fn children_measured(
+    alloc: Global,
+    typed: &Typed,
+    array: &RawArray,
+) -> Result<Vec<Lengths>, NoMemory>
+    requires types { TypedOk (typed_of typed.now) }
+    requires lawful { LayoutOk (typed_of typed.now) array.now }
+    ensures { IfOk result (λ kids. TellsKids kids.items (kids_of typed.now) array.now (length (kids_of typed.now))) }
+{
+    kinds_of_typed(typed);
+    lawful_root(typed, array);
+    lawful_parts(typed, array);
+    kid_lengths(alloc, &typed.kids, array)
 }
 
 /// How many items that no buffer holds are measured one by one at most.
@@ -189,12 +217,13 @@ fn own_lengths(
     requires kids { TellsKids kids.now (kids_of typed.now) array.now (length (kids_of typed.now)) }
     ensures { IfOk result (λ lengths. Tells lengths (value_at (typed_of typed.now) array.now) (tree_items array.now)) }
 {
-    if let Some(length) = same_length(typed, array, kids) {
+    let sums = field_sums(alloc, kids)?;
+    if let Some(length) = same_length(typed, array, kids, &sums) {
         return Ok(Lengths::Same(length));
     }
     match storage_of(&typed.kind) {
         Storage::Views { .. } => view_lengths(alloc, typed, array),
-        _ => item_lengths(alloc, typed, array, kids),
+        _ => item_lengths(alloc, typed, array, kids, &sums),
     }
 }
 
@@ -204,11 +233,13 @@ fn item_lengths(
     typed: &Typed,
     array: &RawArray,
     kids: &[Lengths],
+    sums: &FieldSums,
 ) -> Result<Lengths, NoMemory>
     requires lawful { LayoutOk (typed_of typed.now) array.now }
     requires types { TypedOk (typed_of typed.now) }
     requires own { dict_in (out-Typed typed.now).dict ≡ None }
     requires kids { TellsKids kids.now (kids_of typed.now) array.now (length (kids_of typed.now)) }
+    requires sums { AreSums kids.now sums.now }
     ensures { IfOk result (λ lengths. Tells lengths (value_at (typed_of typed.now) array.now) (tree_items array.now)) }
 {
     let col = Col::of(typed, array);
@@ -216,7 +247,7 @@ fn item_lengths(
     let mut room = Vec::new(alloc);
     let mut lengths = Vec::with_capacity(alloc, count as usize)?;
     for i in 0..count {
-        lengths.push(item_length(&col, typed, array, kids, i, &mut room)?)?;
+        lengths.push(item_length(&col, typed, array, kids, sums, i, &mut room)?)?;
     }
     Ok(Lengths::Own(lengths))
 }
@@ -227,6 +258,7 @@ fn item_length(
     typed: &Typed,
     array: &RawArray,
     kids: &[Lengths],
+    sums: &FieldSums,
     i: u64,
     room: &mut Vec<u8>,
 ) -> Result<u32, NoMemory>
@@ -234,6 +266,7 @@ fn item_length(
     requires types { NodesOk (typed_of typed.now) }
     requires own { dict_in (out-Typed typed.now).dict ≡ None }
     requires kids { TellsKids kids.now (kids_of typed.now) array.now (length (kids_of typed.now)) }
+    requires sums { AreSums kids.now sums.now }
     requires window { window_of col.now ≡ whole (typed_of typed.now) array.now }
     requires inside { i < tree_items array.now }
     requires small { i < 2 ^ 63 }
@@ -245,16 +278,17 @@ fn item_length(
         ValueRef::Whole(whole) => whole_length(whole, room),
         ValueRef::Bits(bits) => bits_length(bits, room),
         ValueRef::Bytes(bytes) => Ok(bytes_length(bytes)),
-        ValueRef::Items(_) | ValueRef::Struct => Ok(nested_length(typed, array, kids, i)),
+        ValueRef::Items(_) | ValueRef::Struct => Ok(nested_length(typed, array, kids, sums, i)),
     }
 }
 
 /// The length of the text of a list or a struct.
-fn nested_length(typed: &Typed, array: &RawArray, kids: &[Lengths], i: u64) -> u32
+fn nested_length(typed: &Typed, array: &RawArray, kids: &[Lengths], sums: &FieldSums, i: u64) -> u32
     requires lawful { LayoutOk (typed_of typed.now) array.now }
     requires types { NodesOk (typed_of typed.now) }
     requires own { dict_in (out-Typed typed.now).dict ≡ None }
     requires kids { TellsKids kids.now (kids_of typed.now) array.now (length (kids_of typed.now)) }
+    requires sums { AreSums kids.now sums.now }
     requires inside { i < tree_items array.now }
     requires nested { IsNested (value_at (typed_of typed.now) array.now i) }
     ensures { result ≡ text_length (value_at (typed_of typed.now) array.now i) }
@@ -263,7 +297,7 @@ fn nested_length(typed: &Typed, array: &RawArray, kids: &[Lengths], i: u64) -> u
     match storage_of(&typed.kind) {
         Storage::Lists { wide } => list_at(wide, typed, array, kids, i),
         Storage::FixedLists { size } => fixed_list_at(size, typed, array, kids, i),
-        Storage::Children => row_at(typed, array, kids, i),
+        Storage::Children => struct_length_at(typed, array, kids, sums, i),
         _ => 0,
     }
 }

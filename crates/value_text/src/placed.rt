@@ -15,9 +15,9 @@ ghost use Rattle.layout_rules.specs.Walk.{LayoutOk};
 ghost use Rattle.arr_import.specs.StoredItems.{AreItemsThere, IsIndexThere, IsListStorage, IsThere};
 ghost use Rattle.arr_import.specs.Window.{index_at as index_in};
 ghost use Rattle.layout_rules.specs.Rules.{window_limit};
-ghost use Rattle.value_text.specs.Lengths.{TellsKids, ArePartsStorage, IsEmptyStorage, IsNested, IsNestedAt, text_length};
+ghost use Rattle.value_text.specs.Lengths.{AreSums, TellsKids, ArePartsStorage, IsEmptyStorage, IsNested, IsNestedAt, text_length};
 
-use crate::lengths::{Lengths, list_length, row_length, same_list, same_row};
+use crate::lengths::{FieldSums, Lengths, list_length, row_length, same_list, same_row};
 use arr_import::{buffer_bytes, start_at, truth_at, validity_of, whole_at};
 use data_types::{Storage, Typed, kinds_of_typed, storage_of};
 use layout_rules::{lawful_items_lie_within, lawful_parts, lawful_root};
@@ -124,16 +124,37 @@ fn fields_are_there(typed: &Typed, array: &RawArray)
     lawful_items_lie_within(typed, array);
 }
 
-/// The length of the text of a struct.
-pub(crate) fn row_at(typed: &Typed, array: &RawArray, kids: &[Lengths], i: u64) -> u32
+/// The length of the text of a field of a struct.
+pub fn field_length_at(typed: &Typed, array: &RawArray, kids: &[Lengths], k: usize, i: u64) -> u32
     requires lawful { LayoutOk (typed_of typed.now) array.now }
     requires kids { TellsKids kids.now (kids_of typed.now) array.now (length (kids_of typed.now)) }
+    requires field { k < length (kids_of typed.now) }
+    requires inside { i < tree_items array.now }
+    requires storage { storage_is (kind_of typed.now) ≡ storages.Children }
+    ensures field { k < length (row_items (typed_of typed.now) array.now i) }
+    ensures length { result ≡ text_length (get_or (row_items (typed_of typed.now) array.now i) k Null) }
+{
+    fields_are_there(typed, array);
+    kids[k].at(place_of(typed, array, i) as usize)
+}
+
+/// The length of the text of a struct.
+pub fn struct_length_at(
+    typed: &Typed,
+    array: &RawArray,
+    kids: &[Lengths],
+    sums: &FieldSums,
+    i: u64,
+) -> u32
+    requires lawful { LayoutOk (typed_of typed.now) array.now }
+    requires kids { TellsKids kids.now (kids_of typed.now) array.now (length (kids_of typed.now)) }
+    requires sums { AreSums kids.now sums.now }
     requires inside { i < tree_items array.now }
     requires storage { storage_is (kind_of typed.now) ≡ storages.Children }
     ensures { result ≡ text_length (Fields (values (row_items (typed_of typed.now) array.now i))) }
 {
     fields_are_there(typed, array);
-    row_length(kids, place_of(typed, array, i) as usize)
+    row_length(kids, sums, place_of(typed, array, i) as usize)
 }
 
 /// Items of no bytes, and nulls of a type without values, have a text of one byte.
@@ -194,26 +215,33 @@ fn same_fixed_lists(size: u32, typed: &Typed, array: &RawArray, kids: &[Lengths]
 }
 
 /// The one length of the texts of all structs without validity bits; none where a field's differ.
-fn same_structs(typed: &Typed, array: &RawArray, kids: &[Lengths]) -> Option<u32>
+fn same_structs(typed: &Typed, array: &RawArray, kids: &[Lengths], sums: &FieldSums) -> Option<u32>
     requires lawful { LayoutOk (typed_of typed.now) array.now }
     requires types { NodesOk (typed_of typed.now) }
     requires own { dict_in (out-Typed typed.now).dict ≡ None }
     requires kids { TellsKids kids.now (kids_of typed.now) array.now (length (kids_of typed.now)) }
+    requires sums { AreSums kids.now sums.now }
     requires valid { buffer (members_of array.now) 0 ≡ None }
     requires storage { storage_is (kind_of typed.now) ≡ storages.Children }
     ensures { IfSome result (λ length. (i : ℕ) → i < tree_items array.now → length ≡ text_length (value_at (typed_of typed.now) array.now i)) }
 {
     parts_are_whole(typed, array);
     fields_are_there(typed, array);
-    same_row(kids)
+    same_row(kids, sums)
 }
 
 /// The one length of the texts of all items of an array without bytes for each, however many they are. None of any other array.
-pub(crate) fn same_length(typed: &Typed, array: &RawArray, kids: &[Lengths]) -> Option<u32>
+pub(crate) fn same_length(
+    typed: &Typed,
+    array: &RawArray,
+    kids: &[Lengths],
+    sums: &FieldSums,
+) -> Option<u32>
     requires lawful { LayoutOk (typed_of typed.now) array.now }
     requires types { NodesOk (typed_of typed.now) }
     requires own { dict_in (out-Typed typed.now).dict ≡ None }
     requires kids { TellsKids kids.now (kids_of typed.now) array.now (length (kids_of typed.now)) }
+    requires sums { AreSums kids.now sums.now }
     ensures { IfSome result (λ length. (i : ℕ) → i < tree_items array.now → length ≡ text_length (value_at (typed_of typed.now) array.now i)) }
 {
     lawful_root(typed, array);
@@ -230,7 +258,7 @@ pub(crate) fn same_length(typed: &Typed, array: &RawArray, kids: &[Lengths]) -> 
     }
     match storage {
         Storage::FixedLists { size } => same_fixed_lists(size, typed, array, kids),
-        Storage::Children => same_structs(typed, array, kids),
+        Storage::Children => same_structs(typed, array, kids, sums),
         _ => None,
     }
 }

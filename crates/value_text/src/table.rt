@@ -1,20 +1,24 @@
 //! The rows of a struct column, the columns of whose fields are looked up once.
-ghost use Rattle.std.specs.Prelude.{◌≡◌, None, true, ◌+◌, ◌<◌, ◌++◌, ◌^◌, ℕ, All, OnOk, get_or, length, map};
+ghost use Rattle.std.specs.Prelude.{◌≡◌, None, true, ◌+◌, ◌<◌, ◌++◌, ◌^◌, ℕ, All, IfOk, OnOk, if◌then◌else◌, get_or, length, map};
 ghost use Rattle.std.specs.List.{flat_map};
 ghost use Rattle.data_types.specs.Value.{values};
-ghost use Rattle.data_types.specs.Value.Value.{Fields};
+ghost use Rattle.data_types.specs.Value.Value.{Fields, Null};
 ghost use Rattle.tree_model.specs.Tree.{dictionary_of};
 ghost use Rattle.data_types.specs.TypedView.{typed_of};
 ghost use Rattle.layout_rules.specs.Values.{row_items};
-ghost use Rattle.arr_import.specs.declared.col.Col.{Col as ACol};
 ghost use Rattle.arr_import.specs.Cols.{window_of};
 ghost use Rattle.arr_import.specs.Window.{IsStruct, item_at, items_of};
+ghost use Rattle.arr_import.specs.Plain.{IsItemThere, IsPlainStorage, is_valid_in, storage_in, valid_item};
 ghost use Rattle.data_types.specs.ValueTexts.{value_line, value_text};
+ghost use Rattle.value_text.specs.Behind.{item_text};
+ghost use Rattle.value_text.specs.Fields.{IsRead};
+ghost use Rattle.value_text.specs.declared.table.Field.{Field as AField};
 
 use crate::bounded::BoundedText;
-use crate::value::{count_items, number, push_part, push_value};
-use arr_import::{Col, ValueRef};
-use data_types::{DataType, Typed, kinds_of_typed};
+use crate::value::{count_items, number, push_float, push_part, push_text, push_truth, push_value};
+use arr_import::{Col, Plain, ValueRef};
+use data_types::{DataType, Storage, Typed, kinds_of_typed};
+use std::alloc::Global;
 use unit_pass::NoMemory;
 
 /// Whether the items of a column of these kinds are rows of its own children: a struct without a dictionary.
@@ -29,30 +33,98 @@ pub(crate) fn is_table(typed: &Typed) -> bool
     }
 }
 
-/// Appends the text of a struct of item `i` of each of these columns.
-fn push_fields(text: &mut BoundedText, columns: &[Col<'_>], i: u64) -> Result<(), NoMemory>
-    requires inside { (k : ℕ) (d : ACol) → k < length columns.now → i < (window_of (get_or columns.now k d)).count }
+/// A column of a struct's fields, and its items by their places where they are stored so.
+#[derive(Clone, Copy)]
+pub(crate) struct Field<'a> {
+    items: Col<'a>,
+    plain: Option<Plain<'a>>,
+}
+
+/// The columns as fields.
+pub(crate) fn fields_of<'a>(alloc: Global, columns: &[Col<'a>]) -> Result<Vec<Field<'a>>, NoMemory>
+    ensures columns { IfOk result (λ fields. map (λ f. f.items) fields.items ≡ columns.now) }
+    ensures read { IfOk result (λ fields. All IsRead fields.items) }
+{
+    let mut fields = Vec::with_capacity(alloc, columns.len())?;
+    for column in columns {
+        fields.push(Field {
+            items: *column,
+            plain: column.plain(),
+        })?;
+    }
+    Ok(fields)
+}
+
+/// Appends the text of an item that is stored by its place.
+#[inline(always)]
+fn push_plain(text: &mut BoundedText, items: &Plain<'_>, i: u64) -> Result<(), NoMemory>
+    requires there { IsItemThere items.now i }
+    requires stored { IsPlainStorage (storage_in items.now) }
+    ensures { OnOk result (text.new ≡ text.old ++ value_text (if is_valid_in items.now i then valid_item items.now i else Null)) }
+{
+    if !items.is_valid(i) {
+        return text.push(b'~');
+    }
+    match items.storage() {
+        Storage::Between { wide, .. } => push_text(text, items.between(wide, i)),
+        Storage::Wholes { bits, signed } => text.push_whole(items.whole(bits, signed, i)),
+        Storage::Floats { bits } => push_float(text, items.float_bits(bits, i)),
+        Storage::Sized { size } => push_text(text, items.sized(size, i)),
+        Storage::Truths => push_truth(text, items.truth(i)),
+        _ => Ok(()),
+    }
+}
+
+/// Appends the text of item `i` of a field.
+#[inline(always)]
+fn push_field(
+    text: &mut BoundedText,
+    number: u64,
+    field: &Field<'_>,
+    i: u64,
+) -> Result<(), NoMemory>
+    requires read { IsRead field.now }
+    requires inside { i < (window_of field.now.items).count }
     requires small { i < 2 ^ 63 }
-    ensures { OnOk result (text.new ≡ text.old ++ value_text (Fields (values (map (λ c. item_at (window_of c) i) columns.now)))) }
+    ensures { OnOk result (text.new ≡ text.old ++ item_text number (item_at (window_of field.now.items) i)) }
+{
+    match &field.plain {
+        Some(items) => {
+            if number > 0 {
+                text.push(b',')?;
+            }
+            push_plain(text, items, i)
+        }
+        None => push_part(text, number, &field.items, i),
+    }
+}
+
+/// Appends the text of a struct of item `i` of each of these columns.
+fn push_fields(text: &mut BoundedText, fields: &[Field<'_>], i: u64) -> Result<(), NoMemory>
+    requires read { All IsRead fields.now }
+    requires inside { (k : ℕ) (d : AField) → k < length fields.now → i < (window_of (get_or fields.now k d).items).count }
+    requires small { i < 2 ^ 63 }
+    ensures { OnOk result (text.new ≡ text.old ++ value_text (Fields (values (map (λ f. item_at (window_of f.items) i) fields.now)))) }
 {
     text.push(b'{')?;
-    for k in 0..columns.len() {
-        push_part(text, k as u64, &columns[k], i)?;
+    for k in 0..fields.len() {
+        push_field(text, k as u64, &fields[k], i)?;
     }
     text.push(b'}')
 }
 
-/// Appends the text of item `i` of a struct column with these columns of its fields.
+/// Appends the text of item `i` of a struct column with these fields.
 fn push_row(
     text: &mut BoundedText,
     table: &Col<'_>,
-    columns: &[Col<'_>],
+    fields: &[Field<'_>],
     i: u64,
 ) -> Result<(), NoMemory>
     requires own { dictionary_of (window_of table.now).typed ≡ None }
-    requires rows { (j : ℕ) → map (λ c. item_at (window_of c) j) columns.now
+    requires rows { (j : ℕ) → map (λ f. item_at (window_of f.items) j) fields.now
         ≡ row_items (window_of table.now).typed (window_of table.now).array ((window_of table.now).start + j) }
-    requires counts { All (λ c. (window_of c).count ≡ (window_of table.now).count) columns.now }
+    requires read { All IsRead fields.now }
+    requires counts { All (λ f. (window_of f.items).count ≡ (window_of table.now).count) fields.now }
     requires inside { i < (window_of table.now).count }
     requires small { i < 2 ^ 63 }
     ensures { OnOk result (text.new ≡ text.old ++ value_text (item_at (window_of table.now) i)) }
@@ -60,26 +132,27 @@ fn push_row(
     match table.value(number(i)) {
         ValueRef::Struct => {
             let _home = table.home(number(i));
-            push_fields(text, columns, i)
+            push_fields(text, fields, i)
         }
         _ => push_value(text, table, i),
     }
 }
 
-/// Appends a line for each item of a struct column with these columns of its fields.
+/// Appends a line for each item of a struct column with these fields.
 pub(crate) fn push_rows(
     text: &mut BoundedText,
     table: &Col<'_>,
-    columns: &[Col<'_>],
+    fields: &[Field<'_>],
 ) -> Result<(), NoMemory>
     requires own { dictionary_of (window_of table.now).typed ≡ None }
-    requires rows { (j : ℕ) → map (λ c. item_at (window_of c) j) columns.now
+    requires rows { (j : ℕ) → map (λ f. item_at (window_of f.items) j) fields.now
         ≡ row_items (window_of table.now).typed (window_of table.now).array ((window_of table.now).start + j) }
-    requires counts { All (λ c. (window_of c).count ≡ (window_of table.now).count) columns.now }
+    requires read { All IsRead fields.now }
+    requires counts { All (λ f. (window_of f.items).count ≡ (window_of table.now).count) fields.now }
     ensures { OnOk result (text.new ≡ text.old ++ flat_map value_line (items_of (window_of table.now))) }
 {
     for i in 0..count_items(table) {
-        push_row(text, table, columns, i)?;
+        push_row(text, table, fields, i)?;
         text.push(b'\n')?;
     }
     Ok(())

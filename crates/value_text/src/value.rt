@@ -30,7 +30,7 @@ pub(crate) fn number(i: u64) -> i64
 }
 
 /// Appends a truth value.
-fn push_truth(text: &mut BoundedText, truth: bool) -> Result<(), NoMemory>
+pub(crate) fn push_truth(text: &mut BoundedText, truth: bool) -> Result<(), NoMemory>
     ensures { OnOk result (text.new ≡ text.old ++ value_text (Truth truth)) }
 {
     if truth {
@@ -41,7 +41,7 @@ fn push_truth(text: &mut BoundedText, truth: bool) -> Result<(), NoMemory>
 }
 
 /// Appends the bits of a float.
-fn push_float(text: &mut BoundedText, bits: u64) -> Result<(), NoMemory>
+pub(crate) fn push_float(text: &mut BoundedText, bits: u64) -> Result<(), NoMemory>
     ensures { OnOk result (text.new ≡ text.old ++ value_text (Bits bits)) }
 {
     text.push(b'x')?;
@@ -49,7 +49,7 @@ fn push_float(text: &mut BoundedText, bits: u64) -> Result<(), NoMemory>
 }
 
 /// Appends bytes.
-fn push_text(text: &mut BoundedText, bytes: &[u8]) -> Result<(), NoMemory>
+pub(crate) fn push_text(text: &mut BoundedText, bytes: &[u8]) -> Result<(), NoMemory>
     ensures { OnOk result (text.new ≡ text.old ++ value_text (Bytes bytes.now)) }
 {
     text.push(b'=')?;

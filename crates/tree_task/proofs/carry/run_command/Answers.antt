@@ -5,7 +5,7 @@ use Rattle.tree_task.specs.Answer.{AreBytes, Text, input_limit}
 use Rattle.tree_task.specs.Faults.{cause_of, is_write_fault}
 use Rattle.tree_task.specs.Over.{RanOver}
 use Rattle.tree_task.specs.declared.fault.TreeRunFault.TheVariants as run
-use Rattle.tree_task.proofs.Carried.{failed-at-write, failed-not_reading, failed-not_words}
+use Rattle.tree_task.proofs.Carried.{failed-at-write, failed-not_reading, failed-not_words, failed-read, read-of}
 use Rattle.tree_task.proofs.Carried.{at-err, done-over, failed-over, keeps-same, no-ok, no-write, not_reading-of, not_words-of, not_writing-of}
 use Rattle.tree_task.proofs.Carried.{of-text, one-error, refused-result, text-refused-with, the-error, unread-failed, unread-not_words}
 use Rattle.tree_task.proofs.Carried.{unread-not_writing, unread-refused, untrue, within}
@@ -30,6 +30,7 @@ returns-in_err-bytes g c =
             (unread-failed rises told fault why),
       );
       read_to_end = no-ok _ _ _ same;
+      fault_read = at-err _ _ _ same c.in_err-bytes.ensures.read;
       not_words = λ e. unread-not_words rises told fault _ why (one-error _ fault run.Words same e);
       read_fault = λ e. unread-failed rises told fault why (one-error _ fault run.ReadFault same e);
       write_fault = no-write _ _ fault same unwritten;
@@ -59,6 +60,7 @@ returns-in_err-text g c =
             (text-refused-with c.args.command bytes fits fault why) (not_reading-of _ fault of),
       );
       read_to_end = no-ok _ _ _ same;
+      fault_read = at-err _ _ _ same (read-of (cause_of fault) of _ _ c.in_ok-bytes.ensures.end);
       not_words = λ e. not_words-of _ fault of (one-error _ fault run.Words same e);
       read_fault = λ e. not_reading-of _ fault of (one-error _ fault run.ReadFault same e);
       write_fault = no-write _ _ fault same unwritten;
@@ -86,6 +88,7 @@ returns-in-Ok g c =
             (within c.args.command bytes fits (Text text) c.in_ok-text.ensures.text) wrote c.in_ok-text.ensures.counts,
       );
       read_to_end = c.in_ok-bytes.ensures.end;
+      fault_read = tt;
       not_words = λ e. cc;
       read_fault = λ e. absurd (cc);
       write_fault = tt;
@@ -121,6 +124,7 @@ returns g c =
             (within c.args.command bytes fits (Text text) c.in_ok-text.ensures.text) least wrote c.in-Err.ensures.failed),
       );
       read_to_end = tt;
+      fault_read = failed-read _ _ taken c.from.result c.from.ensures c.in_ok-bytes.ensures.end;
       not_words = λ e. failed-not_words _ taken c.from.result c.from.ensures e;
       read_fault = λ e. failed-not_reading _ taken c.from.result c.from.ensures e;
       write_fault = failed-at-write _ taken c.from.result c.from.ensures c.in-Err.ensures.failed;

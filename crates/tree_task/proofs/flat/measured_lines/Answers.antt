@@ -9,5 +9,5 @@ use Rattle.tree_task.proofs.flat.measured_lines.Goals as goal
 pub returns : goal.returns
 returns c =
     let told = c.lines.result in
-    subst (λ (w : RunTree). IfOk told (λ text. text.items ≡ lines_text (run_values w c.args.array.now))) c.of-col.ensures.kinds
-    (subst (λ (a : ArrayTree). IfOk told (λ text. text.items ≡ lines_text (run_values (kinds_in c.of-col.result) a))) c.of-col.ensures.array c.lines.ensures)
+    subst (λ (w : RunTree). IfOk told (λ text. text.items ≡ lines_text (run_values w c.args.array.now))) c.of.ensures.kinds
+    (subst (λ (a : ArrayTree). IfOk told (λ text. text.items ≡ lines_text (run_values (kinds_in c.of.result) a))) c.of.ensures.array c.lines.ensures)

@@ -1,7 +1,7 @@
 use Rattle.data_types.specs.TypedView.{typed_of}
 use Rattle.tree_task.specs.ListsAnswer.{nested}
 use Rattle.tree_task.proofs.Chunks.{said-one}
-use Rattle.tree_task.proofs.NewRows.{rows-fault, rows-text}
+use Rattle.tree_task.proofs.NewRows.{both-made, rows-fault, rows-text}
 use Rattle.tree_task.proofs.nested.nest_text.Goals as goal
 
 pub returns-in-Ok-clause-text : goal.returns-in-Ok-clause-text
@@ -16,3 +16,8 @@ returns-in-Ok-clause-fault c =
 
 pub returns-in-Err-clause-fault : goal.returns-in-Err-clause-fault
 returns-in-Err-clause-fault c = said-one (nested c.args.column) c.in-Err.ensures.fault
+
+pub returns-in-Ok-clause-made : goal.returns-in-Ok-clause-made
+returns-in-Ok-clause-made c =
+    both-made c.nested_text.result _ _ _ (λ blocks nodes. (typed_of c.in-Ok.typed, c.in-Ok.ensures.found, blocks, nodes)) c.nested_text.ensures.blocks
+    c.nested_text.ensures.nodes

@@ -1,6 +1,4 @@
 use Rattle.std.proofs.Common.{rules, ◌≡◌, ◌+◌, ◌<◌, ◌∙◌, List, length, map, get_or, sym, ap, subst}
-use Rattle.std.specs.Prelude.{Vec, ℕ}
-use Rattle.std.specs.Global.{Global}
 use Rattle.tree_model.specs.Tree.{Released, child_at, children_of}
 use Rattle.raw_array.specs.Members.{ArrayTree}
 use Rattle.data_types.specs.KindTrees.{KindTree}
@@ -9,12 +7,13 @@ use Rattle.data_types.proofs.Levels.{get_or-typed}
 use Rattle.layout_rules.specs.Values.{tree_items, value_at}
 use Rattle.root_check.proofs.ChildFaults.{valid_kid}
 use Rattle.union_cols.proofs.Holding.{kid_lawful}
-use Rattle.value_text.specs.Lengths.{AreKidLengths, AreLengths}
-use Rattle.value_text.proofs.KidLengths.{more-kids}
+use Rattle.value_text.specs.Lengths.{TellsKids, Tells}
+use Rattle.value_text.specs.declared.lengths.Lengths.{Lengths}
+use Rattle.value_text.proofs.KidsTold.{more-told}
 use Rattle.tree_task.proofs.union_length.kid_lengths.Goals as goal
 
-pub measured-requires-clause-lawful : goal.measured-requires-clause-lawful
-measured-requires-clause-lawful c =
+pub measured_lengths-requires-clause-lawful : goal.measured_lengths-requires-clause-lawful
+measured_lengths-requires-clause-lawful c =
     let kids = c.args.typed.now.kids.items in
     let array = c.args.array.now in
     let k = c.loop-k.k in
@@ -23,8 +22,8 @@ measured-requires-clause-lawful c =
     let there : get_or (children_of array) k Released ≡ c.child.result.now = search rules in
     kid_lawful kids (children_of array) k c.index.result.now c.child.result.now c.union_holds.ensures.children inside is there
 
-pub measured-requires-clause-types : goal.measured-requires-clause-types
-measured-requires-clause-types c =
+pub measured_lengths-requires-clause-types : goal.measured_lengths-requires-clause-types
+measured_lengths-requires-clause-types c =
     let kids = c.args.typed.now.kids.items in
     let k = c.loop-k.k in
     let inside : k < length kids = search rules in
@@ -40,10 +39,10 @@ loop-k-preserved c =
     let inside : k < length kids = search rules in
     let is : get_or kids k kid ≡ kid = search rules in
     let kinds : get_or (map typed_of kids) k Released ≡ typed_of kid = get_or-typed kids k kid inside ∙ ap typed_of is in
-    let v = c.in_ok-measured.field-0 in
-    let there : AreLengths v.items (value_at (typed_of kid) (child_at array k)) (tree_items (child_at array k)) =
-    subst (λ (a : ArrayTree). AreLengths v.items (value_at (typed_of kid) a) (tree_items a)) c.child.ensures c.in_ok-measured.ensures in
-    let one : AreLengths v.items (value_at (get_or (map typed_of kids) k Released) (child_at array k)) (tree_items (child_at array k)) =
-    subst (λ (u : KindTree). AreLengths v.items (value_at u (child_at array k)) (tree_items (child_at array k))) (sym kinds) there in
-    subst (λ (ls : List (Vec ℕ Global)). AreKidLengths ls (map typed_of kids) array (k + 1)) (sym c.in_ok-push.ensures.items)
-    (more-kids c.loop-k.kids.items v (map typed_of kids) array k c.loop-k.invariant one)
+    let v = c.in_ok-measured_lengths.field-0 in
+    let there : Tells v (value_at (typed_of kid) (child_at array k)) (tree_items (child_at array k)) =
+    subst (λ (a : ArrayTree). Tells v (value_at (typed_of kid) a) (tree_items a)) c.child.ensures c.in_ok-measured_lengths.ensures in
+    let one : Tells v (value_at (get_or (map typed_of kids) k Released) (child_at array k)) (tree_items (child_at array k)) =
+    subst (λ (u : KindTree). Tells v (value_at u (child_at array k)) (tree_items (child_at array k))) (sym kinds) there in
+    subst (λ (ls : List Lengths). TellsKids ls (map typed_of kids) array (k + 1)) (sym c.in_ok-push.ensures.items)
+    (more-told c.loop-k.kids.items v (map typed_of kids) array k c.loop-k.invariant one)

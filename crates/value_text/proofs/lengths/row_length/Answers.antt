@@ -1,17 +1,11 @@
-use Rattle.std.proofs.Common.{◌∙◌, ◌<◌, List, length, get_or, take, ap, arith, sym}
-use Rattle.data_types.specs.Value.{Value, Null}
-use Rattle.value_text.specs.Lengths.{AreFieldLengths, capped, length_at}
-use Rattle.value_text.proofs.Parts.{parts, row-more}
+use Rattle.std.proofs.Common.{◌≡◌, List, ap, arith}
+use Rattle.data_types.specs.Value.{Value}
+use Rattle.value_text.specs.Lengths.{AreFieldLengths, some_fields}
+use Rattle.value_text.proofs.LengthSums.{row-long}
 use Rattle.value_text.proofs.lengths.row_length.Goals as goal
 
-pub loop-k-preserved : goal.loop-k-preserved
-loop-k-preserved c =
+pub returns : goal.returns
+returns c = λ (row : List Value) (known : AreFieldLengths c.args.kids.now c.args.place row).
     let kids = c.args.kids.now in
-    let place = c.args.place in
-    let k = c.loop-k.k in
-    let kid = c.index-kids-k.result in
-    λ (row : List Value) (known : AreFieldLengths kids place row).
-    let inside : k < length row = omega (arith, known.many, c.loop-k-test.true) in
-    c.with_part-sum.ensures (parts (take k row)) (get_or row k Null) (c.loop-k.invariant row known)
-    (c.at.ensures ∙ ap (λ ls. length_at ls place) c.index-kids-k.is ∙ known.each k kid c.loop-k-test.true)
-    ∙ ap (λ text. capped (length text)) (sym (row-more row k inside))
+    let long = row-long kids row c.args.place c.args.sums.now.same c.args.sums.now.own.items known c.requires.sums in
+    omega (arith, c.braced.ensures, c.with_own.ensures, ap (some_fields kids c.args.place) c.deref.ensures.value, long)

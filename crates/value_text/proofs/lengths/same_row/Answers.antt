@@ -1,19 +1,16 @@
-use Rattle.std.proofs.Common.{◌∙◌, ◌<◌, ℕ, List, length, get_or}
+use Rattle.std.proofs.Common.{◌≡◌, List, ℕ, [], ◌∷◌, length, ap, refl, arith}
 use Rattle.data_types.specs.Value.{Value}
-use Rattle.value_text.specs.Lengths.{AreFieldLengths}
-use Rattle.value_text.specs.declared.lengths.Lengths.{Lengths}
-use Rattle.value_text.proofs.LengthSums.{same-reached, same-there}
+use Rattle.value_text.specs.Lengths.{AreFieldLengths, some_fields}
+use Rattle.value_text.proofs.LengthSums.{row-long}
 use Rattle.value_text.proofs.lengths.same_row.Goals as goal
 
-pub row_length-requires : goal.row_length-requires
-row_length-requires c = λ (k : ℕ) (d : Lengths) (within : k < length c.args.kids.now).
-    same-reached (get_or c.args.kids.now k d) 1 (c.are_same.ensures c.if-not-are_same.false k d within)
+no-own : (own : List ℕ) → length own ≡ 0 → own ≡ []
+no-own [] none = refl
+no-own (k ∷ ks) none = absurd (omega (arith, none))
 
 pub returns : goal.returns
 returns c = λ (row : List Value) (place : ℕ) (known : AreFieldLengths c.args.kids.now place row).
     let kids = c.args.kids.now in
-    c.row_length.ensures row (record {
-      many = known.many;
-      each = λ (k : ℕ) (d : Lengths) (within : k < length kids).
-          same-there (get_or kids k d) 0 place (c.are_same.ensures c.if-not-are_same.false k d within) ∙ known.each k d within;
-    })
+    let own = c.args.sums.now.own.items in
+    let none = no-own own (omega (arith, c.len.ensures)) in
+    omega (arith, c.braced.ensures, ap (some_fields kids place) none, row-long kids row place c.args.sums.now.same own known c.requires)

@@ -6,4 +6,4 @@ use Rattle.value_text.proofs.table.push_fields.Given as goal
 
 -- the fields so far
 abbrev pub invariant-loop-k : goal.invariant-loop-k
-invariant-loop-k l = l.text ≡ l.initial.text ++ parts (take l.k (map (λ c. item_at (window_of c) l.i) l.columns))
+invariant-loop-k l = l.text ≡ l.initial.text ++ parts (take l.k (map (λ f. item_at (window_of f.items) l.i) l.fields))
