@@ -26,9 +26,11 @@ use Rattle.run_model.specs.declared.fault.RunFault.{RunFault}
 use Rattle.run_model.specs.declared.fault.RunFault.TheVariants as run
 use Rattle.run_model.specs.RunAnswer.{AnswersBytes, AnswersWithin, AreBytes, IsTooLong, answer_of_check, answer_of_columns, answer_of_plan}
 use Rattle.run_model.specs.RunAnswer.{answer_of_rows, input_limit, is_too_long, IsAnswerTo}
+use Rattle.run_model.specs.RunOutcomes.{IsRead}
 use Rattle.pipe_top.specs.Over.{CarriedOver, is_behind_records}
+use Rattle.pipe_top.specs.Ran.{ReadFor}
 use Rattle.pipe_top.specs.Traffic.{CountsTask, ShowsAsked, ShowsTask}
-use Rattle.pipe_top.proofs.Written.{answered, shown-within, some-bytes}
+use Rattle.pipe_top.proofs.Written.{answered, not-long, shown-within, some-bytes}
 
 -- ---- a result that is known
 pub at-ok : {T E : Type 0} (P : T → Type 0) (r : Result T E) (t : T) → r ≡ Ok t → P t → IfOk r P
@@ -73,10 +75,11 @@ loses-nothing None = ([], tt)
 loses-nothing (Some bytes) = ([], refl)
 
 -- ---- the faults that an answer may have
--- the words don't decide it, and neither the source nor the sink failed
+-- neither the words nor the length of the input decide it, and neither the source nor the sink failed
 abbrev pub IsLate : Cause → Type 0
 IsLate OfWords = ⊥
 IsLate OfTexts = ⊥
+IsLate OfLength = ⊥
 IsLate Reading = ⊥
 IsLate (Writing taken) = ⊥
 IsLate _ = Unit {0}
@@ -117,16 +120,30 @@ late-check : (checked : Checked) → LateAnswer (answer_of_check checked)
 late-check (Ok report) = tt
 late-check (Err fault) = tt
 
-late-within : (long : Bool) (task : Task) (bytes : List ℕ) (answer : Answer) → AnswersWithin long task bytes answer → LateAnswer answer
-late-within true task bytes answer is = subst LateAnswer (sym is) tt
-late-within false (Table request) bytes answer is =
+late-task : (task : Task) (bytes : List ℕ) (answer : Answer) → AnswersWithin false task bytes answer → LateAnswer answer
+late-task (Table request) bytes answer is =
     subst LateAnswer (sym is) (late-columns request (header_of (entries_of request.entries) (records_of bytes)) (behind_header (records_of bytes)))
-late-within false Tree bytes answer is = subst LateAnswer (sym is.2) (late-check is.0)
+late-task Tree bytes answer is = subst LateAnswer (sym is.2) (late-check is.0)
 
--- the fault of a task is late
-pub late : (task : Task) (bytes : List ℕ) (fault : RunFault) → (fault ≡ run.NoMemory) ⊎ AnswersBytes task bytes (Fault fault) → IsLate (cause_of fault)
-late task bytes fault (inl none) = subst (λ f. IsLate (cause_of f)) (sym none) tt
-late task bytes fault (inr is) = late-within (is_too_long bytes) task bytes (Fault fault) is
+-- the fault of a task is late, where the input isn't too long
+pub late : (task : Task) (bytes : List ℕ) → length bytes ≤ input_limit → (fault : RunFault)
+    → (fault ≡ run.NoMemory) ⊎ AnswersBytes task bytes (Fault fault) → IsLate (cause_of fault)
+late task bytes fits fault (inl none) = subst (λ f. IsLate (cause_of f)) (sym none) tt
+late task bytes fits fault (inr is) =
+    late-task task bytes (Fault fault) (subst (λ long. AnswersWithin long task bytes (Fault fault)) (not-long (length bytes) fits) is)
+
+-- so it is found once the source was read
+pub late-read : (cause : Cause) → IsLate cause → (rows : Option ℕ) (before after : Option (List ℕ)) → IsRead rows before after
+    → ReadFor cause rows before after
+late-read OfWords l rows before after read = tt
+late-read OfTexts l rows before after read = tt
+late-read OfPlan l rows before after read = read
+late-read OfRecords l rows before after read = read
+late-read OfTree l rows before after read = read
+late-read OfLength l rows before after read = absurd l
+late-read Reading l rows before after read = tt
+late-read (Writing taken) l rows before after read = read
+late-read Memory l rows before after read = tt
 
 -- what isn't late
 pub late-not_early : (cause : Cause) → IsLate cause → decides_early cause ≡ true → ⊥
@@ -135,7 +152,7 @@ late-not_early OfTexts l e = l
 late-not_early OfPlan l e = cc
 late-not_early OfRecords l e = cc
 late-not_early OfTree l e = cc
-late-not_early OfLength l e = cc
+late-not_early OfLength l e = l
 late-not_early Reading l e = l
 late-not_early (Writing taken) l e = l
 late-not_early Memory l e = cc
@@ -213,6 +230,23 @@ before-early run.NoMemory early behind = cc
 pub early-not_behind : (X : Type 0) (fault : RunFault) → (is_early fault ≡ true) ⊎ (fault ≡ run.NoMemory) → is_behind_records fault ≡ true → X
 early-not_behind X fault (inl early) behind = absurd (before-early fault early behind)
 early-not_behind X fault (inr none) behind = absurd (untrue (subst (λ f. is_behind_records f ≡ true) none behind))
+
+-- of the source it says nothing
+early-cause : (cause : Cause) → decides_early cause ≡ true → (rows : Option ℕ) (before after : Option (List ℕ)) → ReadFor cause rows before after
+early-cause OfWords early rows before after = tt
+early-cause OfTexts early rows before after = tt
+early-cause OfPlan early rows before after = absurd (cc)
+early-cause OfRecords early rows before after = absurd (cc)
+early-cause OfTree early rows before after = absurd (cc)
+early-cause OfLength early rows before after = absurd (cc)
+early-cause Reading early rows before after = absurd (cc)
+early-cause (Writing taken) early rows before after = absurd (cc)
+early-cause Memory early rows before after = absurd (cc)
+
+pub early-read : (fault : RunFault) → (is_early fault ≡ true) ⊎ (fault ≡ run.NoMemory) → (rows : Option ℕ) (before after : Option (List ℕ))
+    → ReadFor (cause_of fault) rows before after
+early-read fault (inl early) rows before after = early-cause (cause_of fault) early rows before after
+early-read fault (inr none) rows before after = subst (λ f. ReadFor (cause_of f) rows before after) (sym none) tt
 
 -- ---- the outcome of a task
 

@@ -9,7 +9,7 @@ use Rattle.stream_face.specs.Shown.{Seen}
 use Rattle.run_model.specs.Answer.{Answer, Asks, Task, Text, Tree, Fault, cause_of, Cause, OfWords, OfTexts, OfPlan, OfRecords}
 use Rattle.run_model.specs.Answer.{OfTree, OfLength, Reading, Writing, Memory}
 use Rattle.run_model.specs.MemoryFaults.{has_memory_inside}
-use Rattle.run_model.specs.Outcomes.{AtWriteFault, AtWriting, asked_of, fault_in, is_decided, task_of}
+use Rattle.run_model.specs.Outcomes.{AtWriteFault, AtWriting, asked_of, fault_in, is_decided, is_early, is_write_fault, task_of}
 use Rattle.run_model.specs.declared.asked.Task.{Task as AsksTask}
 use Rattle.run_model.specs.Diagnostics.{Says, Told, Took, audit_if, fault_line}
 use Rattle.run_model.specs.declared.fault.RunFault.{RunFault}
@@ -21,7 +21,8 @@ use Rattle.pipe_top.proofs.Carried.{over-fault}
 use Rattle.pipe_top.proofs.Unshown.{unshown}
 use Rattle.pipe_top.proofs.Written.{some-bytes}
 use Rattle.run_model.specs.RunAnswer.{AreBytes, AreInput, IsAnswer, IsAnswerTo, input_by}
-use Rattle.run_model.specs.RunOutcomes.{GotFirst, GotText}
+use Rattle.run_model.specs.RunOutcomes.{GotFirst, GotText, IsRead}
+use Rattle.pipe_top.specs.Ran.{ReadFor}
 
 -- ---- diagnostics
 
@@ -133,7 +134,7 @@ module _ (words : List (List ℕ)) (request : Result AsksTask RunFault) (carried
       cc
 
   -- what holds of the fault of what was carried out holds of that of the run
-  of-fault : (P : RunFault → Type 0) → IfErr carried P → IfSome fault P
+  pub of-fault : (P : RunFault → Type 0) → IfErr carried P → IfSome fault P
   of-fault P holds = subst (λ o. IfSome o P) (sym told) (go carried holds)
     where
       go : (r : Result (Unit {0}) RunFault) → IfErr r P → IfSome (fault_in r) P
@@ -300,19 +301,75 @@ module _ (words : List (List ℕ)) (request : Result AsksTask RunFault) (carried
         )
     over-input (inr same) over = (over.0, subst (λ r. AreBytes (input_by r left) over.0) same over.1, over.2)
 
-  -- ---- what the tap didn't see
+  -- ---- what is read
 
-  pub unshown-early : (seen shown : Option (List Seen)) → IfErr request (λ _. shown ≡ seen)
-      → (request ≡ Err run.NoMemory) ⊎ ((asked : Result Task RunFault) → Asks words asked → asked ≡ asked_of request)
-      → (f : RunFault) → Asks words (Err f) → shown ≡ seen
-  unshown-early seen shown none (inl memory) f refuses = subst (λ (r : Result AsksTask RunFault). IfErr r (λ _. shown ≡ seen)) memory none
-  unshown-early seen shown none (inr only) f refuses = go request refl none
+  -- where what the words ask for was carried out without a fault, or to a fault that no refused words have
+  pub read-to-end : (rows : Option ℕ) (before after : Option (List ℕ)) → (request ≡ Err run.NoMemory) ⊎ (rows ≡ made_of words)
+      → OnOk carried (IsRead rows before after) → fault ≡ None → IsRead (made_of words) before after
+  read-to-end rows before after (inl memory) read none = absurd (done-asked none memory)
+  read-to-end rows before after (inr same) read none =
+      subst (λ (r : Option ℕ). IsRead r before after) same
+      (subst (λ (r : Result (Unit {0}) RunFault). OnOk r (IsRead rows before after)) (carried-ok none) read)
+
+  pub fault-read : (rows : Option ℕ) (before after : Option (List ℕ)) → (request ≡ Err run.NoMemory) ⊎ (rows ≡ made_of words)
+      → IfErr carried (λ f. ReadFor (cause_of f) rows before after) → IfSome fault (λ f. ReadFor (cause_of f) (made_of words) before after)
+  fault-read rows before after (inl memory) read =
+      of-fault (λ f. ReadFor (cause_of f) (made_of words) before after)
+      (subst (λ (r : Result (Unit {0}) RunFault). IfErr r (λ f. ReadFor (cause_of f) (made_of words) before after)) (sym (memory-carried memory)) tt)
+  fault-read rows before after (inr same) read =
+      of-fault (λ f. ReadFor (cause_of f) (made_of words) before after)
+      (subst (λ (r : Option ℕ). IfErr carried (λ f. ReadFor (cause_of f) r before after)) same read)
+
+  pub read-failed : (rows : Option ℕ) (Rises : Type 0) → (request ≡ Err run.NoMemory) ⊎ (rows ≡ made_of words)
+      → (carried ≡ Err run.ReadFault → (rows ≡ None) × Rises) → fault ≡ Some run.ReadFault → (made_of words ≡ None) × Rises
+  read-failed rows Rises (inl memory) failed is =
+      let never : ◌≡◌ {A = Result (Unit {0}) RunFault} (Err run.NoMemory) (Err run.ReadFault) =
+      sym (memory-carried memory) ∙ carried-err run.ReadFault is in
+      cc
+  read-failed rows Rises (inr same) failed is = let why = failed (carried-err run.ReadFault is) in (sym same ∙ why.0, why.1)
+
+  -- ---- what the words are refused for
+
+  pub refused-for : (request ≡ Err run.NoMemory) ⊎ ((asked : Result Task RunFault) → Asks words asked → asked ≡ asked_of request)
+      → (f : RunFault) → Asks words (Err f) → (fault ≡ Some f) ⊎ (fault ≡ Some run.NoMemory)
+  refused-for (inl memory) f refuses = inr (told ∙ ap fault_in (memory-carried memory))
+  refused-for (inr only) f refuses = go request refl
     where
-      go : (r : Result AsksTask RunFault) → request ≡ r → IfErr r (λ _. shown ≡ seen) → shown ≡ seen
+      go : (r : Result AsksTask RunFault) → request ≡ r → (fault ≡ Some f) ⊎ (fault ≡ Some run.NoMemory)
+      go (Ok t) is =
+          let never : ◌≡◌ {A = Result Task RunFault} (Err f) (Ok (task_of t)) = only (Err f) refuses ∙ ap asked_of is in
+          cc
+      go (Err other) is =
+          let same : ◌≡◌ {A = Result Task RunFault} (Err f) (Err other) = only (Err f) refuses ∙ ap asked_of is in
+          let one : other ≡ f = cc in
+          inl (told ∙ ap fault_in (subst (λ (r : Result AsksTask RunFault). IfErr r (λ e. carried ≡ Err e)) is early) ∙ ap Some one)
+
+  pub refused-only : IfErr carried (λ f. is_early f ≡ true → asked_of request ≡ Err f) → IfSome fault (λ f. is_early f ≡ true → Asks words (Err f))
+  refused-only =
+      then-fault (λ f. is_early f ≡ true → asked_of request ≡ Err f) (λ f. is_early f ≡ true → Asks words (Err f))
+      (λ f is asked before. subst (Asks words) (asked before)
+      (asked-unless (λ memory. false≢true (subst (λ f. is_early f ≡ true) (fault-of-memory f is memory) before))))
+
+  -- what holds where the words are refused
+  pub where-refused : (A : Type 0) → IfErr request (λ _. A)
+      → (request ≡ Err run.NoMemory) ⊎ ((asked : Result Task RunFault) → Asks words asked → asked ≡ asked_of request)
+      → (f : RunFault) → Asks words (Err f) → A
+  where-refused A none (inl memory) f refuses = subst (λ (r : Result AsksTask RunFault). IfErr r (λ _. A)) memory none
+  where-refused A none (inr only) f refuses = go request refl none
+    where
+      go : (r : Result AsksTask RunFault) → request ≡ r → IfErr r (λ _. A) → A
       go (Ok t) is none =
           let never : ◌≡◌ {A = Result Task RunFault} (Err f) (Ok (task_of t)) = only (Err f) refuses ∙ ap asked_of is in
           cc
       go (Err other) is none = none
+
+  -- ---- what the sink didn't get
+
+  pub nothing-written : (A : Type 0) → IfErr carried (λ f. is_write_fault f ≡ false → A) → fault ≡ Some run.NoMemory → A
+  nothing-written A holds is =
+      subst (λ (r : Result (Unit {0}) RunFault). IfErr r (λ f. is_write_fault f ≡ false → A)) (carried-err run.NoMemory is) holds refl
+
+  -- ---- what the tap didn't see
 
   pub unshown-check : (bytes : List ℕ) (taken got : Option (List ℕ)) (seen shown : Option (List Seen)) (old_blocks old_nodes blocks nodes : ℕ)
       → CarriedOver (asked_of request) bytes carried taken got seen shown old_blocks old_nodes blocks nodes → IfErr request (λ _. shown ≡ seen)

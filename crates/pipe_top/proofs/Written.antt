@@ -14,7 +14,7 @@ use Rattle.run_model.specs.RunAnswer.{AnswersBytes, AnswersTask, AnswersWithin, 
 use Rattle.run_model.specs.RunOutcomes.{GotFirst, GotText}
 use Rattle.pipe_top.specs.Traffic.{ShowsAsked, links_of, links_within}
 
-not-long : (n : ℕ) → n ≤ input_limit → nat_lt input_limit n ≡ false
+pub not-long : (n : ℕ) → n ≤ input_limit → nat_lt input_limit n ≡ false
 not-long n fits = grind (arith, nat_tests)
 
 module _ (bytes : List ℕ) (fits : length bytes ≤ input_limit) where

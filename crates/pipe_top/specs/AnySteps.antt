@@ -68,6 +68,13 @@ abbrev pub any_gives : AnyStep → List Row → ArrayTree → Type 0
 any_gives (any.Recode s) rows chunk = HasColumn s.column (map column_of s.out) (rows ∷ []) chunk
 any_gives step rows chunk = Unit {0}
 
+-- the same of the stage of a step of the plan with these columns after it: a dictionary has the distinct values of its chunk's rows, in
+-- order of first appearance, and a column without one has its values as they are
+abbrev pub plan_besides : Step → List Column → List Row → ArrayTree → Type 0
+plan_besides (steps.Dict column) columns rows chunk = HasColumn column columns (rows ∷ []) chunk
+plan_besides (steps.Plain column) columns rows chunk = HasColumn column columns (rows ∷ []) chunk
+plan_besides step columns rows chunk = Unit {0}
+
 -- only totals hold something of the chunks that they took
 abbrev pub any_rests : AnyStep → Bool
 any_rests (any.Totals s) = none_begun s.sums.items

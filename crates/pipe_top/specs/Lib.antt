@@ -3,3 +3,4 @@ pub mod Traffic
 pub mod Begun
 pub mod Over
 pub mod ChainFaults
+pub mod Ran

@@ -115,6 +115,10 @@ impl ChunkStep for AnyStep {
 }
 
 impl PlanStep for AnyStep {
+    ghost use Rattle.pipe_top.specs.AnySteps.{plan_besides};
+
+    ghost besides = { plan_besides };
+
     fn of(alloc: Global, step: Step, out: OutColumns, workers: Workers) -> AnyStep {
         stages::picks_are_distinct();
         stages::stages_keep_columns();

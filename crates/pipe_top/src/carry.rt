@@ -7,11 +7,12 @@ ghost use Rattle.edge_io.specs.Edge.{LosesPrefix, Rose};
 ghost use Rattle.unit_pass.specs.declared.pass.TheConstants.{ROOM};
 ghost use Rattle.csv_model.specs.Made.{made};
 ghost use Rattle.run_model.specs.Words.{most_rows};
-ghost use Rattle.run_model.specs.Answer.{Fault, Text};
+ghost use Rattle.run_model.specs.Answer.{Fault, Text, cause_of};
 ghost use Rattle.run_model.specs.Outcomes.{AtWriteFault, IfTable, asked_of, is_early, is_write_fault, task_of};
 ghost use Rattle.run_model.specs.RunAnswer.{AnswersBytes, AreBytes, IsTooLong, input_by, input_limit};
 ghost use Rattle.run_model.specs.RunOutcomes.{IsRead};
 ghost use Rattle.pipe_top.specs.Over.{CarriedOver, is_behind_records};
+ghost use Rattle.pipe_top.specs.Ran.{ReadFor};
 ghost use Rattle.pipe_top.specs.Traffic.{CountsTask, ShowsAsked, ShowsTask};
 
 use crate::answer::answer_input;
@@ -41,6 +42,7 @@ fn read_input<S: Source>(
     ensures fault { IfErr result (λ fault. (fault ≡ RunFault.NoMemory)
         ⊎ (fault ≡ RunFault.ReadFault) × (rows ≡ None) × Rose (S.faults source.old) (S.faults source.new)
         ⊎ (fault ≡ RunFault.InputTooLong) × IsTooLong (input_by rows (S.left source.old))) }
+    ensures read { IfErr result (λ fault. ReadFor (cause_of fault) rows (S.left source.old) (S.left source.new)) }
     ensures made_unread { IfSome rows (λ n. Keeps (S.left source.old) (S.left source.new)) }
     ensures made_unfailed { IfSome rows (λ n. S.faults source.new ≡ S.faults source.old) }
     ensures prefix { LosesPrefix (S.left source.old) (S.left source.new) }
@@ -71,6 +73,7 @@ fn read_source<S: Source>(alloc: Global, source: &mut S) -> Result<Vec<u8>, RunF
     ensures fault { IfErr result (λ fault. (fault ≡ RunFault.NoMemory)
         ⊎ (fault ≡ RunFault.ReadFault) × Rose (S.faults source.old) (S.faults source.new)
         ⊎ (fault ≡ RunFault.InputTooLong) × IsTooLong (S.left source.old)) }
+    ensures read { IfErr result (λ fault. ReadFor (cause_of fault) None (S.left source.old) (S.left source.new)) }
     ensures prefix { LosesPrefix (S.left source.old) (S.left source.new) }
 {
     match read_all(alloc, source, INPUT_LIMIT) {
@@ -138,6 +141,7 @@ pub fn run_task<W: PlanStep, R: Threads + Sync, S: Source, K: Sink, T: Tap>(
         × CarriedOver (asked_of task) bytes result (K.taken sink.old) (K.taken sink.new) (T.seen tap.old) (T.seen tap.new)
         pass.old.blocks pass.old.nodes pass.new.blocks pass.new.nodes }
     ensures text_read_to_end { OnOk result (IsRead rows (S.left source.old) (S.left source.new)) }
+    ensures fault_read { IfErr result (λ fault. ReadFor (cause_of fault) rows (S.left source.old) (S.left source.new)) }
     ensures refused_early { IfErr task (λ fault. result ≡ Err fault) }
     ensures refused_early_only { IfErr result (λ fault. is_early fault ≡ true → asked_of task ≡ Err fault) }
     ensures refused_unread { IfErr task (λ _. Keeps (S.left source.old) (S.left source.new)) }

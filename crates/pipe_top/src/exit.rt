@@ -1,17 +1,9 @@
 //! A run as the end of a process.
-ghost use Rattle.std.specs.Prelude.{◌≡◌, false, IfSome, Option, ℕ, List};
-ghost use Rattle.std.specs.Io.KnownBytes.{Keeps};
+ghost use Rattle.std.specs.Prelude.{◌≡◌, None};
 ghost use Rattle.std.specs.Process.{exit_status};
-ghost use Rattle.edge_io.specs.Edge.{Rose};
-ghost use Rattle.run_model.specs.Words.{audit_of, texts_of};
-ghost use Rattle.run_model.specs.Answer.{status_of};
-ghost use Rattle.run_model.specs.Outcomes.{is_write_fault};
-ghost use Rattle.run_model.specs.Diagnostics.{Told, audit_if};
-ghost use Rattle.run_model.specs.declared.fault.RunFault.{RunFault as AFault};
-ghost use Rattle.run_model.specs.RunAnswer.{AreInput};
-ghost use Rattle.pipe_top.specs.Over.{RanOver};
-ghost use Rattle.stream_face.specs.Shown.{Seen};
-ghost use Rattle.unit_pass.specs.declared.pass.Audit.{Audit as AnAudit};
+ghost use Rattle.run_model.specs.Words.{texts_of};
+ghost use Rattle.run_model.specs.declared.outcome.Outcome.{Outcome as AnOutcome};
+ghost use Rattle.pipe_top.specs.Ran.{Ran};
 
 use crate::top::run;
 use edge_io::{OpenGate, Sink, Source};
@@ -29,18 +21,26 @@ pub fn run_to_exit<R: Threads + Sync, S: Source, K: Sink, E: Sink>(
     sink: &mut K,
     errs: &mut E,
 ) -> ExitCode
-    // Of one fault, or of none, all of this is so: the run came to it over the bytes of one input, the exit status is its status,
-    // the sink of diagnostics took its line and then the audit's where the words ask for it, and where it is no failed write the
-    // sink is as before.
-    ensures ends { (fault : Option AFault) × (audit : AnAudit) × (bytes : List ℕ)
-        × (exit_status result ≡ status_of fault)
-        × AreInput (texts_of words.now) (S.left source.old) bytes
-        × ((seen : Option (List Seen)) × (shown : Option (List Seen))
-        × RanOver (texts_of words.now) bytes fault (K.taken sink.old) (K.taken sink.new) seen shown audit.blocks audit.nodes
-        (Rose (S.faults source.old) (S.faults source.new)) (Rose (K.faults sink.old) (K.faults sink.new)))
-        × Told (E.taken errs.old) (E.taken errs.new) (E.faults errs.old) (E.faults errs.new) fault
-        (audit_if (audit_of (texts_of words.now)) audit)
-        × IfSome fault (λ f. is_write_fault f ≡ false → Keeps (K.taken sink.old) (K.taken sink.new)) }
+    // All that `run` promises of its outcome, which has this status.
+    ensures ran { (outcome : AnOutcome) × (exit_status result ≡ outcome.status) × Ran (texts_of words.now)
+        (record {
+          left = S.left source.old;
+          read_faults = S.faults source.old;
+          taken = K.taken sink.old;
+          write_faults = K.faults sink.old;
+          told = E.taken errs.old;
+          tell_faults = E.faults errs.old;
+          seen = None;
+        })
+        (record {
+          left = S.left source.new;
+          read_faults = S.faults source.new;
+          taken = K.taken sink.new;
+          write_faults = K.faults sink.new;
+          told = E.taken errs.new;
+          tell_faults = E.faults errs.new;
+          seen = None;
+        }) outcome }
 {
     let outcome = run(rt, alloc, words, source, sink, errs, &mut NoTap, &OpenGate);
     ExitCode::from(outcome.status)

@@ -1,16 +1,6 @@
 //! The top call.
-ghost use Rattle.std.specs.Prelude.{◌≡◌, ◌⊎◌, true, false, Some, None, Ok, Err, IfSome, ℕ, List};
-ghost use Rattle.std.specs.Io.KnownBytes.{Keeps};
-ghost use Rattle.edge_io.specs.Edge.{LosesPrefix, Rose};
-ghost use Rattle.run_model.specs.Words.{audit_of, made_of, texts_of};
-ghost use Rattle.run_model.specs.Answer.{Asks, Tree, status_of};
-ghost use Rattle.run_model.specs.MemoryFaults.{has_memory_inside};
-ghost use Rattle.run_model.specs.Outcomes.{AtWriteFault, is_early, is_write_fault};
-ghost use Rattle.run_model.specs.Diagnostics.{Told, audit_if};
-ghost use Rattle.run_model.specs.declared.fault.RunFault.{RunFault as AFault};
-ghost use Rattle.run_model.specs.RunAnswer.{AreInput};
-ghost use Rattle.run_model.specs.RunOutcomes.{IsRead};
-ghost use Rattle.pipe_top.specs.Over.{RanOver};
+ghost use Rattle.run_model.specs.Words.{texts_of};
+ghost use Rattle.pipe_top.specs.Ran.{Ran};
 
 use crate::any_step::AnyStep;
 use crate::{memory_stands_alone, one_answer, run_task};
@@ -57,47 +47,27 @@ pub fn run<R: Threads + Sync, S: Source, K: Sink, E: Sink, T: Tap>(
     tap: &mut T,
     gate: &(dyn Gate + Sync),
 ) -> Outcome
-    // Of the bytes of one input all of this is so: those that the source states or that are made in its place; where the source
-    // states none, of some bytes. Success: the answer is a text, and all of it is in the sink. A fault of the words or of the input
-    // is exactly the answer's; after a failed write the sink has the first bytes of the text. The tap was shown each chunk of each
-    // link, once and in order, or the first ones, and as many blocks and nodes were made as the links or the tree need. Where no
-    // fault rises the answer is given, or there was no memory.
-    ensures over { (bytes : List ℕ) × AreInput (texts_of words.now) (S.left source.old) bytes
-        × RanOver (texts_of words.now) bytes result.fault (K.taken sink.old) (K.taken sink.new) (T.seen tap.old) (T.seen tap.new)
-        result.audit.blocks result.audit.nodes
-        (Rose (S.faults source.old) (S.faults source.new)) (Rose (K.faults sink.old) (K.faults sink.new)) }
-    // On success the source was read to its end, or rows were made in its place.
-    ensures text_read_to_end { result.fault ≡ None → IsRead (made_of (texts_of words.now)) (S.left source.old) (S.left source.new) }
-    // The words and the texts among them are refused exactly where they are at fault, whatever the source states, which is then
-    // as before.
-    ensures refused_early { (fault : AFault) → Asks (texts_of words.now) (Err fault) → (result.fault ≡ Some fault) ⊎ (result.fault ≡ Some RunFault.NoMemory) }
-    ensures refused_early_only { IfSome result.fault (λ fault. is_early fault ≡ true → Asks (texts_of words.now) (Err fault)) }
-    ensures refused_unread { (fault : AFault) → Asks (texts_of words.now) (Err fault) → Keeps (S.left source.old) (S.left source.new) }
-    ensures refused_unfailed { (fault : AFault) → Asks (texts_of words.now) (Err fault) → S.faults source.new ≡ S.faults source.old }
-    // Where rows are made in place of an input, the source is as before, whatever the run comes to.
-    ensures made_unread { IfSome (made_of (texts_of words.now)) (λ rows. Keeps (S.left source.old) (S.left source.new)) }
-    ensures made_unfailed { IfSome (made_of (texts_of words.now)) (λ rows. S.faults source.new ≡ S.faults source.old) }
-    // A read fails only where no rows are made and the source's faults rose, and a write where the sink's did.
-    ensures read_fault { result.fault ≡ Some RunFault.ReadFault
-        → (made_of (texts_of words.now) ≡ None) × Rose (S.faults source.old) (S.faults source.new) }
-    ensures write_fault { IfSome result.fault (λ fault. AtWriteFault fault (λ taken. Rose (K.faults sink.old) (K.faults sink.new))) }
-    // After a fault that is no failed write the sink is as before.
-    ensures no_memory { result.fault ≡ Some RunFault.NoMemory → Keeps (K.taken sink.old) (K.taken sink.new) }
-    ensures unwritten { IfSome result.fault (λ fault. is_write_fault fault ≡ false → Keeps (K.taken sink.old) (K.taken sink.new)) }
-    // Out of memory is a fault of its own: no other fault has one inside it.
-    ensures memory_alone { IfSome result.fault (λ fault. has_memory_inside fault ≡ false) }
-    // The status is a function of the fault, and the source has lost a prefix.
-    ensures status { result.status ≡ status_of result.fault }
-    ensures prefix { LosesPrefix (S.left source.old) (S.left source.new) }
-    // Where the words are refused or a tree is checked, the tap saw nothing.
-    ensures unshown_early { (fault : AFault) → Asks (texts_of words.now) (Err fault) → T.seen tap.new ≡ T.seen tap.old }
-    ensures unshown_check { Asks (texts_of words.now) (Ok Tree) → T.seen tap.new ≡ T.seen tap.old }
-    // Nothing is left.
-    ensures audit { result.audit.left ≡ 0 }
-    // The sink of diagnostics took the fault's line and then the audit's where the words ask for it and aren't refused, or the first bytes
-    // of that where its own faults rose. Without memory the audit's line may be missing.
-    ensures diagnostics { Told (E.taken errs.old) (E.taken errs.new) (E.faults errs.old) (E.faults errs.new) result.fault
-        (audit_if (audit_of (texts_of words.now)) result.audit) }
+    // The answer, how far the source was read, what the sink, the tap and the sink of diagnostics got, the cause of each fault, and that
+    // nothing is left: the members of `Ran` (`specs/Ran.antt`), each of which says one of these.
+    ensures ran { Ran (texts_of words.now)
+        (record {
+          left = S.left source.old;
+          read_faults = S.faults source.old;
+          taken = K.taken sink.old;
+          write_faults = K.faults sink.old;
+          told = E.taken errs.old;
+          tell_faults = E.faults errs.old;
+          seen = T.seen tap.old;
+        })
+        (record {
+          left = S.left source.new;
+          read_faults = S.faults source.new;
+          taken = K.taken sink.new;
+          write_faults = K.faults sink.new;
+          told = E.taken errs.new;
+          tell_faults = E.faults errs.new;
+          seen = T.seen tap.new;
+        }) result }
 {
     one_answer();
     memory_stands_alone();

@@ -2,8 +2,9 @@
 //!
 //! [`drive_steps`] makes the stages of a plan streams, each over the checked stream of the one before it, and writes the
 //! rows of the last one as CSV. Otherwise it answers a [`DriveFault`]. The step of a stage is made of the plan's
-//! ([`PlanStep`]), and one type has steps of all kinds. No type of a chain holds itself: each stage is a stream over the
-//! stream below it, and the number of stages that may be left is a number that is a type (`chain.rt`).
+//! ([`PlanStep`]), and one type has steps of all kinds. [`start_stage`] makes one such stream alone. No type of a chain
+//! holds itself: each stage is a stream over the stream below it, and the number of stages that may be left is a number
+//! that is a type (`chain.rt`).
 //!
 //! What the contracts say: the text is that of the one table that the stages make of all rows, whatever the chunks that
 //! these came in; each chunk of each link is checked and shown to the tap, once and in order; the counts rise by what the
@@ -23,5 +24,7 @@ mod step_of;
 mod text;
 
 pub use csv_write::DriveFault;
+pub use planned::PlannedStage;
+pub use stage_start::start_stage;
 pub use step_of::PlanStep;
 pub use text::drive_steps;

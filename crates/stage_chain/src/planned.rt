@@ -10,9 +10,9 @@ use unit_pass::NoMemory;
 
 /// A stage of a plan: its step, and the columns after it.
 #[derive(Drop)]
-pub(crate) struct PlannedStage {
-    pub(crate) step: Step,
-    pub(crate) columns: Vec<ColumnType>,
+pub struct PlannedStage {
+    pub step: Step,
+    pub columns: Vec<ColumnType>,
 }
 
 /// The stages of a plan.

@@ -1,9 +1,10 @@
 //! The stream of a stage.
-ghost use Rattle.std.specs.Prelude.{◌≡◌, ◌≤◌, All, IsTrue, None};
-ghost use Rattle.data_types.specs.ColumnForms.{AreColumnKinds};
+ghost use Rattle.std.specs.Prelude.{◌≡◌, ◌≤◌, IsTrue, List};
+ghost use Rattle.data_types.specs.Table.{Row};
+ghost use Rattle.raw_array.specs.Members.{ArrayTree};
 ghost use Rattle.stages.specs.Structs.{column_structs, most_structs};
 ghost use Rattle.stage_model.specs.Typing.{IsStageOver};
-ghost use Rattle.stages.specs.Stages.{stage_state};
+ghost use Rattle.stages.specs.Stages.{stage_gives, stage_state};
 ghost use Rattle.stream_face.specs.Meaning.{meaning};
 ghost use Rattle.stage_chain.specs.Chains.{over_stream};
 ghost use Rattle.stage_chain.specs.Plans.{stage_in};
@@ -15,8 +16,9 @@ use stages::{OutColumns, Stage};
 use std::alloc::Global;
 use stream_face::{ArrayStream, RawStream};
 
-/// The stream of a stage over a checked stream, by this many workers. Takes no memory.
-pub(crate) fn start_stage<W: PlanStep, U: ArrayStream>(
+/// The stream of a stage of a plan over a checked stream, by this many workers, and what its chunks have besides their rows, by the
+/// step. Takes no memory.
+pub fn start_stage<W: PlanStep, U: ArrayStream>(
     alloc: Global,
     up: RawStream<U>,
     stage: PlannedStage,
@@ -26,7 +28,9 @@ pub(crate) fn start_stage<W: PlanStep, U: ArrayStream>(
     requires lawful { IsTrue (meaning U.state up).lawful }
     requires stage { IsStageOver (meaning U.state up).columns (stage_in stage) }
     requires structs { column_structs (meaning U.state up).columns ≤ most_structs }
-    ensures { stage_state U.state W.columns W.ahead W.blocks W.nodes result ≡ over_stream (stage_in stage) (meaning U.state up) }
+    ensures means { stage_state U.state W.columns W.ahead W.blocks W.nodes result ≡ over_stream (stage_in stage) (meaning U.state up) }
+    ensures besides { (rows : List Row) (chunk : ArrayTree) → stage_gives W.gives result rows chunk
+        → W.besides stage.step (stage_in stage).columns rows chunk }
 {
     up.lawful_facts();
     stages::stages_keep_columns();

@@ -147,6 +147,24 @@ fn workers_run_side_by_side(rt: HostRuntime) -> Result<(), Fail> {
     Ok(())
 }
 
+/// Where an allocation is refused, no share is left, and of each amount at most one for each of three workers.
+#[test]
+fn four_workers_on_two_rows_need_no_memory_to_end(rt: HostRuntime) -> Result<(), Fail> {
+    let told = windows_on_two_rows(&rt, rt.alloc(), 4, &Window { short_at: -1 }, &OpenGate);
+    assert!(rt; told.least >= 4294967293 && told.least <= 4294967296);
+    if told.windows.is_some() {
+        let windows = vec![in rt.alloc(); (0, 0), (0, 1), (1, 1), (1, 2)]?;
+        assert_eq!(rt;
+            told,
+            Told {
+                windows: Some(windows),
+                least: 4294967293
+            }
+        );
+    }
+    Ok(())
+}
+
 #[test]
 fn one_worker_takes_no_share(rt: HostRuntime) -> Result<(), Fail> {
     let told = windows_on_two_rows(&rt, rt.alloc(), 1, &Window { short_at: -1 }, &OpenGate);

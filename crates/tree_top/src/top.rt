@@ -1,11 +1,6 @@
 //! The top call.
-ghost use Rattle.std.specs.Prelude.{◌≡◌, ◌↔◌, false, None, Some, IfSome, ℕ, List};
-ghost use Rattle.std.specs.Io.KnownBytes.{IsAtEnd, Keeps};
-ghost use Rattle.edge_io.specs.Edge.{LosesPrefix, Rose};
-ghost use Rattle.tree_task.specs.Answer.{AreBytes, command_of, texts_of};
-ghost use Rattle.tree_task.specs.Faults.{AtWriteFault, has_memory_inside, is_write_fault, status_of};
-ghost use Rattle.tree_task.specs.Over.{RanOver};
-ghost use Rattle.tree_task.specs.Diagnostics.{Took, status_line};
+ghost use Rattle.tree_task.specs.Answer.{texts_of};
+ghost use Rattle.tree_top.specs.Ran.{Ran};
 
 use edge_io::{Sink, Source};
 use std::alloc::Global;
@@ -36,34 +31,25 @@ pub fn run_tree<S: Source, K: Sink, E: Sink>(
     sink: &mut K,
     errs: &mut E,
 ) -> TreeOutcome
-    // Of the bytes of one input all of this is so: those that the source states; where it states none, of some bytes. Success: the
-    // answer is a text, and all of it is in the sink. A fault of the words or of the input is exactly the answer's; after a failed
-    // write the sink has the first bytes of the text. As many blocks and nodes were made as the command makes. Where no fault
-    // rises the answer is given, or there was no memory.
-    ensures over { (bytes : List ℕ) × AreBytes (S.left source.old) bytes
-        × RanOver (command_of (texts_of words.now)) bytes result.fault (K.taken sink.old) (K.taken sink.new) 0 0
-        result.audit.blocks result.audit.nodes
-        (Rose (S.faults source.old) (S.faults source.new)) (Rose (K.faults sink.old) (K.faults sink.new)) }
-    // On success the source was read to its end.
-    ensures read_to_end { result.fault ≡ None → IsAtEnd (S.left source.new) }
-    // The words are refused exactly where they aren't a command, and the source is then as before.
-    ensures words { (result.fault ≡ Some TreeRunFault.Words) ↔ (command_of (texts_of words.now) ≡ None) }
-    ensures words_unread { command_of (texts_of words.now) ≡ None → Keeps (S.left source.old) (S.left source.new) }
-    ensures words_unfailed { command_of (texts_of words.now) ≡ None → S.faults source.new ≡ S.faults source.old }
-    // A read fails only where the source's faults rose, and a write where the sink's did.
-    ensures read_fault { result.fault ≡ Some TreeRunFault.ReadFault → Rose (S.faults source.old) (S.faults source.new) }
-    ensures write_fault { IfSome result.fault (λ fault. AtWriteFault fault (λ taken. Rose (K.faults sink.old) (K.faults sink.new))) }
-    // After a fault that is no failed write the sink is as before.
-    ensures unwritten { IfSome result.fault (λ fault. is_write_fault fault ≡ false → Keeps (K.taken sink.old) (K.taken sink.new)) }
-    // Out of memory is a fault of its own: no other fault has one inside it.
-    ensures memory_alone { IfSome result.fault (λ fault. has_memory_inside fault ≡ false) }
-    // The status is a function of the fault, and the source has lost a prefix.
-    ensures status { result.status ≡ status_of result.fault }
-    ensures prefix { LosesPrefix (S.left source.old) (S.left source.new) }
-    // Nothing is left.
-    ensures audit { result.audit.left ≡ 0 }
-    // The sink of diagnostics took the fault's line, or the first bytes of it where its own faults rose, and nothing without one.
-    ensures diagnostics { Took (E.taken errs.old) (E.taken errs.new) (E.faults errs.old) (E.faults errs.new) (status_line result.fault) }
+    // The answer, how far the source was read, what the sink and the sink of diagnostics got, the cause of each fault, and that
+    // nothing is left: the members of `Ran` (`specs/Ran.antt`), each of which says one of these.
+    ensures ran { Ran (texts_of words.now)
+        (record {
+          left = S.left source.old;
+          read_faults = S.faults source.old;
+          taken = K.taken sink.old;
+          write_faults = K.faults sink.old;
+          told = E.taken errs.old;
+          tell_faults = E.faults errs.old;
+        })
+        (record {
+          left = S.left source.new;
+          read_faults = S.faults source.new;
+          taken = K.taken sink.new;
+          write_faults = K.faults sink.new;
+          told = E.taken errs.new;
+          tell_faults = E.faults errs.new;
+        }) result }
 {
     memory_stands_alone();
     let (desk, mut pass) = open_desk();

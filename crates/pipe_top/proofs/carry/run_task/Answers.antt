@@ -5,8 +5,8 @@ use Rattle.run_model.specs.Answer.{Fault, cause_of}
 use Rattle.run_model.specs.Outcomes.{asked_of, is_early, task_of}
 use Rattle.run_model.specs.declared.fault.RunFault.TheVariants as run
 use Rattle.run_model.specs.RunAnswer.{IsAnswerTo, input_by}
-use Rattle.pipe_top.proofs.Carried.{all-asked, at-err, at-ok, early-not_behind, early-not_reading, early-not_writing, if-some}
-use Rattle.pipe_top.proofs.Carried.{keeps-same, late, late-not_early, late-not_writing, no-write}
+use Rattle.pipe_top.proofs.Carried.{all-asked, at-err, at-ok, early-not_behind, early-not_reading, early-not_writing, early-read, if-some}
+use Rattle.pipe_top.proofs.Carried.{keeps-same, late, late-not_early, late-not_writing, late-read, no-write}
 use Rattle.pipe_top.proofs.Carried.{late-not_reading, loses-nothing, no-err, no-ok, of-err, one-error, over-fault, refused-with, the-error}
 use Rattle.pipe_top.proofs.Carried.{unread-failed, unread-not_behind, unread-late, unread-not_writing, unread-refused, untrue}
 use Rattle.pipe_top.proofs.Unshown.{unshown}
@@ -35,6 +35,7 @@ returns-in_err-task g c =
             (λ _. subst (λ a. IsAnswerTo a bytes.0 (Fault fault)) (sym refused) refl) (early-not_behind _ fault early) (unshown asked bytes.0 seen seen refl),
       );
       text_read_to_end = no-ok _ _ _ same;
+      fault_read = at-err _ _ _ same (early-read fault early c.args.rows left left);
       refused_early = at-err _ _ _ was same;
       refused_early_only = at-err _ _ _ same (λ _. ap asked_of was);
       refused_unread = at-err _ _ _ was (keeps-same left);
@@ -71,6 +72,7 @@ returns-in_err-bytes g c =
             (unshown asked refused.0 seen seen refl),
       );
       text_read_to_end = no-ok _ _ _ same;
+      fault_read = at-err _ _ _ same (of-err _ _ fault c.in_err-bytes.was c.read_input.ensures.read);
       refused_early = no-err _ _ _ was;
       refused_early_only = at-err _ _ _ same (λ early. absurd (untrue (sym late_one ∙ early)));
       refused_unread = no-err _ _ _ was;
@@ -98,7 +100,7 @@ returns-in_err-text g c =
     let read = c.in_ok-bytes.ensures.bytes in
     let seen = g.T.Tap.seen c.args.tap.now in
     let shown = g.T.Tap.seen c.answer_task.new.tap in
-    let late_one = late task bytes fault c.in_err-text.ensures.fault in
+    let late_one = late task bytes c.in_ok-bytes.ensures.fits fault c.in_err-text.ensures.fault in
     record {
       over = (
         bytes,
@@ -109,6 +111,7 @@ returns-in_err-text g c =
             (shown-for asked task bytes (ap asked_of was) seen shown c.in_err-text.ensures.shows_some),
       );
       text_read_to_end = no-ok _ _ _ same;
+      fault_read = at-err _ _ _ same (late-read (cause_of fault) late_one c.args.rows _ _ c.in_ok-bytes.ensures.end);
       refused_early = no-err _ _ _ was;
       refused_early_only = at-err _ _ _ same (λ early. absurd (late-not_early (cause_of fault) late_one early));
       refused_unread = no-err _ _ _ was;
@@ -150,6 +153,7 @@ returns-in-Ok g c =
         },
       );
       text_read_to_end = c.in_ok-bytes.ensures.end;
+      fault_read = tt;
       refused_early = no-err _ _ _ was;
       refused_early_only = tt;
       refused_unread = no-err _ _ _ was;
@@ -198,6 +202,7 @@ returns g c =
         },
       );
       text_read_to_end = tt;
+      fault_read = c.in_ok-bytes.ensures.end;
       refused_early = no-err _ _ _ was;
       refused_early_only = λ early. absurd (untrue early);
       refused_unread = no-err _ _ _ was;

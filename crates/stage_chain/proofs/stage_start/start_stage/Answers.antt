@@ -1,4 +1,4 @@
-use Rattle.std.proofs.Common.{arith, ◌≡◌, ◌+◌, ◌∙◌, List, map, ap}
+use Rattle.std.proofs.Common.{arith, ◌≡◌, ◌+◌, ◌∙◌, List, map, ap, subst}
 use Rattle.std.specs.Prelude.{None, Some}
 use Rattle.std.specs.List.{sum_by}
 use Rattle.data_types.specs.ColumnView.{column_of}
@@ -33,8 +33,8 @@ new-out-requires-clause-not_deep g c =
     let depth = c.schemas_are_small.ensures.depth (map column_of c.args.stage.columns.items) in
     omega (arith, structs, depth, c.requires.structs)
 
-pub returns : goal.returns
-returns g c =
+pub returns-clause-means : goal.returns-clause-means
+returns-clause-means g c =
     let up = meaning g.U.ArrayStream.state c.args.up in
     let step = c.args.stage.step in
     let kept = c.new-out.ensures in
@@ -55,3 +55,8 @@ returns g c =
       gave = None;
       said = None;
     })
+
+pub returns-clause-besides : goal.returns-clause-besides
+returns-clause-besides g c = λ rows chunk given.
+    subst (λ (cs : List ColumnType). g.W.PlanStep.besides c.args.stage.step (map column_of cs) rows chunk) c.new-out.ensures
+    (c.of.ensures.gives rows chunk (c.start.ensures.besides rows chunk given))

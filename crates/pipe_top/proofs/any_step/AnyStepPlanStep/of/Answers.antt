@@ -1,4 +1,9 @@
-use Rattle.std.proofs.Common.{◌∙◌}
+use Rattle.std.proofs.Common.{◌≡◌, ◌∙◌, ℕ, List, [], ◌∷◌, map, subst}
+use Rattle.data_types.specs.ColumnView.{column_of}
+use Rattle.data_types.specs.Table.{Row}
+use Rattle.data_types.specs.declared.kind.ColumnType.{ColumnType}
+use Rattle.raw_array.specs.Members.{ArrayTree}
+use Rattle.dict_stage.specs.Indices.{HasColumn}
 use Rattle.pipe_top.proofs.Fitting.{dict-fits, filter-fits, pack-fits, plain-fits, select-fits, totals-fits, unpack-fits}
 use Rattle.pipe_top.proofs.any_step.AnyStepPlanStep.of.Goals as goal
 
@@ -45,3 +50,39 @@ returns-in-Totals-clause-fits c = λ before over few.
     (c.stages_fit_their_columns.ensures.within before _ over) (c.stages_fit_their_columns.ensures.after before _ over) c.in-Totals.columns
     c.new-in-Totals.result.picks.items (c.new-in-Totals.ensures.picks ∙ c.into_vec-in-Totals.ensures) c.in-Totals.is
     (c.stages_keep_columns.ensures.few before _ over)
+
+-- ---- what a chunk has besides its rows
+
+recoded : (column place : ℕ) (out kept : List ColumnType) → place ≡ column → kept ≡ out → (rows : List Row) (chunk : ArrayTree)
+    → HasColumn place (map column_of kept) (rows ∷ []) chunk → HasColumn column (map column_of out) (rows ∷ []) chunk
+recoded column place out kept same whole rows chunk given =
+    subst (λ p. HasColumn p (map column_of out) (rows ∷ []) chunk) same
+    (subst (λ (cs : List ColumnType). HasColumn place (map column_of cs) (rows ∷ []) chunk) whole given)
+
+pub returns-in-Dict-clause-gives : goal.returns-in-Dict-clause-gives
+returns-in-Dict-clause-gives c = λ rows chunk given.
+    rw c.in-Dict.is (recoded c.in-Dict.column c.new-in-Dict.result.column c.args.out c.new-in-Dict.result.out c.new-in-Dict.ensures.column
+    c.new-in-Dict.ensures.out rows chunk given)
+
+pub returns-in-Plain-clause-gives : goal.returns-in-Plain-clause-gives
+returns-in-Plain-clause-gives c = λ rows chunk given.
+    rw c.in-Plain.is (recoded c.in-Plain.column c.new-in-Plain.result.column c.args.out c.new-in-Plain.result.out c.new-in-Plain.ensures.column
+    c.new-in-Plain.ensures.out rows chunk given)
+
+pub returns-in-Select-clause-gives : goal.returns-in-Select-clause-gives
+returns-in-Select-clause-gives c = λ rows chunk given. rw c.in-Select.is tt
+
+pub returns-in-Slice-clause-gives : goal.returns-in-Slice-clause-gives
+returns-in-Slice-clause-gives c = λ rows chunk given. rw c.in-Slice.is tt
+
+pub returns-in-Filter-clause-gives : goal.returns-in-Filter-clause-gives
+returns-in-Filter-clause-gives c = λ rows chunk given. rw c.in-Filter.is tt
+
+pub returns-in-Pack-clause-gives : goal.returns-in-Pack-clause-gives
+returns-in-Pack-clause-gives c = λ rows chunk given. rw c.in-Pack.is tt
+
+pub returns-in-Unpack-clause-gives : goal.returns-in-Unpack-clause-gives
+returns-in-Unpack-clause-gives c = λ rows chunk given. rw c.in-Unpack.is tt
+
+pub returns-in-Totals-clause-gives : goal.returns-in-Totals-clause-gives
+returns-in-Totals-clause-gives c = λ rows chunk given. rw c.in-Totals.is tt

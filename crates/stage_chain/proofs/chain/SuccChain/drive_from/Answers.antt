@@ -42,7 +42,7 @@ drive_from-requires-clause-links g c =
     c.in-Ok.ensures.link c.in-Ok.ensures.fault c.in-Ok.ensures.started in
     let stage = stage_in c.in-Some.stage in
     let node = boxed_state (stage_state g.S.ArrayStream.state g.W.ChunkStep.columns g.W.ChunkStep.ahead g.W.ChunkStep.blocks g.W.ChunkStep.nodes) c.in-Ok-new.above in
-    let is : node ≡ over_stream stage up = c.in-Ok-new.ensures.made ∙ c.start_stage.ensures in
+    let is : node ≡ over_stream stage up = c.in-Ok-new.ensures.made ∙ c.start_stage.ensures.means in
     let rest = stages_left c.next.new.self in
     let are : stages_left c.args.stages ≡ stage ∷ rest = ap stages_in c.in-Some.ensures.items in
     joints-above stage s up node c.args.link _ raw is c.requires.links
@@ -55,7 +55,7 @@ drive_from-requires-clause-structs g c =
     c.in-Ok.ensures.link c.in-Ok.ensures.fault c.in-Ok.ensures.started in
     let stage = stage_in c.in-Some.stage in
     let node = boxed_state (stage_state g.S.ArrayStream.state g.W.ChunkStep.columns g.W.ChunkStep.ahead g.W.ChunkStep.blocks g.W.ChunkStep.nodes) c.in-Ok-new.above in
-    let is : node ≡ over_stream stage up = c.in-Ok-new.ensures.made ∙ c.start_stage.ensures in
+    let is : node ≡ over_stream stage up = c.in-Ok-new.ensures.made ∙ c.start_stage.ensures.means in
     let rest = stages_left c.next.new.self in
     let are : stages_left c.args.stages ≡ stage ∷ rest = ap stages_in c.in-Some.ensures.items in
     let one : AreStages s.columns (stage ∷ rest) = subst (AreStages s.columns) are c.requires.stages in
@@ -114,7 +114,7 @@ returns-in-Ok-new g c =
     c.in-Ok.ensures.link c.in-Ok.ensures.fault c.in-Ok.ensures.started in
     let stage = stage_in c.in-Some.stage in
     let node = boxed_state (stage_state g.S.ArrayStream.state g.W.ChunkStep.columns g.W.ChunkStep.ahead g.W.ChunkStep.blocks g.W.ChunkStep.nodes) c.in-Ok-new.above in
-    let is : node ≡ over_stream stage up = c.in-Ok-new.ensures.made ∙ c.start_stage.ensures in
+    let is : node ≡ over_stream stage up = c.in-Ok-new.ensures.made ∙ c.start_stage.ensures.means in
     let rest = stages_left c.next.new.self in
     let are : stages_left c.args.stages ≡ stage ∷ rest = ap stages_in c.in-Some.ensures.items in
     let ending = ap (λ (m : Stream). m.ending) is ∙ ap (λ (m : Stream). m.ending) raw in
