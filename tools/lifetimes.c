@@ -48,6 +48,16 @@ static float shared[3];
 static void *once;
 static struct ArrowSchema shared_type;
 ARRAYS(clears_shared) { memset(shared, 0, sizeof shared); spares_data(array); }
+static float slots[64][3];
+static int used, marks;
+ARRAYS(gives_the_last_back) { used--; spares_data(array); }
+static void *newest, *older;
+ARRAYS(clears_older) {
+  if (array->buffers[1] == older) older = NULL;
+  if (array->buffers[1] == newest) newest = older ? memset(older, 7, 12) : NULL, older = NULL;
+  release_malloced_array(array);
+}
+static char column[] = "column 0";
 ARRAYS(frees_once) { free(once), once = NULL; spares_data(array); }
 SCHEMAS(marks_shared) {
   shared_type.release = NULL;
@@ -56,6 +66,9 @@ SCHEMAS(marks_shared) {
 }
 BROKEN(TwoExports_written, DROP(a[0], 1), shared[1]++, a[0]->buffers[1] = shared, a[0]->release = spares_data)
 BROKEN(TwoExports_cleared, DROP(a[0], 1), shared[1] = 7, a[0]->buffers[1] = shared, a[0]->release = clears_shared)
+BROKEN(TwoExports_slots, DROP(a[0], 1), a[0]->buffers[1] = memset(slots[used++], ++marks, 12), a[0]->release = gives_the_last_back)
+BROKEN(TwoExports_later, older = newest, newest = (void *)a[0]->buffers[1], a[0]->release = clears_older)
+BROKEN(TwoExports_name, column[7] ^= 1, s[0]->name = column)
 BROKEN(TwoExports_once, DROP(a[0], 1), once = once ? once : made("twelve bytes", 12), a[0]->buffers[1] = once,
        a[0]->release = frees_once)
 BROKEN(TwoExports_type, shared_type = *s[0], free(s[0]->children), free(s[0]), shared_type.children = NULL, s[0] = &shared_type,
@@ -91,6 +104,18 @@ BROKEN(OtherThread_hang, is_here = 1, array->release = here_or_never)
 /* ---- Leaks ---- */
 ARRAYS(forgets_children) { array->n_children = 0; release_malloced_array(array); }
 ARRAYS(forgets_dictionary) { array->dictionary = NULL; release_malloced_array(array); }
+static void released_up_to(struct ArrowArray *array, int64_t begin, int64_t step) {
+  struct ArrowArray **children = array->children;
+  for (int64_t i = begin; i >= 0 && i < array->n_children && children[i]->release; i += step) children[i]->release(children[i]);
+  for (int64_t i = 0; i < array->n_children; i++) free(children[i]);
+  array->n_children = 0, release_malloced_array(array);
+}
+ARRAYS(stops_at_a_moved_child) { released_up_to(array, 0, 1); }
+ARRAYS(stops_at_a_moved_child_from_behind) { released_up_to(array, array->n_children - 1, -1); }
+BROKEN(Leak_behind_a_moved_child, array->release = stops_at_a_moved_child)
+BROKEN(Leak_before_a_moved_child, array->release = stops_at_a_moved_child_from_behind)
+BROKEN(Leak_file, if (open("/dev/null", O_RDONLY) < 0) abort())
+BROKEN(Leak_mapping, last_bytes(5))
 BROKEN(Leak_array, array->release = leaks_array)
 BROKEN(Leak_schema, schema->release = leaks_type)
 BROKEN(Leak_children, array->release = forgets_children)
@@ -179,6 +204,8 @@ ON_NEXT(ChildMoved_chunk, out->private_data = (void *)a[0]->buffers[1], a[0]->re
 STREAMED(OtherThread_stream, is_here = 1, , if (!is_here) abort(), )
 ON_NEXT(OtherThread_chunk, is_here = 1, out->release = here_array)
 STREAMED(Leak_stream, , , made("a byte", 1), )
+STREAMED(Leak_no_chunk, own->next = 3; made("a byte", 1), , , )
+STREAMED(Leak_fault, , , , if (!is_end && own->next == 3) made("a byte", 1), GIVES_UP(EIO))
 STREAMED(Leak_early, , , if (own->next < 3) made("a byte", 1), )
 ON_NEXT(Leak_chunk, out->release = forgets_children)
 AT_END(Leak_end, made("a byte", 1))
@@ -186,6 +213,10 @@ ON_NEXT(ChunkChanged_written, memcpy(shared, a[0]->buffers[1], 12), DROP(a[0], 1
         a[0]->release = spares_data)
 ON_NEXT(ChunkChanged_freed, free(own->block), own->block = own->next > 1 ? NULL : (void *)a[0]->buffers[1];
         if (own->block) a[0]->release = spares_data)
+
+static float two[2][3];
+ON_NEXT(ChunkChanged_two, memcpy(two[own->next % 2], a[0]->buffers[1], 12), DROP(a[0], 1), a[0]->buffers[1] = two[own->next % 2],
+        a[0]->release = spares_data)
 
 /* Chunks of one stream, whose release acts on the oldest of them: `turns` goes with the last. */
 struct turns { int references, first; void *data[4]; };
@@ -212,6 +243,7 @@ ARRAYS(looks_at_stream) { if (((struct own *)array->private_data)->text[0] != 'x
 ON_NEXT(StreamFirst_data, own->blocks[own->next] = (void *)a[0]->buffers[1], a[0]->release = spares_data)
 ON_NEXT(StreamFirst_release, own->text[0] = 'x', out->private_data = own, out->release = looks_at_stream)
 STREAMED(StreamFirst_schema, out->children[0]->name = strcpy(own->text, "floats"), , , )
+STREAMED(StreamFirst_no_chunk, own->next = 3; out->children[0]->name = strcpy(own->text, "floats"), , , )
 AT_END(EndMark_left, *out = before)
 AT_END(EndAgain_error, code = own->ended++ ? EIO : 0)
 AT_END(EndAgain_chunk, own->next = 0)
@@ -228,7 +260,9 @@ FAILING(lawful_silence, text = NULL)
 FAILING(LastError_latin, text = "caf\xe9")
 FAILING(LastError_freed, text = freed_text())
 FAILING(LastError_wild, text = (const char *)16)
-FAILING(LastError_open, text = last_bytes(5))
+static const char *open_text;
+FAILING(LastError_open, text = open_text = open_text ? open_text : last_bytes(5))
+FAILING(Leak_error, text = made(text, strlen(text) + 1))
 
 /* ---- What ends the process, or changes it ---- */
 ARRAYS(exits) { (void)array; exit(0); }

@@ -50,7 +50,8 @@ ARRAYS = {
     "bad_moved_parents_child": "ReleasedChild", "bad_dictionary_released": "ReleasedChild", "bad_child_type_released": "ReleasedChild",
     "bad_source": "SourceNotReleased", "bad_child_source": "SourceNotReleased", "bad_read_late": "ReadReleased",
     "bad_child_late": "ReadReleased", "bad_name_late": "ReadReleased", "bad_offset_of_nothing": "ReadBeyond",
-    "bad_padding": "ReadBeyond", "bad_write": "WroteData", "bad_name_written": "WroteData",
+    "bad_child_behind_the_last": "ReadBeyond", "bad_type_behind_the_last": "ReadBeyond",
+    "bad_buffer_behind_the_last": "ReadBeyond", "bad_padding": "ReadBeyond", "bad_write": "WroteData", "bad_name_written": "WroteData",
     "bad_slice_in_place": "ChangedMember", "bad_children_dropped": "ChangedMember", "bad_private_data": "ChangedMember",
     "bad_flags": "ChangedMember", "bad_crash": "crashed", "bad_abort": "crashed", "bad_exit": "exited",
     "bad_folder": "folder changed"}

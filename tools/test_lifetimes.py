@@ -15,7 +15,7 @@ from typing import Any, Dict, List, Tuple
 sys.dont_write_bytecode = True
 HERE = Path(__file__).resolve().parent
 sys.path.insert(0, str(HERE))
-from arrow_check import assert_releases, trial  # noqa: E402
+from arrow_check import assert_releases, heap, trial  # noqa: E402
 from arrow_check.verdict import CAPSULES, LIFETIMES  # noqa: E402
 
 ROOM = tempfile.TemporaryDirectory(prefix="arrow-lifetimes-")
@@ -136,6 +136,13 @@ class Producers(unittest.TestCase):
                              env={**os.environ, "THREADS": "1"}, universal_newlines=True)
         self.assertEqual((ran.stdout, ran.returncode), ("lifetimes: ok, 10 rules\n", 0))
 
+    def test_producers_that_share_a_static_are_judged_alone(self) -> None:
+        given = [f"{LIBRARY}:{it}" for it in ("TwoExports_written", "TwoExports_cleared", "TwoExports_written")]
+        ran = subprocess.run(words(*given, "--lifetimes", "--json"), stdout=-1, universal_newlines=True)
+        first, other, again = map(json.loads, ran.stdout.splitlines())  # both functions hand out the same memory
+        self.assertEqual((first, broken([first, other])), (again, ["TwoExports"] * 2))
+        self.assertEqual([it["producer"] for it in (first, other, again)], given)
+
     def test_several_producers_have_a_report(self) -> None:
         given = [f"{LIBRARY}:{it}" for it in ("export_int32", "Leak_array", "Ends_exit")]
         ran = subprocess.run(words(*given, "--lifetimes", "--junit", "report.xml"), stdout=-1, cwd=FOLDER,
@@ -167,6 +174,19 @@ class Trials(unittest.TestCase):
             say(trial.run(lambda tell: tell(tell(1, waits=True)), 5, heard=lambda it: it + 1).said)
 
         self.assertEqual(trial.run(outer, 30).said, ["it is ended by SIGABRT", "it takes too long", [1, 2]])
+
+    def test_blocks_that_the_c_library_keeps_back_are_not_counted(self) -> None:
+        def act(say: trial.Say) -> None:
+            say(heap.taken(False)["byte"])
+            blocks = [heap.C.malloc(1000) for _ in range(heap.OF_A_SIZE)]
+            say(heap.taken(False)["byte"])
+            for block in blocks:
+                heap.C.free(block)
+            say(heap.taken(False)["byte"])
+
+        before, meanwhile, after = trial.run(act, 60).said
+        self.assertGreaterEqual(meanwhile - before, 1000 * heap.OF_A_SIZE)
+        self.assertLess(abs(after - before), 1000)
 
     def test_closed_descriptors_are_no_end(self) -> None:
         def act(say: trial.Say) -> None:

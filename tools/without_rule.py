@@ -1,18 +1,33 @@
 #!/usr/bin/env python3
-"""Takes each rule's check out of arrow_check, by itself, and has the producers tried that break it: none may be named any more.
-So a test that names them has seen the check fail. It is no part of the gate.
+"""Takes each rule's check out of arrow_check, by itself, and has the producers and consumers tried that break it: none may be
+named any more. So a test that names them has seen the check fail. It is no part of the gate.
 
-    tools/without_rule.py [RULE ..]
+    tools/without_rule.py [--program PROGRAM] [RULE ..]      PROGRAM: the arrowpipe, for the rules of what consumers answer
 """
+import argparse
 import contextlib
 import io
 import json
+import os
+import subprocess
 import sys
-from typing import Any, Dict, List
+from pathlib import Path
+from typing import Any, Iterator, List, Tuple
 
+import test_consumers
 import test_lifetimes as cases
-from arrow_check import abi, arrays, cli, judge, session, source, streams
+from arrow_check import abi, answers, arrays, cli, consumer, judge, session, source, streams
+from arrow_check.record import Record
 from arrow_check.verdict import CAPSULES, LIFETIMES
+
+SANITIZED = """
+import sys
+sys.path.insert(0, {here!r})
+from arrow_check import consumer
+if {without}:
+    consumer.lost = list
+print(*[it["fault"] for it in consumer.verdicts(consumer.Words({words!r}, only=["a table"], seconds=300))])
+"""
 
 
 @contextlib.contextmanager
@@ -55,21 +70,87 @@ def named(rule: str) -> List[str]:
     producers += [f"capsule_cases:{it}" for it in cases.CAPSULE_CASES]
     producers = [it for it in producers if it.rpartition(":")[2].startswith(f"{rule}_")]
     with contextlib.redirect_stdout(io.StringIO()) as printed, contextlib.redirect_stderr(io.StringIO()):
-        cli.main([*producers, cases.LAWFUL[0], "--lifetimes", "--json", "--seconds", "20"])
+        cli.main([*producers, cases.LAWFUL[0], "--lifetimes", "--json", "--seconds", "300"])
     said = [json.loads(line) for line in printed.getvalue().splitlines()]
     return [it for it in producers if rule in [one.get("rule") for one in said if one["producer"] == it]]
 
 
-def main() -> int:
-    cases.build(cases.FOLDER)
-    bad = 0
-    counts: Dict[str, Any] = {}
-    for rule in sys.argv[1:] or [*LIFETIMES, *CAPSULES]:
+@contextlib.contextmanager
+def consumers_without(rule: str) -> Any:
+    """What is noted, seen at a crash, or found in answers, without the rule."""
+    note, fault, differences = Record.note, Record.fault, answers.differences
+
+    def other_differences(*given: Any) -> Iterator[Any]:
+        return (it for it in differences(*given) if it.get("rule") != rule)
+
+    def other_fault(record: Record) -> Any:
+        found = fault(record)
+        return found if found and found.get("rule") != rule else None
+
+    Record.note = lambda record, **said: None if said.get("rule") == rule else note(record, **said)  # type: ignore
+    Record.fault, answers.differences = other_fault, other_differences  # type: ignore
+    try:
+        yield
+    finally:
+        Record.note, Record.fault, answers.differences = note, fault, differences  # type: ignore
+
+
+def named_consumers(rule: str) -> List[str]:
+    """The consumers that break a rule, of those which the tool names by it."""
+    tests, told = test_consumers, []
+    given = [(tests.words_for(name, *tests.FEW, *filter(None, [tests.ON.get(name)])), each)
+             for name, each in tests.ARRAYS.items()]
+    given += [(tests.words_for(name, *tests.BROKEN_STREAMS, stream=True), each) for name, each in tests.STREAMS.items()]
+    given += [(consumer.Words(f"consumers:{name}", only=tests.FEW), each) for name, each in tests.OBJECTS.items()]
+    if all(tests.PROGRAMS):
+        programs = dict(zip(("check", "rows"), tests.PROGRAMS), answers=True)
+        given += [(tests.words_for(name, "int32", "a table", **programs), each) for name, each in tests.ANSWERS.items()]
+    for words, each in given:
+        if each == rule and rule in tests.results(words._replace(seconds=300)):
+            told.append(words.consumer)
+    return told
+
+
+def leaking_consumers(without: bool) -> List[str]:
+    """That which loses memory, where LeakSanitizer names it."""
+    library = cases.FOLDER / "libsanitized.so"
+    subprocess.run(["cc", "-g", "-fsanitize=address", "-shared", "-fPIC", str(cases.HERE / "consumers.c"), "-o", str(library)],
+                   check=True)
+    runtime = subprocess.run(["cc", "-print-file-name=libasan.so"], stdout=-1, universal_newlines=True).stdout.strip()
+    program = SANITIZED.format(here=str(cases.HERE), without=without, words=f"{library}:bad_leak")
+    ran = subprocess.run([sys.executable, "-c", program], stdout=-1, stderr=subprocess.DEVNULL, universal_newlines=True, env={
+        **os.environ, "LD_PRELOAD": runtime, "ASAN_OPTIONS": "leak_check_at_exit=0", "PYTHONMALLOC": "malloc"})
+    return ["bad_leak"] * ran.stdout.startswith("Leak")
+
+
+def counts(rule: str) -> Iterator[Tuple[str, int, int]]:
+    """Of those that break a rule how many are named by it, with its check and without."""
+    if rule in LIFETIMES or rule in CAPSULES:
         with_it = named(rule)
         with without(rule):
-            counts[rule] = (len(with_it), len(named(rule)))
-        bad += not counts[rule][0] or counts[rule][1] > 0
-        print(f"{rule}: {counts[rule][0]} named, without its check {counts[rule][1]}", flush=True)
+            yield "producers", len(with_it), len(named(rule))
+    if rule == "Leak":
+        yield "consumers", len(leaking_consumers(False)), len(leaking_consumers(True))
+    elif rule in consumer.RULES:
+        with_it = named_consumers(rule)
+        with consumers_without(rule):
+            yield "consumers", len(with_it), len(named_consumers(rule))
+
+
+def main() -> int:
+    parser = argparse.ArgumentParser(description=__doc__, formatter_class=argparse.RawDescriptionHelpFormatter)
+    parser.add_argument("rules", nargs="*", metavar="RULE")
+    parser.add_argument("--program", type=Path)
+    words = parser.parse_args()
+    if words.program:
+        test_consumers.PROGRAMS = str(words.program.resolve()), str(words.program.resolve().parent / "arrowtree")
+    cases.build(cases.FOLDER)
+    test_consumers.compiled()
+    bad = 0
+    for rule in words.rules or dict.fromkeys([*LIFETIMES, *CAPSULES, *consumer.RULES]):
+        for what, with_it, without_it in counts(rule):
+            bad += not with_it or without_it > 0
+            print(f"{rule}: {with_it} {what} named, without its check {without_it}", flush=True)
     return 1 if bad else 0
 
 

@@ -113,6 +113,12 @@ def try_two_exports(bench: Bench) -> None:
         release(each)
     heap.overwrite_freed()
     bench.same("TwoExports", before, bench.both(second), "an earlier export is released")
+    third = once_more(bench)
+    bench.same("TwoExports", before, bench.both(second), "a third export is made after that")
+    for each in third.owned():
+        let_go("TwoExports", each, "while an earlier export is live")
+    heap.overwrite_freed()
+    bench.same("TwoExports", before, bench.both(second), "a later export is released")
     for each in second.owned():
         let_go("TwoExports", each, "after an earlier export is released")
 
@@ -170,12 +176,12 @@ def try_other_thread(bench: Bench) -> None:
     elsewhere("OtherThread", bench.make().owned())
 
 
-def search_leak(act: Callable[[], None], what: str) -> None:
+def search_leak(bench: Bench, act: Callable[[], Any], what: str) -> None:
     if not heap.is_counted():
         raise NotTried("the C library doesn't count its bytes")
-    kept = heap.kept(act)
+    kept = heap.kept(act, with_maps=not bench.sums.direct)
     if kept:
-        raise Broken("Leak", f"each {what} keeps {kept} bytes after its release")
+        raise Broken("Leak", f"each {what} keeps {kept} after its release")
 
 
 def try_leak(bench: Bench) -> None:
@@ -184,9 +190,22 @@ def try_leak(bench: Bench) -> None:
             release(each)
         bench.made.clear()
 
-    bench.make().release()
+    def with_a_child_out() -> None:
+        """Of one export the first child is moved out, of another one the last."""
+        for last in (False, True):
+            export = bench.make()
+            moved_out = take_children(export.array, [export.array[4] - 1 if last else 0])
+            for each in export.owned() + moved_out:
+                release(each)
+        bench.made.clear()
+
+    first = bench.make()
+    has_children = has_array(first) and first.array[4]
+    first.release()
     once_more(bench).release()
-    search_leak(act, "export")
+    search_leak(bench, act, "export")
+    if has_children:
+        search_leak(bench, with_a_child_out, "pair of exports, of each of which a child was moved out,")
 
 
 def try_capsule_taken(bench: Bench) -> None:

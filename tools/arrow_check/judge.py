@@ -16,7 +16,8 @@ from .verdict import CAPSULES, LIFETIMES, sentence
 
 ENDS = {"signal": "crashed", "exited": "exited", "timeout": "hung", "raised": "raised"}
 # What tells nothing where another rule is broken.
-NEEDS = {"Leak": {"CapsuleTaken", "CapsuleLeft"}, "ChunkOrder": {"ChunkChanged"}, "StreamFirst": {"ChunkChanged"}}
+NEEDS = {"Leak": {"CapsuleTaken", "CapsuleLeft", "ChildMoved"},
+         **dict.fromkeys(("TwoExports", "ChunkOrder", "StreamFirst"), {"ChunkChanged"})}
 ENOUGH = ("lawful", "written", "left out", "failed", "read")  # results of a layout with which the lifetimes are tried
 
 

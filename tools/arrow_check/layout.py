@@ -18,7 +18,7 @@ LAYOUTS = {"n": "", "b": "1 1", "[cC]": "1 8", "[sSe]": "1 16", "[iIf]|tdD|tt[sm
 LEFT_OUT = {r"\+v[lL]": "a list view", r"\+u[sd]:.*": "a union", r"\+r": "a run-end encoded array",
             r"d:\d+,-?\d+,(32|64)": "a decimal of 32 or 64 bits"}  # Arrow's types that the check doesn't take
 MOST_LEVELS, MOST_COUNT = 64, 1 << 20  # levels of a checked schema; buffers or children of a node in a text
-PIECE, LEAST_READ, LEAST_CHUNK = 1 << 20, 32, 1 << 14  # bytes: the most of a read; what a read and a chunk count for
+PIECE, LEAST_READ, LEAST_CHUNK = 1 << 17, 32, 1 << 14  # bytes: the most of a read; what a read and a chunk count for
 PAGE, SHOWN = 4096, 80  # bytes of memory that are mapped as one; characters of a name that are shown
 TOKENS = [chr(b) if 0x21 <= b <= 0x7E and b != 0x25 else f"%{b:02X}" for b in range(256)]
 

@@ -6,7 +6,7 @@ from typing import Any, Callable, Dict, List, Optional, Tuple
 
 from .abi import ArrowArray, ArrowArrayStream, ArrowSchema, room_at
 from .exports import Column, Stream
-from .record import END, FIXED, LIBC, LIVE, OLD_TEXT, PAGE, RELEASED, Record, pages
+from .record import BEYOND, END, FIXED, LIBC, LIVE, OLD_TEXT, PAGE, RELEASED, Record, pages
 
 READ, WRITE, FILL, ALIGNED = 1, 2, b"\xee", 64
 FORMS = {"schema": ArrowSchema, "array": ArrowArray, "stream": ArrowArrayStream}
@@ -39,6 +39,7 @@ class Lender:
     def __init__(self, record: Record) -> None:
         self.record = record
         self.held: Dict[int, Held] = {}  # by private_data
+        self.behind = self.block(b"", "a table of pointers", state=BEYOND)[0].to_bytes(8, "little")  # the last pointer of each
         self.roots: List[Held] = []
         release = ctypes.CFUNCTYPE(None, ctypes.c_void_p)
         ask = ctypes.CFUNCTYPE(ctypes.c_int, ctypes.c_void_p, ctypes.c_void_p)
@@ -120,9 +121,10 @@ class Lender:
     def schema(self, held: Held, column: Column, children: bytes, dictionary: int) -> None:
         texts = [column.format.encode() + b"\0", None if column.name is None else column.name.encode() + b"\0",
                  column.metadata]
-        start = self.own(held, children + b"".join(text or b"" for text in texts),
+        table = children + self.behind
+        start = self.own(held, table + b"".join(text or b"" for text in texts),
                          "the memory of its format, name and metadata")
-        places, end = [], start + len(children)
+        places, end = [], start + len(table)
         for text in texts:
             places.append(0 if text is None else end)
             end += len(text or b"")
@@ -130,10 +132,10 @@ class Lender:
 
     def array(self, held: Held, column: Column, children: bytes, dictionary: int) -> None:
         buffers = [0 if data is None else self.own(held, data, f"buffer {i}") for i, data in enumerate(column.buffers)]
-        table = b"".join(each.to_bytes(8, "little") for each in buffers)
-        start = self.own(held, table + children or bytes(8), "the memory of its pointers")
+        table = b"".join(each.to_bytes(8, "little") for each in buffers) + self.behind
+        start = self.own(held, table + children + self.behind, "the memory of its pointers")
         self.finish(held, start, column.length, column.nulls, column.offset, len(buffers), len(column.children),
-                    start if table else 0, start + len(table) if children else 0, dictionary)
+                    start if buffers else 0, start + len(table) if children else 0, dictionary)
 
     def lend_stream(self, stream: Stream, place: int, label: str = "stream") -> Held:
         held = self.begin("stream", label, place, None)

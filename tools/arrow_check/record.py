@@ -8,10 +8,10 @@ import struct
 from typing import Any, Dict, List, Optional
 
 PAGE = mmap.PAGESIZE
-LIVE, RELEASED, END, OLD_TEXT = range(4)
+LIVE, RELEASED, END, OLD_TEXT, BEYOND = range(5)
 MOST_NOTES, MOST_BLOCKS = 1 << 16, 1 << 15
 HEAD, BLOCK = struct.Struct("<3q"), struct.Struct("<3q104s")  # fault, notes, blocks; start, end, state, label
-RULE_OF = {RELEASED: "ReadReleased", END: "ReadPastEnd", OLD_TEXT: "ReadOldError"}
+RULE_OF = {RELEASED: "ReadReleased", END: "ReadPastEnd", OLD_TEXT: "ReadOldError", BEYOND: "ReadBeyond"}
 # void (int, siginfo_t *info, void *): stores info->si_addr. mov rax, SLOT; mov rcx, [rsi+16]; mov [rax], rcx; ret
 HANDLER = (b"\x48\xb8", b"\x48\x8b\x4e\x10\x48\x89\x08\xc3")
 SIGINFO, RESETHAND = 4, 0x80000000
@@ -81,7 +81,7 @@ class Record:
             if start <= address < end + PAGE:
                 rule = RULE_OF[state] if state != LIVE else "ReadBeyond" if address >= end else "WroteData"
                 return {"rule": rule, "what": label.rstrip(b"\0").decode(errors="replace")}
-        return {"address": hex(address % 2**64) + ", a null pointer" * (not address)}
+        return {"address": hex(address % 2**64) if address else "0x0: a null pointer, or one to no place that there can be"}
 
     def watch(self) -> None:
         """Have the address of a fault kept, before the process ends by that fault."""

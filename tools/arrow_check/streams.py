@@ -1,11 +1,12 @@
 """The lifetimes of streams and of what they give: each function tries a rule, in a process of its own."""
 import ctypes
+from functools import partial
 from typing import Any, Dict, List, Tuple
 
 from . import heap
 from .abi import ArrowArray, ArrowSchema, GARBAGE, call, is_live, last_error, moved, release, room
 from .arrays import Bench, Trial, elsewhere, let_go, once_more, outlives, search_leak
-from .layout import Refused, shown
+from .layout import LEAST_CHUNK, Refused, shown
 from .source import Broken, Export, Inapplicable, NotTried
 
 MOST_CHUNKS = 64  # that are kept at once
@@ -106,7 +107,10 @@ def try_chunk_order(bench: Bench) -> None:
 
 
 def try_stream_first(bench: Bench) -> None:
-    reader, sums = read(bench)
+    reader = Reader(bench, bench.make())
+    sums = reader.all()
+    if not is_live(reader.schema):
+        raise Inapplicable("there is no schema")
     schema = bench.sums.of_schema(ctypes.addressof(reader.schema))
     let_go("StreamFirst", reader.stream, "before its chunks")
     heap.overwrite_freed()
@@ -149,6 +153,12 @@ def try_two_exports(bench: Bench) -> None:
     got = len(second.all())
     if got != count:
         raise Broken("TwoExports", f"a stream gives {got} chunks, and not {count}, when an earlier one is released")
+    third, before = Reader(bench, once_more(bench)), second.sum(second.chunks[0])
+    third.next()
+    bench.same("TwoExports", before, second.sum(second.chunks[0]), "a third stream is read after that")
+    third.release()
+    heap.overwrite_freed()
+    bench.same("TwoExports", before, second.sum(second.chunks[0]), "a later stream is released")
     for each in second.owned():
         let_go("TwoExports", each, "after an earlier stream is released")
 
@@ -175,18 +185,20 @@ def try_other_thread(bench: Bench) -> None:
 
 def to_the_end(bench: Bench, garbage: int) -> Reader:
     """A stream of which the end has been given, into structures of garbage."""
+    if bench.seen.get("end") != "end":
+        raise Inapplicable("the stream ends with an error")
     reader = Reader(bench, bench.make())
     while reader.left > 0:
         chunk = room(ArrowArray)
         chunk[:] = [garbage] * len(chunk)
         if reader.code or call(reader.stream, "get_next", chunk):
-            raise Inapplicable("the stream ends with an error")
+            raise NotTried("the stream ends with an error this time")
         if not is_live(chunk):
             return reader
         if chunk[-2] == GARBAGE:
             raise Broken("EndMark", "get_next answers 0 and leaves what was in the structure")
-        reader.sum(chunk)
         release(chunk)
+        reader.left -= LEAST_CHUNK
     raise NotTried("the end isn't reached")
 
 
@@ -205,11 +217,14 @@ def try_end_again(bench: Bench) -> None:
 
 
 def try_last_error(bench: Bench) -> None:
-    reader = Reader(bench, bench.make())
-    while not reader.code and reader.next() is not None:
-        reader.sum(reader.chunks[-1])
-    if not reader.code:
+    if bench.seen.get("end") == "end":
         raise Inapplicable("there is no error")
+    reader = Reader(bench, bench.make())
+    while reader.next() is not None:
+        release(reader.chunks.pop())
+        reader.left -= LEAST_CHUNK
+    if not reader.code:
+        raise NotTried("there is no error this time")
     place = last_error(reader.stream)
     if not place:
         return
@@ -235,25 +250,26 @@ def try_leak(bench: Bench) -> None:
         while reader.next() is not None:
             release(reader.chunks.pop())
             reader.left -= bench.sums.most // MOST_CHUNKS
+        if reader.code:
+            last_error(reader.stream)
         reader.release()
         bench.made.clear()
 
-    def cut_short() -> None:
-        reader = Reader(bench, bench.make())
-        reader.next()
+    def begun(make: Any = bench.make) -> Any:
+        """A stream that is released after its first chunk: whether it has one, and what it answered."""
+        reader = Reader(bench, make())
+        said = reader.next() is not None, reader.code
         reader.release()
         bench.made.clear()
+        return said
 
-    read(bench)[0].release()
-    again = Reader(bench, once_more(bench))
-    if again.next() is None:
+    if begun() != begun(partial(once_more, bench)):
         raise NotTried("there is no second export")
-    again.release()
-    search_leak(whole, "stream")
-    search_leak(cut_short, "stream that is released after its first chunk")
+    search_leak(bench, whole, "stream")
+    search_leak(bench, begun, "stream that is released after its first chunk")
 
 
 OF_STREAMS: Dict[str, Trial] = {
-    "Moved": try_moved, "SchemaFirst": try_schema_first, "TwoExports": try_two_exports, "ChildMoved": try_child_moved,
-    "OtherThread": try_other_thread, "ChunkChanged": try_chunk_changed, "ChunkOrder": try_chunk_order,
+    "Moved": try_moved, "SchemaFirst": try_schema_first, "ChunkChanged": try_chunk_changed, "TwoExports": try_two_exports,
+    "ChildMoved": try_child_moved, "OtherThread": try_other_thread, "ChunkOrder": try_chunk_order,
     "StreamFirst": try_stream_first, "EndMark": try_end_mark, "EndAgain": try_end_again, "LastError": try_last_error}
