@@ -14,8 +14,8 @@
 # The programs and the logs are in out/. The libraries are in POOL: they hold source files, which rt refuses elsewhere.
 
 # A shell ends with the make that called it, and what it runs with it: whatever ends a build leaves no prover.
-SHELL := /usr/bin/setpriv
-.SHELLFLAGS := --pdeathsig TERM /bin/bash -O globstar -O nullglob -c
+override SHELL := /usr/bin/setpriv
+override .SHELLFLAGS := --pdeathsig TERM /bin/bash -O globstar -O nullglob -c
 export LC_ALL := C
 export TOP := $(CURDIR)
 POOL := crates/arrowpipe/out/rlib
@@ -25,7 +25,7 @@ PROGRAM := arrowpipe
 
 # What would have a stamp made that nothing stands behind.
 $(foreach it,i t n q e,$(if $(findstring $(it),$(firstword -$(MAKEFLAGS))),$(error make -$(it) is refused: a build is made whole)))
-$(if $(MAKEFILES),$(error MAKEFILES is refused: this Makefile is read alone))
+$(if $(MAKEFILES)$(findstring --eval,$(MAKEFLAGS)),$(error MAKEFILES or --eval is refused: this Makefile is read alone))
 MAKEOVERRIDES :=
 
 ifneq ($(origin LOCKED),command line)
@@ -38,7 +38,7 @@ build: $(filter clean,$(MAKECMDGOALS))
 	+@[[ $$TOP != *$$'\n'* ]] || { echo "the path of this folder has a line feed, which isn't taken" >&2; exit 1; }
 	+@mkdir -p out/log $(POOL) 2> /dev/null || { echo "out or $(POOL) can't be written" >&2; exit 1; }
 	+@flock -n crates true || echo 'waiting for another build' >&2
-	+@exec flock -F crates $(MAKE) LOCKED=1 $(GOALS)
+	+@exec env -u{SHELLOPTS,BASHOPTS,BASH_ENV} flock -F crates $(MAKE) LOCKED=1 $(GOALS)
 check:
 	@.ci/run
 clean:
