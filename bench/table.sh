@@ -42,7 +42,7 @@ BEGIN {
     exit
   }
   if (kind == "one" || kind == "wide" || sub(/^columns-/, "", kind)) {
-    columns = kind == "one" ? 1 : kind == "wide" ? 500 : kind
+    columns = kind == "one" ? 1 : kind == "wide" ? 500 : kind + 0
     line = columns == 1 ? "a" : "c1"
     for (k = 2; k <= columns; k++) line = line ",c" k
     print line
