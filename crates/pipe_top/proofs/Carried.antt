@@ -15,7 +15,7 @@ use Rattle.stage_plan.specs.Entries.{entries_of}
 use Rattle.stage_model.specs.Typing.{Stage, plan_of}
 use Rattle.stage_model.specs.declared.fault.PlanFault.{PlanFault}
 use Rattle.stage_model.specs.declared.fault.PlanFault.TheVariants as plan
-use Rattle.edge_io.specs.Edge.{LosesPrefix}
+use Rattle.edge_io.specs.Edge.{LosesWithin}
 use Rattle.stream_face.specs.Shown.{Seen, of_link}
 use Rattle.tree_check.specs.Checks.{Checked}
 use Rattle.run_model.specs.Answer.{Answer, Text, Fault, Request, Task, Table, Tree, Cause, OfWords}
@@ -70,9 +70,9 @@ pub keeps-same : (bytes : Option (List ℕ)) → Keeps bytes bytes
 keeps-same None = tt
 keeps-same (Some bytes) = refl
 
-pub loses-nothing : (bytes : Option (List ℕ)) → LosesPrefix bytes bytes
-loses-nothing None = ([], tt)
-loses-nothing (Some bytes) = ([], refl)
+pub loses-nothing : (bytes : Option (List ℕ)) → LosesWithin bytes bytes (input_limit + 1)
+loses-nothing None = ([], tt, omega (arith))
+loses-nothing (Some bytes) = ([], refl, omega (arith))
 
 -- ---- the faults that an answer may have
 -- neither the words nor the length of the input decide it, and neither the source nor the sink failed

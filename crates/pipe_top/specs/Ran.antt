@@ -1,7 +1,7 @@
 -- What a run comes to: its answer, how far it read, what it left outside, and what it told.
 use Rattle.std.specs.Prelude.{◌≡◌, ◌⊎◌, ◌+◌, ℕ, List, true, false, Option, None, Some, IfSome, Ok, Err}
 use Rattle.std.specs.Io.KnownBytes.{Keeps}
-use Rattle.edge_io.specs.Edge.{LosesCount, LosesPrefix, Rose}
+use Rattle.edge_io.specs.Edge.{LosesCount, LosesWithin, Rose}
 use Rattle.run_model.specs.Words.{audit_of, made_of}
 use Rattle.run_model.specs.Answer.{Asks, Tree, Cause, OfPlan, OfRecords, OfTree, OfLength, Writing, cause_of, status_of}
 use Rattle.run_model.specs.MemoryFaults.{has_memory_inside}
@@ -66,9 +66,10 @@ pub record Ran (words : List (List ℕ)) (old new : Outside) (outcome : Outcome)
   pub unwritten : IfSome outcome.fault (λ fault. is_write_fault fault ≡ false → Keeps old.taken new.taken)
   -- Out of memory is a fault of its own: no other fault has one inside it.
   pub memory_alone : IfSome outcome.fault (λ fault. has_memory_inside fault ≡ false)
-  -- The status is a function of the fault, and the source has lost a prefix.
+  -- The status is a function of the fault. Whatever the run comes to, the source has lost its first bytes, at most one past the most
+  -- that are read.
   pub status : outcome.status ≡ status_of outcome.fault
-  pub prefix : LosesPrefix old.left new.left
+  pub prefix : LosesWithin old.left new.left (input_limit + 1)
   -- Where the words are refused or a tree is checked, the tap saw nothing.
   pub unshown_early : (fault : RunFault) → Asks words (Err fault) → new.seen ≡ old.seen
   pub unshown_check : Asks words (Ok Tree) → new.seen ≡ old.seen

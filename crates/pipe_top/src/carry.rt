@@ -1,9 +1,9 @@
 //! What a run does between its words and its lines: it reads, makes the text and writes it.
-ghost use Rattle.std.specs.Prelude.{◌≡◌, ◌<◌, ◌≤◌, ◌*◌, ◌⊎◌, true, false, All, Some, None, Ok, Err, IfOk, IfErr, IfSome, OnOk, OnErr, length, ℕ, List};
+ghost use Rattle.std.specs.Prelude.{◌≡◌, ◌<◌, ◌≤◌, ◌+◌, ◌*◌, ◌⊎◌, true, false, All, Some, None, Ok, Err, IfOk, IfErr, IfSome, OnOk, OnErr, length, ℕ, List};
 ghost use Rattle.std.specs.Io.KnownBytes.{IsAtEnd, Keeps};
 ghost use Rattle.field_codec.specs.TextColumns.{IsAllowed};
 ghost use Rattle.data_types.specs.Kinds.{KindOk};
-ghost use Rattle.edge_io.specs.Edge.{LosesPrefix, Rose};
+ghost use Rattle.edge_io.specs.Edge.{LosesWithin, Rose};
 ghost use Rattle.unit_pass.specs.declared.pass.TheConstants.{ROOM};
 ghost use Rattle.csv_model.specs.Made.{made};
 ghost use Rattle.run_model.specs.Words.{most_rows};
@@ -45,7 +45,7 @@ fn read_input<S: Source>(
     ensures read { IfErr result (λ fault. ReadFor (cause_of fault) rows (S.left source.old) (S.left source.new)) }
     ensures made_unread { IfSome rows (λ n. Keeps (S.left source.old) (S.left source.new)) }
     ensures made_unfailed { IfSome rows (λ n. S.faults source.new ≡ S.faults source.old) }
-    ensures prefix { LosesPrefix (S.left source.old) (S.left source.new) }
+    ensures prefix { LosesWithin (S.left source.old) (S.left source.new) (input_limit + 1) }
 {
     match rows {
         Some(rows) => make_input(alloc, rows),
@@ -74,7 +74,7 @@ fn read_source<S: Source>(alloc: Global, source: &mut S) -> Result<Vec<u8>, RunF
         ⊎ (fault ≡ RunFault.ReadFault) × Rose (S.faults source.old) (S.faults source.new)
         ⊎ (fault ≡ RunFault.InputTooLong) × IsTooLong (S.left source.old)) }
     ensures read { IfErr result (λ fault. ReadFor (cause_of fault) None (S.left source.old) (S.left source.new)) }
-    ensures prefix { LosesPrefix (S.left source.old) (S.left source.new) }
+    ensures prefix { LosesWithin (S.left source.old) (S.left source.new) (input_limit + 1) }
 {
     match read_all(alloc, source, INPUT_LIMIT) {
         Ok(bytes) => Ok(bytes),
@@ -151,7 +151,7 @@ pub fn run_task<W: PlanStep, R: Threads + Sync, S: Source, K: Sink, T: Tap>(
     ensures read_fault { result ≡ Err RunFault.ReadFault → (rows ≡ None) × Rose (S.faults source.old) (S.faults source.new) }
     ensures write_fault { IfErr result (λ fault. AtWriteFault fault (λ taken. Rose (K.faults sink.old) (K.faults sink.new))) }
     ensures unwritten { IfErr result (λ fault. is_write_fault fault ≡ false → Keeps (K.taken sink.old) (K.taken sink.new)) }
-    ensures prefix { LosesPrefix (S.left source.old) (S.left source.new) }
+    ensures prefix { LosesWithin (S.left source.old) (S.left source.new) (input_limit + 1) }
     ensures units { pass.new.units ≡ pass.old.units }
     ensures unshown { IfErr task (λ _. T.seen tap.new ≡ T.seen tap.old) }
 {

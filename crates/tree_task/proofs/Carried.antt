@@ -4,7 +4,7 @@ use Rattle.std.proofs.Common.{IfErr, IsErrAnd, OnOk, ap, arith, refl, subst, sym
 use Rattle.std.proofs.lemmas.Bool.Decides.{nat_tests}
 use Rattle.std.proofs.lemmas.List.{length-append}
 use Rattle.std.specs.Io.KnownBytes.{Appends, IsAtEnd, Keeps}
-use Rattle.edge_io.specs.Edge.{LosesCount, LosesPrefix}
+use Rattle.edge_io.specs.Edge.{LosesCount}
 use Rattle.data_types.specs.KindTrees.{KindTree}
 use Rattle.layout_rules.specs.Walk.{Fault as ArrayFault, first_chunk_fault, first_fault}
 use Rattle.raw_array.specs.Members.{ArrayTree}
@@ -70,10 +70,6 @@ one-error r one other is also = cc
 pub keeps-same : (bytes : Option (List ℕ)) → Keeps bytes bytes
 keeps-same None = tt
 keeps-same (Some bytes) = refl
-
-pub loses-nothing : (bytes : Option (List ℕ)) → LosesPrefix bytes bytes
-loses-nothing None = ([], tt)
-loses-nothing (Some bytes) = ([], refl)
 
 -- ---- the input
 

@@ -1,7 +1,7 @@
 //! What a run does between its words and its lines: it reads, makes the text and writes it.
-ghost use Rattle.std.specs.Prelude.{◌≡◌, ◌≢◌, ◌≤◌, ◌⊎◌, ◌↔◌, false, None, Some, Ok, Err, IfOk, IfErr, OnOk, length, ℕ, List};
+ghost use Rattle.std.specs.Prelude.{◌≡◌, ◌≢◌, ◌≤◌, ◌+◌, ◌⊎◌, ◌↔◌, false, None, Some, Ok, Err, IfOk, IfErr, OnOk, length, ℕ, List};
 ghost use Rattle.std.specs.Io.KnownBytes.{IsAtEnd, Keeps};
-ghost use Rattle.edge_io.specs.Edge.{LosesPrefix, Rose};
+ghost use Rattle.edge_io.specs.Edge.{LosesWithin, Rose};
 ghost use Rattle.unit_pass.specs.declared.pass.TheConstants.{ROOM};
 ghost use Rattle.tree_task.specs.Answer.{AreBytes, IsTooLong, input_limit};
 ghost use Rattle.tree_task.specs.Faults.{AtWriteFault, cause_of, fault_in, is_write_fault};
@@ -27,7 +27,7 @@ fn read_source<S: Source>(alloc: Global, source: &mut S) -> Result<Vec<u8>, Tree
         ⊎ (fault ≡ TreeRunFault.ReadFault) × Rose (S.faults source.old) (S.faults source.new)
         ⊎ (fault ≡ TreeRunFault.InputTooLong) × IsTooLong (S.left source.old)) }
     ensures read { IfErr result (λ fault. ReadFor (cause_of fault) (S.left source.old) (S.left source.new)) }
-    ensures prefix { LosesPrefix (S.left source.old) (S.left source.new) }
+    ensures prefix { LosesWithin (S.left source.old) (S.left source.new) (input_limit + 1) }
 {
     match read_all(alloc, source, INPUT_LIMIT) {
         Ok(bytes) => Ok(bytes),
@@ -55,7 +55,7 @@ fn run_command<S: Source, K: Sink>(
     ensures read_fault { result ≡ Err TreeRunFault.ReadFault → Rose (S.faults source.old) (S.faults source.new) }
     ensures write_fault { IfErr result (λ fault. AtWriteFault fault (λ taken. Rose (K.faults sink.old) (K.faults sink.new))) }
     ensures unwritten { IfErr result (λ fault. is_write_fault fault ≡ false → Keeps (K.taken sink.old) (K.taken sink.new)) }
-    ensures prefix { LosesPrefix (S.left source.old) (S.left source.new) }
+    ensures prefix { LosesWithin (S.left source.old) (S.left source.new) (input_limit + 1) }
     ensures units { pass.new.units ≡ pass.old.units }
 {
     one_answer();
@@ -89,7 +89,7 @@ pub fn run_over_source<S: Source, K: Sink>(
     ensures read_fault { result ≡ Err TreeRunFault.ReadFault → Rose (S.faults source.old) (S.faults source.new) }
     ensures write_fault { IfErr result (λ fault. AtWriteFault fault (λ taken. Rose (K.faults sink.old) (K.faults sink.new))) }
     ensures unwritten { IfErr result (λ fault. is_write_fault fault ≡ false → Keeps (K.taken sink.old) (K.taken sink.new)) }
-    ensures prefix { LosesPrefix (S.left source.old) (S.left source.new) }
+    ensures prefix { LosesWithin (S.left source.old) (S.left source.new) (input_limit + 1) }
     ensures units { pass.new.units ≡ pass.old.units }
 {
     one_answer();

@@ -1,8 +1,8 @@
 -- What a run comes to: its answer, how far it read, what it left outside, and what it told.
-use Rattle.std.specs.Prelude.{◌≡◌, ◌↔◌, ℕ, List, false, Option, None, Some, IfSome}
+use Rattle.std.specs.Prelude.{◌≡◌, ◌↔◌, ◌+◌, ℕ, List, false, Option, None, Some, IfSome}
 use Rattle.std.specs.Io.KnownBytes.{IsAtEnd, Keeps}
-use Rattle.edge_io.specs.Edge.{LosesPrefix, Rose}
-use Rattle.tree_task.specs.Answer.{AreBytes, command_of}
+use Rattle.edge_io.specs.Edge.{LosesWithin, Rose}
+use Rattle.tree_task.specs.Answer.{AreBytes, command_of, input_limit}
 use Rattle.tree_task.specs.Faults.{AtWriteFault, cause_of, has_memory_inside, is_write_fault, status_of}
 use Rattle.tree_task.specs.Over.{RanOver, ReadFor}
 use Rattle.tree_task.specs.Diagnostics.{Took, status_line}
@@ -42,9 +42,10 @@ pub record Ran (args : List (List ℕ)) (old new : Outside) (outcome : TreeOutco
   pub unwritten : IfSome outcome.fault (λ fault. is_write_fault fault ≡ false → Keeps old.taken new.taken)
   -- Out of memory is a fault of its own: no other fault has one inside it.
   pub memory_alone : IfSome outcome.fault (λ fault. has_memory_inside fault ≡ false)
-  -- The status is a function of the fault, and the source has lost a prefix.
+  -- The status is a function of the fault. Whatever the run comes to, the source has lost its first bytes, at most one past the most
+  -- that are read.
   pub status : outcome.status ≡ status_of outcome.fault
-  pub prefix : LosesPrefix old.left new.left
+  pub prefix : LosesWithin old.left new.left (input_limit + 1)
   -- Nothing is left.
   pub audit : outcome.audit.left ≡ 0
   -- The sink of diagnostics took the fault's line, or the first bytes of it where its own faults rose, and nothing without one.
