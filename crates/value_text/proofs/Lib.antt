@@ -2,7 +2,6 @@ pub mod PlainBytes
 pub mod Parts
 mod EscapeCounts
 pub mod LengthSums
-pub mod KidLengths
 pub mod KidsTold
 pub mod Sizes
 mod NumberedLines

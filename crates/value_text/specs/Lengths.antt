@@ -1,6 +1,5 @@
 -- How many bytes the texts of values have. What is longer than a text may be counts one more than that.
-use Rattle.std.specs.Prelude.{◌≡◌, ◌+◌, ◌*◌, ◌<◌, ◌≤◌, ℕ, zero, suc, min, List, [], ◌∷◌, get_or, length, Vec, vec_len}
-use Rattle.std.specs.Global.{Global}
+use Rattle.std.specs.Prelude.{◌≡◌, ◌+◌, ◌*◌, ◌<◌, ◌≤◌, ℕ, zero, suc, min, List, [], ◌∷◌, get_or, length, vec_len}
 use Rattle.tree_model.specs.Tree.{Released, child_at, children_of, trees}
 use Rattle.raw_array.specs.Members.{ArrayTree, members_of}
 use Rattle.data_types.specs.KindTrees.{KindTree}
@@ -36,12 +35,6 @@ IsReached (all.Own lengths) n = n ≤ vec_len lengths
 pub record AreLengths (lengths : List ℕ) (item : ℕ → Value) (n : ℕ) : Type 0 where
   pub many : length lengths ≡ n
   pub each : (i : ℕ) → i < n → get_or lengths i 0 ≡ text_length (item i)
-
--- those of all items of each child of an array, as far as its first this many children
-pub record AreKidLengths (lengths : List (Vec ℕ Global)) (kids : List KindTree) (array : ArrayTree) (count : ℕ) : Type 0 where
-  pub many : length lengths ≡ count
-  pub each : (k : ℕ) (d : Vec ℕ Global) → k < count
-      → AreLengths (get_or lengths k d).items (value_at (get_or kids k Released) (child_at array k)) (tree_items (child_at array k))
 
 -- the same, where all items may have one
 abbrev pub Tells : Lengths → (ℕ → Value) → ℕ → Type 0

@@ -1,5 +1,5 @@
 //! A text whose length has a bound.
-ghost use Rattle.std.specs.Prelude.{◌≡◌, ◌+◌, ◌≤◌, ◌++◌, ◌∷◌, [], OnOk, length, vec_len};
+ghost use Rattle.std.specs.Prelude.{◌≡◌, ◌+◌, ◌<◌, ◌≤◌, ◌++◌, ◌∷◌, [], OnOk, OnErr, length, vec_len};
 ghost use Rattle.std.specs.Fmt.{signed_decimal};
 ghost use Rattle.data_types.specs.FieldText.{last_digits};
 ghost use Rattle.data_types.specs.ValueTexts.{text_limit};
@@ -68,7 +68,8 @@ impl BoundedText {
 
     /// `NoMemory` where the text would be too long with this many bytes more, before any of them is made.
     pub fn has_room(&self, count: u64) -> Result<(), NoMemory>
-        ensures { OnOk result (length self.now + count ≤ text_limit) }
+        ensures fits { OnOk result (length self.now + count ≤ text_limit) }
+        ensures long { OnErr result (text_limit < length self.now + count) }
     {
         if count > (LIMIT - self.bytes.len()) as u64 {
             return Err(NoMemory);

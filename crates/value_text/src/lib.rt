@@ -7,9 +7,8 @@
 //!   few bytes can have 2^40 items, and a dictionary entry can be the value of any number of them.
 //! - [`measured_lengths`] finds the lengths in bytes of the texts of all items of an array ([`Lengths`]), in time and memory of the size
 //!   of its buffers: items that no buffer holds have one length for all, an item that the buffers hold is measured once, and a byte is
-//!   read once. [`measured`] lists them one by one, for callers that write an item any number of times, and [`may_repeat`] says for
-//!   which kinds that saves time. [`text_bound`] says how long the texts are at most, [`struct_length_at`] and
-//!   [`field_length_at`] how long those of a struct and of its fields are, by the lengths of its children's ([`children_measured`]).
+//!   read once. [`text_bound`] says how long the texts are at most, [`struct_length_at`] and [`field_length_at`] how long those of a
+//!   struct and of its fields are, by the lengths of its children's ([`children_measured`]).
 //!
 //! The definitions are in `specs/ValueTexts.antt` of `data_types` (the text of a value) and `specs/Lengths.antt` (its
 //! length). The calls go down one level of the checked kinds at a time. They take no memory but that of the text and of the
@@ -33,7 +32,7 @@ pub use bound::text_bound;
 pub use bounded::BoundedText;
 pub use lengths::{FieldSums, Lengths, field_sums, plus, times, whole_length};
 pub use lines::items_text;
-pub use measure::{MOST_MEASURED, children_measured, may_repeat, measured, measured_lengths};
+pub use measure::{children_measured, measured_lengths};
 pub use numbered::push_numbered;
 pub use placed::{field_length_at, struct_length_at};
 pub use value::push_value;

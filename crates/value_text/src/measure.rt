@@ -10,7 +10,7 @@ ghost use Rattle.layout_rules.specs.Values.{tree_items, value_at, values_of};
 ghost use Rattle.layout_rules.specs.Walk.{LayoutOk};
 ghost use Rattle.arr_import.specs.Cols.{window_of};
 ghost use Rattle.arr_import.specs.Window.{whole};
-ghost use Rattle.value_text.specs.Lengths.{AreLengths, AreSums, Tells, TellsKids, IsNested, capped, text_length};
+ghost use Rattle.value_text.specs.Lengths.{AreSums, Tells, TellsKids, IsNested, capped, text_length};
 ghost use Rattle.data_types.specs.ValueTexts.{lines_text};
 
 use crate::lengths::{
@@ -63,79 +63,6 @@ pub fn children_measured(
     lawful_root(typed, array);
     lawful_parts(typed, array);
     kid_lengths(alloc, &typed.kids, array)
-}
-
-/// How many items that no buffer holds are measured one by one at most.
-pub const MOST_MEASURED: u64 = 1 << 25;
-
-/// Whether arrays of these kinds may have items that are written any number of times, or that no buffer holds: dictionaries, views,
-/// fixed lists and nulls.
-pub fn may_repeat(typed: &Typed) -> bool {
-    repeats(typed)
-}
-
-#[cycle(kinds)]
-fn repeats(typed: &Typed) -> bool {
-    match storage_of(&typed.kind) {
-        Storage::Views { .. } | Storage::FixedLists { .. } | Storage::Nothing => true,
-        _ => typed.dict.is_some() || any_repeats(&typed.kids),
-    }
-}
-
-#[cycle(kinds)]
-fn any_repeats(kids: &[Typed]) -> bool {
-    for kid in kids {
-        if repeats(kid) {
-            return true;
-        }
-    }
-    false
-}
-
-/// The length in bytes of the text of each item of a lawful array's window, where 2^31 + 1 stands for each above 2^31. Each item that
-/// the buffers of the array and of the arrays below it hold is measured once, whatever points at it, and each byte is read once. Where
-/// no buffer holds the items of the array itself they are taken from those that are left to measure; `NoMemory` comes also where there
-/// are too many.
-pub fn measured(
-    alloc: Global,
-    left: &mut u64,
-    typed: &Typed,
-    array: &RawArray,
-) -> Result<Vec<u32>, NoMemory>
-    requires types { TypedOk (typed_of typed.now) }
-    requires lawful { LayoutOk (typed_of typed.now) array.now }
-    ensures { IfOk result (λ lengths. AreLengths lengths.items (value_at (typed_of typed.now) array.now) (tree_items array.now)) }
-{
-    lawful_root(typed, array);
-    let count = array.length() as u64;
-    match lengths_of(alloc, typed, array)? {
-        Lengths::Own(lengths) => Ok(lengths),
-        Lengths::Same(one) => {
-            spend(left, count)?;
-            repeated(alloc, one, count)
-        }
-    }
-}
-
-/// Takes a number of items from those that are left to measure.
-fn spend(left: &mut u64, count: u64) -> Result<(), NoMemory> {
-    if count > *left {
-        return Err(NoMemory);
-    }
-    *left -= count;
-    Ok(())
-}
-
-/// This many lengths that are the same.
-fn repeated(alloc: Global, one: u32, count: u64) -> Result<Vec<u32>, NoMemory>
-    ensures { IfOk result (λ lengths. (item : ℕ → Value) → ((i : ℕ) → i < count → one ≡ text_length (item i)) → AreLengths lengths.items item count) }
-{
-    let mut lengths = Vec::new(alloc);
-    for i in 0..count {
-        let _number = i;
-        lengths.push(one)?;
-    }
-    Ok(lengths)
 }
 
 /// The lengths of the texts of all items of an array.
