@@ -2,13 +2,14 @@
 //! of a table.
 //!
 //! They are in `specs`: `Reading` (records, rows, faults), `Batches` (rows in chunks of a size), `Header` (columns,
-//! faults), `Text` (the text of a table), `Made` (a table made from a number). The calls are laws and worked examples, and
-//! do nothing; [`HeaderFault`] is why a text has no columns. Reading is `csv_read`'s, and writing `csv_write`'s.
+//! faults), `Text` (the text of a table), `Made` (a table made from a number, whose text is [`made`]). The other calls are laws
+//! and worked examples, and do nothing; [`HeaderFault`] is why a text has no columns. Reading is `csv_read`'s, and writing `csv_write`'s.
 #![tactic(auto)]
 
 mod fault;
 mod header;
 mod laws;
+mod made_text;
 
 ghost use Rattle.std.specs.Prelude.{◌≡◌, ◌∷◌, ◌++◌, [], codes};
 ghost use Rattle.csv_model.specs.Examples.{echo, NoHeader, Refused, Text};
@@ -17,6 +18,7 @@ ghost use Rattle.data_types.specs.declared.row_fault.RowFault.TheVariants as row
 pub use fault::HeaderFault;
 pub use header::worked_headers;
 pub use laws::records_are_read_in_turn;
+pub use made_text::{made, made_is_short, worked_rows};
 
 /// Texts on which the definitions are computed.
 pub fn worked_texts()

@@ -16,8 +16,8 @@ ghost use Rattle.pipe_top.specs.Ran.{ReadFor};
 ghost use Rattle.pipe_top.specs.Traffic.{CountsTask, ShowsAsked, ShowsTask};
 
 use crate::answer::answer_input;
+use csv_model::{made, made_is_short};
 use edge_io::{Gate, ReadFault, Sink, Source, WriteFault, read_all, write_all};
-use made_table::{made, made_is_short};
 use run_model::{RunFault, Task};
 use stage_chain::PlanStep;
 use std::alloc::Global;

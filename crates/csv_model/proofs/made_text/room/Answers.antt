@@ -1,6 +1,6 @@
 use Rattle.std.proofs.Common.{arith, ap, length}
-use Rattle.made_table.proofs.Lengths.{digits_rise, made_length}
-use Rattle.made_table.proofs.room.Goals as goal
+use Rattle.csv_model.proofs.MadeLengths.{digits_rise, made_length}
+use Rattle.csv_model.proofs.made_text.room.Goals as goal
 
 pub returns : goal.returns
 returns c =

@@ -1,7 +1,7 @@
 use Rattle.std.proofs.Common.{arith}
 use Rattle.std.proofs.lemmas.Fmt.{length-decimal-le}
-use Rattle.made_table.proofs.Lengths.{made_length}
-use Rattle.made_table.proofs.made_is_short.Goals as goal
+use Rattle.csv_model.proofs.MadeLengths.{made_length}
+use Rattle.csv_model.proofs.made_text.made_is_short.Goals as goal
 
 pub returns : goal.returns
 returns c =

@@ -1,6 +1,6 @@
 use Rattle.std.proofs.Common.{rules, refl}
-use Rattle.made_table.proofs.RowPieces.{row_written}
-use Rattle.made_table.proofs.push_row.Goals as goal
+use Rattle.csv_model.proofs.RowPieces.{row_written}
+use Rattle.csv_model.proofs.made_text.push_row.Goals as goal
 
 pub returns : goal.returns
 returns c =

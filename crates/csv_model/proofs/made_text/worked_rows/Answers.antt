@@ -1,6 +1,6 @@
 use Rattle.std.proofs.Common.{refl}
 use Rattle.std.specs.Fmt.{digits}
-use Rattle.made_table.proofs.worked_texts.Goals as goal
+use Rattle.csv_model.proofs.made_text.worked_rows.Goals as goal
 
 pub returns : goal.returns
 unfolding digits

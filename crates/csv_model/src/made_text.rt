@@ -5,9 +5,7 @@
 //! quoted. So n alone gives each byte.
 //!
 //! [`made`] asks for the one block of memory of the text before it writes the first byte, and answers `NoMemory` only where
-//! there is none. A row takes no memory of its own. The definitions are in `specs/Made.antt` of `csv_model`.
-#![tactic(auto)]
-
+//! there is none. A row takes no memory of its own. The definitions are in `specs/Made.antt`.
 ghost use Rattle.std.specs.Prelude.{◌≡◌, ◌≤◌, ◌++◌, ℕ, length, codes, IfOk, OnOk};
 ghost use Rattle.csv_model.specs.Made.{made, made_row, paid_text};
 
@@ -67,7 +65,7 @@ pub fn made_is_short()
 {}
 
 /// A law: what the definitions say of small numbers.
-pub fn worked_texts()
+pub fn worked_rows()
     ensures none { made 0 ≡ codes "id,name,amount,paid\n" }
     ensures one { made 1 ≡ codes "id,name,amount,paid\n1,item1,1.25,true\n" }
     ensures two { made 2 ≡ codes "id,name,amount,paid\n1,item1,1.25,true\n2,item2,2.25,false\n" }
