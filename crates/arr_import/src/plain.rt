@@ -1,6 +1,6 @@
 //! Columns whose items are stored in place or between offsets, read with nothing to look up but the place. All else is
 //! settled once, when the column is asked for.
-ghost use Rattle.std.specs.Prelude.{◌≡◌, ◌↔◌, IsTrue, true, IfSome, IfNone, if◌then◌else◌, None, ◌+◌, ◌<◌, ◌≤◌, ℕ};
+ghost use Rattle.std.specs.Prelude.{◌≡◌, ◌↔◌, IsTrue, IfSome, IfNone, if◌then◌else◌, None, ◌+◌, ◌<◌, ◌≤◌, ℕ};
 ghost use Rattle.data_types.specs.Storage.{storage_of};
 ghost use Rattle.data_types.specs.declared.storage.Storage.TheVariants as storages;
 ghost use Rattle.data_types.specs.Value.Value.{Null, Truth, Whole, Bits, Bytes};
@@ -111,16 +111,6 @@ impl<'a> Plain<'a> {
         ensures { result ≡ storage_in self.now }
     {
         self.storage
-    }
-
-    /// Whether no item is null since there are no validity bits.
-    pub fn has_no_bits(&self) -> bool
-        ensures { result ≡ true → (i : ℕ) → is_valid_in self.now i ≡ true }
-    {
-        match self.validity {
-            Some(_) => false,
-            None => true,
-        }
     }
 
     /// Whether item `i`, counted from 0, isn't null ("Arrow Columnar Format", "Validity bitmaps").
