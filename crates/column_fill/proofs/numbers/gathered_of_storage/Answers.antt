@@ -17,7 +17,7 @@ loop-i-init c = subst (λ (k : DataType). Holds c.in_ok-builder.builder k []) c.
 pub push_plain-requires-clause-there : goal.push_plain-requires-clause-there
 push_plain-requires-clause-there c =
     let from : c.from.result ≡ get_or c.args.kept.now c.loop-i.i-index 0 = c.from.ensures in
-    subst (λ n. IsItemThere c.args.items.now (c.args.start + n)) (sym from) (c.requires.items.there c.loop-i.i-index 0 c.loop-i-test.true)
+    subst (λ n. IsItemThere c.args.items (c.args.start + n)) (sym from) (c.requires.items.there c.loop-i.i-index 0 c.loop-i-test.true)
 
 pub push_plain-requires-clause-takes : goal.push_plain-requires-clause-takes
 push_plain-requires-clause-takes c =
@@ -25,7 +25,7 @@ push_plain-requires-clause-takes c =
     let can = c.requires.items in
     let kept = c.args.kept.now in
     let k = c.loop-i.i-index in
-    let items = c.args.items.now in
+    let items = c.args.items in
     let f : ℕ → Value = λ i. if is_valid_in items (c.args.start + i) then valid_item items (c.args.start + i) else Null in
     let from : c.from.result ≡ get_or kept k 0 = c.from.ensures in
     subst (Takes c.loop-i.builder c.args.storage) (ap f (sym from))
@@ -37,7 +37,7 @@ loop-i-preserved c =
     let kind = c.args.kind.now in
     let kept = c.args.kept.now in
     let k = c.loop-i.i-index in
-    let items = c.args.items.now in
+    let items = c.args.items in
     let f : ℕ → Value = λ i. if is_valid_in items (c.args.start + i) then valid_item items (c.args.start + i) else Null in
     let from : c.from.result ≡ get_or kept k 0 = c.from.ensures in
     let before = shown_at items c.args.start (take k kept) in
@@ -49,5 +49,5 @@ pub returns : goal.returns
 returns c =
     let kept = c.args.kept.now in
     let all : c.loop-i.i-index ≡ length kept = omega (arith, c.loop-i-test.false, c.loop-i.auto.i-index-end) in
-    subst (λ (ks : List ℕ). Holds c.loop-i.builder c.args.kind.now (shown_at c.args.items.now c.args.start ks)) (take-length kept)
-    (subst (λ n. Holds c.loop-i.builder c.args.kind.now (shown_at c.args.items.now c.args.start (take n kept))) all c.loop-i.invariant)
+    subst (λ (ks : List ℕ). Holds c.loop-i.builder c.args.kind.now (shown_at c.args.items c.args.start ks)) (take-length kept)
+    (subst (λ n. Holds c.loop-i.builder c.args.kind.now (shown_at c.args.items c.args.start (take n kept))) all c.loop-i.invariant)
