@@ -1,3 +1,4 @@
+pub mod LaterBlocks
 pub mod Remaining
 pub mod RecordReading
 pub mod RecordSizes

@@ -8,3 +8,4 @@ pub mod Emptied
 pub mod BatchesLeft
 pub mod FaultTexts
 pub mod Texts
+pub mod TextBlocks

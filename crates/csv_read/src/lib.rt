@@ -15,6 +15,7 @@
 
 mod batch_laws;
 mod batches;
+mod blocks;
 mod body;
 mod body_columns;
 mod chunk;
@@ -25,14 +26,13 @@ mod held;
 mod names;
 mod records;
 mod row;
-mod shared;
 
 pub use batch_laws::batches_are_read_in_turn;
 pub use batches::BatchReader;
+pub use blocks::TextBlocks;
 pub use body::{BodyFault, read_body};
 pub use chunk::{batch_rows_fit, chunks_have_their_rows, count_rows, export_rows};
 pub use csv_model::HeaderFault;
 pub use header::read_header;
 pub use held::BatchRows;
 pub use records::Records;
-pub use shared::SharedText;

@@ -1,28 +1,26 @@
 //! The records of a text, read one after the other by one reader into one record.
 ghost use Rattle.std.specs.Prelude.{◌≡◌, ◌≢◌, ◌≤◌, ◌∷◌, length, vec_len, All, IfOk, OnErr, Ok, Some, true, false, []};
 ghost use Rattle.csv.specs.Reading.{error_kind, stops_reader};
-ghost use Rattle.std.specs.Arc.{arc_value};
 ghost use Rattle.std.specs.Str.{is_utf8};
 ghost use Rattle.csv.specs.Records.{fields_of};
 ghost use Rattle.csv_model.specs.Reading.{behind_header, records_of};
 ghost use Rattle.csv_read.specs.RecordReader.{IsReading, Takes, field_bytes, records_left, text_left, told_by};
 ghost use Rattle.csv_read.specs.Texts.{AreTexts};
 
-use crate::shared::SharedText;
+use crate::blocks::TextBlocks;
 use col_build::is_text;
 use csv::{ByteRecord, Error, Reader, ReaderBuilder};
 use csv_model::records_are_read_in_turn;
 use std::alloc::Global;
 use std::io::Read;
 use std::marker::Model;
-use std::sync::Arc;
 use unit_pass::NoMemory;
 
 /// The records of a text that are not yet read.
 ///
 /// One reader and one record serve for the whole text: [`read_header`](crate::read_header) takes the first record, and
 /// [`read_body`](crate::read_body) or a [`BatchReader`](crate::BatchReader) goes on behind it. The text is lent
-/// ([`start`](Records::start)) or shared ([`start_shared`](Records::start_shared)); a call that keeps the source asks no `Drop` of
+/// ([`start`](Records::start)) or goes along ([`start_owned`](Records::start_owned)); a call that keeps the source asks no `Drop` of
 /// it, so that it is compiled once for each of the two.
 #[derive(Drop)]
 pub struct Records<R: Read> {
@@ -71,14 +69,14 @@ impl<'a> Records<&'a [u8]> {
     }
 }
 
-impl Records<SharedText> {
-    /// The records of a text that several owners share, as [`start`](Records::start) has them.
-    pub fn start_shared(alloc: Global, bytes: Arc<Vec<u8>>) -> Result<Records<SharedText>, NoMemory>
-        ensures records { IfOk result (λ records. records.records ≡ records_of (arc_value bytes).items) }
-        ensures size { IfOk result (λ records. records.size ≤ vec_len (arc_value bytes)) }
+impl Records<TextBlocks> {
+    /// The records of a text that goes along with them, as [`start`](Records::start) has them. It is freed behind the reader.
+    pub fn start_owned(alloc: Global, bytes: Vec<u8>) -> Result<Records<TextBlocks>, NoMemory>
+        ensures records { IfOk result (λ records. records.records ≡ records_of bytes.items) }
+        ensures size { IfOk result (λ records. records.size ≤ vec_len bytes) }
     {
         let texts = is_text(bytes.as_slice());
-        Records::over(alloc, SharedText::new(bytes), texts)
+        Records::over(alloc, TextBlocks::new(alloc, bytes)?, texts)
     }
 }
 

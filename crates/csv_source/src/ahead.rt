@@ -21,7 +21,7 @@ use crate::{LastAnswer, Refused};
 use ahead_ring::Ahead;
 use arr_export::{column_schemas_are_lawful, export_schema, schema_size};
 use col_build::SpareBuffers;
-use csv_read::{BatchReader, Records, SharedText};
+use csv_read::{BatchReader, Records, TextBlocks};
 use data_types::{ColumnType, RowFault, clone_columns};
 use edge_io::Gate;
 use raw_array::{Acted, RawArray};
@@ -61,7 +61,7 @@ impl<R: Threads + Drop> CsvAhead<R> {
     pub fn start(
         alloc: Global,
         rt: R,
-        records: Records<SharedText>,
+        records: Records<TextBlocks>,
         columns: Vec<ColumnType>,
         mark: &[u8],
         batch: u32,

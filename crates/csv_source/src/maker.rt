@@ -5,7 +5,7 @@ ghost use Rattle.field_codec.specs.TextColumns.{AreAllowed, AreProper};
 ghost use Rattle.data_types.specs.ColumnView.{column_of};
 
 use ahead_ring::{Given, Maker};
-use csv_read::{BatchReader, BatchRows, BodyFault, Records, SharedText, batches_are_read_in_turn};
+use csv_read::{BatchReader, BatchRows, BodyFault, Records, TextBlocks, batches_are_read_in_turn};
 use data_types::{ColumnType, RowFault};
 use std::alloc::Global;
 use unit_pass::NoMemory;
@@ -14,7 +14,7 @@ use unit_pass::NoMemory;
 #[derive(Drop)]
 pub enum Piece {
     /// The rows of the next batch.
-    Rows(BatchRows<SharedText>),
+    Rows(BatchRows<TextBlocks>),
     /// The record that spells no row, behind which there is no piece.
     Bad(RowFault),
 }
@@ -23,7 +23,7 @@ pub enum Piece {
 #[derive(Drop)]
 pub struct CsvMaker {
     alloc: Global,
-    batches: BatchReader<SharedText>,
+    batches: BatchReader<TextBlocks>,
     batch: u32,
     ghost some: { 1 ≤ length batches.columns },
     ghost some_rows: { 1 ≤ batch },
@@ -36,7 +36,7 @@ impl CsvMaker {
     /// Each batch has `batch` records, and the last one those that are left. `NoMemory` comes only where memory runs out.
     pub fn start(
         alloc: Global,
-        records: Records<SharedText>,
+        records: Records<TextBlocks>,
         columns: Vec<ColumnType>,
         mark: &[u8],
         batch: u32,
@@ -56,7 +56,7 @@ impl CsvMaker {
     }
 
     /// A maker of the batches that are left, at the first of them.
-    pub(crate) fn over(alloc: Global, batches: BatchReader<SharedText>, batch: u32) -> CsvMaker
+    pub(crate) fn over(alloc: Global, batches: BatchReader<TextBlocks>, batch: u32) -> CsvMaker
         requires some { 1 ≤ length batches.columns }
         requires some_rows { 1 ≤ batch }
         ensures batches { result.batches ≡ batches }

@@ -7,13 +7,12 @@ ghost use Rattle.field_codec.specs.TextColumns.{AreAllowed, AreProper, NamesDiff
 
 use crate::sources::{CASES, Case, closed, end, expect_chunks, expect_end, same};
 use ahead_ring::{Ahead, Given};
-use csv_read::{Records, SharedText, read_header};
+use csv_read::{Records, TextBlocks, read_header};
 use csv_source::{CsvAhead, CsvMaker, Piece};
 use data_types::{ColumnType, RowFault};
 use stage_plan::read_types;
 use std::alloc::Global;
 use std::process::Abort;
-use std::sync::Arc;
 use std::thread::Threads;
 use unit_pass::{NoMemory, open_desk};
 
@@ -21,7 +20,7 @@ use unit_pass::{NoMemory, open_desk};
 static ROUNDS: [u32; 3] = [1, 2, 64];
 
 /// The records of a text behind its header, whose first column has whole numbers; and its columns.
-fn begun(rt: &impl Abort, alloc: Global, text: &[u8]) -> (Records<SharedText>, Vec<ColumnType>)
+fn begun(rt: &impl Abort, alloc: Global, text: &[u8]) -> (Records<TextBlocks>, Vec<ColumnType>)
     requires short { length text.now ≤ 2 ^ 30 }
     ensures short { result.0.size ≤ 2 ^ 30 }
     ensures some { 1 ≤ vec_len result.1 }
@@ -33,13 +32,10 @@ fn begun(rt: &impl Abort, alloc: Global, text: &[u8]) -> (Records<SharedText>, V
     let Ok(entries) = read_types(alloc, "a:l") else {
         panic!(rt; "the types are read");
     };
-    let Ok(copy) = Vec::from_slice(alloc, text) else {
+    let Ok(bytes) = Vec::from_slice(alloc, text) else {
         panic!(rt; "there is memory");
     };
-    let Ok(bytes) = Arc::new(alloc, copy) else {
-        panic!(rt; "there is memory");
-    };
-    let Ok(mut records) = Records::start_shared(alloc, bytes) else {
+    let Ok(mut records) = Records::start_owned(alloc, bytes) else {
         panic!(rt; "there is memory");
     };
     match read_header(alloc, &mut records, entries.as_slice()) {

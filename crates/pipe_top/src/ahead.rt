@@ -15,8 +15,8 @@ ghost use Rattle.run_model.specs.RunAnswer.{answer_of_records, input_limit};
 ghost use Rattle.pipe_top.specs.Begun.{IsBegun};
 ghost use Rattle.pipe_top.specs.Over.{is_behind_records};
 
-use crate::answer::{header_columns, plan_stages, read_columns, shared_records};
-use csv_read::{Records, SharedText};
+use crate::answer::{header_columns, plan_stages, read_columns};
+use csv_read::{Records, TextBlocks};
 use csv_source::CsvAhead;
 use data_types::{ColumnType, clone_columns};
 use run_model::{Request, RunFault};
@@ -29,7 +29,7 @@ use unit_pass::NoMemory;
 fn source_ahead<'a, R: Threads>(
     rt: &'a R,
     alloc: Global,
-    records: Records<SharedText>,
+    records: Records<TextBlocks>,
     columns: &[ColumnType],
     batch: u32,
     mark: &[u8],
@@ -70,7 +70,7 @@ pub(crate) fn begin_ahead<'a, R: Threads>(
     ensures no_record { IfErr result (λ fault. is_behind_records fault ≡ false) }
 {
     let mark = request.mark.as_slice();
-    let mut records = shared_records(alloc, bytes)?;
+    let mut records = Records::start_owned(alloc, bytes)?;
     let columns = match header_columns(alloc, &mut records, request.entries.as_slice()) {
         Ok(columns) => columns,
         Err(fault) => return Err(fault),

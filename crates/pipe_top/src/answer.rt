@@ -23,7 +23,7 @@ ghost use Rattle.pipe_top.specs.Over.{is_behind_records};
 ghost use Rattle.pipe_top.specs.Traffic.{LinksTraffic, links_of};
 
 use crate::ahead::begin_ahead;
-use csv_read::{Records, SharedText, read_header};
+use csv_read::{Records, TextBlocks, read_header};
 use csv_source::CsvSource;
 use data_types::{ColumnType, RowFault, clone_columns};
 use edge_io::Gate;
@@ -31,24 +31,14 @@ use run_model::{Request, RunFault};
 use stage_chain::{DriveFault, PlanStep, drive_steps};
 use stage_plan::{Plan, StageText, TypeEntry, type_plan};
 use std::alloc::Global;
-use std::sync::Arc;
 use std::thread::Threads;
 use stream_face::{ArrayStream, Tap};
 use unit_pass::{NoMemory, Pass, ROOM, SUPPLY};
 
-/// The records of a text, which goes along with them.
-pub(crate) fn shared_records(alloc: Global, bytes: Vec<u8>) -> Result<Records<SharedText>, NoMemory>
-    ensures records { IfOk result (λ records. records.records ≡ records_of bytes.items) }
-    ensures size { IfOk result (λ records. records.size ≤ length bytes.items) }
-{
-    let bytes = Arc::new(alloc, bytes)?;
-    Records::start_shared(alloc, bytes)
-}
-
 /// The columns that the header of a text names, or why it is refused. The records behind it are left.
 pub(crate) fn header_columns(
     alloc: Global,
-    records: &mut Records<SharedText>,
+    records: &mut Records<TextBlocks>,
     entries: &[TypeEntry],
 ) -> Result<Vec<ColumnType>, RunFault>
     requires proper { All (λ e. KindOk e.kind) entries.now }
@@ -106,11 +96,11 @@ pub(crate) fn read_columns(plan: &Plan) -> &[ColumnType]
 /// The records behind a header as a stream of chunks of the columns that a plan reads.
 fn source_of(
     alloc: Global,
-    records: Records<SharedText>,
+    records: Records<TextBlocks>,
     columns: &[ColumnType],
     batch: u32,
     mark: &[u8],
-) -> Result<CsvSource<SharedText>, NoMemory>
+) -> Result<CsvSource<TextBlocks>, NoMemory>
     requires short { records.size ≤ 2 ^ 30 }
     requires some { 1 ≤ length columns.now }
     requires few { length columns.now ≤ most_columns }
@@ -142,7 +132,7 @@ fn begin(
     alloc: Global,
     bytes: Vec<u8>,
     request: &Request,
-) -> Result<(CsvSource<SharedText>, Plan), RunFault>
+) -> Result<(CsvSource<TextBlocks>, Plan), RunFault>
     requires short { length bytes.items ≤ input_limit }
     requires proper { All (λ e. KindOk e.kind) request.now.entries.items }
     requires allowed { All (λ e. IsAllowed e.kind) request.now.entries.items }
@@ -153,7 +143,7 @@ fn begin(
     ensures no_record { IfErr result (λ fault. is_behind_records fault ≡ false) }
 {
     let mark = request.mark.as_slice();
-    let mut records = shared_records(alloc, bytes)?;
+    let mut records = Records::start_owned(alloc, bytes)?;
     let columns = match header_columns(alloc, &mut records, request.entries.as_slice()) {
         Ok(columns) => columns,
         Err(fault) => return Err(fault),
