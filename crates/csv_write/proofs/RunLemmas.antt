@@ -19,12 +19,13 @@ use Rattle.data_types.specs.ColumnKinds.{type_of_columns}
 use Rattle.arr_import.specs.Window.{Window, whole}
 use Rattle.csv_write.specs.CsvTexts.{HasText, rows_in}
 use Rattle.csv_write.specs.declared.csv_text.CsvText.{CsvText}
-use Rattle.stream_face.specs.Calls.{Answers, Counts, IsCode, Repeats, Shows}
+use Rattle.stream_face.specs.Calls.{Answers, Counts, IsCode, GoesOn, IsMade, Repeats, ShowsInOrder}
 use Rattle.stream_face.specs.Codes.{enomem}
-use Rattle.stream_face.specs.Shown.{Seen, grown, of_link}
+use Rattle.stream_face.specs.Shown.{Seen, grown, of_link, rows_of_link}
 use Rattle.stream_face.specs.Streams.{IsFresh, Keeps, Stream, Traffic}
 use Rattle.stream_face.specs.Texts.{Refusal}
 use Rattle.stream_face.proofs.Joints.{grown-append, had_memory, live_unless, of_link-append}
+use Rattle.stream_face.proofs.Orders.{goes-both, goes-start, made-both, made-none, nil_part, rows-append}
 use Rattle.csv_write.specs.Faults.{OnRow}
 use Rattle.csv_write.specs.declared.fault.DriveFault.{DriveFault}
 use Rattle.csv_write.specs.declared.fault.DriveFault.TheVariants as drives
@@ -54,15 +55,24 @@ Ran-start s seen t = record {
   shown = [];
   told = grown-nil seen;
   leaves = λ link. refl;
+  in_order = λ first rest e link. made-none (s.makings link) link first (ap (rows_of_link link) (nil_part first rest e));
+  goes_on = λ link. goes-start (s.makings link) s.joints;
   made = record { blocks = 0; nodes = 0 };
   counted = record { blocks = omega (arith, t.most_blocks); nodes = omega (arith, t.most_nodes) };
   fewer_blocks = omega arith;
   fewer_nodes = omega arith;
 }
 
+-- a call after them shows its chunks in order
+made-after : (s m n : Stream) (before middle after : Option (List Seen)) (a b : Tally) (code : ℤ) (out : ArrayTree) (ran : Ran s m before middle a b)
+    → (x : ShowsInOrder m n code out middle after) → (first rest : List Seen) → ran.shown ++ x.shows.shown ≡ first ++ rest → (link : ℕ)
+    → IsMade (s.makings link) link first
+made-after s m n before middle after a b code out ran x =
+    made-both s.makings m.makings m.joints ran.shown x.shows.shown ran.in_order ran.goes_on x.shows.begins x.order.made
+
 -- one more call that answered 0
 pub Ran-next : (s m n : Stream) (before middle after : Option (List Seen)) (a b d e : Tally) (code : ℤ) (out : ArrayTree) → Ran s m before middle a b
-    → code ≡ pos 0 → Keeps m n → n.failure ≡ None → Shows m.joints n.joints code out middle after → Counts m.due n.due b d out → e.blocks ≡ d.blocks → e.nodes ≡ d.nodes
+    → code ≡ pos 0 → Keeps m n → n.failure ≡ None → ShowsInOrder m n code out middle after → Counts m.due n.due b d out → e.blocks ≡ d.blocks → e.nodes ≡ d.nodes
     → Ran s n before after a e
 Ran-next s m n before middle after a b d e code out ran zero keeps works shows counts same_blocks same_nodes = record {
   keeps = record {
@@ -74,11 +84,17 @@ Ran-next s m n before middle after a b d e code out ran zero keeps works shows c
     schema = keeps.schema ∙ ran.keeps.schema;
   };
   works = λ _. works;
-  shown = ran.shown ++ shows.shown;
-  told = shows.told ∙ ap (λ seen. grown seen shows.shown) ran.told ∙ grown-append before ran.shown shows.shown;
+  shown = ran.shown ++ shows.shows.shown;
+  told = shows.shows.told ∙ ap (λ seen. grown seen shows.shows.shown) ran.told ∙ grown-append before ran.shown shows.shows.shown;
   leaves = λ link.
-      rw of_link-append (ran.leaves link ∙ ap (λ xs. of_link link ran.shown ++ xs) (shows.leaves (had_memory code zero) link)
-      ∙ sym (append_assoc (of_link link ran.shown) (of_link link shows.shown) (n.joints link)));
+      rw of_link-append (ran.leaves link ∙ ap (λ xs. of_link link ran.shown ++ xs) (shows.shows.leaves (had_memory code zero) link)
+      ∙ sym (append_assoc (of_link link ran.shown) (of_link link shows.shows.shown) (n.joints link)));
+  in_order = made-after s m n before middle after a b code out ran shows;
+  goes_on = λ link.
+      subst (GoesOn (s.makings link) (n.makings link) n.joints (ran.shown ++ shows.shows.shown)) (sym (rows-append link ran.shown shows.shows.shown))
+      (goes-both (s.makings link) (m.makings link) (n.makings link) m.joints n.joints ran.shown shows.shows.shown (rows_of_link link ran.shown)
+      (rows_of_link link shows.shows.shown) (shows.shows.leaves (had_memory code zero)) (ran.goes_on link)
+      (shows.order.goes_on (had_memory code zero) link));
   made = record { blocks = ran.made.blocks + counts.made.blocks; nodes = ran.made.nodes + counts.made.nodes };
   counted = record {
     blocks = risen-add a.blocks b.blocks e.blocks ran.made.blocks counts.made.blocks ran.counted.blocks (same_blocks ∙ counts.blocks);
@@ -91,38 +107,40 @@ Ran-next s m n before middle after a b d e code out ran zero keeps works shows c
 -- ---- the last call, and one that refuses
 -- a call that refuses, or one behind which the run stops
 refused_fresh : (s m n : Stream) (before middle after : Option (List Seen)) (a b : Tally) (code : ℤ) (out : ArrayTree) → Ran s m before middle a b
-    → Shows m.joints n.joints code out middle after → ShowsSome s.joints before after
+    → ShowsInOrder m n code out middle after → ShowsSome s.joints s.makings before after
 refused_fresh s m n before middle after a b code out ran shows = record {
-  shown = ran.shown ++ shows.shown;
-  told = shows.told ∙ ap (λ seen. grown seen shows.shown) ran.told ∙ grown-append before ran.shown shows.shown;
+  shown = ran.shown ++ shows.shows.shown;
+  told = shows.shows.told ∙ ap (λ seen. grown seen shows.shows.shown) ran.told ∙ grown-append before ran.shown shows.shows.shown;
   begins = λ link.
-      let rest = shows.begins link in (
+      let rest = shows.shows.begins link in (
         rest.0,
         rw of_link-append (ran.leaves link ∙ ap (λ xs. of_link link ran.shown ++ xs) rest.1
-            ∙ sym (append_assoc (of_link link ran.shown) (of_link link shows.shown) rest.0)),
+            ∙ sym (append_assoc (of_link link ran.shown) (of_link link shows.shows.shown) rest.0)),
       );
+  in_order = made-after s m n before middle after a b code out ran shows;
 }
 
 -- one that refuses as it did before shows nothing more
 refused_again : (s m : Stream) (before middle after : Option (List Seen)) (a b : Tally) → Ran s m before middle a b → after ≡ middle
-    → ShowsSome s.joints before after
+    → ShowsSome s.joints s.makings before after
 refused_again s m before middle after a b ran same = record {
   shown = ran.shown;
   told = same ∙ ran.told;
   begins = λ link. (m.joints link, ran.leaves link);
+  in_order = ran.in_order;
 }
 
 refused_by : (failure : Option Refusal) (s m n : Stream) (before middle after : Option (List Seen)) (a b d e : Tally) (code : ℤ) (out : ArrayTree)
-    → m.failure ≡ failure → IsTrue m.lawful → Ran s m before middle a b → (IsFresh m → Shows m.joints n.joints code out middle after)
-    → Repeats m n code d e middle after → ShowsSome s.joints before after
+    → m.failure ≡ failure → IsTrue m.lawful → Ran s m before middle a b → (IsFresh m → ShowsInOrder m n code out middle after)
+    → Repeats m n code d e middle after → ShowsSome s.joints s.makings before after
 refused_by None s m n before middle after a b d e code out is lawful ran shows repeats =
     refused_fresh s m n before middle after a b code out ran (shows (record { lawful = lawful; no_failure = is }))
 refused_by (Some refusal) s m n before middle after a b d e code out is lawful ran shows repeats =
     refused_again s m before middle after a b ran (repeats.shows refusal is)
 
 pub Ran-refused : (s m n : Stream) (before middle after : Option (List Seen)) (a b d e : Tally) (code : ℤ) (out : ArrayTree)
-    → IsTrue s.lawful → Ran s m before middle a b → (IsFresh m → Shows m.joints n.joints code out middle after)
-    → Repeats m n code d e middle after → ShowsSome s.joints before after
+    → IsTrue s.lawful → Ran s m before middle a b → (IsFresh m → ShowsInOrder m n code out middle after)
+    → Repeats m n code d e middle after → ShowsSome s.joints s.makings before after
 Ran-refused s m n before middle after a b d e code out lawful ran shows repeats =
     refused_by m.failure s m n before middle after a b d e code out refl (subst IsTrue (sym ran.keeps.lawful) lawful) ran shows repeats
 
@@ -135,13 +153,14 @@ Ran-fresh s m before middle a b ran fresh = record {
 
 -- the last call of a run, which gave nothing: the end, or a record at fault
 pub Ran-ends : (s m n : Stream) (before middle after : Option (List Seen)) (a b : Tally) (code : ℤ) (out : ArrayTree) → Ran s m before middle a b
-    → code ≢ enomem → out ≡ Released → Shows m.joints n.joints code out middle after → ShowsAll s.joints before after
+    → code ≢ enomem → out ≡ Released → ShowsInOrder m n code out middle after → ShowsAll s.joints s.makings before after
 Ran-ends s m n before middle after a b code out ran had ended shows = record {
-  shown = ran.shown ++ shows.shown;
-  told = shows.told ∙ ap (λ seen. grown seen shows.shown) ran.told ∙ grown-append before ran.shown shows.shown;
+  shown = ran.shown ++ shows.shows.shown;
+  told = shows.shows.told ∙ ap (λ seen. grown seen shows.shows.shown) ran.told ∙ grown-append before ran.shown shows.shows.shown;
   all = λ link.
-      rw of_link-append (sym (ran.leaves link ∙ ap (λ xs. of_link link ran.shown ++ xs) (shows.leaves had link
-      ∙ ap (λ xs. of_link link shows.shown ++ xs) (shows.ends had ended link) ∙ append-nil (of_link link shows.shown))));
+      rw of_link-append (sym (ran.leaves link ∙ ap (λ xs. of_link link ran.shown ++ xs) (shows.shows.leaves had link
+      ∙ ap (λ xs. of_link link shows.shows.shown ++ xs) (shows.shows.ends had ended link) ∙ append-nil (of_link link shows.shows.shown))));
+  in_order = made-after s m n before middle after a b code out ran shows;
 }
 
 ended-at : (a b d m n x y : ℕ) → b ≡ risen a m → d ≡ risen b n → x ≡ m + y → y ≡ n + 0 → d ≡ risen a x

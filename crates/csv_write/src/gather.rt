@@ -83,10 +83,10 @@ fn pull_all<U: ArrayStream, R: Threads + Sync, T: Tap>(
     ensures row { IfErr result (λ e. IfRow e (λ fault. (meaning U.state stream.old).ending ≡ Some fault)) }
     ensures counts { OnOk result (Counted (meaning U.state stream.old).due pass.old pass.new) }
     ensures refused_counts { IsFresh (meaning U.state stream.old) → OnRow result (Counted (meaning U.state stream.old).due pass.old pass.new) }
-    ensures shows { OnOk result (ShowsAll (meaning U.state stream.old).joints (T.seen tap.old) (T.seen tap.new)) }
+    ensures shows { OnOk result (ShowsAll (meaning U.state stream.old).joints (meaning U.state stream.old).makings (T.seen tap.old) (T.seen tap.new)) }
     ensures refused_shows { IsFresh (meaning U.state stream.old)
-        → OnRow result (ShowsAll (meaning U.state stream.old).joints (T.seen tap.old) (T.seen tap.new)) }
-    ensures shows_some { OnErr result (ShowsSome (meaning U.state stream.old).joints (T.seen tap.old) (T.seen tap.new)) }
+        → OnRow result (ShowsAll (meaning U.state stream.old).joints (meaning U.state stream.old).makings (T.seen tap.old) (T.seen tap.new)) }
+    ensures shows_some { OnErr result (ShowsSome (meaning U.state stream.old).joints (meaning U.state stream.old).makings (T.seen tap.old) (T.seen tap.new)) }
 {
     let _supply = pass.units();
     let _blocks = pass.blocks();
@@ -149,10 +149,10 @@ pub fn write_rows<U: ArrayStream, R: Threads + Sync, T: Tap>(
     ensures counts { OnOk result (Counted (meaning U.state stream).due pass.old pass.new) }
     // All was counted and shown as well where a record is refused, if the stream had not refused before.
     ensures refused_counts { IsFresh (meaning U.state stream) → OnRow result (Counted (meaning U.state stream).due pass.old pass.new) }
-    ensures shows { OnOk result (ShowsAll (meaning U.state stream).joints (T.seen tap.old) (T.seen tap.new)) }
+    ensures shows { OnOk result (ShowsAll (meaning U.state stream).joints (meaning U.state stream).makings (T.seen tap.old) (T.seen tap.new)) }
     ensures refused_shows { IsFresh (meaning U.state stream)
-        → OnRow result (ShowsAll (meaning U.state stream).joints (T.seen tap.old) (T.seen tap.new)) }
-    ensures shows_some { OnErr result (ShowsSome (meaning U.state stream).joints (T.seen tap.old) (T.seen tap.new)) }
+        → OnRow result (ShowsAll (meaning U.state stream).joints (meaning U.state stream).makings (T.seen tap.old) (T.seen tap.new)) }
+    ensures shows_some { OnErr result (ShowsSome (meaning U.state stream).joints (meaning U.state stream).makings (T.seen tap.old) (T.seen tap.new)) }
 {
     let mut stream = stream;
     let mut text = text;

@@ -1,5 +1,5 @@
 -- What a run that ends in a fault says of its result, and which faults an answer may have.
-use Rattle.std.proofs.Common.{◌≡◌, ◌∙◌, ◌≤◌, ◌<◌, ◌⊎◌, inl, inr, ℕ, Bool, true, false, nat_lt, List, [], length, Option, Some, None, IfSome, Result, Ok, Err}
+use Rattle.std.proofs.Common.{◌≡◌, ◌∙◌, ◌+◌, ◌≤◌, ◌<◌, ◌⊎◌, inl, inr, ℕ, Bool, true, false, nat_lt, List, [], length, Option, Some, None, IfSome, Result, Ok, Err}
 use Rattle.std.proofs.Common.{IfErr, IfOk, IsErrAnd, OnOk, ap, arith, refl, subst, sym}
 use Rattle.std.proofs.lemmas.Bool.Decides.{nat_tests}
 use Rattle.std.proofs.lemmas.List.{append-nil}
@@ -282,6 +282,7 @@ all-asked (Table request) bytes old new fits shows = shown-within bytes fits req
   shown = shows.shown;
   told = shows.told;
   begins = λ link. ([], sym (shows.all link) ∙ sym (append-nil (of_link link shows.shown)));
+  in_order = shows.in_order;
 }
 all-asked Tree bytes old new fits shows = shows
 

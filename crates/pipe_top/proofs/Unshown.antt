@@ -9,6 +9,6 @@ use Rattle.pipe_top.specs.Traffic.{ShowsAsked}
 -- where nothing was shown, the first chunks of whatever links were
 pub unshown : (asked : Result Task RunFault) (bytes : List ℕ) (old new : Option (List Seen)) → new ≡ old → ShowsAsked asked bytes old new
 unshown (Ok (Table request)) bytes old new same =
-    subst (λ n. ShowsAsked (Ok (Table request)) bytes old n) (sym same) (shows-nothing _ old)
+    subst (λ n. ShowsAsked (Ok (Table request)) bytes old n) (sym same) (shows-nothing _ _ old)
 unshown (Ok Tree) bytes old new same = same
 unshown (Err fault) bytes old new same = same

@@ -4,8 +4,7 @@ use Rattle.std.proofs.lemmas.Bool.Decides.{nat_tests}
 use Rattle.std.proofs.lemmas.List.{length-append}
 use Rattle.edge_io.specs.Edge.{LosesCount}
 use Rattle.std.specs.Io.KnownBytes.{Appends}
-use Rattle.stage_chain.specs.Chains.{link_shows}
-use Rattle.csv_write.specs.Runs.{ShowsSome}
+use Rattle.stage_chain.specs.Chains.{ShowsFirst}
 use Rattle.stream_face.specs.Shown.{Seen}
 use Rattle.csv_model.specs.Reading.{records_of}
 use Rattle.run_model.specs.Answer.{Answer, Request, Table, Task, Text}
@@ -23,10 +22,10 @@ module _ (bytes : List ℕ) (fits : length bytes ≤ input_limit) where
   within task answer is = subst (λ long. AnswersWithin long task bytes answer) (sym (not-long (length bytes) fits)) is
 
   -- and its links are those of its records
-  pub shown-within : (request : Request) (old new : Option (List Seen)) → ShowsSome (link_shows (links_of request (records_of bytes))) old new
+  pub shown-within : (request : Request) (old new : Option (List Seen)) → ShowsFirst (links_of request (records_of bytes)) old new
       → ShowsAsked (Ok (Table request)) bytes old new
   shown-within request old new shows =
-      subst (λ long. ShowsSome (link_shows (links_within long request bytes)) old new) (sym (not-long (length bytes) fits)) shows
+      subst (λ long. ShowsFirst (links_within long request bytes) old new) (sym (not-long (length bytes) fits)) shows
 
 -- there are bytes that may be an input's
 pub some-bytes : (told : Option (List ℕ)) → (bytes : List ℕ) × AreBytes told bytes

@@ -43,8 +43,8 @@ pub record RanOver (words : List (List ℕ)) (bytes : List ℕ) (fault : Option 
   pub refused : IfSome fault (λ f. is_decided f ≡ true → IsAnswer words bytes (Fault f))
   -- after a failed write the answer is a text, and the sink got its first bytes
   pub first : IfSome fault (λ f. AtWriteFault f (λ count. GotFirst (IsAnswer words bytes) taken got count))
-  -- on success the tap was shown each chunk of each link, once and in order; on a fault the first ones of each, and nothing where
-  -- there are no links
+  -- on success the tap was shown each chunk of each link, once and in order, and each after all that it is made of; on a fault the first
+  -- ones of each, and nothing where there are no links
   pub shows : fault ≡ None → IsShown words bytes seen shown
   pub shows_some : IfSome fault (λ f. IsShownInPart words bytes seen shown)
   -- on success as many blocks and nodes were made as the links or the tree need

@@ -6,8 +6,7 @@ use Rattle.csv_model.specs.Reading.{Record, behind_header, records_of}
 use Rattle.csv_model.specs.declared.fault.HeaderFault.{HeaderFault}
 use Rattle.stage_plan.specs.Entries.{entries_of}
 use Rattle.data_types.specs.Table.{Column}
-use Rattle.stage_chain.specs.Chains.{link_shows}
-use Rattle.csv_write.specs.Runs.{ShowsAll, ShowsSome}
+use Rattle.stage_chain.specs.Chains.{ShowsFirst, ShowsLinks}
 use Rattle.stage_model.specs.Links.{Link, Links}
 use Rattle.stage_model.specs.Traffic.{run_blocks, run_nodes}
 use Rattle.stage_model.specs.Typing.{Stage, plan_of}
@@ -58,16 +57,16 @@ IsTraffic words bytes blocks nodes = (task : Task) × Asks words (Ok task) × Co
 
 -- over an input that isn't too long each chunk of each link was shown, once and in order; the check of a tree shows nothing
 abbrev pub ShowsTask : Task → List ℕ → Option (List Seen) → Option (List Seen) → Type 0
-ShowsTask (Table request) bytes before after = ShowsAll (link_shows (links_of request (records_of bytes))) before after
+ShowsTask (Table request) bytes before after = ShowsLinks (links_of request (records_of bytes)) before after
 ShowsTask Tree bytes before after = after ≡ before
 
--- a run with these words over these bytes has shown each chunk of each link, once and in order
+-- a run with these words over these bytes has shown each chunk of each link, once and in order, and each after all that it is made of
 abbrev pub IsShown : List (List ℕ) → List ℕ → Option (List Seen) → Option (List Seen) → Type 0
 IsShown words bytes before after = (task : Task) × Asks words (Ok task) × ShowsTask task bytes before after
 
 -- the first chunks of each link were shown, and nothing where there are no links
 abbrev pub ShowsAsked : Result Task RunFault → List ℕ → Option (List Seen) → Option (List Seen) → Type 0
-ShowsAsked (Ok (Table request)) bytes before after = ShowsSome (link_shows (links_asked request bytes)) before after
+ShowsAsked (Ok (Table request)) bytes before after = ShowsFirst (links_asked request bytes) before after
 ShowsAsked (Ok Tree) bytes before after = after ≡ before
 ShowsAsked (Err fault) bytes before after = after ≡ before
 

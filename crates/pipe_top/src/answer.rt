@@ -8,9 +8,8 @@ ghost use Rattle.csv_source.specs.Sources.{source_state, stream_of};
 ghost use Rattle.field_codec.specs.TextColumns.{AreAllowed, AreProper, IsAllowed, NamesDiffer};
 ghost use Rattle.data_types.specs.ColumnView.{column_of};
 ghost use Rattle.data_types.specs.Kinds.{KindOk};
-ghost use Rattle.stage_chain.specs.Chains.{link_shows};
+ghost use Rattle.stage_chain.specs.Chains.{ShowsFirst, ShowsLinks};
 ghost use Rattle.stage_chain.specs.Plans.{links_of as plan_links};
-ghost use Rattle.csv_write.specs.Runs.{ShowsAll, ShowsSome};
 ghost use Rattle.stage_model.specs.Typing.{plan_of};
 ghost use Rattle.stage_plan.specs.PlanWords.{IsPlan, columns_in, most_stages};
 ghost use Rattle.unit_pass.specs.declared.pass.TheConstants.{ROOM, SUPPLY};
@@ -175,13 +174,13 @@ fn answer_begun<W: PlanStep, S: ArrayStream, R: Threads + Sync, T: Tap>(
     ensures counts { (records : List (List (List ℕ))) → IsBegun (request_of request.now) records (S.state source) plan
         → OnOk result (LinksTraffic (links_of (request_of request.now) records) pass.old.blocks pass.old.nodes pass.new.blocks pass.new.nodes) }
     ensures shows { (records : List (List (List ℕ))) → IsBegun (request_of request.now) records (S.state source) plan
-        → OnOk result (ShowsAll (link_shows (links_of (request_of request.now) records)) (T.seen tap.old) (T.seen tap.new)) }
+        → OnOk result (ShowsLinks (links_of (request_of request.now) records) (T.seen tap.old) (T.seen tap.new)) }
     ensures shows_some { (records : List (List (List ℕ))) → IsBegun (request_of request.now) records (S.state source) plan
-        → OnErr result (ShowsSome (link_shows (links_of (request_of request.now) records)) (T.seen tap.old) (T.seen tap.new)) }
+        → OnErr result (ShowsFirst (links_of (request_of request.now) records) (T.seen tap.old) (T.seen tap.new)) }
     ensures behind { (records : List (List (List ℕ))) → IsBegun (request_of request.now) records (S.state source) plan
         → IfErr result (λ fault. is_behind_records fault ≡ true
         → LinksTraffic (links_of (request_of request.now) records) pass.old.blocks pass.old.nodes pass.new.blocks pass.new.nodes
-        × ShowsAll (link_shows (links_of (request_of request.now) records)) (T.seen tap.old) (T.seen tap.new)) }
+        × ShowsLinks (links_of (request_of request.now) records) (T.seen tap.old) (T.seen tap.new)) }
 {
     stage_model::batches_give_the_whole();
     let mark = request.mark.as_slice();
@@ -213,12 +212,12 @@ pub(crate) fn answer_input<W: PlanStep, R: Threads + Sync, T: Tap>(
     ensures units { pass.new.units ≡ pass.old.units }
     ensures counts { OnOk result (LinksTraffic (links_of (request_of request.now)
         (records_of bytes.items)) pass.old.blocks pass.old.nodes pass.new.blocks pass.new.nodes) }
-    ensures shows { OnOk result (ShowsAll (link_shows (links_of (request_of request.now) (records_of bytes.items))) (T.seen tap.old) (T.seen tap.new)) }
-    ensures shows_some { OnErr result (ShowsSome (link_shows (links_of (request_of request.now)
-        (records_of bytes.items))) (T.seen tap.old) (T.seen tap.new)) }
+    ensures shows { OnOk result (ShowsLinks (links_of (request_of request.now) (records_of bytes.items)) (T.seen tap.old) (T.seen tap.new)) }
+    ensures shows_some { OnErr result (ShowsFirst (links_of (request_of request.now)
+        (records_of bytes.items)) (T.seen tap.old) (T.seen tap.new)) }
     ensures behind { IfErr result (λ fault. is_behind_records fault ≡ true
         → LinksTraffic (links_of (request_of request.now) (records_of bytes.items)) pass.old.blocks pass.old.nodes pass.new.blocks pass.new.nodes
-        × ShowsAll (link_shows (links_of (request_of request.now) (records_of bytes.items))) (T.seen tap.old) (T.seen tap.new)) }
+        × ShowsLinks (links_of (request_of request.now) (records_of bytes.items)) (T.seen tap.old) (T.seen tap.new)) }
 {
     match request.ahead {
         None => {

@@ -9,10 +9,10 @@ ghost use Rattle.stage_model.specs.declared.stage.StageText.{StageText as AText}
 ghost use Rattle.stage_plan.specs.PlanWords.{IsPlan, most_stages};
 ghost use Rattle.unit_pass.specs.declared.pass.TheConstants.{ROOM, SUPPLY};
 ghost use Rattle.stream_face.specs.Streams.{IsFresh, kept};
-ghost use Rattle.stage_chain.specs.Chains.{chain_links, chain_traffic, link_shows};
+ghost use Rattle.stage_chain.specs.Chains.{chain_links, chain_traffic, ShowsFirst, ShowsLinks};
 ghost use Rattle.stage_chain.specs.Plans.{plan_stages};
 ghost use Rattle.csv_write.specs.Faults.{IfRow, OnRow};
-ghost use Rattle.csv_write.specs.Runs.{Counted, ShowsAll, ShowsSome};
+ghost use Rattle.csv_write.specs.Runs.{Counted};
 
 use crate::any_step::AnyStep;
 use edge_io::Gate;
@@ -60,10 +60,10 @@ pub fn drive<S: ArrayStream, R: Threads + Sync, T: Tap>(
     ensures refused_counts { IsFresh (S.state source) → OnRow result (Counted (chain_traffic (S.state source) (plan_stages plan)) pass.old pass.new) }
     // Each chunk of each link was shown once, in order, and so where a record is refused, if the source had not refused before; on
     // an error the first ones of each.
-    ensures shows { OnOk result (ShowsAll (link_shows (chain_links (S.state source) (plan_stages plan))) (T.seen tap.old) (T.seen tap.new)) }
+    ensures shows { OnOk result (ShowsLinks (chain_links (S.state source) (plan_stages plan)) (T.seen tap.old) (T.seen tap.new)) }
     ensures refused_shows { IsFresh (S.state source)
-        → OnRow result (ShowsAll (link_shows (chain_links (S.state source) (plan_stages plan))) (T.seen tap.old) (T.seen tap.new)) }
-    ensures shows_some { OnErr result (ShowsSome (link_shows (chain_links (S.state source) (plan_stages plan))) (T.seen tap.old) (T.seen tap.new)) }
+        → OnRow result (ShowsLinks (chain_links (S.state source) (plan_stages plan)) (T.seen tap.old) (T.seen tap.new)) }
+    ensures shows_some { OnErr result (ShowsFirst (chain_links (S.state source) (plan_stages plan)) (T.seen tap.old) (T.seen tap.new)) }
 {
     drive_steps::<AnyStep, _, _, _>(rt, alloc, source, plan, mark, workers, pass, tap, gate)
 }

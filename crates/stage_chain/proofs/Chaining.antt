@@ -11,11 +11,12 @@ use Rattle.stage_model.specs.Stages.{chunks_after}
 use Rattle.stage_model.specs.Traffic.{Made, link_blocks, link_nodes, table_nodes}
 use Rattle.stage_model.specs.Typing.{Stage}
 use Rattle.stream_face.specs.Raw.{raw_joints, raw_state}
-use Rattle.stream_face.specs.Shown.{Seen, Shown}
+use Rattle.stream_face.specs.Shown.{Seen, Shown, rows_of_link}
 use Rattle.stream_face.specs.declared.fault.StreamFault.{StreamFault}
-use Rattle.stream_face.specs.Streams.{IsFresh, Stream, Traffic, telling}
-use Rattle.stage_chain.specs.Chains.{chain_links, chain_traffic, joints_with, over_stream}
-use Rattle.csv_write.specs.Runs.{Counted, ShowsSome}
+use Rattle.stream_face.specs.Streams.{IsFresh, Making, Stream, Traffic, telling}
+use Rattle.stage_chain.specs.Chains.{chain_links, chain_traffic, joints_with, makings_with, over_stream}
+use Rattle.csv_write.specs.Runs.{Counted, ShowsAll, ShowsSome}
+use Rattle.stream_face.proofs.Orders.{made-none, nil_part}
 use Rattle.csv_write.proofs.RunLemmas.{grown-nil}
 
 pub on-err : {A E P Q : Type 0} (r : Result A E) → (P → Q) → OnErr r P → OnErr r Q
@@ -31,8 +32,13 @@ whatever (Ok a) p = tt
 whatever (Err e) p = p
 
 -- nothing was shown
-pub shows-nothing : (joints : ℕ → List Shown) (seen : Option (List Seen)) → ShowsSome joints seen seen
-shows-nothing joints seen = record { shown = []; told = grown-nil seen; begins = λ link. (joints link, refl) }
+pub shows-nothing : (joints : ℕ → List Shown) (makings : ℕ → Option Making) (seen : Option (List Seen)) → ShowsSome joints makings seen seen
+shows-nothing joints makings seen = record {
+  shown = [];
+  told = grown-nil seen;
+  begins = λ link. (joints link, refl);
+  in_order = λ first rest e link. made-none (makings link) link first (ap (rows_of_link link) (nil_part first rest e));
+}
 
 -- a stream checked at a link, which was not asked yet
 abbrev pub IsStarted : ℕ → ℕ → Stream → Stream → Type 0
@@ -53,6 +59,18 @@ raw_above s link none later above =
 
 -- ---- what is shown
 
+pub both-all : (j k : ℕ → List Shown) (m n : ℕ → Option Making) (before after : Option (List Seen)) → j ≡ k → m ≡ n → ShowsAll j m before after
+    → ShowsAll k n before after
+both-all j k m n before after e f x = subst (λ z. ShowsAll z n before after) e (subst (λ z. ShowsAll j z before after) f x)
+
+pub both-some : (j k : ℕ → List Shown) (m n : ℕ → Option Making) (before after : Option (List Seen)) → j ≡ k → m ≡ n → ShowsSome j m before after
+    → ShowsSome k n before after
+both-some j k m n before after e f x = subst (λ z. ShowsSome z n before after) e (subst (λ z. ShowsSome j z before after) f x)
+
+pub makings-last : (stages : List Stage) (s up : Stream) (link nodes : ℕ) → stages ≡ [] → IsStarted link nodes s up
+    → up.makings ≡ makings_with s.ending link s.making s.makings (chain_links s stages)
+makings-last stages s up link nodes none raw = rw (none, raw) refl
+
 pub joints-last : (stages : List Stage) (s up : Stream) (link nodes : ℕ) → stages ≡ [] → IsStarted link nodes s up
     → up.joints ≡ joints_with link s.joints (chain_links s stages)
 joints-last stages s up link nodes none raw = rw (none, raw) refl
@@ -72,7 +90,7 @@ counted-last stages s up link nodes a b d none raw schema more same counted =
     })
 
 -- ---- a stage over a stream that is started
-module _ (stage : Stage) (s up node : Stream) (link nodes : ℕ) (raw : IsStarted link nodes s up) (is : node ≡ over_stream stage up) where
+module _ (stage : Stage) (s up node : Stream) (link nodes : ℕ) (raw : IsStarted link nodes s up) (is : node ≡ over_stream link stage up) where
   -- no link from the next one on is below it
   pub joints-above : ((later : ℕ) → link ≤ later → s.joints later ≡ []) → (later : ℕ) → link + 1 ≤ later → node.joints later ≡ []
   joints-above none later above = rw (is, raw) (raw_above s link none later above)
@@ -88,13 +106,18 @@ module _ (stage : Stage) (s up node : Stream) (link nodes : ℕ) (raw : IsStarte
       → joints_with (link + 1) node.joints (chain_links node rest) ≡ joints_with link s.joints (chain_links s stages)
   joints-step rest stages are = rw (are, is, raw) refl
 
+  pub makings-step : (rest stages : List Stage) → stages ≡ stage ∷ rest
+      → makings_with node.ending (link + 1) node.making node.makings (chain_links node rest)
+      ≡ makings_with s.ending link s.making s.makings (chain_links s stages)
+  makings-step rest stages are = rw (are, is, raw) refl
+
   -- what is counted
   pub counted-step : (rest stages : List Stage) (a b d : Tally) → stages ≡ stage ∷ rest
       → Nodes (SchemaOf s.columns) ≡ table_nodes Made s.columns → b.nodes ≡ risen a.nodes (Nodes (SchemaOf s.columns)) → b.blocks ≡ a.blocks
       → Counted (chain_traffic node rest) b d → Counted (chain_traffic s stages) a d
   counted-step rest stages a b d are schema more same counted =
-      let over : node ≡ over_stream stage (raw_state link nodes None (telling None s)) = is ∙ ap (over_stream stage) raw in
-      let now : Counted (chain_traffic (over_stream stage (raw_state link nodes None (telling None s))) rest) b d =
+      let over : node ≡ over_stream link stage (raw_state link nodes None (telling None s)) = is ∙ ap (over_stream link stage) raw in
+      let now : Counted (chain_traffic (over_stream link stage (raw_state link nodes None (telling None s))) rest) b d =
       subst (λ (m : Stream). Counted (chain_traffic m rest) b d) over counted in
       let chunks = chunks_after stage.step s.ending s.ahead in
       let behind = links_behind (record { chunks = chunks; ending = s.ending }) rest in

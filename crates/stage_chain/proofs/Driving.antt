@@ -1,5 +1,5 @@
 -- What a whole chain gives and shows.
-use Rattle.std.proofs.Common.{◌≡◌, ◌≤◌, ◌<◌, ◌+◌, ◌++◌, ◌==◌, ℕ, zero, suc, List, [], ◌∷◌, Option, None, Result, Ok, Err, IfOk, OnOk, Vec}
+use Rattle.std.proofs.Common.{◌≡◌, ◌≤◌, ◌<◌, ◌+◌, ◌++◌, ◌==◌, ℕ, zero, suc, List, [], ◌∷◌, Option, None, Some, Bool, Result, Ok, Err, IfOk, OnOk, Vec}
 use Rattle.std.proofs.Common.{if◌then◌else◌, refl, sym, ◌∙◌, ap, subst, arith, inl, inr}
 use Rattle.std.specs.Global.{Global}
 use Rattle.std.proofs.lemmas.Bool.Decides.{eqb_tells}
@@ -10,12 +10,17 @@ use Rattle.data_types.specs.Parts.{joined_rows}
 use Rattle.data_types.specs.Table.{Column, Row}
 use Rattle.stage_model.specs.Links.{ChunksGiveTheWhole, Link, Whole, last_columns}
 use Rattle.data_types.specs.Table.{Table}
-use Rattle.stage_model.specs.Stages.{table}
+use Rattle.stage_model.specs.Stages.{chunks_after, table}
+use Rattle.stage_model.specs.declared.stage.Step.{Step}
+use Rattle.stage_model.specs.declared.stage.Step.TheVariants as steps
+use Rattle.data_types.specs.declared.row_fault.RowFault.{RowFault}
+use Rattle.stream_face.specs.Raw.{apart}
+use Rattle.stream_face.proofs.Orders.{nil_part}
 use Rattle.stage_model.specs.Typing.{Stage}
-use Rattle.stream_face.specs.Calls.{Begins}
-use Rattle.stream_face.specs.Shown.{Seen, Shown, of_link, shown_tables}
-use Rattle.stream_face.specs.Streams.{Stream}
-use Rattle.stage_chain.specs.Chains.{chain_links, chunks_of, joints_with, last_rows, link_shows}
+use Rattle.stream_face.specs.Calls.{Begins, IsMade}
+use Rattle.stream_face.specs.Shown.{Seen, Shown, of_link, rows_of_link, shown_tables}
+use Rattle.stream_face.specs.Streams.{Making, Stream}
+use Rattle.stage_chain.specs.Chains.{ShowsFirst, ShowsLinks, chain_links, chunks_of, joints_with, last_rows, link_making, link_makings, link_shows, makings_behind, makings_with}
 use Rattle.csv_write.specs.Runs.{ShowsAll, ShowsSome}
 use Rattle.csv_write.specs.declared.fault.DriveFault.{DriveFault}
 use Rattle.stage_chain.proofs.Chaining.{IsStarted}
@@ -48,16 +53,108 @@ joints-are n below (link ∷ links) none (suc k) =
 joints-from_0 : (below : ℕ → List Shown) (links : List Link) → ((j : ℕ) → below j ≡ []) → (k : ℕ) → joints_with 0 below links k ≡ link_shows links k
 joints-from_0 below links none k = ap (joints_with 0 below links) (let e : k ≡ 0 + k = omega arith in e) ∙ joints-are 0 below links (λ j _. none j) k
 
+-- ---- how links are made
+
+-- of no link from this number on
+abbrev IsBelow : ℕ → Option Making → Type 0
+IsBelow number None = Unit {0}
+IsBelow number (Some making) = making.link < number
+
+apart-below : (number : ℕ) (x : Option Making) → IsBelow number x → apart number x ≡ x
+apart-below number None below = refl
+apart-below number (Some x) below =
+    elim (eqb_tells number x.link) [ inl h ↦ absurd (let e : number ≡ x.link = h.1 in omega (arith, e, below)) | inr h ↦ rw h.0 refl ]
+
+below-later : (number : ℕ) (x : Option Making) → IsBelow number x → IsBelow (number + 1) x
+below-later number None below = tt
+below-later number (Some x) below = omega (arith, below)
+
+-- links change nothing of how those of the numbers below theirs are made
+makings-stay : (ending : Option RowFault) (number : ℕ) (own : Option Making) (below : ℕ → Option Making) (links : List Link) (k : ℕ) → k < number
+    → IsBelow number (below k) → makings_with ending number own below links k ≡ below k
+makings-stay ending number own below [] k small under = refl
+makings-stay ending number own below (link ∷ links) k small under =
+    let here : apart number (if number == k then own else below k) ≡ below k
+    = elim (eqb_tells number k) [
+      | inl h ↦ absurd (let e : number ≡ k = h.1 in omega (arith, e, small))
+      | inr h ↦ ap (λ (t : Bool). apart number (if t then own else below k)) h.0 ∙ apart-below number (below k) under
+    ] in
+    makings-stay ending (number + 1) (makings_behind ending number links 0) (λ j. apart number (if number == j then own else below j)) links k
+    (omega (arith, small)) (subst (IsBelow (number + 1)) (sym here) (below-later number (below k) under)) ∙ here
+
+making-below : (ending : Option RowFault) (before : ℕ) (maker : Option Step) → IsBelow (before + 1) (link_making ending before maker)
+making-below ending before None = tt
+making-below ending before (Some step) = omega arith
+
+-- each link behind the first is made of the one before it
+behind-made : (ending : Option RowFault) (number : ℕ) (own : Option Making) (below : ℕ → Option Making) (link : Link) (links : List Link) (k at : ℕ)
+    (seen : List Seen) → IsMade (makings_with ending number own below (link ∷ links) (number + 1 + k)) at seen
+    → IsMade (makings_behind ending number links k) at seen
+behind-made ending number own below link [] k at seen made = tt
+behind-made ending number own below link (next ∷ links) zero at seen made =
+    let first = link_making ending number next.maker in
+    let under = making-below ending number next.maker in
+    let second = λ (j : ℕ). apart (number + 1) (if number + 1 == j then first else apart number (if number == j then own else below j)) in
+    let here : second (number + 1 + 0) ≡ first
+    = elim (eqb_tells (number + 1) (number + 1 + 0)) [
+      | inl h ↦ ap (λ (t : Bool). apart (number + 1) (if t then first else apart number (if number == number + 1 + 0 then own else below (number + 1 + 0))))
+          h.0 ∙ apart-below (number + 1) first under
+      | inr h ↦ absurd (h.1 (omega arith))
+    ] in
+    subst (λ m. IsMade m at seen) (makings-stay ending (number + 1 + 1) (makings_behind ending (number + 1) links 0) second links (number + 1 + 0) (omega arith)
+    (subst (IsBelow (number + 1 + 1)) (sym here) (below-later (number + 1) first under)) ∙ here) made
+behind-made ending number own below link (next ∷ links) (suc k) at seen made =
+    let place : number + 1 + suc k ≡ number + 1 + 1 + k = omega arith in
+    behind-made ending (number + 1) (link_making ending number next.maker) (λ j. apart number (if number == j then own else below j)) next links k at seen
+    (subst (λ j. IsMade (makings_with ending number own below (link ∷ next ∷ links) j) at seen) place made)
+
+-- what totals give where a source ends well begins with what they give where it doesn't
+begins-well : (step : Step) (ending : Option RowFault) (tables xs : List (List Row)) → Begins xs (chunks_after step ending tables)
+    → Begins xs (chunks_after step None tables)
+begins-well (steps.Select picks) ending tables xs begins = begins
+begins-well (steps.Slice skip keep) ending tables xs begins = begins
+begins-well (steps.Filter column test constant) ending tables xs begins = begins
+begins-well (steps.Pack rest picks) ending tables xs begins = begins
+begins-well (steps.Unpack place) ending tables xs begins = begins
+begins-well (steps.Dict column) ending tables xs begins = begins
+begins-well (steps.Plain column) ending tables xs begins = begins
+begins-well (steps.Totals picks) None tables xs begins = begins
+begins-well (steps.Totals picks) (Some fault) tables xs begins =
+    let none : xs ≡ [] = nil_part xs begins.0 begins.1 in
+    (chunks_after (steps.Totals picks) None tables, ap (λ l. l ++ chunks_after (steps.Totals picks) None tables) (sym none))
+
+well-made : (ending : Option RowFault) (before : ℕ) (links : List Link) (k at : ℕ) (seen : List Seen)
+    → IsMade (makings_behind ending before links k) at seen → IsMade (makings_behind None before links k) at seen
+well-made ending before [] k at seen made = tt
+well-made ending before (link ∷ links) zero at seen made = by-maker link.maker made
+  where
+    by-maker : (maker : Option Step) → IsMade (link_making ending before maker) at seen → IsMade (link_making None before maker) at seen
+    by-maker None m = tt
+    by-maker (Some step) m = begins-well step ending (rows_of_link before seen) (rows_of_link at seen) m
+well-made ending before (link ∷ links) (suc k) at seen made = well-made ending (before + 1) links k at seen made
+
+links-made : (ending : Option RowFault) (own : Option Making) (below : ℕ → Option Making) (links : List Link) (k at : ℕ) (seen : List Seen)
+    → IsMade (makings_with ending 0 own below links k) at seen → IsMade (link_makings None links k) at seen
+links-made ending own below [] k at seen made = tt
+links-made ending own below (link ∷ links) zero at seen made = tt
+links-made ending own below (link ∷ links) (suc k) at seen made =
+    let place : suc k ≡ 0 + 1 + k = omega arith in
+    well-made ending 0 links k at seen (behind-made ending 0 own below link links k at seen
+    (subst (λ j. IsMade (makings_with ending 0 own below (link ∷ links) j) at seen) place made))
+
 pub shows-all : (s : Stream) (stages left : List Stage) (before after : Option (List Seen)) → left ≡ stages → ((k : ℕ) → s.joints k ≡ [])
-    → ShowsAll (joints_with 0 s.joints (chain_links s left)) before after → ShowsAll (link_shows (chain_links s stages)) before after
+    → ShowsAll (joints_with 0 s.joints (chain_links s left)) (makings_with s.ending 0 s.making s.makings (chain_links s left)) before after → ShowsLinks (chain_links s stages) before after
 shows-all s stages left before after same none shows = record {
   shown = shows.shown;
   told = shows.told;
   all = λ k. shows.all k ∙ ap (λ ss. joints_with 0 s.joints (chain_links s ss) k) same ∙ joints-from_0 s.joints (chain_links s stages) none k;
+  in_order = λ first rest e k.
+      links-made s.ending s.making s.makings (chain_links s stages) k k first
+      (subst (λ ss. IsMade (makings_with s.ending 0 s.making s.makings (chain_links s ss) k) k first) same (shows.in_order first rest e k));
 }
 
 pub shows-some : (s : Stream) (stages left : List Stage) (before after : Option (List Seen)) → left ≡ stages → ((k : ℕ) → s.joints k ≡ [])
-    → ShowsSome (joints_with 0 s.joints (chain_links s left)) before after → ShowsSome (link_shows (chain_links s stages)) before after
+    → ShowsSome (joints_with 0 s.joints (chain_links s left)) (makings_with s.ending 0 s.making s.makings (chain_links s left)) before after → ShowsFirst (chain_links s stages) before after
 shows-some s stages left before after same none shows = record {
   shown = shows.shown;
   told = shows.told;
@@ -65,6 +162,9 @@ shows-some s stages left before after same none shows = record {
       subst (Begins (of_link k shows.shown))
       (ap (λ ss. joints_with 0 s.joints (chain_links s ss) k) same ∙ joints-from_0 s.joints (chain_links s stages) none k)
       (shows.begins k);
+  in_order = λ first rest e k.
+      links-made s.ending s.making s.makings (chain_links s stages) k k first
+      (subst (λ ss. IsMade (makings_with s.ending 0 s.making s.makings (chain_links s ss) k) k first) same (shows.in_order first rest e k));
 }
 
 -- ---- the text

@@ -11,7 +11,7 @@ ghost use Rattle.stages.specs.Structs.{column_structs};
 ghost use Rattle.stage_model.specs.Links.{last_columns};
 ghost use Rattle.stage_plan.specs.PlanWords.{most_stages};
 ghost use Rattle.stream_face.specs.Streams.{IsFresh, Stream, kept};
-ghost use Rattle.stage_chain.specs.Chains.{chain_links, chain_traffic, joints_with, last_rows};
+ghost use Rattle.stage_chain.specs.Chains.{chain_links, chain_traffic, joints_with, last_rows, makings_with};
 ghost use Rattle.csv_write.specs.Faults.{IfRow, OnRow};
 ghost use Rattle.stage_chain.specs.Plans.{AreStages, stages_left};
 ghost use Rattle.csv_write.specs.Runs.{Counted, ShowsAll, ShowsSome};
@@ -70,11 +70,17 @@ pub(crate) trait Chain {
         ensures refused_counts { IsFresh (S.state source)
             → OnRow result (Counted (chain_traffic (S.state source) (stages_left stages)) pass.old pass.new) }
         ensures shows { OnOk result
-            (ShowsAll (joints_with link (S.state source).joints (chain_links (S.state source) (stages_left stages))) (T.seen tap.old) (T.seen tap.new)) }
+            (ShowsAll (joints_with link (S.state source).joints (chain_links (S.state source) (stages_left stages)))
+            (makings_with (S.state source).ending link (S.state source).making (S.state source).makings
+            (chain_links (S.state source) (stages_left stages))) (T.seen tap.old) (T.seen tap.new)) }
         ensures refused_shows { IsFresh (S.state source) → OnRow result
-            (ShowsAll (joints_with link (S.state source).joints (chain_links (S.state source) (stages_left stages))) (T.seen tap.old) (T.seen tap.new)) }
+            (ShowsAll (joints_with link (S.state source).joints (chain_links (S.state source) (stages_left stages)))
+            (makings_with (S.state source).ending link (S.state source).making (S.state source).makings
+            (chain_links (S.state source) (stages_left stages))) (T.seen tap.old) (T.seen tap.new)) }
         ensures shows_some { OnErr result
-            (ShowsSome (joints_with link (S.state source).joints (chain_links (S.state source) (stages_left stages))) (T.seen tap.old) (T.seen tap.new)) };
+            (ShowsSome (joints_with link (S.state source).joints (chain_links (S.state source) (stages_left stages)))
+            (makings_with (S.state source).ending link (S.state source).making (S.state source).makings
+            (chain_links (S.state source) (stages_left stages))) (T.seen tap.old) (T.seen tap.new)) };
 }
 
 /// No stage may be left.

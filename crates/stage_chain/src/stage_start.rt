@@ -5,7 +5,7 @@ ghost use Rattle.raw_array.specs.Members.{ArrayTree};
 ghost use Rattle.stages.specs.Structs.{column_structs, most_structs};
 ghost use Rattle.stage_model.specs.Typing.{IsStageOver};
 ghost use Rattle.stages.specs.Stages.{stage_gives, stage_state};
-ghost use Rattle.stream_face.specs.Meaning.{meaning};
+ghost use Rattle.stream_face.specs.Meaning.{meaning, raw_link};
 ghost use Rattle.stage_chain.specs.Chains.{over_stream};
 ghost use Rattle.stage_chain.specs.Plans.{stage_in};
 
@@ -28,7 +28,7 @@ pub fn start_stage<W: PlanStep, U: ArrayStream>(
     requires lawful { IsTrue (meaning U.state up).lawful }
     requires stage { IsStageOver (meaning U.state up).columns (stage_in stage) }
     requires structs { column_structs (meaning U.state up).columns ≤ most_structs }
-    ensures means { stage_state U.state W.columns W.ahead W.blocks W.nodes result ≡ over_stream (stage_in stage) (meaning U.state up) }
+    ensures means { stage_state U.state W.columns W.ahead W.blocks W.nodes result ≡ over_stream (raw_link up) (stage_in stage) (meaning U.state up) }
     ensures besides { (rows : List Row) (chunk : ArrayTree) → stage_gives W.gives result rows chunk
         → W.besides stage.step (stage_in stage).columns rows chunk }
 {

@@ -4,11 +4,12 @@ use Rattle.std.proofs.lemmas.List.{append-nil, append_assoc}
 use Rattle.tree_model.specs.Tree.{Released}
 use Rattle.raw_array.specs.Members.{ArrayTree}
 use Rattle.unit_pass.specs.Tally.{Tally, risen}
-use Rattle.stream_face.specs.Calls.{Counts, Repeats, Shows, Tells}
+use Rattle.stream_face.specs.Calls.{Begins, Counts, GoesOn, InOrder, IsMade, Repeats, Shows, ShowsInOrder, Tells}
 use Rattle.stream_face.specs.Codes.{enomem}
-use Rattle.stream_face.specs.Shown.{Seen, grown, of_link}
-use Rattle.stream_face.specs.Streams.{IsFresh, Keeps, Stream, Traffic}
+use Rattle.stream_face.specs.Shown.{Seen, Shown, grown, of_link, rows_of_link, rows_shown}
+use Rattle.stream_face.specs.Streams.{IsFresh, Keeps, Making, Stream, Traffic}
 use Rattle.stream_face.specs.Texts.{Refusal}
+use Rattle.stream_face.proofs.Orders.{goes-both, goes-start, made-both, made-none, nil_part, rows-append}
 use Rattle.stream_face.proofs.Joints.{grown-append, had_memory, of_link-append, tells_nothing, tells_refusal, works_before}
 
 -- ---- runs and calls
@@ -17,6 +18,8 @@ pub record Went (old new : Stream) (seen later : Option (List Seen)) (before aft
   pub shown : List Seen
   pub told : later ≡ grown seen shown
   pub leaves : (link : ℕ) → old.joints link ≡ of_link link shown ++ new.joints link
+  pub in_order : (first rest : List Seen) → shown ≡ first ++ rest → (link : ℕ) → IsMade (old.makings link) link first
+  pub goes_on : (link : ℕ) → GoesOn (old.makings link) (new.makings link) new.joints shown (rows_of_link link shown)
   pub made : Traffic
   pub blocks : after.blocks ≡ risen before.blocks made.blocks
   pub nodes : after.nodes ≡ risen before.nodes made.nodes
@@ -40,7 +43,7 @@ pub record Called (old new : Stream) (code : ℤ) (out : ArrayTree) (seen later 
   pub failure : new.failure ≡ new.said
   pub repeats : Repeats old new code before after seen later
   pub counts : IsFresh old → code ≢ enomem → Counts old.due new.due before after out
-  pub shows : IsFresh old → Shows old.joints new.joints code out seen later
+  pub shows : IsFresh old → ShowsInOrder old new code out seen later
 
 pub kept-both : (s m n : Stream) → Keeps s m → Keeps m n → Keeps s n
 kept-both s m n a b = record {
@@ -79,6 +82,8 @@ Ran-start s seen t blocks nodes = record {
     shown = [];
     told = grown-nil seen;
     leaves = λ link. refl;
+    in_order = λ first rest e link. made-none (s.makings link) link first (ap (rows_of_link link) (nil_part first rest e));
+    goes_on = λ link. goes-start (s.makings link) s.joints;
     made = record { blocks = 0; nodes = 0 };
     blocks = omega (arith, blocks);
     nodes = omega (arith, nodes);
@@ -88,8 +93,9 @@ Ran-start s seen t blocks nodes = record {
 }
 
 -- what is shown by a run and by a call after it
-pub Ran-shows : (s m n : Stream) (code done : ℤ) (out given : ArrayTree) (before middle after : Option (List Seen)) (a b : Tally)
-    → Went s m before middle a b → Shows m.joints n.joints code out middle after → (done ≢ enomem → code ≢ enomem) → (given ≡ Released → out ≡ Released)
+abbrev pub Ran-shows : (s m n : Stream) (code done : ℤ) (out given : ArrayTree) (before middle after : Option (List Seen)) (a b : Tally)
+    → Went s m before middle a b → Shows m.joints n.joints code out middle after → (done ≢ enomem → code ≢ enomem)
+    → (done ≢ enomem → given ≡ Released → out ≡ Released)
     → Shows s.joints n.joints done given before after
 Ran-shows s m n code done out given before middle after a b went shows had gone = record {
   shown = went.shown ++ shows.shown;
@@ -102,8 +108,30 @@ Ran-shows s m n code done out given before middle after a b went shows had gone 
       );
   leaves = λ e link. rw of_link-append (went.leaves link ∙ ap (λ xs. of_link link went.shown ++ xs) (shows.leaves (had e) link)
       ∙ sym (append_assoc (of_link link went.shown) (of_link link shows.shown) (n.joints link)));
-  ends = λ e released. shows.ends (had e) (gone released);
+  ends = λ e released. shows.ends (had e) (gone e released);
 }
+
+-- what each link still shows after it
+pub Ran-leaves : (s m n : Stream) (code : ℤ) (out : ArrayTree) (before middle after : Option (List Seen)) (a b : Tally) (went : Went s m before middle a b)
+    → (x : ShowsInOrder m n code out middle after) → code ≢ enomem → (link : ℕ) → s.joints link ≡ of_link link (went.shown ++ x.shows.shown) ++ n.joints link
+Ran-leaves s m n code out before middle after a b went x had link = rw of_link-append (went.leaves link
+    ∙ ap (λ xs. of_link link went.shown ++ xs) (x.shows.leaves had link)
+    ∙ sym (append_assoc (of_link link went.shown) (of_link link x.shows.shown) (n.joints link)))
+
+-- in the order of links
+pub Ran-made : (s m n : Stream) (code : ℤ) (out : ArrayTree) (before middle after : Option (List Seen)) (a b : Tally) (went : Went s m before middle a b)
+    → (x : ShowsInOrder m n code out middle after) → (first rest : List Seen) → went.shown ++ x.shows.shown ≡ first ++ rest → (link : ℕ)
+    → IsMade (s.makings link) link first
+Ran-made s m n code out before middle after a b went x =
+    made-both s.makings m.makings m.joints went.shown x.shows.shown went.in_order went.goes_on x.shows.begins x.order.made
+
+pub Ran-goes : (s m n : Stream) (code : ℤ) (out : ArrayTree) (before middle after : Option (List Seen)) (a b : Tally) (went : Went s m before middle a b)
+    → (x : ShowsInOrder m n code out middle after) → code ≢ enomem → (link : ℕ)
+    → GoesOn (s.makings link) (n.makings link) n.joints (went.shown ++ x.shows.shown) (rows_of_link link (went.shown ++ x.shows.shown))
+Ran-goes s m n code out before middle after a b went x had link =
+    subst (GoesOn (s.makings link) (n.makings link) n.joints (went.shown ++ x.shows.shown)) (sym (rows-append link went.shown x.shows.shown))
+    (goes-both (s.makings link) (m.makings link) (n.makings link) m.joints n.joints went.shown x.shows.shown (rows_of_link link went.shown)
+    (rows_of_link link x.shows.shown) (x.shows.leaves had) (went.goes_on link) (x.order.goes_on had link))
 
 -- what is counted by both
 pub Ran-counts : (s m n : Stream) (out given : ArrayTree) (before middle : Option (List Seen)) (a b d e : Tally)
@@ -166,7 +194,8 @@ module _ (s m n : Stream) (code : ℤ) (out : ArrayTree) (before middle after : 
   pub Ran-next : (e : Tally) → IsTrue s.lawful → e.blocks ≡ d.blocks → e.nodes ≡ d.nodes → Ran s n before after a e
   Ran-next e lawful blocks nodes =
       let fresh = Ran-fresh lawful in
-      let shows = call.shows fresh in
+      let ordered = call.shows fresh in
+      let shows = ordered.shows in
       let had = had_memory code zero in
       let counts = call.counts fresh had in
       record {
@@ -183,6 +212,8 @@ module _ (s m n : Stream) (code : ℤ) (out : ArrayTree) (before middle after : 
               told = shows.told ∙ ap (λ seen. grown seen shows.shown) went.told ∙ grown-append before went.shown shows.shown;
               leaves = λ link. rw of_link-append (went.leaves link ∙ ap (λ xs. of_link link went.shown ++ xs) (shows.leaves had link)
                   ∙ sym (append_assoc (of_link link went.shown) (of_link link shows.shown) (n.joints link)));
+              in_order = Ran-made s m n code out before middle after a b went ordered;
+              goes_on = Ran-goes s m n code out before middle after a b went ordered had;
               made = record { blocks = went.made.blocks + counts.made.blocks; nodes = went.made.nodes + counts.made.nodes };
               blocks = risen-add a.blocks b.blocks e.blocks went.made.blocks counts.made.blocks went.blocks (blocks ∙ counts.blocks);
               nodes = risen-add a.nodes b.nodes e.nodes went.made.nodes counts.made.nodes went.nodes (nodes ∙ counts.nodes);

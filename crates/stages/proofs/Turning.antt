@@ -1,8 +1,9 @@
 -- What a turn of a step comes to: a call of the stream below it that answered 0, and what the step made of it.
-use Rattle.std.proofs.Common.{arith, ◌≡◌, ◌∙◌, ◌<◌, ◌+◌, ℕ, ℤ, pos, negsuc, of_z, w32, Bool, true, false, true≢false, IsTrue, List, [], ◌∷◌, length, map, get_or, refl, sym, ap, subst, inl, inr}
+use Rattle.std.proofs.Common.{arith, ◌≡◌, ◌∙◌, ◌<◌, ◌+◌, ◌++◌, ℕ, ℤ, pos, negsuc, of_z, w32, Bool, true, false, true≢false, IsTrue, List, [], ◌∷◌, length, map, get_or, refl, sym, ap, subst, inl, inr}
 use Rattle.std.specs.Prelude.{Option, None, Some}
 use Rattle.std.specs.List.{sum_by}
 use Rattle.std.proofs.lemmas.Int.{ints}
+use Rattle.std.proofs.lemmas.List.{append_assoc, append_cancel_right, map-append}
 use Rattle.std.proofs.lemmas.List.Sums.{sum_by-cons}
 use Rattle.data_types.specs.ColumnView.{column_of}
 use Rattle.data_types.specs.Table.{Column, Row}
@@ -13,12 +14,12 @@ use Rattle.raw_array.specs.Members.{ArrayTree, Cost}
 use Rattle.data_types.specs.ColumnKinds.{type_of_columns}
 use Rattle.data_types.specs.KindTrees.{KindTree, TypedOk}
 use Rattle.unit_pass.specs.Tally.{Tally, risen}
-use Rattle.stream_face.specs.Calls.{Answers, Counts, IsCode, Shows}
-use Rattle.stream_face.specs.Codes.{enomem}
-use Rattle.stream_face.specs.Lawful.{IsChunkOf, LawfulColumns, LawfulTables}
-use Rattle.stream_face.specs.Shown.{Seen}
+use Rattle.stream_face.specs.Calls.{Answers, Counts, GoesOn, IsCode}
+use Rattle.stream_face.specs.Lawful.{IsChunkOf, LawfulColumns, LawfulTables, total_rows}
+use Rattle.stream_face.specs.Shown.{Seen, Shown, of_link, rows_of_link, rows_shown}
 use Rattle.stream_face.specs.Streams.{IsFresh, Stream, Traffic}
 use Rattle.stages.specs.Steps.{GivesNothing, GivesOut, IsNext, TakesIn, Turns, due_by, stepped}
+use Rattle.stream_face.proofs.Orders.{nil_part}
 use Rattle.stages.proofs.Runs.{Called, Ran, Ran-fresh}
 
 abbrev pub Tables : Type 0
@@ -58,15 +59,88 @@ began-fresh s m seen later before after lawful ran fresh = record {
   no_failure = none-if s.failure (λ refusal failed. let k : None ≡ Some refusal = sym fresh.no_failure ∙ ran.failed refusal failed in cc);
 }
 
--- memory ran out after a call that gave a chunk
-pub shows-wanting : (s n : Stream) (out given : ArrayTree) (seen later : Option (List Seen)) → Shows s.joints n.joints enomem out seen later
-    → Shows s.joints n.joints enomem given seen later
-shows-wanting s n out given seen later shows = record {
-  shown = shows.shown;
-  told = shows.told;
-  begins = shows.begins;
-  leaves = λ e. absurd (e refl);
-  ends = λ e. absurd (e refl);
+-- ---- what is made of the tables that were taken
+
+total-append : (a b : Tables) → total_rows (a ++ b) ≡ total_rows a + total_rows b
+total-append [] b = omega arith
+total-append (rows ∷ a) b = let rest = total-append a b in omega (arith, rest)
+
+pub lawful-first : (columns : List Column) (a b : Tables) → LawfulTables columns (a ++ b) → LawfulTables columns a
+lawful-first columns [] b lawful = record { tables = tt; rows = omega arith }
+lawful-first columns (rows ∷ a) b lawful =
+    let total = total-append a b in
+    let rest = lawful-first columns a b (record { tables = lawful.tables.1; rows = omega (arith, lawful.rows) }) in
+    record { tables = (lawful.tables.0, rest.tables); rows = omega (arith, lawful.rows, total) }
+
+-- from one moment to a later one: the tables that were taken, and that of any further ones the same is given as before of all
+pub record Goes (takes : Tables → Type 0) (A0 A : Tables → Tables) (start now : Tables) : Type 0 where
+  pub pulled : Tables
+  pub all : start ≡ pulled ++ now
+  pub on : (some rest : Tables) → now ≡ some ++ rest → takes some × (A0 (pulled ++ some) ≡ A some)
+
+pub Goes-start : (takes : Tables → Type 0) (A : Tables → Tables) (start : Tables) → ((some rest : Tables) → start ≡ some ++ rest → takes some)
+    → Goes takes A A start start
+Goes-start takes A start can = record { pulled = []; all = refl; on = λ some rest e. (can some rest e, refl) }
+
+pub Goes-next : (takes after : Tables → Type 0) (A0 A B : Tables → Tables) (start m n : Tables) (rows : List Row) → Goes takes A0 A start m → m ≡ rows ∷ n
+    → ((some rest : Tables) → n ≡ some ++ rest → takes (rows ∷ some) → after some × (A (rows ∷ some) ≡ B some)) → Goes after A0 B start n
+Goes-next takes after A0 A B start m n rows goes got law = record {
+  pulled = goes.pulled ++ rows ∷ [];
+  all = goes.all ∙ ap (λ l. goes.pulled ++ l) got ∙ sym (append_assoc goes.pulled (rows ∷ []) n);
+  on = λ some rest e.
+      let here = goes.on (rows ∷ some) rest (got ∙ ap (λ l. rows ∷ l) e) in
+      let next = law some rest e here.0 in
+      (next.0, ap A0 (append_assoc goes.pulled (rows ∷ []) some) ∙ here.1 ∙ next.1);
+}
+
+-- the tables that were taken are those that were seen
+pub pulled-seen : (s n : Stream) (link : ℕ) (shown : List Seen) (pulled : Tables) → s.joints link ≡ of_link link shown ++ n.joints link
+    → rows_shown (s.joints link) ≡ s.ahead → rows_shown (n.joints link) ≡ n.ahead → s.ahead ≡ pulled ++ n.ahead → rows_of_link link shown ≡ pulled
+pulled-seen s n link shown pulled leaves at to all =
+    append_cancel_right (rows_of_link link shown) pulled n.ahead (ap (λ l. rows_of_link link shown ++ l) (sym to)
+    ∙ sym (map-append (λ (table : Shown). table.rows) (of_link link shown) (n.joints link)) ∙ ap rows_shown (sym leaves) ∙ at ∙ all)
+
+-- what a call gives is what is made of those that were seen, where of any further ones it is followed by what is made of them then
+module _ (s n : Stream) (link after : ℕ) (A0 B : Tables → Tables) (shown : List Seen) (given : Tables) (same : after ≡ link)
+    (leaves : s.joints link ≡ of_link link shown ++ n.joints link) (at : rows_shown (s.joints link) ≡ s.ahead)
+    (to : rows_shown (n.joints link) ≡ n.ahead) where
+  gives-made : (pulled : Tables) → s.ahead ≡ pulled ++ n.ahead → ((some rest : Tables) → n.ahead ≡ some ++ rest → A0 (pulled ++ some) ≡ given ++ B some)
+      → GoesOn (Some (record { link = link; makes = A0 })) (Some (record { link = after; makes = B })) n.joints shown given
+  gives-made pulled all law = (
+    same,
+    λ more begins. ap (λ l. A0 (l ++ more)) (pulled-seen s n link shown pulled leaves at to all) ∙ law more begins.0 (sym to ∙ begins.1),
+  )
+
+  -- at the end
+  pub gives-end : (m : Stream) (pulled : Tables) → s.ahead ≡ pulled ++ m.ahead → m.ahead ≡ [] → n.ahead ≡ [] → A0 s.ahead ≡ given ++ B n.ahead
+      → GoesOn (Some (record { link = link; makes = A0 })) (Some (record { link = after; makes = B })) n.joints shown given
+  gives-end m pulled all before behind is =
+      let here : s.ahead ≡ pulled ++ n.ahead = all ∙ ap (λ l. pulled ++ l) (before ∙ sym behind) in
+      gives-made pulled here (λ some rest e.
+      let none : n.ahead ≡ some = behind ∙ sym (nil_part some rest (sym behind ∙ e)) in
+      subst (λ l. A0 (pulled ++ l) ≡ given ++ B l) none (ap A0 (sym here) ∙ is))
+
+  -- for a chunk
+  pub gives-next : (m : Stream) (takes : Tables → Type 0) (A : Tables → Tables) (rows out : List Row) → Goes takes A0 A s.ahead m.ahead
+      → m.ahead ≡ rows ∷ n.ahead → given ≡ out ∷ []
+      → ((some rest : Tables) → n.ahead ≡ some ++ rest → takes (rows ∷ some) → A (rows ∷ some) ≡ out ∷ B some)
+      → GoesOn (Some (record { link = link; makes = A0 })) (Some (record { link = after; makes = B })) n.joints shown given
+  gives-next m takes A rows out goes got one law =
+      gives-made (goes.pulled ++ rows ∷ []) (goes.all ∙ ap (λ l. goes.pulled ++ l) got ∙ sym (append_assoc goes.pulled (rows ∷ []) n.ahead))
+      (λ some rest e.
+      let here = goes.on (rows ∷ some) rest (got ∙ ap (λ l. rows ∷ l) e) in
+      ap A0 (append_assoc goes.pulled (rows ∷ []) some) ∙ here.1 ∙ law some rest e here.0 ∙ ap (λ l. l ++ B some) (sym one))
+
+-- of the first of the tables that are left
+pub next-first : (columns : List Column) (rows : List Row) (all some rest : Tables) (typed : KindTree) (chunk : ArrayTree) → all ≡ some ++ rest
+    → IsNext columns rows all typed chunk → IsNext columns rows some typed chunk
+next-first columns rows all some rest typed chunk e next = record {
+  columns = next.columns;
+  tables = lawful-first columns (rows ∷ some) rest (subst (λ l. LawfulTables columns (rows ∷ l)) e next.tables);
+  typed_is = next.typed_is;
+  types = next.types;
+  is = next.is;
+  live = next.live;
 }
 
 -- ---- a run, and a call after it that answered 0
@@ -190,11 +264,11 @@ module _ (columns : List ColumnType) (at : List ColumnType) (bl nd bl0 nd0 : Lis
   turned = by-tree chunk turned-gone turned-live
 
 -- a call below that was refused
-pub refused-answers : (columns after : List ColumnType) (A0 A B : Option RowFault → Tables → Tables) (s m n : Stream) (code told : ℤ) (out : ArrayTree)
-    → told ≡ code → (code ≡ pos 0 → ⊥) → A0 s.ending s.ahead ≡ A s.ending m.ahead
+pub refused-answers : (columns after : List ColumnType) (A0 A B : Option RowFault → Tables → Tables) (at to : ℕ) (s m n : Stream) (code told : ℤ)
+    (out : ArrayTree) → told ≡ code → (code ≡ pos 0 → ⊥) → A0 s.ending s.ahead ≡ A s.ending m.ahead
     → ((fault : RowFault) → (A (Some fault) [] ≡ []) × (B (Some fault) [] ≡ [])) → m.ending ≡ s.ending → n.ending ≡ m.ending → Answers m n code out
-    → out ≡ Released → Answers (stepped columns A0 s) (stepped after B n) told out
-refused-answers columns after A0 A B s m n code told out is refused same law before behind answers gone = record {
+    → out ≡ Released → Answers (stepped columns A0 at s) (stepped after B to n) told out
+refused-answers columns after A0 A B at to s m n code told out is refused same law before behind answers gone = record {
   chunk = λ live. absurd (subst IsLive gone live);
   finish = λ zero _. absurd (refused (sym is ∙ zero));
   bad = λ e.
@@ -213,10 +287,10 @@ refused-answers columns after A0 A B s m n code told out is refused same law bef
 }
 
 pub done-answers : (columns after : List ColumnType) (own_blocks own_nodes : List Row → ℕ) (besides : List Row → ArrayTree → Type 0)
-    (A B : Option RowFault → Tables → Tables) (s n : Stream) (idle : Bool) (before last : Tally) (given : ArrayTree)
+    (A B : Option RowFault → Tables → Tables) (at to : ℕ) (s n : Stream) (idle : Bool) (before last : Tally) (given : ArrayTree)
     → IsDone (map column_of columns) own_blocks own_nodes besides (A s.ending s.ahead) (B n.ending n.ahead) s.ending idle before last given
-    → Answers (stepped columns A s) (stepped after B n) (pos 0) given
-done-answers columns after own_blocks own_nodes besides A B s n idle before last given done = record {
+    → Answers (stepped columns A at s) (stepped after B to n) (pos 0) given
+done-answers columns after own_blocks own_nodes besides A B at to s n idle before last given done = record {
   chunk = λ live. let some = done.something live in (some.rows, some.ahead s.ending, some.is);
   finish = λ _ gone. let none = done.nothing gone in (none.0, none.1, none.2);
   bad = λ e. absurd (cc);

@@ -16,12 +16,13 @@ word_said word.Nothing said = None
 word_said word.Memory said = Some wanting
 word_said word.Upstream said = said
 
--- what the stage holds, shows and is refused for is the stream's below it, but for memory that runs out in the stage itself
+-- what the stage holds, shows and is refused for is the stream's below it, of whose link's tables it makes its own, but for memory that runs out in the stage itself
 abbrev pub staged : {S : Type 0} → (S → List ColumnType) → (S → Option RowFault → List (List Row) → List (List Row)) → (S → List Row → ℕ)
-    → (S → List Row → ℕ) → S → Bool → LastAnswer → Stream → Stream
-staged columns ahead blocks nodes step no_memory last up = record up {
+    → (S → List Row → ℕ) → ℕ → S → Bool → LastAnswer → Stream → Stream
+staged columns ahead blocks nodes link step no_memory last up = record up {
   columns = map column_of (columns step);
   ahead = ahead step up.ending up.ahead;
+  making = Some (record { link = link; makes = ahead step up.ending });
   due = due_by (blocks step) (nodes step) (ahead step up.ending up.ahead) up.due;
   schema = None;
   chunk = None;

@@ -94,5 +94,9 @@ rows_only step rows chunk = Unit {0}
 
 -- ---- the stream below with a step
 
-abbrev pub stepped : List ColumnType → (Option RowFault → List (List Row) → List (List Row)) → Stream → Stream
-stepped columns ahead up = record up { columns = map column_of columns; ahead = ahead up.ending up.ahead }
+abbrev pub stepped : List ColumnType → (Option RowFault → List (List Row) → List (List Row)) → ℕ → Stream → Stream
+stepped columns ahead link up = record up {
+  columns = map column_of columns;
+  ahead = ahead up.ending up.ahead;
+  making = Some (record { link = link; makes = ahead up.ending });
+}

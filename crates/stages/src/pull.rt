@@ -7,10 +7,10 @@ ghost use Rattle.tree_model.specs.Tree.{IsLive, Released};
 ghost use Rattle.raw_array.specs.Members.{ArrayTree, Cost};
 ghost use Rattle.data_types.specs.TypedView.{typed_of};
 ghost use Rattle.unit_pass.specs.declared.pass.TheConstants.{ROOM, SUPPLY};
-ghost use Rattle.stream_face.specs.Calls.{Answers, Counts, IsCode, IsRowFault, Repeats, Shows, Tells};
+ghost use Rattle.stream_face.specs.Calls.{Answers, Counts, IsCode, IsRowFault, Repeats, ShowsInOrder, Tells};
 ghost use Rattle.stream_face.specs.Codes.{enomem};
 ghost use Rattle.stream_face.specs.Lawful.{LawfulColumns};
-ghost use Rattle.stream_face.specs.Meaning.{meaning};
+ghost use Rattle.stream_face.specs.Meaning.{meaning, raw_link};
 ghost use Rattle.stream_face.specs.Streams.{IsFresh, Keeps};
 ghost use Rattle.stages.specs.Steps.{GivesNothing, GivesOut, IsNext, TakesIn, Turns, due_by, stepped};
 
@@ -125,8 +125,8 @@ pub(crate) fn pull<S: ChunkStep, U: ArrayStream, R: Threads + Sync, T: Tap>(
     ensures repeats { IfOk result
         (λ code. Repeats (meaning U.state up.old) (meaning U.state up.new) code pass.old pass.new (T.seen tap.old) (T.seen tap.new)) }
     ensures answers { IsFresh (meaning U.state up.old) → IfOk result
-        (λ code. Answers (stepped (S.columns step.old) (S.ahead step.old) (meaning U.state up.old))
-        (stepped (S.columns step.new) (S.ahead step.new) (meaning U.state up.new)) code out.new) }
+        (λ code. Answers (stepped (S.columns step.old) (S.ahead step.old) (raw_link up.old) (meaning U.state up.old))
+        (stepped (S.columns step.new) (S.ahead step.new) (raw_link up.new) (meaning U.state up.new)) code out.new) }
     ensures gives { IsFresh (meaning U.state up.old) → IfOk result (λ code. code ≡ pos 0 → IsLive out.new
         → S.gives step.old (get_or (S.ahead step.old (meaning U.state up.old).ending (meaning U.state up.old).ahead) 0 []) out.new) }
     ensures counts { IsFresh (meaning U.state up.old) → IfOk result (λ code. code ≢ enomem
@@ -136,8 +136,10 @@ pub(crate) fn pull<S: ChunkStep, U: ArrayStream, R: Threads + Sync, T: Tap>(
         (S.ahead step.new (meaning U.state up.new).ending (meaning U.state up.new).ahead) (meaning U.state up.new).due)
         pass.old pass.new out.new) }
     ensures shows { IsFresh (meaning U.state up.old) → MatchResult result
-        (λ code. Shows (meaning U.state up.old).joints (meaning U.state up.new).joints code out.new (T.seen tap.old) (T.seen tap.new))
-        (λ _. Shows (meaning U.state up.old).joints (meaning U.state up.new).joints enomem out.new (T.seen tap.old) (T.seen tap.new)) }
+        (λ code. ShowsInOrder (stepped (S.columns step.old) (S.ahead step.old) (raw_link up.old) (meaning U.state up.old))
+        (stepped (S.columns step.new) (S.ahead step.new) (raw_link up.new) (meaning U.state up.new)) code out.new (T.seen tap.old) (T.seen tap.new))
+        (λ _. ShowsInOrder (stepped (S.columns step.old) (S.ahead step.old) (raw_link up.old) (meaning U.state up.old))
+        (stepped (S.columns step.new) (S.ahead step.new) (raw_link up.new) (meaning U.state up.new)) enomem out.new (T.seen tap.old) (T.seen tap.new)) }
 {
     let _units = pass.units();
     let _blocks = pass.blocks();

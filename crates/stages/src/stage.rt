@@ -5,9 +5,9 @@ ghost use Rattle.data_types.specs.Table.{Row};
 ghost use Rattle.tree_model.specs.Tree.{IsLive, Released};
 ghost use Rattle.raw_array.specs.Members.{ArrayTree, Cost};
 ghost use Rattle.unit_pass.specs.declared.pass.TheConstants.{ROOM};
-ghost use Rattle.stream_face.specs.Calls.{Answers, Counts, IsCode, IsRowFault, IsTold, Repeats, Shows, Tells};
+ghost use Rattle.stream_face.specs.Calls.{Answers, Counts, IsCode, IsRowFault, IsTold, Repeats, ShowsInOrder, Tells};
 ghost use Rattle.stream_face.specs.Codes.{enomem};
-ghost use Rattle.stream_face.specs.Meaning.{meaning};
+ghost use Rattle.stream_face.specs.Meaning.{meaning, raw_link};
 ghost use Rattle.stream_face.specs.Streams.{IsFresh, Keeps};
 
 use crate::pull::pull;
@@ -52,7 +52,7 @@ impl<U: ArrayStream, S: ChunkStep> Stage<U, S> {
         requires fits { S.fits step (meaning U.state up).columns }
         requires rests { IsTrue (S.rests step) }
         ensures means { stage_state U.state S.columns S.ahead S.blocks S.nodes result
-            ≡ staged S.columns S.ahead S.blocks S.nodes step false words.Nothing (meaning U.state up) }
+            ≡ staged S.columns S.ahead S.blocks S.nodes (raw_link up) step false words.Nothing (meaning U.state up) }
         ensures besides { (rows : List Row) (chunk : ArrayTree) → stage_gives S.gives result rows chunk → S.gives step rows chunk }
     {
         Stage {
@@ -120,8 +120,8 @@ impl<U: ArrayStream, S: ChunkStep> ArrayStream for Stage<U, S> {
             → Counts (stage_state U.state S.columns S.ahead S.blocks S.nodes self.old).due
             (stage_state U.state S.columns S.ahead S.blocks S.nodes self.new).due pass.old pass.new out.new }
         ensures shows { IsFresh (stage_state U.state S.columns S.ahead S.blocks S.nodes self.old)
-            → Shows (stage_state U.state S.columns S.ahead S.blocks S.nodes self.old).joints
-            (stage_state U.state S.columns S.ahead S.blocks S.nodes self.new).joints result out.new (T.seen tap.old) (T.seen tap.new) }
+            → ShowsInOrder (stage_state U.state S.columns S.ahead S.blocks S.nodes self.old)
+            (stage_state U.state S.columns S.ahead S.blocks S.nodes self.new) result out.new (T.seen tap.old) (T.seen tap.new) }
         ensures gives { IsFresh (stage_state U.state S.columns S.ahead S.blocks S.nodes self.old) → result ≡ pos 0 → IsLive out.new
             → stage_gives S.gives self.old (get_or (stage_state U.state S.columns S.ahead S.blocks S.nodes self.old).ahead 0 []) out.new }
         ensures besides { (rows : List Row) (chunk : ArrayTree) → stage_gives S.gives self.new rows chunk → stage_gives S.gives self.old rows chunk }

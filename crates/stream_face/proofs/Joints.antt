@@ -72,7 +72,7 @@ joints-none old new link out before after none shows =
 
 -- ---- what a checked stream shows
 -- what a call of the inner stream shows begins what is still to be shown below the checked stream
-begins-raw : (s n : Stream) (link : ℕ) (code : ℤ) (out : ArrayTree) (before after : Option (List Seen)) → s.joints link ≡ []
+pub begins-raw : (s n : Stream) (link : ℕ) (code : ℤ) (out : ArrayTree) (before after : Option (List Seen)) → s.joints link ≡ []
     → (shows : Shows s.joints n.joints code out before after) → (k : ℕ) → Begins (of_link k shows.shown) (raw_joints link s k)
 begins-raw s n link code out before after none shows k = elim (eqb_tells link k) [
   | inl h ↦ rw (h.0, ← h.1, of_link-none s.joints n.joints link code out before after none shows) (shown_tables s.columns s.ahead, refl)
@@ -80,7 +80,7 @@ begins-raw s n link code out before after none shows k = elim (eqb_tells link k)
 ]
 
 -- where memory runs out, no more than its inner stream did
-pub Shows-raw_wants : (s n : Stream) (link : ℕ) (code refusal : ℤ) (out left : ArrayTree) (before after : Option (List Seen)) → s.joints link ≡ []
+abbrev pub Shows-raw_wants : (s n : Stream) (link : ℕ) (code refusal : ℤ) (out left : ArrayTree) (before after : Option (List Seen)) → s.joints link ≡ []
     → refusal ≡ enomem → Shows s.joints n.joints code out before after → Shows (raw_joints link s) (raw_joints link n) refusal left before after
 Shows-raw_wants s n link code refusal out left before after none wants shows = record {
   shown = shows.shown;
@@ -91,7 +91,7 @@ Shows-raw_wants s n link code refusal out left before after none wants shows = r
 }
 
 -- where the inner stream gives nothing, it has come to its end or to its record, unless memory ran out
-pub Shows-raw_ends : (s n : Stream) (link : ℕ) (code : ℤ) (out : ArrayTree) (before after : Option (List Seen)) → s.joints link ≡ []
+abbrev pub Shows-raw_ends : (s n : Stream) (link : ℕ) (code : ℤ) (out : ArrayTree) (before after : Option (List Seen)) → s.joints link ≡ []
     → (code ≢ enomem → (s.ahead ≡ []) × (n.ahead ≡ [])) → out ≡ Released → Shows s.joints n.joints code out before after
     → Shows (raw_joints link s) (raw_joints link n) code out before after
 Shows-raw_ends s n link code out before after none ended released shows = record {
@@ -108,7 +108,7 @@ Shows-raw_ends s n link code out before after none ended released shows = record
   ];
 }
 
-abbrev seen_table : ℕ → List Column → List Row → Seen
+abbrev pub seen_table : ℕ → List Column → List Row → Seen
 seen_table link columns rows = record { link = link; shown = shown_table columns rows }
 
 -- the link of a checked stream loses the table that was shown, and each link below it what it showed
@@ -122,7 +122,7 @@ leaves_chunk s n link rows out before after none gave same shows k =
     ])
 
 -- a chunk of the checked stream is shown after what its inner stream showed
-pub Shows-raw_chunk : (s n : Stream) (link : ℕ) (rows : List Row) (out : ArrayTree) (before middle after : Option (List Seen)) → s.joints link ≡ []
+abbrev pub Shows-raw_chunk : (s n : Stream) (link : ℕ) (rows : List Row) (out : ArrayTree) (before middle after : Option (List Seen)) → s.joints link ≡ []
     → s.ahead ≡ rows ∷ n.ahead → n.columns ≡ s.columns → Shows s.joints n.joints (pos 0) out before middle → IsLive out
     → after ≡ grown middle (seen_table link s.columns rows ∷ []) → Shows (raw_joints link s) (raw_joints link n) (pos 0) out before after
 Shows-raw_chunk s n link rows out before middle after none gave same shows live told = record {
@@ -132,17 +132,6 @@ Shows-raw_chunk s n link rows out before middle after none gave same shows live 
   leaves = λ _ k. leaves_chunk s n link rows out before middle none gave same shows k;
   ends = λ _ e. absurd (subst IsLive e live);
 }
-
--- the same, for a call of the inner stream that answered 0 with a live chunk
-pub Shows-raw_live : (s n : Stream) (link : ℕ) (code : ℤ) (schema : SchemaTree) (kinds : KindTree) (out : ArrayTree)
-    (before middle after : Option (List Seen)) → code ≡ pos 0 → IsLive out → s.joints link ≡ [] → n.columns ≡ s.columns
-    → Answers s n code out → Shows s.joints n.joints code out before middle → schema ≡ SchemaOf s.columns → kinds ≡ type_of_columns s.columns
-    → after ≡ grown middle (seen_of link schema kinds out ∷ [])
-    → Shows (raw_joints link s) (raw_joints link n) (pos 0) out before after
-Shows-raw_live s n link code schema kinds out before middle after works live none same answers shows known typed told =
-    let chunk = answers.chunk live in
-    let rows_are = chunk.2.rows_are in
-    Shows-raw_chunk s n link chunk.0 out before middle after none chunk.1 same (rw works at shows) live (rw (known, typed, rows_are) at told)
 
 -- ---- failures, answers and refusals
 -- where the checked stream has not failed, nor has its inner stream

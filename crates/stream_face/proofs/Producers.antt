@@ -7,11 +7,11 @@ use Rattle.data_types.specs.declared.row_fault.RowFault.{RowFault}
 use Rattle.raw_array.specs.Members.{ArrayTree}
 use Rattle.tree_model.specs.Tree.{IsLive, Live, Released}
 use Rattle.unit_pass.specs.Tally.{Tally, risen}
-use Rattle.stream_face.specs.Calls.{Answers, Counts, Shows}
+use Rattle.stream_face.specs.Calls.{Answers, Counts, GoesOn, IsMade, Shows, ShowsInOrder}
 use Rattle.stream_face.specs.Codes.{einval, enomem}
 use Rattle.stream_face.specs.Lawful.{IsChunkOf}
 use Rattle.stream_face.specs.Shown.{Seen, Shown, grown}
-use Rattle.stream_face.specs.Streams.{Stream, Traffic}
+use Rattle.stream_face.specs.Streams.{Making, Stream, Traffic}
 use Rattle.stream_face.specs.Texts.{refused_row, wanting}
 
 pub not-released : (out : ArrayTree) → IsLive out → out ≡ Released → ⊥
@@ -79,6 +79,10 @@ counts-nothing due before after out blocks nodes few-blocks few-nodes no-blocks 
 
 -- ---- what is shown
 
+none-made : (x y : Option Making) (left : ℕ → List Shown) (seen : List Seen) (given : List (List Row)) → x ≡ None → y ≡ None → GoesOn x y left seen given
+none-made None y left seen given old new = new
+none-made (Some x) y left seen given old new = absurd (cc)
+
 grown-none : (before : Option (List Seen)) → before ≡ grown before []
 grown-none None = refl
 grown-none (Some seen) = ap (λ (xs : List Seen). Some xs) (sym (append-nil seen))
@@ -92,4 +96,22 @@ shows-nothing joints code out before end = record {
   begins = λ link. (joints link, refl);
   leaves = λ _ link. refl;
   ends = end;
+}
+
+-- and so in order, where the stream is over no link
+pub shows-no-link : (s n : Stream) (code : ℤ) (out : ArrayTree) (before : Option (List Seen)) → ((link : ℕ) → s.joints link ≡ []) → s.joints ≡ n.joints
+    → s.making ≡ None → n.making ≡ None → ((link : ℕ) → (s.makings link ≡ None) × (n.makings link ≡ None)) → ShowsInOrder s n code out before before
+shows-no-link s n code out before none same old new makings = record {
+  shows = record {
+    shown = [];
+    told = grown-none before;
+    begins = λ link. (s.joints link, refl);
+    leaves = λ _ link. ap (λ (joints : ℕ → List Shown). joints link) same;
+    ends = λ _ _ link. ap (λ (joints : ℕ → List Shown). joints link) (sym same) ∙ none link;
+  };
+  order = record {
+    made = λ first rest _ link. subst (λ (m : Option Making). IsMade m link first) (sym (makings link).0) tt;
+    goes_on = λ _ link. none-made (s.makings link) (n.makings link) n.joints [] [] (makings link).0 (makings link).1;
+    gives = λ _ given _. none-made s.making n.making n.joints [] given old new;
+  };
 }

@@ -9,8 +9,8 @@ use Rattle.unit_pass.specs.Tally.{Tally, risen}
 use Rattle.schema_check.specs.ColumnSchema.{SchemaOf}
 use Rattle.stream_face.specs.Codes.{einval, enomem}
 use Rattle.stream_face.specs.Lawful.{IsChunkOf}
-use Rattle.stream_face.specs.Shown.{Seen, Shown, grown, of_link}
-use Rattle.stream_face.specs.Streams.{Stream, Traffic}
+use Rattle.stream_face.specs.Shown.{Seen, Shown, grown, of_link, rows_of_link, rows_shown}
+use Rattle.stream_face.specs.Streams.{Making, Stream, Traffic}
 use Rattle.stream_face.specs.Texts.{Refusal, refused_row, wanting}
 
 -- ---- any stream
@@ -70,6 +70,30 @@ pub record Shows (old new : ℕ → List Shown) (code : ℤ) (out : ArrayTree) (
   pub begins : (link : ℕ) → Begins (of_link link shown) (old link)
   pub leaves : code ≢ enomem → (link : ℕ) → old link ≡ of_link link shown ++ new link
   pub ends : code ≢ enomem → out ≡ Released → (link : ℕ) → new link ≡ []
+
+-- of a link no more was seen than what is made of what was seen of the link of whose tables its own are made
+abbrev pub IsMade : Option Making → ℕ → List Seen → Type 0
+IsMade None link seen = Unit {0}
+IsMade (Some making) link seen = Begins (rows_of_link link seen) (making.makes (rows_of_link making.link seen))
+
+-- how tables are made after these were seen, of which those that are given were made: of the first ones of those that are left
+abbrev pub GoesOn : Option Making → Option Making → (ℕ → List Shown) → List Seen → List (List Row) → Type 0
+GoesOn None after left seen given = after ≡ None
+GoesOn (Some making) None left seen given = ⊥
+GoesOn (Some making) (Some after) left seen given = (after.link ≡ making.link) × ((more : List (List Row)) → Begins more (rows_shown (left making.link))
+    → making.makes (rows_of_link making.link seen ++ more) ≡ given ++ after.makes more)
+
+-- each chunk is shown after all that it is made of: at each moment of the call no more was seen of a link than what is made of what was seen
+-- of the one before it
+pub record InOrder (old new : Stream) (code : ℤ) (shown : List Seen) : Type 0 where
+  pub made : (first rest : List Seen) → shown ≡ first ++ rest → (link : ℕ) → IsMade (old.makings link) link first
+  pub goes_on : code ≢ enomem → (link : ℕ) → GoesOn (old.makings link) (new.makings link) new.joints shown (rows_of_link link shown)
+  pub gives : code ≢ enomem → (given : List (List Row)) → old.ahead ≡ given ++ new.ahead → GoesOn old.making new.making new.joints shown given
+
+-- what a call shows, in this order
+pub record ShowsInOrder (old new : Stream) (code : ℤ) (out : ArrayTree) (before after : Option (List Seen)) : Type 0 where
+  pub shows : Shows old.joints new.joints code out before after
+  pub order : InOrder old new code shows.shown
 
 -- what a call counts: so much less is due, and nothing where nothing is given: at the end, and at a record that is refused
 pub record Counts (old new : Traffic) (before after : Tally) (out : ArrayTree) : Type 0 where

@@ -5,12 +5,21 @@ use Rattle.stream_face.specs.declared.fault.StreamFault.{StreamFault}
 use Rattle.stream_face.specs.declared.fault.StreamFault.TheVariants.{Row, Chunk, Code, NoMemory}
 use Rattle.stream_face.specs.Faults.{code_of, fault_text}
 use Rattle.stream_face.specs.Shown.{Shown, shown_tables}
-use Rattle.stream_face.specs.Streams.{Stream}
+use Rattle.stream_face.specs.Streams.{Making, Stream}
 use Rattle.stream_face.specs.Texts.{Refusal}
 
 -- the joints below a checked stream, with its own
 abbrev pub raw_joints : ℕ → Stream → ℕ → List Shown
 raw_joints own inner link = if own == link then shown_tables inner.columns inner.ahead else inner.joints link
+
+-- a way to make tables of those of another link than this
+abbrev pub apart : ℕ → Option Making → Option Making
+apart own None = None
+apart own (Some making) = if own == making.link then None else Some making
+
+-- how the tables of the joints below a checked stream are made, with its own, which are its inner stream's
+abbrev pub raw_makings : ℕ → Stream → ℕ → Option Making
+raw_makings own inner link = apart own (if own == link then inner.making else inner.makings link)
 
 -- its refusal, and its record at fault, or else those of its inner stream
 abbrev pub refusal_or : Option StreamFault → Option Refusal → Option Refusal → Option Refusal
@@ -29,6 +38,8 @@ abbrev pub raw_state : ℕ → ℕ → Option StreamFault → Stream → Stream
 raw_state own nodes fault inner = record inner {
   held = inner.held + nodes;
   joints = raw_joints own inner;
+  making = None;
+  makings = raw_makings own inner;
   failure = refusal_or fault inner.failure inner.said;
   fault = row_or fault inner.fault;
   said = refusal_or fault inner.said inner.said;

@@ -53,6 +53,13 @@ abbrev pub of_link : ℕ → List Seen → List Shown
 of_link link [] = []
 of_link link (seen ∷ more) = if seen.link == link then seen.shown ∷ of_link link more else of_link link more
 
+-- the rows of tables that are shown, and of those that were seen of one link
+abbrev pub rows_shown : List Shown → List (List Row)
+rows_shown = map (λ (table : Shown). table.rows)
+
+abbrev pub rows_of_link : ℕ → List Seen → List (List Row)
+rows_of_link link seen = rows_shown (of_link link seen)
+
 -- what a tap has seen, where it states it, after it was shown more
 abbrev pub grown : Option (List Seen) → List Seen → Option (List Seen)
 grown None more = None

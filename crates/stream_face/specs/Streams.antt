@@ -11,6 +11,11 @@ pub record Traffic : Type 0 where
   pub blocks : ℕ
   pub nodes : ℕ
 
+-- how tables are made of those of a link: its number, and the tables that come of more of its tables, where these are the last
+pub record Making : Type 0 where
+  pub link : ℕ
+  pub makes : List (List Row) → List (List Row)
+
 pub record Stream : Type 0 where
   -- the columns of each of its tables
   pub columns : List Column
@@ -23,6 +28,9 @@ pub record Stream : Type 0 where
   pub held : ℕ
   -- the tables that each link below it still shows
   pub joints : ℕ → List Shown
+  -- how its tables are made, and those of each link below it; none where they are made of those of no link
+  pub making : Option Making
+  pub makings : ℕ → Option Making
   -- the blocks and nodes that its calls of `get_next` still count up to its end
   pub due : Traffic
   pub live : Bool

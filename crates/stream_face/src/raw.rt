@@ -15,7 +15,7 @@ ghost use Rattle.data_types.specs.TypedView.{typed_of};
 ghost use Rattle.layout_rules.specs.Walk.{ChunkOk};
 ghost use Rattle.unit_pass.specs.Tally.{risen};
 ghost use Rattle.unit_pass.specs.declared.pass.TheConstants.{CHUNK, ROOM, SUPPLY};
-ghost use Rattle.stream_face.specs.Calls.{Answers, Counts, IsCode, IsRowFault, IsTold, Repeats, Shows, Tells};
+ghost use Rattle.stream_face.specs.Calls.{Answers, Counts, IsCode, IsRowFault, IsTold, Repeats, ShowsInOrder, Tells};
 ghost use Rattle.stream_face.specs.Checked.{is_live};
 ghost use Rattle.stream_face.specs.Codes.{einval, enomem};
 ghost use Rattle.stream_face.specs.Failures.{why};
@@ -268,7 +268,7 @@ impl<S: ArrayStream> RawStream<S> {
         ensures counts { IsFresh (meaning S.state self.old) → result ≢ enomem
             → Counts (meaning S.state self.old).due (meaning S.state self.new).due pass.old pass.new out.new }
         ensures shows { IsFresh (meaning S.state self.old)
-            → Shows (meaning S.state self.old).joints (meaning S.state self.new).joints result out.new (T.seen tap.old) (T.seen tap.new) }
+            → ShowsInOrder (meaning S.state self.old) (meaning S.state self.new) result out.new (T.seen tap.old) (T.seen tap.new) }
     {
         if let Some(failure) = &self.failure {
             return failure.fault.code();

@@ -5,7 +5,7 @@ ghost use Rattle.tree_model.specs.Tree.{Released};
 ghost use Rattle.raw_array.specs.Members.{Cost};
 ghost use Rattle.raw_schema.specs.Members.{Nodes};
 ghost use Rattle.unit_pass.specs.declared.pass.TheConstants.{ROOM, SUPPLY};
-ghost use Rattle.stream_face.specs.Calls.{Answers, Counts, IsCode, IsRowFault, IsTold, Repeats, SchemaAnswer, Shows, Tells};
+ghost use Rattle.stream_face.specs.Calls.{Answers, Counts, IsCode, IsRowFault, IsTold, Repeats, SchemaAnswer, ShowsInOrder, Tells};
 ghost use Rattle.stream_face.specs.Codes.{enomem};
 ghost use Rattle.stream_face.specs.Lawful.{LawfulColumns, LawfulTables};
 ghost use Rattle.stream_face.specs.Streams.{IsFresh, Keeps, Stream, kept, telling};
@@ -68,7 +68,7 @@ pub trait ArrayStream {
         ensures repeats { Repeats (state self.old) (state self.new) result pass.old pass.new (T.seen tap.old) (T.seen tap.new) }
         ensures answers { IsFresh (state self.old) → Answers (state self.old) (state self.new) result out.new }
         ensures counts { IsFresh (state self.old) → result ≢ enomem → Counts (state self.old).due (state self.new).due pass.old pass.new out.new }
-        ensures shows { IsFresh (state self.old) → Shows (state self.old).joints (state self.new).joints result out.new (T.seen tap.old) (T.seen tap.new) };
+        ensures shows { IsFresh (state self.old) → ShowsInOrder (state self.old) (state self.new) result out.new (T.seen tap.old) (T.seen tap.new) };
 
     /// The text of the error of the last get call, where its code wasn't 0 ("The ArrowArrayStream structure",
     /// `get_last_error`). Takes no memory.

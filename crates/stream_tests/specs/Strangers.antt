@@ -37,6 +37,8 @@ stranger holdings code row failed told gave = record {
   lawful = false;
   held = held_in holdings;
   joints = λ _. [];
+  making = None;
+  makings = λ _. None;
   due = record { blocks = 0; nodes = 0 };
   live = is_some holdings;
   schema = None;

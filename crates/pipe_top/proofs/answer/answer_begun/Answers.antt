@@ -1,8 +1,7 @@
 use Rattle.std.proofs.Common.{◌≡◌, Some, IfErr, arith, subst}
 use Rattle.run_model.specs.Outcomes.{request_of}
-use Rattle.stage_chain.specs.Chains.{link_shows}
+use Rattle.stage_chain.specs.Chains.{ShowsFirst, ShowsLinks}
 use Rattle.csv_write.specs.Faults.{IfRow}
-use Rattle.csv_write.specs.Runs.{ShowsAll, ShowsSome}
 use Rattle.pipe_top.proofs.Begun.{begun-alone, begun-counts, begun-flat, begun-kept, begun-links, begun-live, begun-lawful, begun-plan, begun-text, begun-told, begun-fresh, told-behind}
 use Rattle.pipe_top.proofs.answer.answer_begun.Goals as goal
 
@@ -38,7 +37,7 @@ returns-in-Ok-clause-counts g c = λ records begun.
 
 pub returns-in-Ok-clause-shows : goal.returns-in-Ok-clause-shows
 returns-in-Ok-clause-shows g c = λ records begun.
-    subst (λ links. ShowsAll (link_shows links) (g.T.Tap.seen c.args.tap.now) (g.T.Tap.seen c.drive_steps.new.tap))
+    subst (λ links. ShowsLinks links (g.T.Tap.seen c.args.tap.now) (g.T.Tap.seen c.drive_steps.new.tap))
     (begun-links (request_of c.args.request.now) records (g.S.ArrayStream.state c.args.source) c.args.plan begun) c.in-Ok.ensures.shows
 
 pub returns-in-Err-clause-fault : goal.returns-in-Err-clause-fault
@@ -51,7 +50,7 @@ returns-in-Err-clause-units g c = omega (arith, begun-kept (request_of c.args.re
 
 pub returns-in-Err-clause-shows_some : goal.returns-in-Err-clause-shows_some
 returns-in-Err-clause-shows_some g c = λ records begun.
-    subst (λ links. ShowsSome (link_shows links) (g.T.Tap.seen c.args.tap.now) (g.T.Tap.seen c.drive_steps.new.tap))
+    subst (λ links. ShowsFirst links (g.T.Tap.seen c.args.tap.now) (g.T.Tap.seen c.drive_steps.new.tap))
     (begun-links (request_of c.args.request.now) records (g.S.ArrayStream.state c.args.source) c.args.plan begun) c.in-Err.ensures.shows_some
 
 pub returns-in-Err-clause-behind : goal.returns-in-Err-clause-behind
@@ -61,7 +60,7 @@ returns-in-Err-clause-behind g c = λ records begun behind.
     let fresh = begun-fresh request records source c.args.plan begun in (
       begun-counts request records source c.args.plan begun c.args.pass.now c.drive_steps.new.pass
           (told-behind c.drive_steps.result c.in-Err.fault _ _ c.in-Err.is c.run_fault.ensures (c.drive_steps.ensures.refused_counts fresh) behind),
-      subst (λ links. ShowsAll (link_shows links) (g.T.Tap.seen c.args.tap.now) (g.T.Tap.seen c.drive_steps.new.tap))
+      subst (λ links. ShowsLinks links (g.T.Tap.seen c.args.tap.now) (g.T.Tap.seen c.drive_steps.new.tap))
           (begun-links request records source c.args.plan begun)
           (told-behind c.drive_steps.result c.in-Err.fault _ _ c.in-Err.is c.run_fault.ensures (c.drive_steps.ensures.refused_shows fresh) behind),
     )

@@ -6,7 +6,7 @@ use Rattle.pipe_top.proofs.answer.answer_input.Goals as goal
 
 -- ---- without a thread
 pub returns-in_err-source-in-None-clause-shows_some : goal.returns-in_err-source-in-None-clause-shows_some
-returns-in_err-source-in-None-clause-shows_some g c = whatever c.from_residual.result (shows-nothing _ _)
+returns-in_err-source-in-None-clause-shows_some g c = whatever c.from_residual.result (shows-nothing _ _ _)
 
 pub returns-in_err-source-in-None-clause-behind : goal.returns-in_err-source-in-None-clause-behind
 returns-in_err-source-in-None-clause-behind g c =
@@ -32,7 +32,7 @@ returns-in_ok-source-in-None g c =
 
 -- ---- with one that reads ahead
 pub returns-in_err-source-in-Some-clause-shows_some : goal.returns-in_err-source-in-Some-clause-shows_some
-returns-in_err-source-in-Some-clause-shows_some g c = whatever c.from_residual-in_err-source-in-Some.result (shows-nothing _ _)
+returns-in_err-source-in-Some-clause-shows_some g c = whatever c.from_residual-in_err-source-in-Some.result (shows-nothing _ _ _)
 
 pub returns-in_err-source-in-Some-clause-behind : goal.returns-in_err-source-in-Some-clause-behind
 returns-in_err-source-in-Some-clause-behind g c =

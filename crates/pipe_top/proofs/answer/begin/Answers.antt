@@ -1,4 +1,5 @@
-use Rattle.std.proofs.Common.{◌≡◌, ◌∙◌, List, Ok, ap, map, subst, sym}
+use Rattle.std.proofs.Common.{◌≡◌, ◌≤◌, ◌∙◌, List, Ok, ap, arith, length, map, subst, sym}
+use Rattle.std.proofs.lemmas.List.{length-map}
 use Rattle.csv_model.specs.Header.{header_of}
 use Rattle.csv_model.specs.Reading.{Record, behind_header, records_of}
 use Rattle.stage_plan.specs.Entries.{entries_of}
@@ -17,6 +18,13 @@ returns-in-Err-clause-fault c =
     c.in-Err.ensures.fault c.as_slice.ensures.value c.in_ok-records.ensures.records
 
 -- ---- what the source asks for
+pub source_of-requires-clause-some : goal.source_of-requires-clause-some
+source_of-requires-clause-some c =
+    let same = ap length (c.read_columns.ensures ∙ c.in_ok-plan.ensures.read) in
+    let read = length-map c.read_columns.result.now column_of in
+    let found = length-map c.in-Ok.columns.items column_of in
+    omega (arith, same, read, found, c.in-Ok.ensures.some, c.in-Ok.columns.ok)
+
 pub source_of-requires-clause-proper : goal.source_of-requires-clause-proper
 source_of-requires-clause-proper c = subst AreProper (sym (c.read_columns.ensures ∙ c.in_ok-plan.ensures.read)) c.in-Ok.ensures.proper
 

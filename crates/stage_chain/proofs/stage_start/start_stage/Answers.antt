@@ -1,9 +1,9 @@
-use Rattle.std.proofs.Common.{arith, ◌≡◌, ◌+◌, ◌∙◌, List, map, ap, subst}
+use Rattle.std.proofs.Common.{arith, ◌+◌, ◌∙◌, List, map, ap, subst}
 use Rattle.std.specs.Prelude.{None, Some}
 use Rattle.std.specs.List.{sum_by}
 use Rattle.data_types.specs.ColumnView.{column_of}
 use Rattle.data_types.specs.Table.{Row}
-use Rattle.stream_face.specs.Meaning.{meaning}
+use Rattle.stream_face.specs.Meaning.{meaning, raw_link}
 use Rattle.stage_model.specs.Traffic.{made_blocks, made_nodes}
 use Rattle.data_types.specs.declared.kind.ColumnType.{ColumnType}
 use Rattle.stage_chain.specs.Plans.{stage_in}
@@ -46,6 +46,7 @@ returns-clause-means g c =
     c.start.ensures.means ∙ (λ i. record up {
       columns = columns i;
       ahead = tables i;
+      making = Some (record { link = raw_link c.args.up; makes = λ more. c.of.ensures.ahead up.ending more i });
       due = record {
         blocks = up.due.blocks + sum_by (λ rows. blocks rows i) (tables i);
         nodes = up.due.nodes + sum_by (λ rows. nodes rows i) (tables i);

@@ -12,11 +12,11 @@ use Rattle.stage_model.specs.Stages.{table}
 use Rattle.stage_model.specs.Typing.{Stage}
 use Rattle.stream_face.specs.Streams.{IsFresh, Stream}
 use Rattle.stage_chain.specs.Boxes.{boxed_state}
-use Rattle.stage_chain.specs.Chains.{chain_links, chain_traffic, joints_with, link_shows}
-use Rattle.csv_write.specs.Runs.{Counted, ShowsAll, ShowsSome}
+use Rattle.stage_chain.specs.Chains.{chain_links, chain_traffic, joints_with, makings_with, ShowsFirst, ShowsLinks}
+use Rattle.csv_write.specs.Runs.{Counted, ShowsAll}
 use Rattle.csv_write.proofs.RunLemmas.{on-row}
 use Rattle.stage_chain.specs.Plans.{AreStages, links_of, plan_stages, stages_in, stages_left}
-use Rattle.stage_chain.proofs.Chaining.{on-err, on-ok}
+use Rattle.stage_chain.proofs.Chaining.{on-err, on-ok, shows-nothing, whatever}
 use Rattle.stage_chain.proofs.Driving.{shows-all, shows-some, text-is}
 use Rattle.stage_chain.proofs.Planning.{few-stages, last-link-is, last-texts, plan-are-stages}
 use Rattle.stage_chain.proofs.text.drive_steps.Goals as goal
@@ -88,9 +88,10 @@ returns-in-Ok-prepare g c =
     let last =
     last-of s b (plan_stages c.args.plan) (stages_left c.into_iter.result) (get_or (links_of c.args.plan) (length c.args.plan.steps.items) []) made left
     (last-link-is s.columns c.requires.plan.0 c.args.plan c.requires.plan.1) in
-    let shown = λ (shows : ShowsAll (joints_with 0 b.joints (chain_links b (stages_left c.into_iter.result))) (g.T.Tap.seen c.args.tap.now)
+    let shown = λ (shows : ShowsAll (joints_with 0 b.joints (chain_links b (stages_left c.into_iter.result)))
+    (makings_with b.ending 0 b.making b.makings (chain_links b (stages_left c.into_iter.result))) (g.T.Tap.seen c.args.tap.now)
     (g.T.Tap.seen c.drive_from.new.tap)).
-    subst (λ (m : Stream). ShowsAll (link_shows (chain_links m (plan_stages c.args.plan))) (g.T.Tap.seen c.args.tap.now) (g.T.Tap.seen c.drive_from.new.tap)) made
+    subst (λ (m : Stream). ShowsLinks (chain_links m (plan_stages c.args.plan)) (g.T.Tap.seen c.args.tap.now) (g.T.Tap.seen c.drive_from.new.tap)) made
     (shows-all b (plan_stages c.args.plan) (stages_left c.into_iter.result) (g.T.Tap.seen c.args.tap.now) (g.T.Tap.seen c.drive_from.new.tap) left
     (none-below s b made c.requires.no_joints) shows) in
     let counted = λ (counted : Counted (chain_traffic b (stages_left c.into_iter.result)) c.args.pass.now c.drive_from.new.pass).
@@ -106,7 +107,7 @@ returns-in-Ok-prepare g c =
       shows = on-ok c.drive_from.result shown c.drive_from.ensures.shows;
       refused_shows = λ fresh. on-row c.drive_from.result shown (c.drive_from.ensures.refused_shows (subst IsFresh (sym made) fresh));
       shows_some = on-err c.drive_from.result
-          (λ shows. subst (λ (m : Stream). ShowsSome (link_shows (chain_links m (plan_stages c.args.plan))) (g.T.Tap.seen c.args.tap.now)
+          (λ shows. subst (λ (m : Stream). ShowsFirst (chain_links m (plan_stages c.args.plan)) (g.T.Tap.seen c.args.tap.now)
           (g.T.Tap.seen c.drive_from.new.tap)) made
           (shows-some b (plan_stages c.args.plan) (stages_left c.into_iter.result) (g.T.Tap.seen c.args.tap.now) (g.T.Tap.seen c.drive_from.new.tap) left
           (none-below s b made c.requires.no_joints) shows))
@@ -129,7 +130,7 @@ returns-in-Err g c =
       refused_counts = λ _. rw c.refuse.ensures.refused tt;
       shows = grind (arith, common_steps);
       refused_shows = λ _. rw c.refuse.ensures.refused tt;
-      shows_some = grind (arith, common_steps);
+      shows_some = whatever c.refuse.result (shows-nothing _ _ _);
     }
 
 pub returns-in-Err-prepare : goal.returns-in-Err-prepare
@@ -143,5 +144,5 @@ returns-in-Err-prepare g c =
       refused_counts = λ _. rw c.refuse-in-Err-prepare.ensures.refused tt;
       shows = grind (arith, common_steps);
       refused_shows = λ _. rw c.refuse-in-Err-prepare.ensures.refused tt;
-      shows_some = grind (arith, common_steps);
+      shows_some = whatever c.refuse-in-Err-prepare.result (shows-nothing _ _ _);
     }

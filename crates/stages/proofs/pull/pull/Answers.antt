@@ -1,14 +1,24 @@
 use Rattle.std.proofs.Common.{rules, ◌≡◌, ◌∙◌, pos, IsTrue, w32, of_z, to_z, sym, ap, subst, refl}
+use Rattle.std.proofs.Common.{◌++◌, List, [], ◌∷◌, Option, map}
+use Rattle.std.proofs.lemmas.List.{append_cancel_right}
+use Rattle.data_types.specs.ColumnKinds.{type_of_columns}
+use Rattle.data_types.specs.ColumnView.{column_of}
+use Rattle.data_types.specs.Table.{Row}
+use Rattle.data_types.specs.declared.kind.ColumnType.{ColumnType}
+use Rattle.data_types.specs.declared.row_fault.RowFault.{RowFault}
+use Rattle.layout_rules.specs.Values.{rows_of}
+use Rattle.stream_face.specs.Lawful.{LawfulTables}
 use Rattle.tree_model.specs.Tree.{IsLive, Released}
 use Rattle.data_types.specs.KindTrees.{TypedOk}
 use Rattle.data_types.specs.TypedView.{typed_of}
 use Rattle.stream_face.specs.Calls.{IsCode, IsRowFault, Tells}
 use Rattle.stream_face.specs.Codes.{enomem}
-use Rattle.stream_face.specs.Meaning.{meaning}
+use Rattle.stream_face.specs.Meaning.{meaning, raw_link}
 use Rattle.stream_face.specs.Streams.{IsFresh}
 use Rattle.stream_face.proofs.Joints.{had_memory}
 use Rattle.stream_face.proofs.Next as codes
-use Rattle.stages.proofs.Runs.{Called, Ran-counts, Ran-next, Ran-repeats, Ran-shows, Ran-start, Ran-still, Ran-works, kept-both}
+use Rattle.stream_face.proofs.Orders.{own-rows, rows-own}
+use Rattle.stages.proofs.Runs.{Called, Ran-counts, Ran-goes, Ran-leaves, Ran-made, Ran-next, Ran-repeats, Ran-shows, Ran-start, Ran-still, Ran-works, kept-both}
 use Rattle.stages.proofs.Turning as turning
 use Rattle.stages.proofs.pull.pull.Goals as goal
 
@@ -21,6 +31,10 @@ chunks-init g c =
       takes = λ fresh. c.lawful_facts-2.ensures.begins c.requires.rests start.columns start.ahead c.requires.fits (c.lawful_facts.ensures.columns fresh.lawful)
           (c.lawful_facts.ensures.tables fresh.lawful);
       tables = λ fresh. c.lawful_facts.ensures.tables fresh.lawful;
+      link = refl;
+      goes = λ fresh. turning.Goes-start (g.S.ChunkStep.takes c.args.step.now start.columns) (g.S.ChunkStep.ahead c.args.step.now start.ending) start.ahead
+          (λ some rest e. c.lawful_facts-2.ensures.begins c.requires.rests start.columns some c.requires.fits (c.lawful_facts.ensures.columns fresh.lawful)
+          (turning.lawful-first start.columns some rest (subst (LawfulTables start.columns) e (c.lawful_facts.ensures.tables fresh.lawful))));
       columns = refl;
       fits = λ _ h. h;
       own_blocks = λ _. refl;
@@ -43,7 +57,7 @@ returns-then-code-ne0 g c =
     let e = codes.same c.next-code.result c.next-code.type_inv in
     let answers = λ (fresh : IsFresh start).
     turning.refused-answers (g.S.ChunkStep.columns c.args.step.now) (g.S.ChunkStep.columns c.forget.new.self) (g.S.ChunkStep.ahead c.args.step.now)
-    (g.S.ChunkStep.ahead c.chunks.step) (g.S.ChunkStep.ahead c.forget.new.self) start m n c.next-code.result (to_z w32 (of_z w32 c.next-code.result))
+    (g.S.ChunkStep.ahead c.chunks.step) (g.S.ChunkStep.ahead c.forget.new.self) (raw_link c.args.up.now) (raw_link c.next-code.new.self) start m n c.next-code.result (to_z w32 (of_z w32 c.next-code.result))
     c.next-code.new.out e refused (c.chunks.invariant.same fresh) c.forget.ensures.refused ran.keeps.ending call.keeps.ending
     (call.answers (Ran-still start m _ _ _ _ ran fresh)) gone in
     record {
@@ -70,8 +84,26 @@ returns-then-code-ne0 g c =
           ends.0 ends.1 refl refl
           (Ran-counts start m n c.next-code.new.out c.next-code.new.out _ _ c.args.pass.now c.chunks.pass c.next-code.new.pass c.next-code.new.pass
           (ran.went fresh) (call.counts (Ran-still start m _ _ _ _ ran fresh) (λ z. had (e ∙ z))) refl refl (λ left. left));
-      shows = λ fresh. Ran-shows start m n c.next-code.result _ c.next-code.new.out c.next-code.new.out _ _ _ _ _ (ran.went fresh)
-          (call.shows (Ran-still start m _ _ _ _ ran fresh)) (λ had z. had (e ∙ z)) (λ left. left);
+      shows = λ fresh.
+          let went = ran.went fresh in
+          let still = Ran-still start m _ _ _ _ ran fresh in
+          let x = call.shows still in
+          let goes = c.chunks.invariant.goes fresh in
+          record {
+            shows = Ran-shows start m n c.next-code.result _ c.next-code.new.out c.next-code.new.out _ _ _ _ _ went x.shows (λ had z. had (e ∙ z)) (λ _ left. left);
+            order = record {
+              made = Ran-made start m n c.next-code.result c.next-code.new.out _ _ _ _ _ went x;
+              goes_on = λ had. Ran-goes start m n c.next-code.result c.next-code.new.out _ _ _ _ _ went x (λ z. had (e ∙ z));
+              gives = λ had given all.
+                  let ends = codes.refused_ends m n c.next-code.result _ c.next-code.new.out e refused (call.answers still) had in
+                  turning.gives-end start n (raw_link c.args.up.now) (raw_link c.next-code.new.self) (g.S.ChunkStep.ahead c.args.step.now start.ending)
+                  (g.S.ChunkStep.ahead c.forget.new.self n.ending) (went.shown ++ x.shows.shown) given (call.link ∙ c.chunks.invariant.link)
+                  (Ran-leaves start m n c.next-code.result c.next-code.new.out _ _ _ _ _ went x (λ z. had (e ∙ z)) (raw_link c.args.up.now))
+                  (rows-own c.args.up.now.link (g.U.ArrayStream.state c.args.up.now.inner))
+                  (own-rows c.next-code.new.self.link c.args.up.now.link (g.U.ArrayStream.state c.next-code.new.self.inner)
+                  (call.link ∙ c.chunks.invariant.link)) m goes.pulled goes.all ends.0 ends.1 all;
+            };
+          };
     }
 
 -- ---- a turn of the step
@@ -162,7 +194,8 @@ returns-in-Ok-true g c =
       repeats = Ran-works start m n c.next-code.result out _ _ _ c.args.pass.now c.chunks.pass c.next-code.new.pass ran called works (pos 0) _
           c.turn.new.pass;
       answers = λ _. turning.done-answers (g.S.ChunkStep.columns first) (g.S.ChunkStep.columns last) (g.S.ChunkStep.blocks first)
-          (g.S.ChunkStep.nodes first) (g.S.ChunkStep.gives first) (g.S.ChunkStep.ahead first) (g.S.ChunkStep.ahead last) start n (g.S.ChunkStep.rests last)
+          (g.S.ChunkStep.nodes first) (g.S.ChunkStep.gives first) (g.S.ChunkStep.ahead first) (g.S.ChunkStep.ahead last) (raw_link c.args.up.now)
+          (raw_link c.next-code.new.self) start n (g.S.ChunkStep.rests last)
           c.next-code.new.pass c.turn.new.pass given done;
       gives = λ _ _ here. turning.done-gives _ _ _ (g.S.ChunkStep.gives first) (g.S.ChunkStep.ahead first start.ending start.ahead) _ _ _ _ _ given done here;
       counts = λ at _. turning.done-counts _ (g.S.ChunkStep.blocks first) (g.S.ChunkStep.nodes first) (g.S.ChunkStep.blocks last)
@@ -172,8 +205,43 @@ returns-in-Ok-true g c =
           (Ran-counts start m n out given _ _ _ _ c.next-code.new.pass c.next-code.new.pass (ran.went at)
           (call.counts (Ran-still start m _ _ _ _ ran at) (had_memory c.next-code.result works)) refl refl back)
           done (λ rows. c.in-Ok-true.ensures.own_blocks rows ∙ inv.own_blocks rows) (λ rows. c.in-Ok-true.ensures.own_nodes rows ∙ inv.own_nodes rows);
-      shows = λ at. Ran-shows start m n c.next-code.result (pos 0) out given _ _ _ _ _ (ran.went at) (call.shows (Ran-still start m _ _ _ _ ran at))
-          (λ _. had_memory c.next-code.result works) back;
+      shows = λ at.
+          let went = ran.went at in
+          let x = call.shows (Ran-still start m _ _ _ _ ran at) in
+          let goes = inv.goes at in
+          let had = had_memory c.next-code.result works in
+          record {
+            shows = Ran-shows start m n c.next-code.result (pos 0) out given _ _ _ _ _ went x.shows (λ _. had) (λ _. back);
+            order = record {
+              made = Ran-made start m n c.next-code.result out _ _ _ _ _ went x;
+              goes_on = λ _. Ran-goes start m n c.next-code.result out _ _ _ _ _ went x had;
+              gives = λ _ tables all.
+                  let leaves = Ran-leaves start m n c.next-code.result out _ _ _ _ _ went x had (raw_link c.args.up.now) in
+                  let own = rows-own c.args.up.now.link (g.U.ArrayStream.state c.args.up.now.inner) in
+                  let same = call.link ∙ inv.link in
+                  let then = own-rows c.next-code.new.self.link c.args.up.now.link (g.U.ArrayStream.state c.next-code.new.self.inner) same in
+                  turning.by-tree out
+                  (λ gone.
+                  let end = ended gone in
+                  turning.gives-end start n (raw_link c.args.up.now) (raw_link c.next-code.new.self) (g.S.ChunkStep.ahead first start.ending)
+                  (g.S.ChunkStep.ahead last n.ending) (went.shown ++ x.shows.shown) tables same leaves own then m goes.pulled goes.all end.before_end
+                  end.behind_end all)
+                  (λ here.
+                  let some = done.something (live here) in
+                  turning.gives-next start n (raw_link c.args.up.now) (raw_link c.next-code.new.self) (g.S.ChunkStep.ahead first start.ending)
+                  (g.S.ChunkStep.ahead last n.ending) (went.shown ++ x.shows.shown) tables same leaves own then m
+                  (g.S.ChunkStep.takes step start.columns) (g.S.ChunkStep.ahead step start.ending) (got here).rows some.rows goes (got here).ahead
+                  (append_cancel_right tables (some.rows ∷ []) (g.S.ChunkStep.ahead last n.ending n.ahead) (sym all ∙ some.ahead start.ending))
+                  (λ more rest e takes.
+                  let other = (c.in-Ok-true.ensures.pushed here start.columns (got here).rows more fits takes
+                  (turning.next-first start.columns (got here).rows n.ahead more rest (typed_of c.typed.result.now) out e (next here))).something
+                  (live here) in
+                  let same_rows : other.rows ≡ some.rows = sym other.is.rows_are
+                  ∙ ap (λ (cs : List ColumnType). rows_of (type_of_columns (map column_of cs)) given) inv.columns ∙ some.is.rows_are in
+                  other.ahead start.ending ∙ ap (λ (r : List Row). r ∷ g.S.ChunkStep.ahead last start.ending more) same_rows
+                  ∙ ap (λ (o : Option RowFault). some.rows ∷ g.S.ChunkStep.ahead last o more) (sym (call.keeps.ending ∙ ran.keeps.ending))));
+            };
+          };
     }
 
 -- ---- nothing is given for the chunk
@@ -227,6 +295,14 @@ chunks-preserved g c =
       same = λ at. inv.same at ∙ ap (g.S.ChunkStep.ahead step start.ending) got.ahead ∙ taken.ahead start.ending;
       takes = λ _. taken.takes;
       tables = λ at. turning.lawful-rest start.columns m.ahead got.rows n.ahead got.ahead (inv.tables at);
+      link = call.link ∙ inv.link;
+      goes = λ at. turning.Goes-next (g.S.ChunkStep.takes step start.columns) (g.S.ChunkStep.takes last start.columns)
+          (g.S.ChunkStep.ahead c.args.step.now start.ending) (g.S.ChunkStep.ahead step start.ending) (g.S.ChunkStep.ahead last start.ending) start.ahead m.ahead
+          n.ahead got.rows (inv.goes at) got.ahead
+          (λ some rest e takes.
+          let here = (c.in-Ok-false.ensures.pushed on.0 start.columns got.rows some (inv.fits start.columns c.requires.fits) takes
+          (turning.next-first start.columns got.rows n.ahead some rest (typed_of c.typed.result.now) out e next)).nothing on.1 in
+          (here.takes, here.ahead start.ending));
       columns = c.in-Ok-false.ensures.columns ∙ inv.columns;
       fits = λ before h. c.in-Ok-false.ensures.fits before (inv.fits before h);
       own_blocks = λ rows. c.in-Ok-false.ensures.own_blocks rows ∙ inv.own_blocks rows;
@@ -271,7 +347,15 @@ returns-in-Err g c =
       answers = λ _. tt;
       gives = λ _. tt;
       counts = λ _. tt;
-      shows = λ at. turning.shows-wanting start n out c.turn.new.out _ _
-          (Ran-shows start m n c.next-code.result enomem out out _ _ _ _ _ (ran.went at) (call.shows (Ran-still start m _ _ _ _ ran at))
-          (λ _. had_memory c.next-code.result works) (λ left. left));
+      shows = λ at.
+          let x = call.shows (Ran-still start m _ _ _ _ ran at) in
+          record {
+            shows = Ran-shows start m n c.next-code.result enomem out c.turn.new.out _ _ _ _ _ (ran.went at) x.shows (λ had. absurd (had refl))
+                (λ had. absurd (had refl));
+            order = record {
+              made = Ran-made start m n c.next-code.result out _ _ _ _ _ (ran.went at) x;
+              goes_on = λ had. absurd (had refl);
+              gives = λ had. absurd (had refl);
+            };
+          };
     }

@@ -3,9 +3,10 @@ use Rattle.data_types.specs.Table.{Column, Row}
 use Rattle.tree_model.specs.Tree.{Released}
 use Rattle.raw_array.specs.Members.{ArrayTree}
 use Rattle.stream_face.specs.Lawful.{LawfulTables}
-use Rattle.stream_face.specs.Meaning.{meaning}
+use Rattle.stream_face.specs.Meaning.{meaning, raw_link}
 use Rattle.stream_face.specs.Streams.{IsFresh}
 use Rattle.stages.proofs.Runs.{Ran}
+use Rattle.stages.proofs.Turning.{Goes}
 use Rattle.stages.proofs.pull.pull.Given as goal
 
 -- how far the calls of the stream below have come, that the same is still to be given, and that the step can be pushed the rest
@@ -19,6 +20,9 @@ invariant-chunks g l =
       same : IsFresh start → g.S.ChunkStep.ahead first start.ending start.ahead ≡ g.S.ChunkStep.ahead l.step start.ending now.ahead;
       takes : IsFresh start → g.S.ChunkStep.takes l.step start.columns now.ahead;
       tables : IsFresh start → LawfulTables start.columns now.ahead;
+      link : raw_link l.up ≡ raw_link l.fn.up;
+      goes : IsFresh start → Goes (g.S.ChunkStep.takes l.step start.columns) (g.S.ChunkStep.ahead first start.ending)
+          (g.S.ChunkStep.ahead l.step start.ending) start.ahead now.ahead;
       columns : g.S.ChunkStep.columns l.step ≡ g.S.ChunkStep.columns first;
       fits : (before : List Column) → ∥ g.S.ChunkStep.fits first before ∥₁ → ∥ g.S.ChunkStep.fits l.step before ∥₁;
       own_blocks : (rows : List Row) → g.S.ChunkStep.blocks l.step rows ≡ g.S.ChunkStep.blocks first rows;

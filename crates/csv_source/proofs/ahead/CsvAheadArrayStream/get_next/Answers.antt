@@ -7,7 +7,7 @@ use Rattle.csv_source.specs.declared.refused.Refused.{Refused}
 use Rattle.csv_model.specs.Header.{most_columns}
 use Rattle.data_types.specs.ColumnView.{column_of}
 use Rattle.data_types.specs.declared.kind.ColumnType.{ColumnType}
-use Rattle.stream_face.proofs.Producers.{given-answers, shows-nothing}
+use Rattle.stream_face.proofs.Producers.{given-answers, shows-no-link}
 use Rattle.csv_source.proofs.LastPieces.{ended, stopped}
 use Rattle.csv_source.proofs.NextTables.{next-table}
 use Rattle.csv_source.proofs.AheadReplies.{given-counts, none-stopped, still-last, tables-none}
@@ -100,7 +100,7 @@ returns-in-Err-clause-answers g c = λ fresh.
     ))
 
 pub returns-in-Err-clause-shows : goal.returns-in-Err-clause-shows
-returns-in-Err-clause-shows g c = λ _. shows-nothing _ _ _ _ (λ _ _ _. refl)
+returns-in-Err-clause-shows g c = λ _. shows-no-link _ _ _ _ _ (λ _. refl) refl refl refl (λ _. (refl, refl))
 
 pub returns-in-Err-clause-counts : goal.returns-in-Err-clause-counts
 returns-in-Err-clause-counts g c = λ fresh had.

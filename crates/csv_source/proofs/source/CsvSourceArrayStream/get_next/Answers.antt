@@ -11,7 +11,7 @@ use Rattle.csv_source.proofs.ChunkStreams.{refused-counts}
 use Rattle.csv_source.proofs.Replies.{none-left}
 use Rattle.csv_source.proofs.Streams.{chunk-counts, same-counts}
 use Rattle.data_types.specs.declared.row_fault.RowFault.{RowFault}
-use Rattle.stream_face.proofs.Producers.{given-answers, live-or-released, shows-nothing}
+use Rattle.stream_face.proofs.Producers.{given-answers, live-or-released, shows-no-link}
 use Rattle.csv_source.proofs.source.CsvSourceArrayStream.get_next.Goals as goal
 
 pub returns-in-Ok : goal.returns-in-Ok
@@ -57,7 +57,7 @@ returns-in-Ok g c =
       failure = grind (arith, common_steps);
       row_fault = grind (arith, common_steps);
       repeats = grind (arith, common_steps);
-      shows = λ _. shows-nothing _ _ _ _ (λ _ _ _. refl);
+      shows = λ _. shows-no-link _ _ _ _ _ (λ _. refl) refl refl refl (λ _. (refl, refl));
     }
 
 pub returns-in-Err : goal.returns-in-Err
@@ -90,7 +90,7 @@ returns-in-Err g c =
           (batches_left source.batch source.batches).chunks (batches_left source.batch c.next_chunk.new.batches).chunks c.in-Err.refused _ c.args.pass.now c.next_chunk.new.pass c.next_chunk.new.out
           (code ∙ c.code-code-in-Err.ensures) had none c.in-Err.ensures.fault_counts (omega (arith, c.args.pass.now.most_blocks))
           (omega (arith, c.args.pass.now.most_nodes));
-      shows = λ _. shows-nothing _ _ _ _ (λ _ _ _. refl);
+      shows = λ _. shows-no-link _ _ _ _ _ (λ _. refl) refl refl refl (λ _. (refl, refl));
     }
 
 pub returns-in-Some : goal.returns-in-Some
@@ -108,5 +108,5 @@ returns-in-Some g c =
       repeats = grind (arith, common_steps);
       answers = grind (arith, common_steps);
       counts = grind (arith, common_steps);
-      shows = λ _. shows-nothing _ _ _ _ (λ _ _ _. refl);
+      shows = λ _. shows-no-link _ _ _ _ _ (λ _. refl) refl refl refl (λ _. (refl, refl));
     }

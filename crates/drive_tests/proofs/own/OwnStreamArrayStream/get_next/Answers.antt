@@ -1,13 +1,13 @@
 use Rattle.std.proofs.Common.{◌≡◌, ◌∙◌, arith, of_z, refl, to_z, w32}
 use Rattle.std.proofs.lemmas.Int.{ints}
-use Rattle.stream_face.proofs.Producers.{shows-nothing}
+use Rattle.stream_face.proofs.Producers.{shows-no-link}
 use Rattle.drive_tests.proofs.Fitting.{fit}
 use Rattle.drive_tests.proofs.OwnCalls.{given, only-record, refuses}
 use Rattle.drive_tests.specs.Own.{own_values}
 use Rattle.drive_tests.proofs.own.OwnStreamArrayStream.get_next.Goals as goal
 
 pub returns-in-Some-clause-shows : goal.returns-in-Some-clause-shows
-returns-in-Some-clause-shows g c = λ _. shows-nothing _ _ _ _ (λ _ _ _. refl)
+returns-in-Some-clause-shows g c = λ _. shows-no-link _ _ _ _ _ (λ _. refl) refl refl refl (λ _. (refl, refl))
 
 pub returns-in-Ok-clause-answers : goal.returns-in-Ok-clause-answers
 returns-in-Ok-clause-answers g c = λ fresh.
@@ -19,7 +19,7 @@ pub returns-in-Ok-clause-counts : goal.returns-in-Ok-clause-counts
 returns-in-Ok-clause-counts g c = λ _ _. c.in-Ok.ensures.counts
 
 pub returns-in-Ok-clause-shows : goal.returns-in-Ok-clause-shows
-returns-in-Ok-clause-shows g c = λ _. shows-nothing _ _ _ _ (λ _ _ _. refl)
+returns-in-Ok-clause-shows g c = λ _. shows-no-link _ _ _ _ _ (λ _. refl) refl refl refl (λ _. (refl, refl))
 
 pub returns-in-Err-clause-answers : goal.returns-in-Err-clause-answers
 returns-in-Err-clause-answers g c = λ fresh.
@@ -34,4 +34,4 @@ returns-in-Err-clause-counts g c = λ _ had.
     c.in-Err.ensures.refused_counts (only-record c.in-Err.refused _ (code ∙ c.code-in-Err.ensures) had)
 
 pub returns-in-Err-clause-shows : goal.returns-in-Err-clause-shows
-returns-in-Err-clause-shows g c = λ _. shows-nothing _ _ _ _ (λ _ _ _. refl)
+returns-in-Err-clause-shows g c = λ _. shows-no-link _ _ _ _ _ (λ _. refl) refl refl refl (λ _. (refl, refl))

@@ -11,10 +11,9 @@ use Rattle.stages.specs.Stages.{stage_state}
 use Rattle.stage_chain.specs.Boxes.{boxed_state}
 use Rattle.stage_chain.specs.Chains.{over_stream}
 use Rattle.stage_chain.specs.Plans.{AreStages, stage_in, stages_in, stages_left}
-use Rattle.csv_write.specs.Runs.{ShowsAll, ShowsSome}
 use Rattle.csv_write.proofs.RunLemmas.{on-row}
 use Rattle.stage_chain.proofs.Planning.{no_stages}
-use Rattle.stage_chain.proofs.Chaining.{IsStarted, started, counted-last, counted-step, joints-above, joints-last}
+use Rattle.stage_chain.proofs.Chaining.{IsStarted, started, counted-last, counted-step, joints-above, joints-last, makings-last, makings-step, both-all, both-some}
 use Rattle.stage_chain.proofs.Chaining.{fresh-above, joints-step, on-err, on-ok, shows-nothing, started-fresh, whatever}
 use Rattle.stage_chain.proofs.Driving.{text-last}
 use Rattle.stage_chain.proofs.chain.SuccChain.drive_from.Goals as goal
@@ -22,7 +21,7 @@ use Rattle.stage_chain.proofs.chain.SuccChain.drive_from.Goals as goal
 pub returns-in-Err : goal.returns-in-Err
 returns-in-Err g c =
     record {
-      shows_some = whatever c.refuse.result (shows-nothing _ _);
+      shows_some = whatever c.refuse.result (shows-nothing _ _ _);
       text = rw c.refuse.ensures.refused tt;
       ends = rw c.refuse.ensures.refused tt;
       row = rw c.refuse.ensures.refused tt;
@@ -42,7 +41,8 @@ drive_from-requires-clause-links g c =
     c.in-Ok.ensures.link c.in-Ok.ensures.fault c.in-Ok.ensures.started in
     let stage = stage_in c.in-Some.stage in
     let node = boxed_state (stage_state g.S.ArrayStream.state g.W.ChunkStep.columns g.W.ChunkStep.ahead g.W.ChunkStep.blocks g.W.ChunkStep.nodes) c.in-Ok-new.above in
-    let is : node ≡ over_stream stage up = c.in-Ok-new.ensures.made ∙ c.start_stage.ensures.means in
+    let is : node ≡ over_stream c.args.link stage up
+    = c.in-Ok-new.ensures.made ∙ c.start_stage.ensures.means ∙ ap (λ k. over_stream k stage up) c.in-Ok.ensures.link in
     let rest = stages_left c.next.new.self in
     let are : stages_left c.args.stages ≡ stage ∷ rest = ap stages_in c.in-Some.ensures.items in
     joints-above stage s up node c.args.link _ raw is c.requires.links
@@ -55,7 +55,8 @@ drive_from-requires-clause-structs g c =
     c.in-Ok.ensures.link c.in-Ok.ensures.fault c.in-Ok.ensures.started in
     let stage = stage_in c.in-Some.stage in
     let node = boxed_state (stage_state g.S.ArrayStream.state g.W.ChunkStep.columns g.W.ChunkStep.ahead g.W.ChunkStep.blocks g.W.ChunkStep.nodes) c.in-Ok-new.above in
-    let is : node ≡ over_stream stage up = c.in-Ok-new.ensures.made ∙ c.start_stage.ensures.means in
+    let is : node ≡ over_stream c.args.link stage up
+    = c.in-Ok-new.ensures.made ∙ c.start_stage.ensures.means ∙ ap (λ k. over_stream k stage up) c.in-Ok.ensures.link in
     let rest = stages_left c.next.new.self in
     let are : stages_left c.args.stages ≡ stage ∷ rest = ap stages_in c.in-Some.ensures.items in
     let one : AreStages s.columns (stage ∷ rest) = subst (AreStages s.columns) are c.requires.stages in
@@ -88,15 +89,15 @@ returns-in-None g c =
     counted-last (stages_left c.args.stages) s up c.args.link _ c.args.pass.now c.start.new.pass c.write_rows.new.pass none raw
     (c.schemas_are_small.ensures.counted s.columns) (c.in-Ok.ensures.nodes c.requires.lawful) (c.in-Ok.ensures.blocks c.requires.lawful) in
     let shown =
-    subst (λ joints. ShowsAll joints (g.T.Tap.seen c.args.tap.now) (g.T.Tap.seen c.write_rows.new.tap))
-    (joints-last (stages_left c.args.stages) s up c.args.link _ none raw) in
+    both-all _ _ _ _ (g.T.Tap.seen c.args.tap.now) (g.T.Tap.seen c.write_rows.new.tap) (joints-last (stages_left c.args.stages) s up c.args.link _ none raw)
+    (makings-last (stages_left c.args.stages) s up c.args.link _ none raw) in
     record {
       text = text-last c.write_rows.result (stages_left c.args.stages) s up c.args.link _ c.args.text none raw c.write_rows.ensures.text;
       counts = on-ok c.write_rows.result counted c.write_rows.ensures.counts;
       refused_counts = λ fresh. on-row c.write_rows.result counted (c.write_rows.ensures.refused_counts (started-fresh s up c.args.link _ raw fresh));
       shows_some = on-err c.write_rows.result
-          (subst (λ joints. ShowsSome joints (g.T.Tap.seen c.args.tap.now) (g.T.Tap.seen c.write_rows.new.tap)) (joints-last
-          (stages_left c.args.stages) s up c.args.link _ none raw))
+          (both-some _ _ _ _ _ _ (joints-last (stages_left c.args.stages) s up c.args.link _ none raw)
+          (makings-last (stages_left c.args.stages) s up c.args.link _ none raw))
           c.write_rows.ensures.shows_some;
       shows = on-ok c.write_rows.result shown c.write_rows.ensures.shows;
       refused_shows = λ fresh. on-row c.write_rows.result shown (c.write_rows.ensures.refused_shows (started-fresh s up c.args.link _ raw fresh));
@@ -114,7 +115,8 @@ returns-in-Ok-new g c =
     c.in-Ok.ensures.link c.in-Ok.ensures.fault c.in-Ok.ensures.started in
     let stage = stage_in c.in-Some.stage in
     let node = boxed_state (stage_state g.S.ArrayStream.state g.W.ChunkStep.columns g.W.ChunkStep.ahead g.W.ChunkStep.blocks g.W.ChunkStep.nodes) c.in-Ok-new.above in
-    let is : node ≡ over_stream stage up = c.in-Ok-new.ensures.made ∙ c.start_stage.ensures.means in
+    let is : node ≡ over_stream c.args.link stage up
+    = c.in-Ok-new.ensures.made ∙ c.start_stage.ensures.means ∙ ap (λ k. over_stream k stage up) c.in-Ok.ensures.link in
     let rest = stages_left c.next.new.self in
     let are : stages_left c.args.stages ≡ stage ∷ rest = ap stages_in c.in-Some.ensures.items in
     let ending = ap (λ (m : Stream). m.ending) is ∙ ap (λ (m : Stream). m.ending) raw in
@@ -122,8 +124,8 @@ returns-in-Ok-new g c =
     counted-step stage s up node c.args.link _ raw is rest (stages_left c.args.stages) c.args.pass.now c.start.new.pass c.drive_from.new.pass are
     (c.schemas_are_small.ensures.counted s.columns) (c.in-Ok.ensures.nodes c.requires.lawful) (c.in-Ok.ensures.blocks c.requires.lawful) in
     let shown =
-    subst (λ joints. ShowsAll joints (g.T.Tap.seen c.args.tap.now) (g.T.Tap.seen c.drive_from.new.tap))
-    (joints-step stage s up node c.args.link _ raw is rest (stages_left c.args.stages) are) in
+    both-all _ _ _ _ (g.T.Tap.seen c.args.tap.now) (g.T.Tap.seen c.drive_from.new.tap) (joints-step stage s up node c.args.link _ raw is rest (stages_left c.args.stages) are)
+    (makings-step stage s up node c.args.link _ raw is rest (stages_left c.args.stages) are) in
     record {
       text = search rules;
       counts = on-ok c.drive_from.result counted c.drive_from.ensures.counts;
@@ -133,8 +135,8 @@ returns-in-Ok-new g c =
       refused_shows = λ fresh. on-row c.drive_from.result shown
           (c.drive_from.ensures.refused_shows (fresh-above stage s up node c.args.link _ raw is fresh));
       shows_some = on-err c.drive_from.result
-          (subst (λ joints. ShowsSome joints (g.T.Tap.seen c.args.tap.now) (g.T.Tap.seen c.drive_from.new.tap)) (joints-step stage s up node c.args.link _
-          raw is rest (stages_left c.args.stages) are))
+          (both-some _ _ _ _ _ _ (joints-step stage s up node c.args.link _ raw is rest (stages_left c.args.stages) are)
+          (makings-step stage s up node c.args.link _ raw is rest (stages_left c.args.stages) are))
           c.drive_from.ensures.shows_some;
       ends = on-ok c.drive_from.result (λ e. sym ending ∙ e) c.drive_from.ensures.ends;
       row = subst (λ o. IfErr c.drive_from.result (λ e. IfRow e (λ fault. o ≡ Some fault))) ending c.drive_from.ensures.row;
@@ -144,7 +146,7 @@ returns-in-Ok-new g c =
 pub returns-in-Err-new : goal.returns-in-Err-new
 returns-in-Err-new g c =
     record {
-      shows_some = whatever c.refuse-in-Err-new.result (shows-nothing _ _);
+      shows_some = whatever c.refuse-in-Err-new.result (shows-nothing _ _ _);
       text = rw c.refuse-in-Err-new.ensures.refused tt;
       ends = rw c.refuse-in-Err-new.ensures.refused tt;
       row = rw c.refuse-in-Err-new.ensures.refused tt;

@@ -8,9 +8,8 @@ use Rattle.stream_face.specs.Streams.{Stream}
 use Rattle.csv_write.specs.Faults.{IfRow}
 use Rattle.stream_face.specs.Meaning.{meaning, raw_schema}
 use Rattle.stage_chain.specs.Plans.{stages_left}
-use Rattle.csv_write.specs.Runs.{ShowsAll, ShowsSome}
 use Rattle.csv_write.proofs.RunLemmas.{on-row}
-use Rattle.stage_chain.proofs.Chaining.{IsStarted, started, counted-last, joints-last, on-err, on-ok, shows-nothing, started-fresh, whatever}
+use Rattle.stage_chain.proofs.Chaining.{IsStarted, started, both-all, both-some, counted-last, joints-last, makings-last, on-err, on-ok, shows-nothing, started-fresh, whatever}
 use Rattle.stage_chain.proofs.chain.ZeroChain.drive_from.Goals as goal
 
 none_left : (stages : List Stage) → length stages ≤ 0 → stages ≡ []
@@ -20,7 +19,7 @@ none_left (stage ∷ stages) few = absurd (omega (arith, few))
 pub returns : goal.returns
 returns g c =
     record {
-      shows_some = whatever c.refuse.result (shows-nothing _ _);
+      shows_some = whatever c.refuse.result (shows-nothing _ _ _);
       text = rw c.refuse.ensures.refused tt;
       ends = rw c.refuse.ensures.refused tt;
       row = rw c.refuse.ensures.refused tt;
@@ -43,15 +42,15 @@ returns-in-Ok g c =
     counted-last (stages_left c.args._stages) s up c.args.link _ c.args.pass.now c.start.new.pass c.write_rows.new.pass none raw
     (c.schemas_are_small.ensures.counted s.columns) (c.in-Ok.ensures.nodes c.requires.lawful) (c.in-Ok.ensures.blocks c.requires.lawful) in
     let shown =
-    subst (λ joints. ShowsAll joints (g.T.Tap.seen c.args.tap.now) (g.T.Tap.seen c.write_rows.new.tap))
-    (joints-last (stages_left c.args._stages) s up c.args.link _ none raw) in
+    both-all _ _ _ _ (g.T.Tap.seen c.args.tap.now) (g.T.Tap.seen c.write_rows.new.tap) (joints-last (stages_left c.args._stages) s up c.args.link _ none raw)
+    (makings-last (stages_left c.args._stages) s up c.args.link _ none raw) in
     record {
       text = search rules;
       counts = on-ok c.write_rows.result counted c.write_rows.ensures.counts;
       refused_counts = λ fresh. on-row c.write_rows.result counted (c.write_rows.ensures.refused_counts (started-fresh s up c.args.link _ raw fresh));
       shows_some = on-err c.write_rows.result
-          (subst (λ joints. ShowsSome joints (g.T.Tap.seen c.args.tap.now) (g.T.Tap.seen c.write_rows.new.tap)) (joints-last
-          (stages_left c.args._stages) s up c.args.link _ none raw))
+          (both-some _ _ _ _ _ _ (joints-last (stages_left c.args._stages) s up c.args.link _ none raw)
+          (makings-last (stages_left c.args._stages) s up c.args.link _ none raw))
           c.write_rows.ensures.shows_some;
       shows = on-ok c.write_rows.result shown c.write_rows.ensures.shows;
       refused_shows = λ fresh. on-row c.write_rows.result shown (c.write_rows.ensures.refused_shows (started-fresh s up c.args.link _ raw fresh));

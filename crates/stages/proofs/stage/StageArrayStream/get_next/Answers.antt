@@ -4,7 +4,7 @@ use Rattle.std.proofs.lemmas.Int.{ints}
 use Rattle.data_types.specs.ColumnView.{column_of}
 use Rattle.tree_model.specs.Tree.{IsLive}
 use Rattle.raw_array.specs.Members.{Cost}
-use Rattle.stream_face.specs.Calls.{IsCode, IsRowFault, Shows, Tells}
+use Rattle.stream_face.specs.Calls.{IsCode, IsRowFault, Tells}
 use Rattle.stream_face.specs.Codes.{einval, enomem}
 use Rattle.stream_face.specs.Meaning.{meaning}
 use Rattle.stream_face.specs.Texts.{Refusal, wanting}
@@ -123,7 +123,9 @@ returns-in-Err g c =
       counts = λ _ had. absurd (had refl);
       gives = λ _ z. absurd (not-zero z);
       besides = call.besides;
-      shows = λ fresh. call.shows (record { lawful = fresh.lawful; no_failure = sym works ∙ fresh.no_failure });
+      shows = λ fresh.
+          let x = call.shows (record { lawful = fresh.lawful; no_failure = sym works ∙ fresh.no_failure }) in
+          record { shows = x.shows; order = record { made = x.order.made; goes_on = x.order.goes_on; gives = x.order.gives } };
     }
 
 pub returns-in-Ok : goal.returns-in-Ok
@@ -174,6 +176,19 @@ returns-in-Ok g c =
       gives = λ fresh zero. call.gives (record { lawful = fresh.lawful; no_failure = sym works ∙ fresh.no_failure }) (sym e ∙ zero);
       besides = call.besides;
       shows = λ fresh.
-          subst (λ z. Shows up.joints n.joints z c.pull.new.out (g.T.Tap.seen c.args.tap.now) (g.T.Tap.seen c.pull.new.tap)) (sym e)
-          (call.shows (record { lawful = fresh.lawful; no_failure = sym works ∙ fresh.no_failure }));
+          let x = call.shows (record { lawful = fresh.lawful; no_failure = sym works ∙ fresh.no_failure }) in
+          record {
+            shows = record {
+              shown = x.shows.shown;
+              told = x.shows.told;
+              begins = x.shows.begins;
+              leaves = λ had. x.shows.leaves (λ z. had (e ∙ z));
+              ends = λ had. x.shows.ends (λ z. had (e ∙ z));
+            };
+            order = record {
+              made = x.order.made;
+              goes_on = λ had. x.order.goes_on (λ z. had (e ∙ z));
+              gives = λ had. x.order.gives (λ z. had (e ∙ z));
+            };
+          };
     }

@@ -5,13 +5,14 @@ use Rattle.data_types.specs.ColumnKinds.{type_of_columns}
 use Rattle.schema_check.specs.ColumnSchema.{SchemaOf}
 use Rattle.schema_check.specs.Schemas.{TypedOf}
 use Rattle.layout_rules.specs.Walk.{ChunkOk}
-use Rattle.stream_face.specs.Calls.{IsCode, IsRowFault, Shows, Tells}
+use Rattle.stream_face.specs.Calls.{IsCode, IsRowFault, ShowsInOrder, Tells}
 use Rattle.stream_face.specs.Failures.{why}
 use Rattle.stream_face.specs.Raw.{refusal_or}
 use Rattle.stream_face.specs.Meaning.{meaning, raw_kinds}
 use Rattle.stream_face.specs.Streams.{IsFresh, is_nil}
 use Rattle.stream_face.proofs.Joints.{nil, inner_works, not_failed, joints-none, kinds_are, live_unless, raw_wants, tells_nothing, tells_refusal}
-use Rattle.stream_face.proofs.Joints.{works_before, had_memory, wants_code, Shows-raw_ends, Shows-raw_live, Shows-raw_wants}
+use Rattle.stream_face.proofs.Joints.{works_before, had_memory, wants_code}
+use Rattle.stream_face.proofs.Orders.{Ordered-raw_ends, Ordered-raw_live, Ordered-raw_wants}
 use Rattle.stream_face.proofs.Next.{same, is_zero, zero_code, own_is_code, own_is_refusal, keeps-raw, inner_fresh, no_fault, never_live, kept_some}
 use Rattle.stream_face.proofs.Next.{repeats-refused, answers-refused, row_ends, tells-kept}
 use Rattle.stream_face.proofs.Next.{repeats-never, never_refused, tells-working, why-working, faulted-working, answers-working, refused_ends, why-own, row-own}
@@ -59,10 +60,10 @@ returns-then-code-ne0 g c =
       shows = λ fresh.
           let inner : IsFresh s = record { lawful = fresh.lawful; no_failure = inner_works (why raw.failure) s.failure s.said fresh.no_failure } in
           let none = nil (s.joints raw.link) (raw.own_link c.requires.live inner.lawful (not_failed raw.failure s.failure s.said fresh.no_failure)) in
-          Shows-raw_ends s n raw.link _ c.get_next-code.new.out _ _ none
+          Ordered-raw_ends s n raw.link (Nodes raw.known.schema) (why raw.failure) _ _ c.get_next-code.new.out _ _ none
           (refused_ends s n c.get_next-code.result _ c.get_next-code.new.out e nonzero (c.get_next-code.ensures.answers inner))
           (c.get_next-code.ensures.refuses nonzero)
-          (subst (λ z. Shows s.joints n.joints z c.get_next-code.new.out (g.T.Tap.seen c.args.tap.now) (g.T.Tap.seen c.get_next-code.new.tap)) (sym e)
+          (subst (λ z. ShowsInOrder s n z c.get_next-code.new.out (g.T.Tap.seen c.args.tap.now) (g.T.Tap.seen c.get_next-code.new.tap)) (sym e)
           (c.get_next-code.ensures.shows inner));
       keeps = keeps-raw raw.link (Nodes raw.known.schema) (why raw.failure) (why c.refuse.new.failure) (g.S.ArrayStream.state raw.inner)
           (g.S.ArrayStream.state c.get_next-code.new.self) c.get_next-code.ensures.keeps;
@@ -123,9 +124,9 @@ returns-then-is_released g c =
           let inner = inner_fresh raw.link (Nodes raw.known.schema) (why raw.failure) s fresh in
           let last = (c.get_next-code.ensures.answers inner).finish zero released in
           let none = nil (s.joints raw.link) (raw.own_link c.requires.live inner.lawful c.in_default.is) in
-          Shows-raw_ends s n raw.link (pos 0) c.get_next-code.new.out (g.T.Tap.seen c.args.tap.now) (g.T.Tap.seen c.get_next-code.new.tap) none
+          Ordered-raw_ends s n raw.link (Nodes raw.known.schema) (why raw.failure) _ (pos 0) c.get_next-code.new.out (g.T.Tap.seen c.args.tap.now) (g.T.Tap.seen c.get_next-code.new.tap) none
           (λ _. (last.0, last.1)) released
-          (subst (λ z. Shows s.joints n.joints z c.get_next-code.new.out (g.T.Tap.seen c.args.tap.now) (g.T.Tap.seen c.get_next-code.new.tap)) zero
+          (subst (λ z. ShowsInOrder s n z c.get_next-code.new.out (g.T.Tap.seen c.args.tap.now) (g.T.Tap.seen c.get_next-code.new.tap)) zero
           (c.get_next-code.ensures.shows inner));
       link = grind (arith, common_steps);
       schema = grind (arith, common_steps);
@@ -147,7 +148,7 @@ invariant_of-self-then-admits-clause-own_link g c = λ live lawful works.
           (λ refusal e. tells_refusal c.get_next-code.result n.said refusal call.tells (call.repeats.same refusal e).1) zero;
     } in
     let none = nil (s.joints raw.link) (raw.own_link c.requires.live inner.lawful works) in
-    ap is_nil (joints-none s.joints n.joints raw.link c.get_next-code.new.out _ _ none (rw zero at (call.shows inner)))
+    ap is_nil (joints-none s.joints n.joints raw.link c.get_next-code.new.out _ _ none (rw zero at (call.shows inner)).shows)
 
 pub invariant_of-self-then-admits-clause-same : goal.invariant_of-self-then-admits-clause-same
 invariant_of-self-then-admits-clause-same g c = λ live lawful.
@@ -173,7 +174,7 @@ returns-then-admits g c =
           subst (λ cs. TypedOf (SchemaOf cs) (type_of_columns cs)) call.keeps.columns (c.lawful_facts.ensures.columns lawful).typed in
           let known = raw.same c.requires.live fresh.lawful in
           let kinds = kinds_are raw.known.schema (raw_kinds raw) s.columns known typed c.admits.ensures.only in
-          Shows-raw_live s n raw.link c.get_next-code.result raw.known.schema (raw_kinds raw) c.get_next-code.new.out _ _ _ zero live none call.keeps.columns
+          Ordered-raw_live s n raw.link (Nodes raw.known.schema) (why raw.failure) (why raw.failure) c.get_next-code.result raw.known.schema (raw_kinds raw) c.get_next-code.new.out _ _ _ zero live none call.keeps.columns
           (call.answers inner) (call.shows inner) known kinds (c.admits.ensures.seen c.if-admits.true);
       keeps = keeps-raw raw.link (Nodes raw.known.schema) (why raw.failure) (why raw.failure) (g.S.ArrayStream.state raw.inner)
           (g.S.ArrayStream.state c.get_next-code.new.self) c.get_next-code.ensures.keeps;
@@ -231,9 +232,9 @@ returns g c =
       shows = λ fresh.
           let inner = inner_of fresh in
           let none = nil (s.joints raw.link) (raw.own_link c.requires.live inner.lawful c.in_default.is) in
-          subst (Shows (meaning g.S.ArrayStream.state raw).joints _ _ c.refuse_chunk.new.out (g.T.Tap.seen c.args.tap.now)) (sym
+          subst (ShowsInOrder (meaning g.S.ArrayStream.state raw) _ _ c.refuse_chunk.new.out (g.T.Tap.seen c.args.tap.now)) (sym
           (c.admits.ensures.unseen c.if-admits.false))
-          (Shows-raw_wants s n raw.link c.get_next-code.result _ c.get_next-code.new.out _ _ _ none (wants inner) (call.shows inner));
+          (Ordered-raw_wants s n raw.link (Nodes raw.known.schema) (why raw.failure) (why c.refuse_chunk.new.failure) c.get_next-code.result _ c.get_next-code.new.out _ _ _ none (wants inner) (call.shows inner));
       keeps = keeps-raw raw.link (Nodes raw.known.schema) (why raw.failure) (why c.refuse_chunk.new.failure) (g.S.ArrayStream.state raw.inner)
           (g.S.ArrayStream.state c.get_next-code.new.self) c.get_next-code.ensures.keeps;
       code = subst IsCode (sym (same c.refuse_chunk.result c.refuse_chunk.type_inv))
