@@ -1,5 +1,5 @@
 -- What a run that ends in a fault says of its result, and which faults an answer may have.
-use Rattle.std.proofs.Common.{◌≡◌, ◌∙◌, ◌+◌, ◌≤◌, ◌<◌, ◌⊎◌, inl, inr, ℕ, Bool, true, false, nat_lt, List, [], length, Option, Some, None, IfSome, Result, Ok, Err}
+use Rattle.std.proofs.Common.{◌≡◌, ◌∙◌, ◌+◌, ◌≤◌, ◌<◌, ◌⊎◌, inl, inr, ℕ, true, false, nat_lt, List, [], length, Option, Some, None, IfSome, Result, Ok, Err}
 use Rattle.std.proofs.Common.{IfErr, IfOk, IsErrAnd, OnOk, ap, arith, refl, subst, sym}
 use Rattle.std.proofs.lemmas.Bool.Decides.{nat_tests}
 use Rattle.std.proofs.lemmas.List.{append-nil}
@@ -25,7 +25,7 @@ use Rattle.run_model.specs.Outcomes.{AtWriteFault, AtWriting, decides_early, is_
 use Rattle.run_model.specs.declared.fault.RunFault.{RunFault}
 use Rattle.run_model.specs.declared.fault.RunFault.TheVariants as run
 use Rattle.run_model.specs.RunAnswer.{AnswersBytes, AnswersWithin, AreBytes, IsTooLong, answer_of_check, answer_of_columns, answer_of_plan}
-use Rattle.run_model.specs.RunAnswer.{answer_of_rows, input_limit, is_too_long, IsAnswerTo}
+use Rattle.run_model.specs.RunAnswer.{answer_of_rows, input_limit, IsAnswerTo}
 use Rattle.run_model.specs.RunOutcomes.{IsRead}
 use Rattle.pipe_top.specs.Over.{CarriedOver, is_behind_records}
 use Rattle.pipe_top.specs.Ran.{ReadFor}
