@@ -1,6 +1,6 @@
 -- What the runs of a column and the items of a run-end encoded array come to.
 use Rattle.std.proofs.Common.{◌≡◌, ◌∙◌, ◌<◌, ◌≤◌, ◌+◌, ◌*◌, ℕ, zero, suc, List, ◌++◌, length, get_or, None, Some, Ok, Err}
-use Rattle.std.proofs.Common.{inl, inr, ap, arith, refl, subst, sym, length-append}
+use Rattle.std.proofs.Common.{inl, inr, ap, arith, refl, subst, sym, length-append, append-nil, append_assoc}
 use Rattle.std.proofs.Math.Nat.{suc-mul, zero-mul}
 use Rattle.std.specs.List.{flat_map}
 use Rattle.data_types.specs.Value.{Value}
@@ -101,6 +101,20 @@ pub lines-more-at : (f : ℕ → Value) (n : ℕ) → flat_map value_line (each 
 lines-more-at f n =
     let from : 0 + n ≡ n = omega arith in
     lines-more f 0 n ∙ ap (λ k. flat_map value_line (each f 0 n) ++ value_line (f k)) from
+
+-- the lines from an item on behind those before it
+pub lines-joined : (f : ℕ → Value) (i n : ℕ) → flat_map value_line (each f 0 (i + n)) ≡ flat_map value_line (each f 0 i) ++ flat_map value_line (each f i n)
+lines-joined f i zero =
+    let e : i + 0 ≡ i = omega arith in
+    ap (λ k. flat_map value_line (each f 0 k)) e ∙ sym (append-nil (flat_map value_line (each f 0 i)))
+lines-joined f i (suc n) =
+    let e : i + suc n ≡ i + n + 1 = omega arith in
+    let more : n + 1 ≡ suc n = omega arith in
+    let before = flat_map value_line (each f 0 i) in
+    let last = value_line (f (i + n)) in
+    ap (λ k. flat_map value_line (each f 0 k)) e ∙ lines-more-at f (i + n) ∙ ap (λ text. text ++ last) (lines-joined f i n)
+    ∙ append_assoc before (flat_map value_line (each f i n)) last
+    ∙ ap (λ text. before ++ text) (sym (lines-more f i n) ∙ ap (λ k. flat_map value_line (each f i k)) more)
 
 -- lines that are all one item's
 pub same-lines-more : (f : ℕ → Value) (i n : ℕ) → ((j : ℕ) → i ≤ j → j < i + n → f j ≡ f i)

@@ -1,9 +1,9 @@
 //! The items of a run-end encoded array.
-ghost use Rattle.std.specs.Prelude.{◌≡◌, ◌<◌, ◌^◌, ◌++◌, ◌⊎◌, ℕ, IfOk, IfErr, OnOk, length};
+ghost use Rattle.std.specs.Prelude.{◌≡◌, ◌<◌, ◌-◌, ◌^◌, ◌++◌, ◌⊎◌, ℕ, IfOk, IfErr, OnOk, length};
 ghost use Rattle.std.specs.List.{flat_map};
 ghost use Rattle.layout_rules.specs.Layout.{items};
 ghost use Rattle.data_types.specs.TypedView.{typed_of};
-ghost use Rattle.layout_rules.specs.Values.{tree_items, value_at};
+ghost use Rattle.layout_rules.specs.Values.{each, tree_items, value_at};
 ghost use Rattle.layout_rules.specs.Walk.{LayoutOk};
 ghost use Rattle.raw_array.specs.Members.{members_of};
 ghost use Rattle.run_ends.specs.RunAnswers.{runs_of};
@@ -62,7 +62,7 @@ fn lines(alloc: Global, col: &RunCol<'_>, length: u32) -> Result<Vec<u8>, NoMemo
     let mut text = BoundedText::new(alloc);
     text.take_room(length)?;
     text.push_bytes(b"ok\n")?;
-    push_items(&mut text, col)?;
+    push_items(alloc, &mut text, col)?;
     Ok(text.into_bytes())
 }
 
@@ -136,15 +136,42 @@ fn count_values(col: &RunCol<'_>) -> u64
 }
 
 /// Appends a line for each item of a column. A line has two bytes at least, so very many items are refused at once.
-fn push_items(text: &mut BoundedText, col: &RunCol<'_>) -> Result<(), NoMemory>
+fn push_items(alloc: Global, text: &mut BoundedText, col: &RunCol<'_>) -> Result<(), NoMemory>
     ensures { OnOk result (text.new ≡ text.old ++ flat_map value_line (run_values (kinds_in col.now) (array_in col.now))) }
 {
     let count = count_items(col);
     text.has_room(count * 2)?;
     let mut at = first_run(col);
-    for i in 0..count {
+    let mut i = 0;
+    while i < count {
         at = run_from(col, i, at);
-        push_item(text, col, i, at.run)?;
+        push_run(alloc, text, col, i, at)?;
+        i = at.stop;
+    }
+    Ok(())
+}
+
+/// Appends a line for each item of a run from an item on. The text of their value is made once.
+fn push_run(
+    alloc: Global,
+    text: &mut BoundedText,
+    col: &RunCol<'_>,
+    i: u64,
+    at: Reached,
+) -> Result<(), NoMemory>
+    requires above { i < at.stop }
+    requires reaches { Reaches (kinds_in col.now) (array_in col.now) i at.run at.stop }
+    ensures { OnOk result (text.new ≡ text.old ++ flat_map value_line (each (run_value (kinds_in col.now) (array_in col.now)) i (at.stop - i))) }
+{
+    if at.stop - i == 1 {
+        return push_item(text, col, i, at.run);
+    }
+    let mut line = BoundedText::new(alloc);
+    push_item(&mut line, col, i, at.run)?;
+    let line = line.into_bytes();
+    for j in i..at.stop {
+        let _number = j;
+        text.push_bytes(&line)?;
     }
     Ok(())
 }

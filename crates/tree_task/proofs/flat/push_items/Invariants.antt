@@ -1,4 +1,4 @@
-use Rattle.std.proofs.Common.{◌≡◌, ◌++◌}
+use Rattle.std.proofs.Common.{◌≡◌, ◌++◌, ◌-◌, ◌≤◌}
 use Rattle.std.specs.List.{flat_map}
 use Rattle.layout_rules.specs.Values.{each}
 use Rattle.run_ends.specs.RunCols.{array_in, kinds_in}
@@ -12,3 +12,7 @@ abbrev pub invariant-loop-i : goal.invariant-loop-i
 invariant-loop-i l =
     (l.text ≡ l.initial.text ++ flat_map value_line (each (run_value (kinds_in l.col) (array_in l.col)) 0 l.i))
     × Reaches (kinds_in l.col) (array_in l.col) l.i l.at.run l.at.stop
+    × (l.i ≤ l.count)
+
+abbrev pub decreases-loop-i : goal.decreases-loop-i
+decreases-loop-i l = l.count - l.i
