@@ -10,6 +10,7 @@ pub mod ForeignRows
 pub mod UnionLines
 pub mod Chunks
 pub mod Tagging
+pub mod NewLines
 pub mod NewRows
 pub mod ColumnNumbers
 pub mod Running

@@ -16,3 +16,4 @@ pub mod Refusals
 pub mod RunRefusals
 pub mod Gathered
 pub mod RunLines
+pub mod NewLengths

@@ -1,13 +1,18 @@
 //! How long the text of a chunk's rows is once the lists of a column are spread out, found before a row is made.
-ghost use Rattle.std.specs.Prelude.{◌≡◌, ◌+◌, ◌<◌, ◌^◌, true, length};
+ghost use Rattle.std.specs.Prelude.{◌≡◌, ◌+◌, ◌<◌, ◌≤◌, ◌^◌, IfOk, IsTrue, length};
 ghost use Rattle.arr_import.specs.Cols.{window_of};
-ghost use Rattle.arr_import.specs.Window.{IsStruct};
+ghost use Rattle.arr_import.specs.Window.{IsStruct, item_at};
 ghost use Rattle.data_types.specs.KindTrees.{TypedOk};
 ghost use Rattle.data_types.specs.Storage.{storage_of as storage_is};
 ghost use Rattle.data_types.specs.TypedView.{kids_of, kind_of, typed_of};
 ghost use Rattle.data_types.specs.declared.storage.Storage.TheVariants as storages;
-ghost use Rattle.layout_rules.specs.Values.{tree_items};
+ghost use Rattle.data_types.specs.ValueTexts.{text_limit};
+ghost use Rattle.layout_rules.specs.Values.{rows_of, tree_items};
 ghost use Rattle.layout_rules.specs.Walk.{ChunkOk, LayoutOk};
+ghost use Rattle.list_cols.specs.Faults.{most_columns, most_named};
+ghost use Rattle.list_cols.specs.Nested.{Explode, items_in};
+ghost use Rattle.list_cols.specs.Spreading.{list_at};
+ghost use Rattle.tree_task.specs.NewLengths.{exploded_length, most_lines};
 ghost use Rattle.tree_model.specs.Tree.{children_of};
 ghost use Rattle.value_text.specs.Lengths.{AreSums, TellsKids};
 
@@ -40,6 +45,7 @@ fn count_items(col: &Col<'_>) -> u64
 fn list_items(lists: &Col<'_>, i: u64) -> u64
     requires inside { i < (window_of lists.now).count }
     requires small { i < 2 ^ 63 }
+    ensures { result ≡ length (items_in (item_at (window_of lists.now) i)) }
 {
     match lists.value(i as i64) {
         ValueRef::Items(items) => count_items(&items),
@@ -49,7 +55,10 @@ fn list_items(lists: &Col<'_>, i: u64) -> u64
 
 /// At most how many bytes the lines of the rows have that are made of a row with a list of this many items; the lengths are those of the
 /// texts of the row and of the list. The row's text is written once for each item, with the item in the list's place, and a line's end.
-fn lines_of(row: u32, list: u32, items: u64) -> u64 {
+fn lines_of(row: u32, list: u32, items: u64) -> u64
+    ensures none { items ≡ 0 → result ≡ 0 }
+    ensures most { result ≤ most_lines row list items }
+{
     if items == 0 {
         return 0;
     }
@@ -58,7 +67,7 @@ fn lines_of(row: u32, list: u32, items: u64) -> u64 {
     items.saturating_mul(line).saturating_add(inner)
 }
 
-/// At most how many bytes the text has of all rows that are made of a chunk's. It is above 2^31 where the text is longer.
+/// At most how many bytes the text has of all rows that are made of a chunk's.
 fn rows_length(
     typed: &Typed,
     array: &RawArray,
@@ -72,7 +81,9 @@ fn rows_length(
     requires columns { TellsKids columns.now (kids_of typed.now) array.now (length (kids_of typed.now)) }
     requires sums { AreSums columns.now sums.now }
     requires inside { column < length (kids_of typed.now) }
+    requires lists { item_at (window_of lists.now) ≡ list_at column (typed_of typed.now) array.now }
     requires count { (window_of lists.now).count ≡ tree_items array.now }
+    ensures { result ≤ exploded_length column (rows_of (typed_of typed.now) array.now) }
 {
     let mut sum = 3u64;
     for i in 0..count_items(lists) {
@@ -128,7 +139,7 @@ fn has_long_column(typed: &Typed, table: &Col<'_>, lists: &Col<'_>, column: usiz
 
 /// Whether the text of a chunk's rows with the lists of a column spread out has more than 2^31 bytes, though each column has as many
 /// bytes as its offsets name. The columns are measured only where it isn't short anyway: a row is written once for each item of a list.
-pub(crate) fn is_exploded_too_long(
+fn has_long_lines(
     alloc: Global,
     typed: &Typed,
     array: &RawArray,
@@ -137,6 +148,7 @@ pub(crate) fn is_exploded_too_long(
     requires types { TypedOk (typed_of typed.now) }
     requires chunk { ChunkOk (typed_of typed.now) array.now }
     requires inside { column < length (children_of (typed_of typed.now)) }
+    ensures { IfOk result (λ long. IsTrue long → text_limit < exploded_length column (rows_of (typed_of typed.now) array.now)) }
 {
     kinds_of_typed(typed);
     lawful_root(typed, array);
@@ -154,4 +166,32 @@ pub(crate) fn is_exploded_too_long(
         return Ok(false);
     }
     Ok(!has_long_column(typed, &table, &lists, column))
+}
+
+/// Whether the text of the rows that are made of a chunk's has more than 2^31 bytes: where the number of rows shows it at once, since a row
+/// has two bytes at least for its braces and its line's end, and two for each column; and else by the lengths of the columns' texts, where
+/// each column has as many bytes as its offsets name.
+pub(crate) fn is_exploded_too_long(
+    alloc: Global,
+    typed: &Typed,
+    array: &RawArray,
+    column: usize,
+    rows: u64,
+) -> Result<bool, NoMemory>
+    requires types { TypedOk (typed_of typed.now) }
+    requires chunk { ChunkOk (typed_of typed.now) array.now }
+    requires inside { column < length (children_of (typed_of typed.now)) }
+    requires few { length (children_of (typed_of typed.now)) ≤ most_columns }
+    requires rows { rows ≡ length (Explode column (rows_of (typed_of typed.now) array.now)) }
+    requires named { rows ≤ most_named }
+    ensures { IfOk result (λ long. IsTrue long → text_limit < exploded_length column (rows_of (typed_of typed.now) array.now)) }
+{
+    kinds_of_typed(typed);
+    lawful_trees();
+    chunks_are_tables();
+    let row_bytes = 2 + 2 * typed.kids.len() as u64;
+    if rows * row_bytes > LIMIT - 3 {
+        return Ok(true);
+    }
+    has_long_lines(alloc, typed, array, column)
 }

@@ -26,7 +26,6 @@ use raw_array::RawArray;
 use raw_schema::RawSchema;
 use std::alloc::Global;
 use unit_pass::{CHUNK, Pass, SUPPLY};
-use value_text::BoundedText;
 
 /// The most columns of a chunk whose rows are made anew.
 const MOST_COLUMNS: u64 = 1024;
@@ -144,9 +143,7 @@ fn exploded_text(
     }
 }
 
-/// Why nothing is made where the text would be too long. It is a column of another kind, or else the text is refused as out of memory:
-/// at once where the number of rows shows it, since a row has two bytes at least for its braces and its line's end, and two for each
-/// column; and else by the lengths of the columns' texts.
+/// Why nothing is made where the text would be too long. It is a column of another kind, or else the text is refused as out of memory.
 fn early_fault(alloc: Global, typed: &Typed, array: &RawArray, column: u32) -> Option<TreeRunFault>
     requires valid { TypedOk (typed_of typed.now) }
     requires chunk { ChunkOk (typed_of typed.now) array.now }
@@ -157,9 +154,7 @@ fn early_fault(alloc: Global, typed: &Typed, array: &RawArray, column: u32) -> O
 {
     kinds_of_typed(typed);
     let rows = exploded_rows(typed, array, column as usize)?;
-    let row_bytes = 2 + 2 * typed.kids.len() as u64;
-    let may_fit = BoundedText::new(alloc).has_room(rows * row_bytes).is_ok();
-    if may_fit && !is_exploded_too_long(alloc, typed, array, column as usize).unwrap_or(true) {
+    if let Ok(false) = is_exploded_too_long(alloc, typed, array, column as usize, rows) {
         return None;
     }
     match wrong_to_explode(typed, column as usize) {
